@@ -1,5 +1,5 @@
 -- What std reads from digits is what they are worth.
-use Rattle.std.proofs.Common.{◌≡◌, ◌≢◌, ℕ, ℤ, pos, ◌<◌, ◌^◌, List, [], ◌∷◌, length, Option, Some, None, Result, Ok, Err, All, IfSome, IfNone, IsOk, IsTrue, refl, sym, ap, ◌∙◌, rules, arith}
+use Rattle.std.proofs.Common.{◌≡◌, ◌≢◌, ℕ, ℤ, pos, ◌<◌, ◌^◌, List, [], ◌∷◌, length, Option, Result, Ok, Err, All, IfSome, IfNone, refl, rules, arith}
 use Rattle.std.specs.Char.{IsAsciiDigit}
 use Rattle.std.specs.List.{AllByRecursion}
 use Rattle.std.specs.Result.{OkIff, result_ok}

@@ -1,4 +1,4 @@
-use Rattle.std.proofs.Common.{rules, arith}
+use Rattle.std.proofs.Common.{rules}
 use Rattle.lua_num.proofs.Numerals.{reads_at, utf8_of_digits}
 use Rattle.lua_num.proofs.numbers.numeral.Goals as goal
 
