@@ -1,0 +1,18 @@
+// What the suite has of the outside: files by name, and sinks of bytes.
+#![tactic(auto)]
+
+mod calls;
+mod files;
+mod memory_files;
+mod memory_sink;
+mod real;
+mod sink;
+#[cfg(test)]
+mod tests;
+
+pub use calls::{FileCall, FileCalls};
+pub use files::{FileFault, Files, Word};
+pub use memory_files::MemoryFiles;
+pub use memory_sink::{MemorySink, NeverFails};
+pub use real::{MAX_FILE_BYTES, RealFiles, RealSink};
+pub use sink::{Sink, SinkFault};

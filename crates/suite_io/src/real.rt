@@ -1,0 +1,157 @@
+// The files and the output of the system, which tell nothing of their content.
+ghost use Rattle.std.specs.Prelude.{◌≡◌, ◌<◌, ◌≤◌, [], List, None, ◌↔◌, length, IfOk, OnOk, OnErr, IsErrOf};
+ghost use Rattle.std.specs.IoError.{error_kind};
+ghost use Rattle.suite_io.specs.Held.{one_more};
+ghost use Rattle.suite_io.specs.Taken.{Rises};
+
+use crate::calls::{FileCall, FileCalls};
+use crate::files::{FileFault, Files, Word};
+use crate::sink::{Sink, SinkFault};
+use lua_num::ByteText;
+use std::alloc::Global;
+use std::io::{self, ErrorKind, Read, Write};
+use std::marker::Model;
+use std::{fs, rt};
+
+/// A file past this many bytes is not read.
+pub const MAX_FILE_BYTES: u64 = 67_108_864;
+
+/// The files of the system.
+#[derive(Drop)]
+pub struct RealFiles<'a, R: rt::Files> {
+    system: &'a R,
+    calls: FileCalls,
+}
+
+impl<'a, R: rt::Files> Model for RealFiles<'a, R> {
+    ghost use Rattle.std.specs.Prelude.{List};
+    ghost use Rattle.suite_io.specs.declared.calls.FileCall.{FileCall};
+
+    ghost Value = { List FileCall };
+
+    ghost view = { λ f. f.calls };
+}
+
+impl<'a, R: rt::Files> RealFiles<'a, R> {
+    /// The files of this system, with no calls so far. Takes no memory.
+    pub fn new(alloc: Global, system: &'a R) -> Self
+        ensures { result ≡ [] }
+    {
+        Self {
+            system,
+            calls: FileCalls::new(alloc),
+        }
+    }
+
+    /// The calls so far.
+    pub fn calls(&self) -> &[FileCall]
+        ensures { result.now ≡ self.now }
+    {
+        self.calls.items()
+    }
+}
+
+// The bytes of a file, where there are at most `MAX_FILE_BYTES`.
+fn read_file<R: rt::Files>(alloc: Global, system: &R, name: &str) -> Result<ByteText, FileFault>
+    ensures { IfOk result (λ bytes. length bytes ≤ MAX_FILE_BYTES) }
+{
+    let file = fs::open(system, name)?;
+    let mut bytes = Vec::new(alloc);
+    file.take(MAX_FILE_BYTES + 1).read_to_end(&mut bytes)?;
+    if bytes.len() as u64 > MAX_FILE_BYTES {
+        return Err(FileFault::Failed);
+    }
+    Ok(ByteText::from_vec(bytes))
+}
+
+impl From<io::Error> for FileFault {
+    ghost use Rattle.suite_io.specs.declared.files.FileFault.{FileFault};
+    ghost use Rattle.std.specs.declared.io.ErrorKind.{ErrorKind};
+
+    ghost from_gives = { λ error fault. (fault ≡ FileFault.OutOfMemory) ↔ (error_kind error ≡ ErrorKind.OutOfMemory) };
+
+    fn from(error: io::Error) -> Self {
+        match error.kind() {
+            ErrorKind::OutOfMemory => FileFault::OutOfMemory,
+            _ => FileFault::Failed,
+        }
+    }
+}
+
+impl<R: rt::Files> Files for RealFiles<'_, R> {
+    ghost contents = { λ _. None };
+
+    ghost calls = { λ f. f };
+
+    /// Also fails where the file passes `MAX_FILE_BYTES` bytes, of which it reads no more than one
+    /// beyond.
+    fn fetch(&mut self, alloc: Global, name: &Word) -> Result<ByteText, FileFault> {
+        let answer = read_file(alloc, self.system, name.as_str());
+        if answer == Err(FileFault::OutOfMemory) {
+            return answer;
+        }
+        self.calls.push_call(alloc, false, name, answer.is_err())?;
+        answer
+    }
+
+    fn store(&mut self, alloc: Global, name: &Word, bytes: &[u8]) -> Result<(), FileFault> {
+        self.calls.push_call(alloc, true, name, false)?;
+        let answer = fs::write(self.system, name.as_str(), bytes).map_err(FileFault::from);
+        match answer {
+            Ok(()) => {}
+            Err(FileFault::Failed) => self.calls.settle(true),
+            Err(FileFault::OutOfMemory) => self.calls.take_back(),
+        }
+        answer
+    }
+}
+
+/// A writer of the system, as standard output.
+#[derive(Drop)]
+pub struct RealSink<W: Write + Drop> {
+    writer: W,
+    faults: u64,
+}
+
+impl<W: Write + Drop> Model for RealSink<W> {
+    ghost use Rattle.std.specs.Prelude.{ℕ};
+
+    ghost Value = { ℕ };
+
+    ghost view = { λ s. s.faults };
+}
+
+impl<W: Write + Drop> RealSink<W> {
+    /// A sink that writes to this writer, with no faults so far.
+    pub fn new(writer: W) -> Self
+        ensures { result ≡ 0 }
+    {
+        Self { writer, faults: 0 }
+    }
+}
+
+impl<W: Write + Drop> Sink for RealSink<W> {
+    ghost taken = { λ _. None };
+
+    ghost faults = { λ s. s };
+
+    /// One `write`. An error of it, and an answer that it took nothing, are faults.
+    fn put(&mut self, piece: &[u8]) -> Result<usize, SinkFault>
+        requires { 0 < length piece.now }
+        ensures some { IfOk result (λ n. 0 < n) }
+        ensures within { IfOk result (λ n. n ≤ length piece.now) }
+        ensures ok { OnOk result (self.new ≡ self.old) }
+        ensures never_falls { self.old ≤ self.new }
+        ensures risen { IsErrOf result SinkFault.Failed → Rises self.old self.new }
+        ensures risen_by_one { IsErrOf result SinkFault.Failed → self.new ≡ one_more self.old }
+        ensures failed_only { OnErr result (IsErrOf result SinkFault.Failed) }
+    {
+        match self.writer.write(piece) {
+            Ok(count) if count > 0 => Ok(count),
+            _ => {
+                self.faults = self.faults.saturating_add(1);
+                Err(SinkFault::Failed)
+            }
+        }
+    }
+}
