@@ -1,0 +1,11 @@
+pub mod Pool
+pub mod Putting
+pub mod Joins
+pub mod Registers
+pub mod Steps
+pub mod Runs
+pub mod SourceLemmas
+pub mod WordLemmas
+pub mod Meant
+pub mod Working
+pub mod Clauses

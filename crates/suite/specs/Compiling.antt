@@ -1,0 +1,8 @@
+-- What a statement has the compiler take.
+use Rattle.agrees.specs.declared.tree.Statement.{Statement}
+use Rattle.agrees.specs.declared.tree.Statement.TheVariants.{Print}
+use Rattle.agrees.specs.declared.chunk.Constant.{Constant}
+
+-- the printed number, as a constant
+abbrev pub number_constant : Statement → Constant
+number_constant (Print n) = Constant.Number n

@@ -1,0 +1,10 @@
+pub mod Reading
+pub mod Compiling
+pub mod Output
+pub mod Frame
+pub mod Effects
+pub mod Running
+pub mod Words
+pub mod Lines
+pub mod Work
+pub mod Causes

@@ -1,0 +1,80 @@
+-- What a call of the suite does before the line for the sink of errors: its status, the calls of files, and the output.
+use Rattle.std.specs.Prelude.{◌≡◌, ℕ, Bool, true, false, List, [], ◌∷◌, ◌++◌, ◌⊎◌, Option, Some, IfSome}
+use Rattle.std.specs.FinMap.{get}
+use Rattle.suite_io.specs.declared.calls.FileCall.{FileCall}
+use Rattle.suite_io.specs.Calls.{call_of}
+use Rattle.suite_io.specs.Contents.{Contents}
+use Rattle.suite_io.specs.Taken.{Takes, Rises}
+use Rattle.agrees.specs.declared.tree.Statement.{Statement}
+use Rattle.agrees.specs.Source.{IsFirstForm}
+use Rattle.agrees.specs.Progress.{Done, output}
+use Rattle.agrees.specs.Meaning.{meaning}
+use Rattle.suite.specs.declared.status.Status.{Status}
+use Rattle.suite.specs.Output.{TakesPart}
+use Rattle.suite.specs.Words.{Words, Reads, NoCommand, named}
+
+-- the bytes are a source of the first form, of this tree alone
+pub record IsSource (bytes : List ℕ) (tree : List Statement) : Type 0 where
+  pub form : IsFirstForm bytes tree
+  pub only : (other : List Statement) → IsFirstForm bytes other → other ≡ tree
+
+-- the tree's meaning ends, with this output
+pub record HasOutput (tree : List Statement) (text : List ℕ) : Type 0 where
+  pub ends : (ticks : ℕ) × ((meaning tree ticks).end ≡ Some Done)
+  pub output_is : (ticks : ℕ) → (meaning tree ticks).end ≡ Some Done → output (meaning tree ticks) ≡ text
+
+-- the bytes are no source of the first form
+abbrev pub IsNotFirstForm : List ℕ → Type 0
+IsNotFirstForm bytes = (tree : List Statement) → IsFirstForm bytes tree → ⊥
+
+-- the sink took the output of the source
+pub record Prints (bytes : List ℕ) (before after : Option (List ℕ)) : Type 0 where
+  pub tree : List Statement
+  pub text : List ℕ
+  pub source : IsSource bytes tree
+  pub outputs : HasOutput tree text
+  pub taken : Takes before after text
+
+-- the sink took a first part of it
+pub record PrintsPart (bytes : List ℕ) (before after : Option (List ℕ)) : Type 0 where
+  pub tree : List Statement
+  pub text : List ℕ
+  pub source : IsSource bytes tree
+  pub outputs : HasOutput tree text
+  pub taken : TakesPart before after text
+
+-- what the bytes of a source come to: the status, what the sink took, and its count of faults
+abbrev pub SourceRuns : List ℕ → Status → Option (List ℕ) → Option (List ℕ) → ℕ → ℕ → Type 0
+SourceRuns bytes Status.Done before after old new = Prints bytes before after
+SourceRuns bytes Status.Unbuilt before after old new = IsNotFirstForm bytes × Takes before after []
+SourceRuns bytes Status.WriteFault before after old new = PrintsPart bytes before after × Rises old new
+SourceRuns bytes Status.OutOfMemory before after old new = Takes before after [] ⊎ PrintsPart bytes before after
+SourceRuns bytes _ before after old new = ⊥
+
+-- the calls of files grew by one fetch of this file
+abbrev pub IsFetched : List ℕ → Bool → List FileCall → List FileCall → Type 0
+IsFetched file failed calls calls_after = calls_after ≡ calls ++ call_of false file failed ∷ []
+
+-- the file was fetched, and its bytes come to this
+pub record FetchedRuns (file : List ℕ) (contents : Option Contents) (calls calls_after : List FileCall) (status : Status) (before after : Option (List ℕ)) (old new : ℕ) : Type 0 where
+  pub fetched : IsFetched file false calls calls_after
+  pub bytes : List ℕ
+  pub told : IfSome contents (λ held. get held file ≡ Some bytes)
+  pub runs : SourceRuns bytes status before after old new
+
+-- what a file comes to: the order is fetch, reading, run
+abbrev pub FileRuns : List ℕ → Option Contents → List FileCall → List FileCall → Status → Option (List ℕ) → Option (List ℕ) → ℕ → ℕ → Type 0
+FileRuns file contents calls calls_after Status.ReadFault before after old new =
+    IsFetched file true calls calls_after × Takes before after []
+FileRuns file contents calls calls_after Status.OutOfMemory before after old new =
+    ((calls_after ≡ calls) × Takes before after [])
+    ⊎ FetchedRuns file contents calls calls_after Status.OutOfMemory before after old new
+FileRuns file contents calls calls_after status before after old new =
+    FetchedRuns file contents calls calls_after status before after old new
+
+-- what words come to before the line for the sink of errors is put: the order is words, and then their file
+abbrev pub Works : Words → Option Contents → List FileCall → List FileCall → Status → Option (List ℕ) → Option (List ℕ) → ℕ → ℕ → Type 0
+Works words contents calls calls_after Status.BadWords before after old new =
+    NoCommand words × (calls_after ≡ calls) × Takes before after []
+Works words contents calls calls_after status before after old new =
+    Reads words (named words) × FileRuns (named words) contents calls calls_after status before after old new

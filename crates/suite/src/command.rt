@@ -1,0 +1,52 @@
+// Running a file.
+ghost use Rattle.std.specs.Prelude.{◌≡◌, ◌≤◌};
+ghost use Rattle.std.specs.String.{string_bytes};
+ghost use Rattle.suite.specs.Work.{SourceRuns, FileRuns};
+
+use crate::compile::compile;
+use crate::machine::{RunEnd, run};
+use crate::source::{SourceFault, read_source};
+use crate::status::Status;
+use agrees::meaning_is_steady;
+use std::alloc::Global;
+use suite_io::{FileFault, Files, Sink, Word};
+
+/// A run ends within this many steps.
+const MAX_STEPS: u64 = 1_000_000_000;
+
+/// Fetches a file, and runs it as a source of the first form.
+pub fn run_file<F: Files, O: Sink>(alloc: Global, file: &Word, files: &mut F, out: &mut O) -> Status
+    ensures runs { FileRuns (string_bytes file.now) (F.contents files.old) (F.calls files.old) (F.calls files.new) result (O.taken out.old) (O.taken out.new) (O.faults out.old) (O.faults out.new) }
+    ensures contents { F.contents files.new ≡ F.contents files.old }
+    ensures never_falls { O.faults out.old ≤ O.faults out.new }
+{
+    match files.fetch(alloc, file) {
+        Ok(source) => run_source(alloc, source.bytes(), out),
+        Err(FileFault::Failed) => Status::ReadFault,
+        Err(FileFault::OutOfMemory) => Status::OutOfMemory,
+    }
+}
+
+// Reads, compiles and runs a source.
+fn run_source<O: Sink>(alloc: Global, source: &[u8], out: &mut O) -> Status
+    ensures runs { SourceRuns source.now result (O.taken out.old) (O.taken out.new) (O.faults out.old) (O.faults out.new) }
+    ensures never_falls { O.faults out.old ≤ O.faults out.new }
+{
+    let tree = match read_source(alloc, source) {
+        Ok(tree) => tree,
+        Err(SourceFault::Unbuilt) => return Status::Unbuilt,
+        Err(SourceFault::OutOfMemory) => return Status::OutOfMemory,
+    };
+    let Ok(chunk) = compile(alloc, &tree) else {
+        return Status::OutOfMemory;
+    };
+    // A law: the source ends, and so its code does, within the steps.
+    meaning_is_steady();
+    match run(alloc, &chunk, MAX_STEPS, out) {
+        RunEnd::Done => Status::Done,
+        RunEnd::OutFault => Status::WriteFault,
+        RunEnd::OutOfMemory => Status::OutOfMemory,
+        RunEnd::Failed(_) => unreachable!(),
+        RunEnd::Unfinished => unreachable!(),
+    }
+}

@@ -1,0 +1,18 @@
+// The top call of the suite.
+#![tactic(auto)]
+
+mod chunk;
+mod command;
+mod compile;
+mod effects;
+mod machine;
+mod output;
+mod report;
+mod show;
+mod source;
+mod status;
+mod top;
+mod words;
+
+pub use status::Status;
+pub use top::suite;

@@ -1,0 +1,28 @@
+// How a call of the suite ended.
+ghost use Rattle.std.specs.Prelude.{◌≡◌};
+ghost use Rattle.suite.specs.Lines.{number_of};
+
+/// How a call of the suite ended. The number is the program's status.
+#[derive(Clone, Copy, Debug, PartialEq, Eq)]
+pub enum Status {
+    /// The command was carried out.
+    Done = 0,
+    /// The words are no command.
+    BadWords = 2,
+    /// The file could not be read.
+    ReadFault = 8,
+    /// Output, or the line that says why, could not be written.
+    WriteFault = 9,
+    OutOfMemory = 10,
+    /// The source is not of a form that is built.
+    Unbuilt = 11,
+}
+
+impl Status {
+    /// The program's status.
+    pub fn number(self) -> u8
+        ensures { result ≡ number_of self }
+    {
+        self as u8
+    }
+}

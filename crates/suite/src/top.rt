@@ -1,0 +1,74 @@
+// The top call.
+ghost use Rattle.std.specs.Prelude.{◌≡◌, ◌≢◌, ◌⊎◌, true, false, [], List, ℕ};
+ghost use Rattle.suite_io.specs.Taken.{Takes, Rises};
+ghost use Rattle.agrees.specs.declared.tree.Statement.{Statement};
+ghost use Rattle.agrees.specs.Source.{IsFirstForm};
+ghost use Rattle.suite.specs.declared.status.Status.{Status as Ended};
+ghost use Rattle.suite.specs.Output.{TakesPart};
+ghost use Rattle.suite.specs.Words.{NoCommand, Fetched, HasSource, named};
+ghost use Rattle.suite.specs.Lines.{Reported, line_of};
+ghost use Rattle.suite.specs.Work.{Works, HasOutput, IsNotFirstForm};
+ghost use Rattle.suite.specs.Causes.{Becomes, GrowsByOneFetch, NoFault, HasNoSource};
+
+use crate::command::run_file;
+use crate::report::report;
+use crate::status::Status;
+use crate::words::read_words;
+use std::alloc::Global;
+use suite_io::{Files, Sink, Word};
+
+/// Carries out the command that the words say: `run FILE` runs a source of the first form, a list of
+/// printed numbers. Every other list of words is refused. The work goes in the order words, fetch,
+/// reading, run, and the line for `err` that every status but `Done` has; the first refusal gives
+/// the status. What a run had put to `out` before a refusal stays. Want of memory is a free answer.
+pub fn suite<F: Files, O: Sink, E: Sink>(
+    alloc: Global,
+    words: &[Word],
+    files: &mut F,
+    out: &mut O,
+    err: &mut E,
+) -> Status
+    // The whole: the status that the work came to, and what became of it while its line was put.
+    ensures whole { (settled : Ended)
+        × Works words.now (F.contents files.old) (F.calls files.old) (F.calls files.new) settled (O.taken out.old) (O.taken out.new) (O.faults out.old) (O.faults out.new)
+        × Reported settled (named words.now) result (E.taken err.old) (E.taken err.new) (E.faults err.old) (E.faults err.new) }
+
+    // Source of the first form prints what it means, where no count of faults rose.
+    ensures prints { (bytes : List ℕ) (tree : List Statement) → HasSource words.now (F.contents files.old) bytes → IsFirstForm bytes tree
+        → NoFault (F.calls files.old) (F.calls files.new) → ¬ (Rises (O.faults out.old) (O.faults out.new)) → ¬ (Rises (E.faults err.old) (E.faults err.new))
+        → ((result ≡ Status.Done) × (text : List ℕ) × HasOutput tree text × Takes (O.taken out.old) (O.taken out.new) text) ⊎ (result ≡ Status.OutOfMemory) }
+
+    // What is put to `out` is a first part of that, and nothing where there is no source to run.
+    ensures part { (bytes : List ℕ) (tree : List Statement) (text : List ℕ) → HasSource words.now (F.contents files.old) bytes → IsFirstForm bytes tree
+        → HasOutput tree text → TakesPart (O.taken out.old) (O.taken out.new) text }
+    ensures nothing { NoCommand words.now ⊎ Fetched words.now true (F.calls files.old) (F.calls files.new) ⊎ HasNoSource words.now (F.contents files.old)
+        → Takes (O.taken out.old) (O.taken out.new) [] }
+
+    // The calls of files, which store nothing.
+    ensures calls { GrowsByOneFetch words.now (F.calls files.old) (F.calls files.new) }
+    ensures no_calls { NoCommand words.now → F.calls files.new ≡ F.calls files.old }
+    ensures contents { F.contents files.new ≡ F.contents files.old }
+
+    // When each status comes.
+    ensures done { result ≡ Status.Done → Fetched words.now false (F.calls files.old) (F.calls files.new) × Takes (E.taken err.old) (E.taken err.new) [] }
+    ensures bad_words { result ≡ Status.BadWords → NoCommand words.now }
+    ensures no_command { NoCommand words.now → Becomes Status.BadWords result (E.faults err.old) (E.faults err.new) }
+    ensures read_fault { result ≡ Status.ReadFault → Fetched words.now true (F.calls files.old) (F.calls files.new) }
+    ensures fetch_failed { Fetched words.now true (F.calls files.old) (F.calls files.new) → Becomes Status.ReadFault result (E.faults err.old) (E.faults err.new) }
+    ensures unbuilt { result ≡ Status.Unbuilt → Fetched words.now false (F.calls files.old) (F.calls files.new)
+        × ((bytes : List ℕ) → HasSource words.now (F.contents files.old) bytes → IsNotFirstForm bytes) }
+    ensures not_built { HasNoSource words.now (F.contents files.old) → Fetched words.now false (F.calls files.old) (F.calls files.new)
+        → Becomes Status.Unbuilt result (E.faults err.old) (E.faults err.new) ⊎ (result ≡ Status.OutOfMemory) }
+    ensures write_fault { result ≡ Status.WriteFault → Rises (O.faults out.old) (O.faults out.new) ⊎ Rises (E.faults err.old) (E.faults err.new) }
+
+    // The line for `err`, whole wherever no put of it can have been refused.
+    ensures line { result ≢ Status.WriteFault → result ≢ Status.OutOfMemory → Takes (E.taken err.old) (E.taken err.new) (line_of result (named words.now)) }
+{
+    match read_words(words) {
+        Some(file) => {
+            let status = run_file(alloc, file, files, out);
+            report(err, status, file.as_str())
+        }
+        None => report(err, Status::BadWords, ""),
+    }
+}
