@@ -1,0 +1,34 @@
+// The program: the suite over the system's files, standard output and standard error.
+#![tactic(auto)]
+
+use std::io::ErrorKind;
+use std::process::ExitCode;
+use std::rt::Env;
+use std::{env, io};
+use suite::{Status, suite};
+use suite_io::{RealFiles, RealSink, Word};
+
+fn main(rt: HostRuntime) -> ExitCode {
+    let words = match read_words(&rt) {
+        Ok(words) => words,
+        Err(error) if error.kind() == ErrorKind::OutOfMemory => {
+            return ExitCode::from(Status::OutOfMemory.number());
+        }
+        // A word that is not UTF-8 stands in no command, and neither does no word.
+        Err(_) => Vec::new(rt.alloc()),
+    };
+    let mut files = RealFiles::new(rt.alloc(), &rt);
+    let mut out = RealSink::new(rt.stdout());
+    let mut err = RealSink::new(rt.stderr());
+    let status = suite(rt.alloc(), &words, &mut files, &mut out, &mut err);
+    ExitCode::from(status.number())
+}
+
+// The words after the program's name.
+fn read_words(rt: &(impl Env + AllocGlobal)) -> io::Result<Vec<Word>> {
+    let mut words = Vec::new(rt.alloc());
+    for word in env::args(rt)?.skip(1) {
+        words.push(word)?;
+    }
+    Ok(words)
+}

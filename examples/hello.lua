@@ -1,0 +1,3 @@
+print(1)
+print(20)
+print(300)
