@@ -7,7 +7,7 @@ ghost use Rattle.suite.specs.declared.status.Status.{Status as Ended};
 ghost use Rattle.suite.specs.Output.{TakesPart};
 ghost use Rattle.suite.specs.Words.{NoCommand, Fetched, HasSource, named};
 ghost use Rattle.suite.specs.Lines.{Reported, line_of};
-ghost use Rattle.suite.specs.Work.{Works, HasOutput, IsNotFirstForm};
+ghost use Rattle.suite.specs.Work.{Works, HasOutput, IsNotFirstForm, Prints};
 ghost use Rattle.suite.specs.Causes.{Becomes, GrowsByOneFetch, NoFault, HasNoSource};
 
 use crate::command::run_file;
@@ -37,6 +37,9 @@ pub fn suite<F: Files, O: Sink, E: Sink>(
     ensures prints { (bytes : List ℕ) (tree : List Statement) → HasSource words.now (F.contents files.old) bytes → IsFirstForm bytes tree
         → NoFault (F.calls files.old) (F.calls files.new) → ¬ (Rises (O.faults out.old) (O.faults out.new)) → ¬ (Rises (E.faults err.old) (E.faults err.new))
         → ((result ≡ Status.Done) × (text : List ℕ) × HasOutput tree text × Takes (O.taken out.old) (O.taken out.new) text) ⊎ (result ≡ Status.OutOfMemory) }
+
+    // At Done the whole output was put.
+    ensures printed { result ≡ Status.Done → (bytes : List ℕ) → HasSource words.now (F.contents files.old) bytes → Prints bytes (O.taken out.old) (O.taken out.new) }
 
     // What is put to `out` is a first part of that, and nothing where there is no source to run.
     ensures part { (bytes : List ℕ) (tree : List Statement) (text : List ℕ) → HasSource words.now (F.contents files.old) bytes → IsFirstForm bytes tree
