@@ -3,6 +3,8 @@
 
 mod byte_text;
 mod numbers;
+#[cfg(test)]
+mod tests;
 
 pub use byte_text::ByteText;
-pub use numbers::{decimal, numeral};
+pub use numbers::{decimal, decimal_reads_back, numeral};

@@ -1,5 +1,5 @@
 // Numerals, and the texts of numbers.
-ghost use Rattle.std.specs.Prelude.{◌≡◌, ◌↔◌, ℤ, All, IfSome, IfNone, IfOk, IsTrue};
+ghost use Rattle.std.specs.Prelude.{◌≡◌, ◌↔◌, ℕ, ℤ, pos, ◌<◌, ◌^◌, All, IfSome, IfNone, IfOk, IsTrue};
 ghost use Rattle.std.specs.Char.{IsAsciiDigit};
 ghost use Rattle.lua_num.specs.Numeral.{IsNumeral, decimal_text};
 
@@ -34,3 +34,8 @@ pub fn decimal(alloc: Global, n: i64) -> Result<ByteText, AllocError>
 {
     Ok(ByteText::from_vec(n.to_string(alloc)?.into_bytes()))
 }
+
+/// The decimal text of a number that is not below 0 is a numeral that writes it. A law, with nothing to run.
+pub fn decimal_reads_back()
+    ensures { (n : ℕ) → n < 2 ^ 63 → IsNumeral (decimal_text (pos n)) (pos n) }
+{}
