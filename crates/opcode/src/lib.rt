@@ -1,0 +1,10 @@
+// Instruction words of Lua 5.1 and their fields.
+#![tactic(auto)]
+
+mod op;
+#[cfg(test)]
+mod tests;
+mod word;
+
+pub use op::{Format, Op};
+pub use word::{Instr, decode, encode, words_are_one};
