@@ -16,3 +16,6 @@ mod words;
 
 pub use status::Status;
 pub use top::suite;
+
+#[cfg(test)]
+mod tests;
