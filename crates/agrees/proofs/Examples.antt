@@ -6,7 +6,7 @@ use Rattle.agrees.specs.declared.tree.Statement.{Statement}
 use Rattle.agrees.specs.declared.tree.Statement.TheVariants.{Print}
 use Rattle.agrees.specs.declared.chunk.Instruction.TheVariants.{GetGlobal, LoadK, Call, Return}
 use Rattle.agrees.specs.declared.chunk.Constant.{Constant}
-use Rattle.lua_num.specs.Numeral.{IsNumeral}
+use Rattle.lua_num.specs.Numeral.{IsDecimal, IsDecimalNumeral}
 use Rattle.agrees.specs.Source.{IsFirstForm, SpellsPrint}
 use Rattle.agrees.specs.Progress.{Done}
 use Rattle.agrees.specs.Meaning.{meaning}
@@ -56,7 +56,8 @@ run_of_none = refl
 -- white space, and a numeral with zeros in front
 seven_is_spelled : IsFirstForm (codes " print(007)\n") (Print (pos 7) ∷ [])
 seven_is_spelled =
-    let numeral : IsNumeral (codes "007") (pos 7) = record { some = λ e. cc; digits = search (rules, arith); value = refl; small = omega arith } in
+    let writes : IsDecimal (codes "007") 7 = record { some = λ e. cc; digits = search (rules, arith); value_is = refl } in
+    let numeral : IsDecimalNumeral (codes "007") (pos 7) = record { value = 7; writes = writes; small = omega arith; number_is = refl } in
     let print : SpellsPrint (codes "print(007)\n") (pos 7) = record { digits = codes "007"; space = codes "\n"; whole = refl; numeral = numeral; white = search (rules, arith) } in
     record {
       space = codes " ";

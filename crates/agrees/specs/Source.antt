@@ -1,20 +1,16 @@
 -- Source of the first form: white space, then at most 200 statements `print(DIGITS)`, each with white space after it.
-use Rattle.std.specs.Prelude.{◌≡◌, ℕ, ◌≤◌, ◌⊎◌, List, [], ◌∷◌, ◌++◌, length, codes, ℤ}
+use Rattle.std.specs.Prelude.{◌≡◌, ℕ, ◌≤◌, List, [], ◌∷◌, ◌++◌, length, codes, ℤ}
 use Rattle.std.specs.List.{AllByRecursion}
-use Rattle.lua_num.specs.Numeral.{IsNumeral}
+use Rattle.lua_num.specs.Numeral.{IsDecimalNumeral, IsSpace}
 use Rattle.agrees.specs.declared.tree.Statement.{Statement}
 use Rattle.agrees.specs.declared.tree.Statement.TheVariants.{Print}
-
--- white space is the bytes 9 to 13 and 32 (manual 2.1)
-abbrev pub IsSpace : ℕ → Type 0
-IsSpace byte = ((9 ≤ byte) × (byte ≤ 13)) ⊎ (byte ≡ 32)
 
 -- `print(`, the digits of n, `)`, and white space
 pub record SpellsPrint (text : List ℕ) (n : ℤ) : Type 0 where
   pub digits : List ℕ
   pub space : List ℕ
   pub whole : text ≡ codes "print(" ++ (digits ++ (codes ")" ++ space))
-  pub numeral : IsNumeral digits n
+  pub numeral : IsDecimalNumeral digits n
   pub white : AllByRecursion IsSpace space
 
 abbrev pub SpellsStatement : List ℕ → Statement → Type 0

@@ -1,16 +1,17 @@
 -- What std reads from digits is what they are worth.
-use Rattle.std.proofs.Common.{◌≡◌, ◌≢◌, ℕ, ℤ, pos, ◌<◌, ◌^◌, List, [], ◌∷◌, length, Option, Result, Ok, Err, All, IfSome, IfNone, refl, rules, arith}
-use Rattle.std.specs.Char.{IsAsciiDigit}
+use Rattle.std.proofs.Common.{◌≡◌, ◌≢◌, ℕ, ◌<◌, ◌≤◌, ◌+◌, ◌*◌, ◌^◌, List, [], ◌∷◌, ◌++◌, length, get_or, Option, None, Some, Result, Ok, Err, SomeIff, OkIff, IfSome, IfNone, ℤ, pos, FitsSigned, w64, refl, sym, ap, subst, ◌∙◌, inl, inr, rules, arith}
+use Rattle.std.specs.Char.{IsAsciiDigit, IsAsciiHexdigit, digit_value}
 use Rattle.std.specs.List.{AllByRecursion}
-use Rattle.std.specs.Result.{OkIff, result_ok}
-use Rattle.std.specs.Str.Parse.{ParsesSigned}
-use Rattle.std.specs.Int.{w64}
-use Rattle.std.proofs.lemmas.Str.Parse.{IsNumeralModel, numerals_by_weight, parse_signed_digits}
-use Rattle.std.proofs.lemmas.List.Elements.{recursion_from_All, All-from_recursion}
+use Rattle.std.specs.Prelude.{codes, zero, suc, ◌⊎◌}
+use Rattle.std.specs.Result.{result_ok}
+use Rattle.std.specs.Str.{IsUtf8, IsAscii}
+use Rattle.std.specs.Str.Parse.{AllDigits, IsNumeral as IsRadixNumeral, digits_value as radix_digits_value, digits_value_after, ParsesUnsigned}
+use Rattle.std.proofs.lemmas.Bool.Decides.{nat_tests}
+use Rattle.std.proofs.lemmas.Str.Parse.{IsNumeralModel, numerals_by_weight, without_leading_plus_none}
 use Rattle.std.proofs.lemmas.Str.{IsUtf8-from_ascii}
-use Rattle.std.proofs.lemmas.Fmt.{IsAscii-from_digits}
-use Rattle.std.specs.Str.{IsUtf8}
-use Rattle.lua_num.specs.Numeral.{digits_value, IsNumeral}
+use Rattle.std.proofs.Math.Nat.{pow-zero, pow-succ'}
+use Rattle.lua_num.specs.Numeral.{digits_value, hex_value, IsDecimal, IsHexadecimal, Writes, IsNumeral}
+use Rattle.lua_num.specs.Reading.{HasMark, GivesValue}
 
 pub own : IsNumeralModel (AllByRecursion IsAsciiDigit) digits_value
 own = numerals_by_weight _ (search rules) digits_value (search rules)
@@ -23,33 +24,132 @@ pub nonempty_some : (text : List ℕ) → text ≢ [] → 0 < length text
 nonempty_some [] h = absurd (h refl)
 nonempty_some (x ∷ xs) h = omega arith
 
--- what a numeral's reading by std gives
-pub record Reads (text : List ℕ) (o : Option ℤ) : Type 0 where
+-- hexadecimal digits
+hex_below : (byte : ℕ) → IsAsciiHexdigit byte → digit_value byte < 16
+hex_below byte h = grind (arith, nat_tests)
+
+below_hex : (byte : ℕ) → digit_value byte < 16 → IsAsciiHexdigit byte
+below_hex byte h = grind (arith, nat_tests)
+
+hex_to : (digits : List ℕ) → AllByRecursion IsAsciiHexdigit digits → AllDigits 16 digits
+hex_to [] h = tt
+hex_to (digit ∷ digits) h = (hex_below digit h.0, hex_to digits h.1)
+
+hex_from : (digits : List ℕ) → AllDigits 16 digits → AllByRecursion IsAsciiHexdigit digits
+hex_from [] h = tt
+hex_from (digit ∷ digits) h = (below_hex digit h.0, hex_from digits h.1)
+
+hex_after : (n : ℕ) (digits : List ℕ) → n * 16 ^ length digits + hex_value digits ≡ digits_value_after 16 n digits
+hex_after n [] = omega (arith, ap (λ x. n * x) (pow-zero 16))
+hex_after n (digit ∷ digits) = omega (arith, ap (λ x. n * x) (pow-succ' 16 (length digits)), hex_after (n * 16 + digit_value digit) digits)
+
+hex_same : (digits : List ℕ) → hex_value digits ≡ radix_digits_value 16 digits
+hex_same digits = omega (arith, hex_after 0 digits)
+
+-- digits of a radix are text, and no plus sign
+digit_ascii : (byte radix : ℕ) → radix ≤ 36 → digit_value byte < radix → byte < 128
+digit_ascii byte radix h d = grind (arith, nat_tests)
+
+digits_ascii : (radix : ℕ) (digits : List ℕ) → radix ≤ 36 → AllDigits radix digits → IsAscii digits
+digits_ascii radix [] h d i = omega arith
+digits_ascii radix (digit ∷ digits) h d zero = digit_ascii digit radix h d.0
+digits_ascii radix (digit ∷ digits) h d (suc i) = digits_ascii radix digits h d.1 i
+
+pub digits_utf8 : (radix : ℕ) (digits : List ℕ) → radix ≤ 36 → AllDigits radix digits → IsUtf8 digits
+digits_utf8 radix digits h d = IsUtf8-from_ascii digits (digits_ascii radix digits h d)
+
+pub no_plus : (radix : ℕ) (digits : List ℕ) → radix ≤ 36 → AllDigits radix digits → get_or digits 0 0 ≢ 43
+no_plus radix [] h d e = omega arith
+no_plus radix (digit ∷ digits) h d e = let small : digit_value 43 < radix = subst (λ (b : ℕ). digit_value b < radix) e d.0 in omega arith
+
+-- what `ok` keeps of a result
+pub some_if_ok : {T E : Type 0} (P : Type 0) (v : T) (r : Result T E) → OkIff r P v → SomeIff (result_ok r) P v
+some_if_ok P v (Ok n) h = h
+some_if_ok P v (Err e) h = h
+
+-- what `from_str_radix` gives for a text with no plus sign
+pub parsed : {E : Type 0} (radix : ℕ) (digits : List ℕ) (r : Result ℕ E) → get_or digits 0 0 ≢ 43 → ParsesUnsigned 64 radix digits r → GivesValue radix digits (result_ok r)
+parsed radix digits r plain h =
+    some_if_ok _ _ r (subst (λ (l : List ℕ). OkIff r (IsRadixNumeral radix l × (radix_digits_value radix l < 2 ^ 64)) (radix_digits_value radix l)) (without_leading_plus_none digits plain) h)
+
+-- what reading digits gives is what the text writes
+pub record Wrote (text : List ℕ) (o : Option ℕ) : Type 0 where
+  pub value : IfSome o (Writes text)
+  pub none : IfNone o ((value : ℕ) → value < 2 ^ 64 → Writes text value → ⊥)
+
+marked_has : (text : List ℕ) (value : ℕ) (is : IsHexadecimal text value) → HasMark text is.digits
+marked_has text value is = elim is.marked [ inl e ↦ inl (rw (← e) is.whole) | inr e ↦ inr (rw (← e) is.whole) ]
+
+pub wrote_decimal : (text : List ℕ) (o : Option ℕ) → ((digits : List ℕ) → HasMark text digits → ⊥) → GivesValue 10 text o → Wrote text o
+wrote_decimal text (Some n) plain h = record {
+  value = inl (record { some = some_nonempty text h.0.0.0; digits = own.from text h.0.0.1; value_is = h.1 ∙ sym (own.same text h.0.0.1) });
+  none = tt;
+}
+wrote_decimal text None plain h = record {
+  value = tt;
+  none = λ value below writes. elim writes [
+    inl is ↦ let all = own.to text is.digits in h ((nonempty_some text is.some, all), omega (arith, own.same text all, is.value_is))
+  | inr is ↦ plain is.digits (marked_has text value is)
+  ];
+}
+
+-- a marked text is no decimal numeral
+marked_split : (text digits : List ℕ) → HasMark text digits → (mark : ℕ) × ((mark ≡ 120) ⊎ (mark ≡ 88)) × (text ≡ codes "0" ++ mark ∷ digits)
+marked_split text digits has = elim has [ inl e ↦ (120, inl refl, e) | inr e ↦ (88, inr refl, e) ]
+
+mark_no_digit : (mark : ℕ) → (mark ≡ 120) ⊎ (mark ≡ 88) → IsAsciiDigit mark → ⊥
+mark_no_digit mark h d = grind arith
+
+pub marked_no_decimal : (text digits : List ℕ) (value : ℕ) → HasMark text digits → IsDecimal text value → ⊥
+marked_no_decimal text digits value has is =
+    let split = marked_split text digits has in
+    mark_no_digit split.0 split.1 (subst (AllByRecursion IsAsciiDigit) split.2 is.digits).1.0
+
+pub marked_digits : (text digits : List ℕ) (value : ℕ) → HasMark text digits → (is : IsHexadecimal text value) → is.digits ≡ digits
+marked_digits text digits value has is =
+    let split = marked_split text digits has in
+    let both : 48 ∷ is.mark ∷ is.digits ≡ 48 ∷ split.0 ∷ digits = sym is.whole ∙ split.2 in
+    cc
+
+pub wrote_hexadecimal : (text digits : List ℕ) (o : Option ℕ) → HasMark text digits → GivesValue 16 digits o → Wrote text o
+wrote_hexadecimal text digits (Some n) has h =
+    let split = marked_split text digits has in
+    record {
+      value = inr (record { mark = split.0; digits = digits; marked = split.1; whole = split.2; some = some_nonempty digits h.0.0.0; digits_are = hex_from digits h.0.0.1; value_is = h.1 ∙ sym (hex_same digits) });
+      none = tt;
+    }
+wrote_hexadecimal text digits None has h = record {
+  value = tt;
+  none = λ value below writes. elim writes [
+    inl is ↦ marked_no_decimal text digits value has is
+  | inr is ↦
+      let same : is.digits ≡ digits = marked_digits text digits value has is in
+      let all = hex_to is.digits is.digits_are in
+      let is_one : IsRadixNumeral 16 is.digits = (nonempty_some is.digits is.some, all) in
+      h (subst (λ (l : List ℕ). IsRadixNumeral 16 l × (radix_digits_value 16 l < 2 ^ 64)) same (is_one, omega (arith, hex_same is.digits, is.value_is)))
+  ];
+}
+
+-- a text writes one value
+pub one_value : (text : List ℕ) (v w : ℕ) → Writes text v → Writes text w → v ≡ w
+one_value text v w (inl a) (inl b) = a.value_is ∙ sym b.value_is
+one_value text v w (inl a) (inr b) = absurd (marked_no_decimal text b.digits v (marked_has text w b) a)
+one_value text v w (inr a) (inl b) = absurd (marked_no_decimal text a.digits w (marked_has text v a) b)
+one_value text v w (inr a) (inr b) =
+    let same : a.digits ≡ b.digits = marked_digits text b.digits v (marked_has text w b) a in
+    a.value_is ∙ (ap hex_value same ∙ sym b.value_is)
+
+-- what reading a numeral gives
+pub record ReadsNumeral (text : List ℕ) (o : Option ℤ) : Type 0 where
   pub value : IfSome o (IsNumeral text)
   pub none : IfNone o ((n : ℤ) → IsNumeral text n → ⊥)
 
-reads_iff : {E : Type 0} → (text : List ℕ) (r : Result ℤ E) → AllByRecursion IsAsciiDigit text → OkIff r ((0 < length text) × (digits_value text < 2 ^ 63)) (pos (digits_value text)) → Reads text (result_ok r)
-reads_iff text (Ok n) digits h = record {
-  value = record { some = some_nonempty text h.0.0; digits = digits; value = h.1; small = h.0.1 };
+pub numeral_read : (text : List ℕ) (value : ℕ) (o : Option ℤ) → Writes text value → SomeIff o (FitsSigned w64 (pos value)) (pos value) → ReadsNumeral text o
+numeral_read text value (Some n) writes h = record {
+  value = record { value = value; writes = writes; small = h.0.sfits; number_is = h.1 };
   none = tt;
 }
-reads_iff text (Err e) digits h = record {
+numeral_read text value None writes h = record {
   value = tt;
-  none = λ n is. h (nonempty_some text is.some, is.small);
+  none = λ n is. h (record { sfits = omega (arith, one_value text is.value value is.writes writes, is.small) });
 }
-
-pub reads : {E : Type 0} → (text : List ℕ) (r : Result ℤ E) → AllByRecursion IsAsciiDigit text → ParsesSigned w64 10 text r → Reads text (result_ok r)
-reads text r digits h = reads_iff text r digits (parse_signed_digits own w64 text r h digits)
-
--- digits are text
-pub utf8_of_digits : (text : List ℕ) → All IsAsciiDigit text → IsUtf8 text
-utf8_of_digits text h = IsUtf8-from_ascii text (IsAscii-from_digits text (own.to text (recursion_from_All IsAsciiDigit text h)))
-
-pub reads_at : {E : Type 0} → (text digits : List ℕ) (r : Result ℤ E) (o : Option ℤ) → All IsAsciiDigit text → digits ≡ text → ParsesSigned w64 10 digits r → o ≡ result_ok r → Reads text o
-reads_at text digits r o all same h e =
-    let p = reads digits r (recursion_from_All IsAsciiDigit digits (rw same all)) h in
-    rw (← same, e) p
-
--- where some byte is no digit, the text is no numeral
-pub none_reads : (text : List ℕ) → ((All IsAsciiDigit text) → ⊥) → (n : ℤ) → IsNumeral text n → ⊥
-none_reads text other n is = other (All-from_recursion IsAsciiDigit text is.digits)

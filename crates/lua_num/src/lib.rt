@@ -7,4 +7,4 @@ mod numbers;
 mod tests;
 
 pub use byte_text::ByteText;
-pub use numbers::{decimal, decimal_reads_back, numeral};
+pub use numbers::{decimal, decimal_reads_back, numeral, to_number};

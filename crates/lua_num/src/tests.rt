@@ -43,6 +43,8 @@ fn digits_alone_are_numerals(rt: HostRuntime) {
         ("007", Some(7)),
         ("9223372036854775807", Some(i64::MAX)),
         ("9223372036854775808", None),
+        ("18446744073709551617", None),
+        ("0000000000000000000000000000001", Some(1)),
         ("", None),
         ("1x", None),
         ("-1", None),
@@ -52,4 +54,75 @@ fn digits_alone_are_numerals(rt: HostRuntime) {
     for (text, want) in texts {
         assert_eq!(rt; numeral(text.as_bytes()), want, "{text:?}");
     }
+}
+
+#[test]
+fn numerals_are_hexadecimal_after_their_mark(rt: HostRuntime) {
+    let texts = [
+        ("0x10", Some(16)),
+        ("0XfF", Some(255)),
+        ("0x7fffffffffffffff", Some(i64::MAX)),
+        ("0x8000000000000000", None),
+        ("0x10000000000000001", None),
+        ("0x00000000000000000001", Some(1)),
+        ("0x", None),
+        ("0x+1", None),
+        ("0x1g", None),
+        ("1x0", None),
+        ("x10", None),
+        ("00x1", None),
+        ("ff", None),
+    ];
+    for (text, want) in texts {
+        assert_eq!(rt; numeral(text.as_bytes()), want, "{text:?}");
+    }
+}
+
+#[test]
+fn strings_with_a_sign_and_white_space_are_numbers(rt: HostRuntime) {
+    let texts = [
+        ("5", 5),
+        ("+5", 5),
+        (" 5 ", 5),
+        ("-5", -5),
+        ("-0", 0),
+        (" -0x10 ", -16),
+        ("\x0b12\x0b", 12),
+        ("\t\n\r\x0c 12", 12),
+        ("9223372036854775807", i64::MAX),
+        ("-9223372036854775808", i64::MIN),
+        ("-0x8000000000000000", i64::MIN),
+    ];
+    for (text, want) in texts {
+        assert_eq!(rt; to_number(text.as_bytes()), Some(want), "{text:?}");
+    }
+}
+
+#[test]
+fn other_strings_are_no_numbers(rt: HostRuntime) {
+    let texts = [
+        "",
+        " ",
+        "+",
+        "-",
+        "- 5",
+        "--5",
+        "+-5",
+        "0x",
+        "-0x",
+        "0x1g",
+        "1 2",
+        "1e2",
+        "1.",
+        "5\0",
+        "9223372036854775808",
+        "0x8000000000000000",
+        "-9223372036854775809",
+        "18446744073709551621",
+    ];
+    for text in texts {
+        assert_eq!(rt; to_number(text.as_bytes()), None, "{text:?}");
+    }
+    assert_eq!(rt; to_number(b"\xff"), None);
+    assert_eq!(rt; to_number(b"5\xa0"), None);
 }

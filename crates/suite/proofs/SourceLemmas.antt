@@ -1,11 +1,11 @@
 -- A text has one reading at most.
-use Rattle.std.proofs.Common.{◌≡◌, ◌≢◌, ℕ, ◌+◌, ◌≤◌, Bool, true, false, cond, List, [], ◌∷◌, ◌++◌, length, take, drop, refl, sym, ap, subst, ◌∙◌, one-add, append_assoc, append-nil, arith, length-append}
+use Rattle.std.proofs.Common.{◌≡◌, ◌≢◌, ℕ, ◌+◌, ◌≤◌, Bool, true, false, cond, List, [], ◌∷◌, ◌++◌, length, take, drop, refl, sym, ap, subst, ◌∙◌, inl, inr, one-add, append_assoc, append-nil, arith, length-append}
 use Rattle.std.proofs.lemmas.Bool.Decides.{nat_tests}
-use Rattle.std.specs.Prelude.{codes, ℤ, nat_eq}
+use Rattle.std.specs.Prelude.{codes, ℤ, pos, nat_eq, ◌⊎◌}
 use Rattle.std.specs.Char.{IsAsciiDigit, is_ascii_digit}
 use Rattle.std.specs.List.{AllByRecursion, prefix_len}
-use Rattle.lua_num.specs.Numeral.{IsNumeral}
-use Rattle.agrees.specs.Source.{IsSpace, SpellsPrint, SpellsStatement, Spells, IsFirstForm}
+use Rattle.lua_num.specs.Numeral.{IsDecimal, IsHexadecimal, IsNumeral, IsDecimalNumeral, IsSpace}
+use Rattle.agrees.specs.Source.{SpellsPrint, SpellsStatement, Spells, IsFirstForm}
 use Rattle.agrees.specs.declared.tree.Statement.{Statement}
 use Rattle.agrees.specs.declared.tree.Statement.TheVariants.{Print}
 use Rattle.suite.specs.Reading.{is_space_byte, BeginsWithout, SplitsRun, SkipsSpace, ReadsStatement, HasNoStatement}
@@ -76,7 +76,7 @@ record HasPrint (opened : List ℕ) (n : ℤ) (rest : List ℕ) : Type 0 where
   digits : List ℕ
   space : List ℕ
   whole : opened ≡ digits ++ (41 ∷ (space ++ rest))
-  numeral : IsNumeral digits n
+  numeral : IsDecimalNumeral digits n
   white : AllByRecursion IsSpace space
 
 has_print : (text opened front rest : List ℕ) (n : ℤ) → text ≡ codes "print(" ++ opened → text ≡ front ++ rest → SpellsPrint front n → HasPrint opened n rest
@@ -89,18 +89,36 @@ has_print text opened front rest n e parted is =
 record HasClosed (digits left : List ℕ) (n : ℤ) (rest : List ℕ) : Type 0 where
   space : List ℕ
   whole : left ≡ 41 ∷ (space ++ rest)
-  numeral : IsNumeral digits n
+  numeral : IsDecimalNumeral digits n
   white : AllByRecursion IsSpace space
 
 has_closed : (opened digits left rest : List ℕ) (n : ℤ) → SplitsRun IsAsciiDigit opened digits left → HasPrint opened n rest → HasClosed digits left n rest
 has_closed opened digits left rest n split has =
-    let same : SameSplit digits left has.digits (41 ∷ (has.space ++ rest)) = one_run IsAsciiDigit digits left has.digits (41 ∷ (has.space ++ rest)) (sym split.whole ∙ has.whole) split.within split.ends has.numeral.digits no_digit in
-    record { space = has.space; whole = same.rests; numeral = subst (λ (d : List ℕ). IsNumeral d n) (sym same.runs) has.numeral; white = has.white }
+    let same : SameSplit digits left has.digits (41 ∷ (has.space ++ rest)) = one_run IsAsciiDigit digits left has.digits (41 ∷ (has.space ++ rest)) (sym split.whole ∙ has.whole) split.within split.ends has.numeral.writes.digits no_digit in
+    record { space = has.space; whole = same.rests; numeral = subst (λ (d : List ℕ). IsDecimalNumeral d n) (sym same.runs) has.numeral; white = has.white }
+
+-- a numeral of decimal digits is a numeral, and one whose bytes are all digits is decimal
+any_numeral : (digits : List ℕ) (n : ℤ) → IsDecimalNumeral digits n → IsNumeral digits n
+any_numeral digits n is = record { value = is.value; writes = inl is.writes; small = is.small; number_is = is.number_is }
+
+mark_no_digit : (mark : ℕ) → (mark ≡ 120) ⊎ (mark ≡ 88) → IsAsciiDigit mark → ⊥
+mark_no_digit mark h digit = grind arith
+
+no_hexadecimal : (digits : List ℕ) (value : ℕ) → AllByRecursion IsAsciiDigit digits → IsHexadecimal digits value → ⊥
+no_hexadecimal digits value within is = mark_no_digit is.mark is.marked (subst (AllByRecursion IsAsciiDigit) is.whole within).1.0
+
+decimal_numeral : (digits : List ℕ) (n : ℤ) → AllByRecursion IsAsciiDigit digits → IsNumeral digits n → IsDecimalNumeral digits n
+decimal_numeral digits n within is =
+    let writes : IsDecimal digits is.value = elim is.writes [ inl decimal ↦ decimal | inr hexadecimal ↦ absurd (no_hexadecimal digits is.value within hexadecimal) ] in
+    record { value = is.value; writes = writes; small = is.small; number_is = is.number_is }
+
+one_number : (digits : List ℕ) (n m : ℤ) → IsDecimalNumeral digits n → IsDecimalNumeral digits m → n ≡ m
+one_number digits n m a b = a.number_is ∙ (ap pos (a.writes.value_is ∙ sym b.writes.value_is) ∙ sym b.number_is)
 
 -- where reading stops, no statement stands at the front
 pub none_numeral : (text opened digits left : List ℕ) → text ≡ codes "print(" ++ opened → SplitsRun IsAsciiDigit opened digits left → ((n : ℤ) → IsNumeral digits n → ⊥) → HasNoStatement text
 none_numeral text opened digits left e split other front rest (Print n) parted is =
-    other n (has_closed opened digits left rest n split (has_print text opened front rest n e parted is)).numeral
+    other n (any_numeral digits n (has_closed opened digits left rest n split (has_print text opened front rest n e parted is)).numeral)
 
 pub none_closed : (text opened digits left : List ℕ) → text ≡ codes "print(" ++ opened → SplitsRun IsAsciiDigit opened digits left → ((closed : List ℕ) → left ≡ codes ")" ++ closed → ⊥) → HasNoStatement text
 none_closed text opened digits left e split other front rest (Print n) parted is =
@@ -116,7 +134,7 @@ reads text opened digits left closed rest n e split numeral close skips =
     record {
       front = front;
       whole = e ∙ (ap (λ l. codes "print(" ++ l) inner ∙ sym whole);
-      spelled = record { digits = digits; space = skips.space; whole = refl; numeral = numeral; white = skips.split.within };
+      spelled = record { digits = digits; space = skips.space; whole = refl; numeral = decimal_numeral digits n split.within numeral; white = skips.split.within };
       ends = skips.split.ends;
     }
 
@@ -129,11 +147,11 @@ same_read : (text rest front others : List ℕ) (s t : Statement) → ReadsState
 same_read text rest front others (Print n) (Print m) read parted is ends =
     let opened : List ℕ = read.spelled.digits ++ (41 ∷ (read.spelled.space ++ rest)) in
     let e : text ≡ codes "print(" ++ opened = read.whole ∙ spread read.front rest read.spelled.digits read.spelled.space read.spelled.whole in
-    let split : SplitsRun IsAsciiDigit opened read.spelled.digits (41 ∷ (read.spelled.space ++ rest)) = record { whole = refl; within = read.spelled.numeral.digits; ends = no_digit } in
+    let split : SplitsRun IsAsciiDigit opened read.spelled.digits (41 ∷ (read.spelled.space ++ rest)) = record { whole = refl; within = read.spelled.numeral.writes.digits; ends = no_digit } in
     let has : HasClosed read.spelled.digits (41 ∷ (read.spelled.space ++ rest)) m others = has_closed opened read.spelled.digits _ others m split (has_print text opened front others m e parted is) in
     let spaces : read.spelled.space ++ rest ≡ has.space ++ others = let w : 41 ∷ (read.spelled.space ++ rest) ≡ 41 ∷ (has.space ++ others) = has.whole in cc in
     let same : SameSplit read.spelled.space rest has.space others = one_run IsSpace read.spelled.space rest has.space others spaces read.spelled.white read.ends has.white ends in
-    record { statements = ap Print (read.spelled.numeral.value ∙ sym has.numeral.value); rests = same.rests }
+    record { statements = ap Print (one_number read.spelled.digits n m read.spelled.numeral has.numeral); rests = same.rests }
 
 -- statements begin with no white space
 spells_begins : (text : List ℕ) (tree : List Statement) → Spells text tree → BeginsWithout IsSpace text

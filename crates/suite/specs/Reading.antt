@@ -1,7 +1,8 @@
 -- What reading takes from the front of a text.
 use Rattle.std.specs.Prelude.{◌≡◌, ℕ, Bool, nat_le, ◌==◌, ◌&&◌, ◌||◌, List, [], ◌∷◌, ◌++◌}
 use Rattle.std.specs.List.{AllByRecursion}
-use Rattle.agrees.specs.Source.{IsSpace, SpellsStatement}
+use Rattle.lua_num.specs.Numeral.{IsSpace}
+use Rattle.agrees.specs.Source.{SpellsStatement}
 use Rattle.agrees.specs.declared.tree.Statement.{Statement}
 
 -- white space, as a test

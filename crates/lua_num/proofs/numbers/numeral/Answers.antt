@@ -1,12 +1,16 @@
-use Rattle.std.proofs.Common.{rules}
-use Rattle.lua_num.proofs.Numerals.{reads_at, utf8_of_digits}
+use Rattle.std.proofs.Common.{arith}
+use Rattle.std.specs.Result.{result_ok}
+use Rattle.lua_num.proofs.Numerals.{some_if_ok, numeral_read}
 use Rattle.lua_num.proofs.numbers.numeral.Goals as goal
 
-pub returns-in-Ok-clause-value : goal.returns-in-Ok-clause-value
-returns-in-Ok-clause-value c = (reads_at c.args.text.now c.in-Ok.digits.now c.parse.result c.ok.result (search rules) c.in-Ok.ensures.cases.0 c.parse.ensures.value.0 c.ok.ensures.value).value
+pub returns-in_err-written_value-clause-none : goal.returns-in_err-written_value-clause-none
+returns-in_err-written_value-clause-none c =
+    rw c.from_residual.ensures (λ n is. c.in_err-written_value.ensures.none is.value (omega (arith, is.small)) is.writes)
 
-pub returns-in-Ok-clause-none : goal.returns-in-Ok-clause-none
-returns-in-Ok-clause-none c = (reads_at c.args.text.now c.in-Ok.digits.now c.parse.result c.ok.result (search rules) c.in-Ok.ensures.cases.0 c.parse.ensures.value.0 c.ok.ensures.value).none
+pub returns-clause-value : goal.returns-clause-value
+returns-clause-value c =
+    rw c.ok.ensures.value (numeral_read c.args.text.now c.in_ok-written_value.field-0 (result_ok c.try_from.result) c.in_ok-written_value.ensures.value (some_if_ok _ _ c.try_from.result c.try_from.ensures)).value
 
-pub returns-in-Err-clause-none : goal.returns-in-Err-clause-none
-returns-in-Err-clause-none c = absurd (c.in-Err.ensures.cases.0 (utf8_of_digits c.args.text.now (search rules)))
+pub returns-clause-none : goal.returns-clause-none
+returns-clause-none c =
+    rw c.ok.ensures.value (numeral_read c.args.text.now c.in_ok-written_value.field-0 (result_ok c.try_from.result) c.in_ok-written_value.ensures.value (some_if_ok _ _ c.try_from.result c.try_from.ensures)).none
