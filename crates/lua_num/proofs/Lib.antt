@@ -1,2 +1,5 @@
 pub mod Numerals
 pub mod Examples
+pub mod ArithExamples
+pub mod Wrapping
+pub mod FloorRemainder
