@@ -39,7 +39,7 @@ not_marked first value others other is = other (same_heads first 48 others (is.m
 
 past_greatest_is_none : (n : ℤ) → IsNumeral (codes "9223372036854775808") n → ⊥
 past_greatest_is_none n is = elim is.writes [
-    inl decimal ↦ omega (arith, is.small, decimal.value_is)
+  | inl decimal ↦ omega (arith, is.small, decimal.value_is)
   | inr hexadecimal ↦ not_marked 57 is.value (codes "223372036854775808") (omega arith) hexadecimal
 ]
 

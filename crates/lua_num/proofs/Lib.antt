@@ -1,3 +1,6 @@
 pub mod Numerals
 pub mod NumberTexts
 pub mod Examples
+pub mod ArithExamples
+pub mod Wrapping
+pub mod FloorRemainder

@@ -171,15 +171,15 @@ record SignedAs (text : List ℕ) (n : ℤ) (is : WritesSigned text n) (rest : L
 
 minus_signed : (text rest : List ℕ) (n : ℤ) → text ≡ codes "-" ++ rest → (is : WritesSigned text n) → SignedAs text n is rest (neg_ℤ (pos is.value))
 minus_signed text rest n e is = elim is.signed [
-    inl p ↦ elim p.0 [
-      inl none ↦
+  | inl p ↦ elim p.0 [
+    | inl none ↦
         let plain : text ≡ is.rest = subst (λ (sign : List ℕ). text ≡ sign ++ is.rest) none is.whole in
         absurd (no_minus (word_begins is.rest rest is.value 45 is.word (sym plain ∙ e)))
     | inr plus ↦
         let signed : text ≡ 43 ∷ is.rest = subst (λ (sign : List ℕ). text ≡ sign ++ is.rest) plus is.whole in
         let both : 43 ∷ is.rest ≡ 45 ∷ rest = sym signed ∙ e in
         absurd (signs_differ is.rest rest both)
-    ]
+  ]
   | inr p ↦
       let signed : text ≡ 45 ∷ is.rest = subst (λ (sign : List ℕ). text ≡ sign ++ is.rest) p.0 is.whole in
       let both : 45 ∷ is.rest ≡ 45 ∷ rest = sym signed ∙ e in
@@ -188,22 +188,22 @@ minus_signed text rest n e is = elim is.signed [
 
 plain_signed : (text rest : List ℕ) (n : ℤ) → ((other : List ℕ) → text ≢ codes "-" ++ other) → DropsPlus text rest → (is : WritesSigned text n) → SignedAs text n is rest (pos is.value)
 plain_signed text rest n other drops is = elim is.signed [
-    inl p ↦ elim p.0 [
-      inl none ↦
+  | inl p ↦ elim p.0 [
+    | inl none ↦
         let plain : text ≡ is.rest = subst (λ (sign : List ℕ). text ≡ sign ++ is.rest) none is.whole in
         elim drops [
-          inl plus ↦ absurd (no_plus (word_begins is.rest rest is.value 43 is.word (sym plain ∙ plus)))
-        | inr same ↦ record { rests = sym plain ∙ same.0; numbers = p.1 }
+          | inl plus ↦ absurd (no_plus (word_begins is.rest rest is.value 43 is.word (sym plain ∙ plus)))
+          | inr same ↦ record { rests = sym plain ∙ same.0; numbers = p.1 }
         ]
     | inr sign_is ↦
         let signed : text ≡ 43 ∷ is.rest = subst (λ (sign : List ℕ). text ≡ sign ++ is.rest) sign_is is.whole in
         elim drops [
-          inl plus ↦
-            let both : 43 ∷ is.rest ≡ 43 ∷ rest = sym signed ∙ plus in
-            record { rests = cc; numbers = p.1 }
-        | inr same ↦ absurd (same.1 is.rest signed)
+          | inl plus ↦
+              let both : 43 ∷ is.rest ≡ 43 ∷ rest = sym signed ∙ plus in
+              record { rests = cc; numbers = p.1 }
+          | inr same ↦ absurd (same.1 is.rest signed)
         ]
-    ]
+  ]
   | inr p ↦
       let signed : text ≡ 45 ∷ is.rest = subst (λ (sign : List ℕ). text ≡ sign ++ is.rest) p.0 is.whole in
       absurd (other is.rest signed)
@@ -229,9 +229,9 @@ minus_read text rest value (Some n) e word h = record {
 minus_read text rest value None e word h = record {
   value = tt;
   none = λ n is.
-    let known : SignedAs text n is rest (neg_ℤ (pos is.value)) = minus_signed text rest n e is in
-    let one : is.value ≡ value = one_word_value rest is.value value (subst (λ (l : List ℕ). WritesWord l is.value) known.rests is.word) word in
-    h (subst (FitsSigned w64) (known.numbers ∙ (ap (λ v. neg_ℤ (pos v)) one ∙ sym (negated value))) is.fits);
+      let known : SignedAs text n is rest (neg_ℤ (pos is.value)) = minus_signed text rest n e is in
+      let one : is.value ≡ value = one_word_value rest is.value value (subst (λ (l : List ℕ). WritesWord l is.value) known.rests is.word) word in
+      h (subst (FitsSigned w64) (known.numbers ∙ (ap (λ v. neg_ℤ (pos v)) one ∙ sym (negated value))) is.fits);
 }
 
 pub minus_none : (text rest : List ℕ) (n : ℤ) → text ≡ codes "-" ++ rest → ((value : ℕ) → value < 2 ^ 64 → WritesWord rest value → ⊥) → WritesSigned text n → ⊥
@@ -251,9 +251,9 @@ plain_read text rest value (Some n) other (inr same) word h = record {
 plain_read text rest value None other drops word h = record {
   value = tt;
   none = λ n is.
-    let known : SignedAs text n is rest (pos is.value) = plain_signed text rest n other drops is in
-    let one : is.value ≡ value = one_word_value rest is.value value (subst (λ (l : List ℕ). WritesWord l is.value) known.rests is.word) word in
-    h (subst (FitsSigned w64) (known.numbers ∙ ap pos one) is.fits);
+      let known : SignedAs text n is rest (pos is.value) = plain_signed text rest n other drops is in
+      let one : is.value ≡ value = one_word_value rest is.value value (subst (λ (l : List ℕ). WritesWord l is.value) known.rests is.word) word in
+      h (subst (FitsSigned w64) (known.numbers ∙ ap pos one) is.fits);
 }
 
 pub plain_none : (text rest : List ℕ) (n : ℤ) → ((other : List ℕ) → text ≢ codes "-" ++ other) → DropsPlus text rest → ((value : ℕ) → value < 2 ^ 64 → WritesWord rest value → ⊥) → WritesSigned text n → ⊥
@@ -289,7 +289,7 @@ minus_no_space h = grind arith
 
 signed_without : (sign rest : List ℕ) (value : ℕ) (n : ℤ) → Signs sign value n → BeginsWithout IsSpace rest → BeginsWithout IsSpace (sign ++ rest)
 signed_without sign rest value n (inl p) h = elim p.0 [
-    inl none ↦ subst (λ (l : List ℕ). BeginsWithout IsSpace (l ++ rest)) (sym none) h
+  | inl none ↦ subst (λ (l : List ℕ). BeginsWithout IsSpace (l ++ rest)) (sym none) h
   | inr plus ↦ subst (λ (l : List ℕ). BeginsWithout IsSpace (l ++ rest)) (sym plus) plus_no_space
 ]
 signed_without sign rest value n (inr p) h = subst (λ (l : List ℕ). BeginsWithout IsSpace (l ++ rest)) (sym p.0) minus_no_space

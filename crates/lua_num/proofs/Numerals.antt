@@ -88,8 +88,8 @@ wrote_decimal text (Some n) plain h = record {
 wrote_decimal text None plain h = record {
   value = tt;
   none = λ value below writes. elim writes [
-    inl is ↦ let all = own.to text is.digits in h ((nonempty_some text is.some, all), omega (arith, own.same text all, is.value_is))
-  | inr is ↦ plain is.digits (marked_has text value is)
+    | inl is ↦ let all = own.to text is.digits in h ((nonempty_some text is.some, all), omega (arith, own.same text all, is.value_is))
+    | inr is ↦ plain is.digits (marked_has text value is)
   ];
 }
 
@@ -121,12 +121,12 @@ wrote_hexadecimal text digits (Some n) has h =
 wrote_hexadecimal text digits None has h = record {
   value = tt;
   none = λ value below writes. elim writes [
-    inl is ↦ marked_no_decimal text digits value has is
-  | inr is ↦
-      let same : is.digits ≡ digits = marked_digits text digits value has is in
-      let all = hex_to is.digits is.digits_are in
-      let is_one : IsRadixNumeral 16 is.digits = (nonempty_some is.digits is.some, all) in
-      h (subst (λ (l : List ℕ). IsRadixNumeral 16 l × (radix_digits_value 16 l < 2 ^ 64)) same (is_one, omega (arith, hex_same is.digits, is.value_is)))
+    | inl is ↦ marked_no_decimal text digits value has is
+    | inr is ↦
+        let same : is.digits ≡ digits = marked_digits text digits value has is in
+        let all = hex_to is.digits is.digits_are in
+        let is_one : IsRadixNumeral 16 is.digits = (nonempty_some is.digits is.some, all) in
+        h (subst (λ (l : List ℕ). IsRadixNumeral 16 l × (radix_digits_value 16 l < 2 ^ 64)) same (is_one, omega (arith, hex_same is.digits, is.value_is)))
   ];
 }
 

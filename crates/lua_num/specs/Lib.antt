@@ -1,2 +1,3 @@
+pub mod Arith
 pub mod Numeral
 pub mod Reading

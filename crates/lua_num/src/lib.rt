@@ -1,10 +1,12 @@
 // Numbers, their texts, and texts as lists of bytes.
 #![tactic(auto)]
 
+mod arith;
 mod byte_text;
 mod numbers;
 #[cfg(test)]
 mod tests;
 
+pub use arith::{ArithOp, CompareOp, NumFault, add, div, mul, neg, pow, rem, sub};
 pub use byte_text::ByteText;
 pub use numbers::{decimal, decimal_reads_back, numeral, to_number};
