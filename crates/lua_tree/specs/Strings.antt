@@ -59,11 +59,11 @@ ItemsFit quote (item ∷ items) after = ItemFits quote item (items_text items af
 abbrev pub IsQuote : ℕ → Type 0
 IsQuote byte = (byte ≡ 34) ⊎ (byte ≡ 39)
 
--- a short string, whole, and what it means
-pub record IsShort (text bytes : List ℕ) : Type 0 where
+-- a short string, whole, what follows it, and what it means
+pub record IsShort (text after bytes : List ℕ) : Type 0 where
   pub quote : ℕ
   pub items : List Item
   pub quoted : IsQuote quote
   pub whole : text ≡ quote ∷ items_text items (quote ∷ [])
-  pub fit : ItemsFit quote items (quote ∷ [])
+  pub fit : ItemsFit quote items (quote ∷ after)
   pub bytes_are : bytes ≡ items_value items

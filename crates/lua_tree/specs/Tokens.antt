@@ -43,8 +43,8 @@ pub record IsNumber (n : ℤ) (text after : List ℕ) : Type 0 where
   pub numeral : IsNumeral text n
 
 -- a string: a short one, or a long one of some level
-abbrev pub IsString : List ℕ → List ℕ → Type 0
-IsString bytes text = IsShort text bytes ⊎ ((level : ℕ) × (inside : List ℕ) × IsLong level inside text × LongMeans inside bytes)
+abbrev pub IsString : List ℕ → List ℕ → List ℕ → Type 0
+IsString bytes text after = IsShort text after bytes ⊎ ((level : ℕ) × (inside : List ℕ) × IsLong level inside text × LongMeans inside bytes)
 
 -- where a mark may not stand: `-` before `-`, where a comment begins; `[` before `[` or `=`, where a long bracket or a bad
 -- opening stands; `.` before a digit, where a numeral begins; and `#` as the first byte of all
@@ -85,7 +85,7 @@ IsToken TokenKind.Until at text after = IsKeyword (codes "until") text after
 IsToken TokenKind.While at text after = IsKeyword (codes "while") text after
 IsToken (TokenKind.Name name) at text after = IsName name text after
 IsToken (TokenKind.Number n) at text after = IsNumber n text after
-IsToken (TokenKind.Text bytes) at text after = IsString bytes text
+IsToken (TokenKind.Text bytes) at text after = IsString bytes text after
 IsToken TokenKind.Plus at text after = IsMark (codes "+") at text after
 IsToken TokenKind.Minus at text after = IsMark (codes "-") at text after
 IsToken TokenKind.Star at text after = IsMark (codes "*") at text after
