@@ -6,5 +6,5 @@ mod laws;
 mod tests;
 mod token;
 
-pub use laws::{lines_are_one, short_strings_are_one};
+pub use laws::{lines_are_one, tokens_are_one};
 pub use token::{Token, TokenKind, Tokens};
