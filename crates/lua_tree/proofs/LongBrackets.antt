@@ -5,7 +5,7 @@ use Rattle.lua_tree.specs.Bytes.{Each, BeginsWithout, has_front, holds}
 use Rattle.lua_tree.specs.Brackets.{opening, closing, almost_closing, IsLong}
 use Rattle.lua_tree.proofs.Cuts.{SameFronts}
 
-true_false : true ≡ false → ⊥
+pub true_false : true ≡ false → ⊥
 true_false e = cc
 
 -- the longest run is one
@@ -29,7 +29,7 @@ or_right : (a b : Bool) → b ≡ true → (a || b) ≡ true
 or_right true b h = refl
 or_right false b h = h
 
-word_is_there : (front word rest : List ℕ) → holds word (front ++ (word ++ rest)) ≡ true
+pub word_is_there : (front word rest : List ℕ) → holds word (front ++ (word ++ rest)) ≡ true
 word_is_there [] [] [] = refl
 word_is_there [] [] (byte ∷ rest) = refl
 word_is_there [] (byte ∷ word) rest = let h : has_front (byte ∷ word) (byte ∷ (word ++ rest)) ≡ true = front_is_there (byte ∷ word) rest in rw h
@@ -62,11 +62,11 @@ pub same_openings : (a b : ℕ) (r s : List ℕ) → opening a ++ r ≡ opening 
 same_openings a b r s e = same_levels 61 91 a b r s signs_differ (one_tail 91 _ _ (sym (opened a r) ∙ (e ∙ opened b s)))
 
 -- the first closing is one
-or_false : (a b : Bool) → (a || b) ≡ false → b ≡ false
+pub or_false : (a b : Bool) → (a || b) ≡ false → b ≡ false
 or_false true b h = absurd (true_false h)
 or_false false b h = h
 
-or_left : (a b : Bool) → a ≡ true → (a || b) ≡ false → ⊥
+pub or_left : (a b : Bool) → a ≡ true → (a || b) ≡ false → ⊥
 or_left true b h e = true_false e
 or_left false b h e = true_false (sym h)
 

@@ -104,16 +104,16 @@ digit_class at byte text h =
 point_class : (at : ℕ) (text : List ℕ) → next_is is_digit text ≡ true → class_of at (46 ∷ text) ≡ Numeral
 point_class at text h = rw h
 
-numeral_class : (at : ℕ) (text : List ℕ) → BeginsNumeral text → class_of at text ≡ Numeral
+pub numeral_class : (at : ℕ) (text : List ℕ) → BeginsNumeral text → class_of at text ≡ Numeral
 numeral_class at [] h = absurd h
 numeral_class at (byte ∷ text) (inl digit) = digit_class at byte text digit
 numeral_class at (byte ∷ text) (inr point) = subst (λ b. class_of at (b ∷ text) ≡ Numeral) (sym point.0) (point_class at text (next_digit text point.1))
 
-short_class : (at quote : ℕ) (text : List ℕ) → IsQuote quote → class_of at (quote ∷ text) ≡ Quoted
+pub short_class : (at quote : ℕ) (text : List ℕ) → IsQuote quote → class_of at (quote ∷ text) ≡ Quoted
 short_class at quote text (inl is) = subst (λ q. class_of at (q ∷ text) ≡ Quoted) (sym is) refl
 short_class at quote text (inr is) = subst (λ q. class_of at (q ∷ text) ≡ Quoted) (sym is) refl
 
-long_class : (at level : ℕ) (rest : List ℕ) → class_of at (opening level ++ rest) ≡ Bracketed
+pub long_class : (at level : ℕ) (rest : List ℕ) → class_of at (opening level ++ rest) ≡ Bracketed
 long_class at zero rest = refl
 long_class at (suc level) rest = refl
 

@@ -46,7 +46,7 @@ escaped_no_end byte h = grind (arith, nat_tests)
 escaped_no_digit : (byte : ℕ) → (is_digit byte || ends_line byte) ≡ false → is_digit byte ≡ true → ⊥
 escaped_no_digit byte h d = grind (arith, nat_tests)
 
-quote_no_backslash : (quote : ℕ) → IsQuote quote → quote ≡ 92 → ⊥
+pub quote_no_backslash : (quote : ℕ) → IsQuote quote → quote ≡ 92 → ⊥
 quote_no_backslash quote is e = grind arith
 
 no_byte : 0 < 0 → ⊥
@@ -125,7 +125,7 @@ line_end_stops quote byte text h (Escaped a) r x e = line_end_is_no_backslash by
 line_end_stops quote byte text h (EscapedEnd a) r x e = line_end_is_no_backslash byte h (cc)
 line_end_stops quote byte text h (Decimal a) r x e = line_end_is_no_backslash byte h (cc)
 
-no_part_of_none : (bytes r : List ℕ) → 0 < length bytes → [] ≡ bytes ++ r → ⊥
+pub no_part_of_none : (bytes r : List ℕ) → 0 < length bytes → [] ≡ bytes ++ r → ⊥
 no_part_of_none [] r some e = no_byte some
 no_part_of_none (byte ∷ bytes) r some e = cc
 

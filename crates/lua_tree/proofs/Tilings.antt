@@ -45,11 +45,11 @@ one_meaning inside bytes others x y =
     x.bytes_are ∙ (ap (λ parts. plain (without_first_end parts)) (cuts_are_one x.parts y.parts x.cut.cut y.cut.cut (sym x.cut.whole ∙ y.cut.whole)) ∙ sym y.bytes_are)
 
 -- a comment is one
-ends_opening_there : (level : ℕ) (rest : List ℕ) → ends_opening ((replicate level 61 ++ codes "[") ++ rest) ≡ true
+pub ends_opening_there : (level : ℕ) (rest : List ℕ) → ends_opening ((replicate level 61 ++ codes "[") ++ rest) ≡ true
 ends_opening_there zero rest = refl
 ends_opening_there (suc level) rest = ends_opening_there level rest
 
-long_opens : (level : ℕ) (inside text after : List ℕ) → IsLong level inside text → opens_long (text ++ after) ≡ true
+pub long_opens : (level : ℕ) (inside text after : List ℕ) → IsLong level inside text → opens_long (text ++ after) ≡ true
 long_opens level inside text after x =
     ap (λ t. opens_long (t ++ after)) x.whole ∙ (ap opens_long (append_assoc (opening level) (inside ++ closing level) after) ∙ ends_opening_there level ((inside ++ closing level) ++ after))
 
@@ -62,13 +62,13 @@ no_short_and_long text after texts follows x y e =
     let both : true ≡ false = sym long ∙ short in
     cc
 
-first_of : (a b : ℕ) (r s : List ℕ) → a ∷ r ≡ b ∷ s → a ≡ b
+pub first_of : (a b : ℕ) (r s : List ℕ) → a ∷ r ≡ b ∷ s → a ≡ b
 first_of a b r s e = cc
 
 minus_no_hash : ◌≡◌ {A = ℕ} 45 35 → ⊥
 minus_no_hash e = omega (arith, e)
 
-no_minus_and_hash : (text after texts follows body other : List ℕ) → text ≡ 45 ∷ body → texts ≡ 35 ∷ other → text ++ after ≡ texts ++ follows → ⊥
+pub no_minus_and_hash : (text after texts follows body other : List ℕ) → text ≡ 45 ∷ body → texts ≡ 35 ∷ other → text ++ after ≡ texts ++ follows → ⊥
 no_minus_and_hash text after texts follows body other x y e =
     let whole : 45 ∷ (body ++ after) ≡ 35 ∷ (other ++ follows) = sym (ap (λ t. t ++ after) x) ∙ (e ∙ ap (λ t. t ++ follows) y) in
     minus_no_hash (first_of 45 35 _ _ whole)
@@ -80,7 +80,7 @@ long_comments_are_one text after texts follows x y e =
     let same : SameLong x.level y.level x.inside y.inside x.body y.body = longs_are_one x.level y.level x.inside y.inside x.body y.body after follows x.long y.long bodies in
     x.whole ∙ (ap (λ t. 45 ∷ 45 ∷ t) same.texts_are ∙ sym y.whole)
 
-abbrev goes_on : ℕ → Bool
+abbrev pub goes_on : ℕ → Bool
 goes_on byte = not (ends_line byte)
 
 short_comments_are_one : (text after texts follows : List ℕ) → IsShortComment text after → IsShortComment texts follows → text ++ after ≡ texts ++ follows → text ≡ texts
@@ -142,7 +142,7 @@ same_piece p q at text after texts follows x y e =
     same_in one.class p q at text after texts follows one.seen (subst (λ c. SeenIn c q at texts follows) classes two.seen) e
 
 -- a piece has a byte at least
-empty_no_cons : (byte : ℕ) (text : List ℕ) → [] ≡ byte ∷ text → ⊥
+pub empty_no_cons : (byte : ℕ) (text : List ℕ) → [] ≡ byte ∷ text → ⊥
 empty_no_cons byte text e = cc
 
 empty_no_numeral : (n : ℤ) → IsNumeral [] n → ⊥
@@ -162,14 +162,14 @@ none_seen Bracketed piece at after is = empty_no_cons _ _ is.3.whole
 none_seen Commented piece at after is = empty_no_comment at after is.0
 none_seen Marked piece at after is = omega (arith, is.0)
 
-no_empty_piece : (piece : Piece) (at : ℕ) (text after : List ℕ) → IsPiece piece at text after → [] ≡ text ++ after → ⊥
+pub no_empty_piece : (piece : Piece) (at : ℕ) (text after : List ℕ) → IsPiece piece at text after → [] ≡ text ++ after → ⊥
 no_empty_piece piece at [] after is e = let seen : Seen piece at [] after = piece_seen piece [] after at is in none_seen seen.class piece at after seen.seen
 no_empty_piece piece at (byte ∷ text) after is e = empty_no_cons _ _ e
 
 abbrev tile_of : Piece → List ℕ → Tile
 tile_of piece text = record { piece = piece; text = text }
 
-same_tile : (t u : Tile) → t.piece ≡ u.piece → t.text ≡ u.text → t ≡ u
+pub same_tile : (t u : Tile) → t.piece ≡ u.piece → t.text ≡ u.text → t ≡ u
 same_tile t u p x = ap (λ piece. tile_of piece t.text) p ∙ ap (λ text. tile_of u.piece text) x
 
 -- a whole tiling is one

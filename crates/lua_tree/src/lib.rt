@@ -6,5 +6,5 @@ mod laws;
 mod tests;
 mod token;
 
-pub use laws::{lines_are_one, tokens_are_one};
+pub use laws::{faults_are_one, lines_are_one, never_both, tokens_are_one};
 pub use token::{Token, TokenKind, Tokens};
