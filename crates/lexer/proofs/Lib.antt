@@ -1,0 +1,11 @@
+pub mod BracketLemmas
+pub mod FrontLemmas
+pub mod LexLemmas
+pub mod LineLemmas
+pub mod MarkLemmas
+pub mod PieceLemmas
+pub mod RunLemmas
+pub mod StringLemmas
+pub mod StringItems
+pub mod TokenLemmas
+pub mod WordLemmas
