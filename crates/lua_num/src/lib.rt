@@ -3,10 +3,12 @@
 
 mod arith;
 mod byte_text;
+mod names;
 mod numbers;
 #[cfg(test)]
 mod tests;
 
 pub use arith::{ArithOp, CompareOp, NumFault, add, div, mul, neg, pow, rem, sub};
 pub use byte_text::ByteText;
+pub use names::Names;
 pub use numbers::{decimal, decimal_reads_back, numeral, to_number};

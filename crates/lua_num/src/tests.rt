@@ -22,6 +22,28 @@ fn texts_hold_any_bytes_in_order(rt: HostRuntime) -> Result<(), Fail> {
 }
 
 #[test]
+fn names_are_pushed_and_given_back(rt: HostRuntime) -> Result<(), Fail> {
+    let alloc = rt.alloc();
+    let mut names = Names::new(alloc);
+    assert!(rt; names.items().is_empty());
+    names.push(ByteText::from_slice(alloc, b"a\0")?)?;
+    names.push(ByteText::from_slice(alloc, b"")?)?;
+    assert_eq!(rt; names.items().len(), 2);
+    assert_eq!(rt; names.items()[0].bytes(), b"a\0".as_slice());
+    assert_eq!(rt; names.items()[1].bytes(), b"".as_slice());
+
+    let mut shorter = Names::new(alloc);
+    shorter.push(ByteText::from_slice(alloc, b"a\0")?)?;
+    assert_ne!(rt; names, shorter);
+    shorter.push(ByteText::new(alloc))?;
+    assert_eq!(rt; names, shorter);
+
+    let again = Names::from_vec(names.into_vec());
+    assert_eq!(rt; again, shorter);
+    Ok(())
+}
+
+#[test]
 fn numbers_have_decimal_texts(rt: HostRuntime) -> Result<(), Fail> {
     let texts = [
         (0, "0"),
