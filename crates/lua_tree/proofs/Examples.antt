@@ -1,12 +1,13 @@
 -- The definitions of tokens, computed on small texts: each kind, and each fault.
-use Rattle.std.proofs.Common.{◌≡◌, ℕ, pos, List, [], ◌∷◌, ◌++◌, ◌+◌, min, refl, sym, ap, inl, inr, rules, arith}
+use Rattle.std.proofs.Common.{◌≡◌, ℕ, ℤ, pos, List, [], ◌∷◌, ◌++◌, ◌+◌, min, refl, sym, ap, inl, inr, rules, arith}
 use Rattle.std.specs.Prelude.{codes, true, false}
-use Rattle.lua_num.specs.Numeral.{IsNumeral}
+use Rattle.lua_num.specs.Numeral.{IsDecimal, IsHexadecimal, IsNumeral}
 use Rattle.lua_tree.specs.declared.token.TokenKind.{TokenKind}
 use Rattle.lua_tree.specs.Lines.{Part, End, Other, IsCut, text_of, end_count, IsLineOf}
 use Rattle.lua_tree.specs.Strings.{Item, Plain, Escaped, EscapedEnd, Decimal, IsCode}
 use Rattle.lua_tree.specs.Tokens.{IsToken, IsMarkPlace}
-use Rattle.lua_tree.specs.Tiling.{IsPiece, Comment, Tok, IsFault, Lexes, Stops, BadByte, UnfinishedString, UnfinishedLong, BadLongOpen, EscapeTooLarge}
+use Rattle.lua_tree.specs.Tiling.{IsPiece, Comment, Tok, IsFault, Lexes, Stops, BadByte, UnfinishedString, UnfinishedLong, BadLongOpen, EscapeTooLarge, BadNumber}
+use Rattle.lua_tree.proofs.Tilings.{first_of}
 
 -- a name goes to its longest run
 print_is_a_name : IsToken (TokenKind.Name (codes "print")) 0 (codes "print") (codes "(3)")
@@ -75,6 +76,17 @@ bad_byte = (refl, inl refl)
 
 lone_tilde : IsFault BadByte (codes "~1") 0
 lone_tilde = (refl, inr (refl, refl))
+
+no_decimal_x : (value : ℕ) → IsDecimal (codes "3x") value → ⊥
+no_decimal_x value is = omega (arith, is.digits.1.0)
+
+no_hexadecimal_x : (value : ℕ) → IsHexadecimal (codes "3x") value → ⊥
+no_hexadecimal_x value is = let same = first_of 51 48 (codes "x") (is.mark ∷ is.digits) is.whole in omega (arith, same)
+
+bad_number : IsFault BadNumber (codes "3x)") 0
+bad_number =
+    let none : (n : ℤ) → IsNumeral (codes "3x") n → ⊥ = λ n is. elim is.writes [ inl decimal ↦ no_decimal_x is.value decimal | inr hexadecimal ↦ no_hexadecimal_x is.value hexadecimal ] in
+    (refl, record { run = codes "3x"; after = codes ")"; whole = refl; begins = inl refl; is_run = record { each = search rules; longest = refl }; no_numeral = none })
 
 bad_opening : IsFault BadLongOpen (codes "[=a") 0
 bad_opening = (refl, record { front = refl; no_bracket = refl })
