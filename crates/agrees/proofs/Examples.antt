@@ -1,13 +1,14 @@
 -- The definitions, computed on small sources.
-use Rattle.std.proofs.Common.{◌≡◌, pos, List, [], ◌∷◌, Some, None, refl, inr, rules, arith}
+use Rattle.std.proofs.Common.{◌≡◌, ℕ, pos, List, [], ◌∷◌, Some, None, refl, arith}
 use Rattle.std.specs.Prelude.{codes}
 use Rattle.std.specs.Fmt.{digits}
+use Rattle.lua_tree.specs.declared.token.TokenKind.{TokenKind}
+use Rattle.lua_tree.specs.declared.token.Token.{Token}
 use Rattle.agrees.specs.declared.tree.Statement.{Statement}
 use Rattle.agrees.specs.declared.tree.Statement.TheVariants.{Print}
 use Rattle.agrees.specs.declared.chunk.Instruction.TheVariants.{GetGlobal, LoadK, Call, Return}
 use Rattle.agrees.specs.declared.chunk.Constant.{Constant}
-use Rattle.lua_num.specs.Numeral.{IsDecimal, IsDecimalNumeral}
-use Rattle.agrees.specs.Source.{IsFirstForm, SpellsPrint}
+use Rattle.agrees.specs.Source.{Spells, IsPrintList}
 use Rattle.agrees.specs.Progress.{Done}
 use Rattle.agrees.specs.Meaning.{meaning}
 use Rattle.agrees.specs.Rules.{ran}
@@ -53,21 +54,46 @@ code_of_none = refl
 run_of_none : ran (scheme []) 1 ≡ record { pieces = []; end = Some Done }
 run_of_none = refl
 
--- white space, and a numeral with zeros in front
-seven_is_spelled : IsFirstForm (codes " print(007)\n") (Print (pos 7) ∷ [])
-seven_is_spelled =
-    let writes : IsDecimal (codes "007") 7 = record { some = λ e. cc; digits = search (rules, arith); value_is = refl } in
-    let numeral : IsDecimalNumeral (codes "007") (pos 7) = record { value = 7; writes = writes; small = omega arith; number_is = refl } in
-    let print : SpellsPrint (codes "print(007)\n") (pos 7) = record { digits = codes "007"; space = codes "\n"; whole = refl; numeral = numeral; white = search (rules, arith) } in
-    record {
-      space = codes " ";
-      statements = codes "print(007)\n";
-      whole = refl;
-      white = (inr refl, tt);
-      spelled = record { front = codes "print(007)\n"; back = []; whole = refl; first_spelled = print; others_spelled = refl };
-      few = omega arith;
-    }
+-- the tokens of `print(7)`, with all but the name on this line
+abbrev seven : ℕ → List Token
+seven line =
+    record { kind = TokenKind.Name (codes "print"); at = 0; line = 1 }
+    ∷ record { kind = TokenKind.OpenParen; at = 5; line = line }
+    ∷ record { kind = TokenKind.Number (pos 7); at = 6; line = line }
+    ∷ record { kind = TokenKind.CloseParen; at = 7; line = line }
+    ∷ []
 
--- the empty text spells the empty source
-none_is_spelled : IsFirstForm [] []
-none_is_spelled = record { space = []; statements = []; whole = refl; white = tt; spelled = refl; few = omega arith }
+seven_is_listed : IsPrintList (seven 1) (Print (pos 7) ∷ [])
+seven_is_listed = record {
+  spelled = record {
+    name = record { kind = TokenKind.Name (codes "print"); at = 0; line = 1 };
+    opening = record { kind = TokenKind.OpenParen; at = 5; line = 1 };
+    number = record { kind = TokenKind.Number (pos 7); at = 6; line = 1 };
+    closing = record { kind = TokenKind.CloseParen; at = 7; line = 1 };
+    rest = [];
+    whole = refl;
+    name_is = refl;
+    opening_is = refl;
+    number_is = refl;
+    closing_is = refl;
+    same_line = refl;
+    others = refl;
+  };
+  few = omega arith;
+}
+
+-- no tokens are those of the empty source
+none_is_listed : IsPrintList [] []
+none_is_listed = record { spelled = refl; few = omega arith }
+
+-- `(` on the line after the name begins no statement
+apart_is_not_spelled : (tree : List Statement) → Spells (seven 2) tree → ⊥
+apart_is_not_spelled [] spelled = cc
+apart_is_not_spelled (Print n ∷ rest) spelled =
+    let opening : spelled.opening.line ≡ 2 = cc in
+    let name : spelled.name.line ≡ 1 = cc in
+    let same : spelled.opening.line ≡ spelled.name.line = spelled.same_line in
+    absurd (omega arith)
+
+apart_is_not_listed : (tree : List Statement) → IsPrintList (seven 2) tree → ⊥
+apart_is_not_listed tree is = apart_is_not_spelled tree is.spelled

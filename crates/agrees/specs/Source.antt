@@ -1,38 +1,44 @@
--- Source of the first form: white space, then at most 200 statements `print(DIGITS)`, each with white space after it.
-use Rattle.std.specs.Prelude.{◌≡◌, ℕ, ◌≤◌, List, [], ◌∷◌, ◌++◌, length, codes, ℤ}
-use Rattle.std.specs.List.{AllByRecursion}
-use Rattle.lua_num.specs.Numeral.{IsDecimalNumeral, IsSpace}
+-- Source of the first form: its tokens are those of 0 to 200 statements `print(n)`, each with `(` on the line of the name.
+use Rattle.std.specs.Prelude.{◌≡◌, ℕ, ◌≤◌, ◌==◌, Bool, false, List, [], ◌∷◌, length, codes, ℤ}
+use Rattle.lua_tree.specs.declared.token.TokenKind.{TokenKind}
+use Rattle.lua_tree.specs.declared.token.Token.{Token}
+use Rattle.lua_tree.specs.Tiling.{Lexes}
 use Rattle.agrees.specs.declared.tree.Statement.{Statement}
 use Rattle.agrees.specs.declared.tree.Statement.TheVariants.{Print}
 
--- `print(`, the digits of n, `)`, and white space
-pub record SpellsPrint (text : List ℕ) (n : ℤ) : Type 0 where
-  pub digits : List ℕ
-  pub space : List ℕ
-  pub whole : text ≡ codes "print(" ++ (digits ++ (codes ")" ++ space))
-  pub numeral : IsDecimalNumeral digits n
-  pub white : AllByRecursion IsSpace space
+-- the name `print`, `(` on its line, the number n, `)`, and other tokens
+pub record BeginsWithPrint (tokens : List Token) (n : ℤ) (Others : List Token → Type 0) : Type 0 where
+  pub name : Token
+  pub opening : Token
+  pub number : Token
+  pub closing : Token
+  pub rest : List Token
+  pub whole : tokens ≡ name ∷ opening ∷ number ∷ closing ∷ rest
+  pub name_is : name.kind ≡ TokenKind.Name (codes "print")
+  pub opening_is : opening.kind ≡ TokenKind.OpenParen
+  pub number_is : number.kind ≡ TokenKind.Number n
+  pub closing_is : closing.kind ≡ TokenKind.CloseParen
+  pub same_line : opening.line ≡ name.line
+  pub others : Others rest
 
-abbrev pub SpellsStatement : List ℕ → Statement → Type 0
-SpellsStatement text (Print n) = SpellsPrint text n
+-- the statements' tokens, one after another
+abbrev pub Spells : List Token → List Statement → Type 0
+Spells tokens [] = tokens ≡ []
+Spells tokens (Print n ∷ rest) = BeginsWithPrint tokens n (λ others. Spells others rest)
 
--- a statement's text, and the text of the others
-pub record Parted (text : List ℕ) (first others : List ℕ → Type 0) : Type 0 where
-  pub front : List ℕ
-  pub back : List ℕ
-  pub whole : text ≡ front ++ back
-  pub first_spelled : first front
-  pub others_spelled : others back
-
--- the statements' texts, one after another
-abbrev pub Spells : List ℕ → List Statement → Type 0
-Spells text [] = text ≡ []
-Spells text (statement ∷ rest) = Parted text (λ front. SpellsStatement front statement) (λ back. Spells back rest)
-
-pub record IsFirstForm (bytes : List ℕ) (tree : List Statement) : Type 0 where
-  pub space : List ℕ
-  pub statements : List ℕ
-  pub whole : bytes ≡ space ++ statements
-  pub white : AllByRecursion IsSpace space
-  pub spelled : Spells statements tree
+-- the tokens of at most 200 printed numbers
+pub record IsPrintList (tokens : List Token) (tree : List Statement) : Type 0 where
+  pub spelled : Spells tokens tree
   pub few : length tree ≤ 200
+
+-- a file whose first byte is 1B hexadecimal is a chunk, any other file is source
+abbrev pub is_chunk : List ℕ → Bool
+is_chunk [] = false
+is_chunk (byte ∷ bytes) = byte == 27
+
+-- the bytes are source, and their tokens are those of at most 200 printed numbers
+pub record IsFirstForm (bytes : List ℕ) (tree : List Statement) : Type 0 where
+  pub source : is_chunk bytes ≡ false
+  pub tokens : List Token
+  pub lexed : Lexes bytes tokens
+  pub listed : IsPrintList tokens tree

@@ -7,14 +7,27 @@ use Rattle.suite_io.specs.declared.calls.FileCall.{FileCall}
 use Rattle.suite_io.specs.Contents.{Contents}
 use Rattle.suite_io.specs.Calls.{call_of, fault_count}
 use Rattle.suite_io.specs.Taken.{Takes, Rises}
+use Rattle.lua_tree.specs.declared.token.Token.{Token}
+use Rattle.lua_tree.specs.Tiling.{Cause, Lexes, Stops}
+use Rattle.lexer.specs.declared.fault.LexFault.{LexFault}
+use Rattle.lexer.specs.Faults.{IsFaultOf}
 use Rattle.agrees.specs.declared.tree.Statement.{Statement}
-use Rattle.agrees.specs.Source.{IsFirstForm}
+use Rattle.agrees.specs.Source.{is_chunk, IsFirstForm}
 use Rattle.suite.specs.declared.status.Status.{Status}
+use Rattle.suite.specs.declared.outcome.Outcome.{Outcome}
 use Rattle.suite.specs.Output.{TakesPart}
 use Rattle.suite.specs.Words.{Words, Reads, named, second_of, Fetched, Tells, HasSource}
-use Rattle.suite.specs.Lines.{Reported}
-use Rattle.suite.specs.Work.{FileRuns, FetchedRuns, IsFetched, HasOutput, IsNotFirstForm, Prints, PrintsPart}
+use Rattle.suite.specs.Lines.{status_of, line_of, Refused, IsPut, Reported}
+use Rattle.suite.specs.Outcome.{IsBadSource, IsNotBuilt}
+use Rattle.suite.specs.Work.{FileRuns, FetchedRuns, IsFetched, HasOutput, Prints, PrintsPart}
 use Rattle.suite.specs.Causes.{Becomes, NoFault, HasNoSource}
+use Rattle.suite.proofs.SourceLemmas.{form_listed}
+
+abbrev pub AreOne : Type 0
+AreOne = (bytes : List ℕ) (tokens others : List Token) → Lexes bytes tokens → Lexes bytes others → tokens ≡ others
+
+abbrev pub NeverBoth : Type 0
+NeverBoth = (bytes : List ℕ) (tokens : List Token) (cause : Cause) (at : ℕ) → Lexes bytes tokens → Stops bytes cause at → ⊥
 
 pub named_is : (words : Words) (file : List ℕ) → Reads words file → named words ≡ file
 named_is words file r = ap second_of r.words_are
@@ -49,14 +62,82 @@ whole_part before later text t = (text, ([], append-nil text), t)
 none_part : (before later : Option (List ℕ)) (text : List ℕ) → Takes before later [] → TakesPart before later text
 none_part before later text t = ([], (text, refl), t)
 
-module _ (words : Words) (file : List ℕ) (contents : Option Contents) (calls calls_after : List FileCall) (before later : Option (List ℕ)) (old new : ℕ) (err_before err_later : Option (List ℕ)) (err_old err_new : ℕ) (reads : Reads words file) where
+-- tokens and a fault of one text never stand together, for each fault
+no_fault : NeverBoth → (bytes : List ℕ) (tokens : List Token) (fault : LexFault) → Lexes bytes tokens → IsFaultOf bytes fault → ⊥
+no_fault never bytes tokens (LexFault.BadByte at) lexed is = never bytes tokens _ at lexed is
+no_fault never bytes tokens (LexFault.UnfinishedString at) lexed is = never bytes tokens _ at lexed is
+no_fault never bytes tokens (LexFault.UnfinishedLong at) lexed is = never bytes tokens _ at lexed is
+no_fault never bytes tokens (LexFault.BadLongOpen at) lexed is = never bytes tokens _ at lexed is
+no_fault never bytes tokens (LexFault.EscapeTooLarge at) lexed is = never bytes tokens _ at lexed is
+no_fault never bytes tokens (LexFault.BadNumber at) lexed is = never bytes tokens _ at lexed is
+no_fault never bytes tokens LexFault.OutOfMemory lexed is = is
+
+-- source of the first form, source with a fault and what is not built are three
+form_not_bad : NeverBoth → (bytes : List ℕ) (tree : List Statement) (fault : LexFault) → IsFirstForm bytes tree → IsBadSource bytes fault → ⊥
+form_not_bad never bytes tree fault form bad = no_fault never bytes form.tokens fault form.lexed bad.fault_is
+
+form_not_unbuilt : AreOne → (bytes : List ℕ) (tree : List Statement) → IsFirstForm bytes tree → IsNotBuilt bytes → ⊥
+form_not_unbuilt one bytes tree form (inl chunk) = let source : is_chunk bytes ≡ false = form.source in cc
+form_not_unbuilt one bytes tree form (inr other) = other.no_list tree (form_listed bytes other.tokens tree one other.lexed form)
+
+bad_not_unbuilt : NeverBoth → (bytes : List ℕ) (fault : LexFault) → IsBadSource bytes fault → IsNotBuilt bytes → ⊥
+bad_not_unbuilt never bytes fault bad (inl chunk) = let source : is_chunk bytes ≡ false = bad.source in cc
+bad_not_unbuilt never bytes fault bad (inr other) = no_fault never bytes other.tokens fault other.lexed bad.fault_is
+
+-- a status whose line was refused is then one of two
+refused_is : (status result : Status) (old new : ℕ) → Refused status result old new → (result ≡ Status.WriteFault) ⊎ (result ≡ Status.OutOfMemory)
+refused_is Status.WriteFault result old new r = inl r
+refused_is Status.OutOfMemory result old new r = inr r
+refused_is Status.Done result old new (inl r) = inl r.0
+refused_is Status.Done result old new (inr r) = inr r
+refused_is Status.BadWords result old new (inl r) = inl r.0
+refused_is Status.BadWords result old new (inr r) = inr r
+refused_is Status.BadSource result old new (inl r) = inl r.0
+refused_is Status.BadSource result old new (inr r) = inr r
+refused_is Status.ReadFault result old new (inl r) = inl r.0
+refused_is Status.ReadFault result old new (inr r) = inr r
+refused_is Status.Unbuilt result old new (inl r) = inl r.0
+refused_is Status.Unbuilt result old new (inr r) = inr r
+
+module _ (err_before err_later : Option (List ℕ)) (err_old err_new : ℕ) where
+  -- a status that no refusal gives is that of the outcome, and its line was taken
+  put_is : (status : Status) (line : List ℕ) (result : Status) → IsPut status line result err_before err_later err_old err_new → (result ≡ Status.WriteFault → ⊥) → (result ≡ Status.OutOfMemory → ⊥) → (result ≡ status) × Takes err_before err_later line
+  put_is status line result (inl p) no_fault no_want = p
+  put_is status line result (inr p) no_fault no_want =
+      absurd (elim (refused_is status result err_old err_new p.0) [ inl e ↦ no_fault e | inr e ↦ no_want e ])
+
+  pub settled_is : (outcome : Outcome) (file : List ℕ) (result : Status) → Reported outcome file result err_before err_later err_old err_new → (result ≡ Status.WriteFault → ⊥) → (result ≡ Status.OutOfMemory → ⊥) → (result ≡ status_of outcome) × Takes err_before err_later (line_of outcome file)
+  settled_is Outcome.Done file result r no_fault no_want = r
+  settled_is Outcome.BadWords file result r no_fault no_want = put_is Status.BadWords _ result r no_fault no_want
+  settled_is (Outcome.BadSource fault) file result (inl p) no_fault no_want = put_is Status.BadSource _ result p no_fault no_want
+  settled_is (Outcome.BadSource fault) file result (inr p) no_fault no_want =
+      absurd (no_want (put_is Status.OutOfMemory _ result p no_fault no_want).0)
+  settled_is Outcome.ReadFault file result r no_fault no_want = put_is Status.ReadFault _ result r no_fault no_want
+  settled_is Outcome.WriteFault file result r no_fault no_want = put_is Status.WriteFault _ result r no_fault no_want
+  settled_is Outcome.OutOfMemory file result r no_fault no_want = put_is Status.OutOfMemory _ result r no_fault no_want
+  settled_is Outcome.Unbuilt file result r no_fault no_want = put_is Status.Unbuilt _ result r no_fault no_want
+
+-- the line of the outcome was taken, for the file that the words name
+line_named : (words : Words) (file : List ℕ) (err_before err_later : Option (List ℕ)) → Reads words file → (outcome : Outcome) → Takes err_before err_later (line_of outcome file) → Takes err_before err_later (line_of outcome (named words))
+line_named words file err_before err_later reads outcome t =
+    subst (λ n. Takes err_before err_later (line_of outcome n)) (sym (named_is words file reads)) t
+
+pub line_clause : (words : Words) (file : List ℕ) (err_before err_later : Option (List ℕ)) (err_old err_new : ℕ) → Reads words file → (outcome : Outcome) (result : Status) → Reported outcome file result err_before err_later err_old err_new → (result ≡ Status.WriteFault → ⊥) → (result ≡ Status.OutOfMemory → ⊥) → (settled : Outcome) × (status_of settled ≡ result) × Takes err_before err_later (line_of settled (named words))
+line_clause words file err_before err_later err_old err_new reads outcome result r no_fault no_want =
+    let settled = settled_is err_before err_later err_old err_new outcome file result r no_fault no_want in
+    (outcome, sym settled.0, line_named words file err_before err_later reads outcome settled.1)
+
+module _ (one : AreOne) (never : NeverBoth) (words : Words) (file : List ℕ) (contents : Option Contents) (calls calls_after : List FileCall) (before later : Option (List ℕ)) (old new : ℕ) (err_before err_later : Option (List ℕ)) (err_old err_new : ℕ) (reads : Reads words file) where
   -- the bytes that were fetched are those that were told
-  told_is : (bytes : List ℕ) (status : Status) → HasSource words contents bytes → (f : FetchedRuns file contents calls calls_after status before later old new) → bytes ≡ f.bytes
-  told_is bytes status h f =
+  told_is : (bytes : List ℕ) (outcome : Outcome) → HasSource words contents bytes → (f : FetchedRuns file contents calls calls_after outcome before later old new) → bytes ≡ f.bytes
+  told_is bytes outcome h f =
       same_bytes contents file bytes f.bytes (subst (λ n. Tells contents n bytes) (named_is words file reads) h.told) f.told
 
   form_at : (bytes fetched : List ℕ) (tree : List Statement) → bytes ≡ fetched → IsFirstForm bytes tree → IsFirstForm fetched tree
   form_at bytes fetched tree e form = subst (λ b. IsFirstForm b tree) e form
+
+  bad_at : (bytes fetched : List ℕ) (fault : LexFault) → bytes ≡ fetched → IsBadSource bytes fault → IsBadSource fetched fault
+  bad_at bytes fetched fault e bad = subst (λ b. IsBadSource b fault) e bad
 
   -- a tree's output, where the sink took the output of the bytes
   prints_text : (bytes fetched : List ℕ) (tree : List Statement) → bytes ≡ fetched → IsFirstForm bytes tree → Prints fetched before later → (text : List ℕ) × HasOutput tree text × Takes before later text
@@ -69,41 +150,44 @@ module _ (words : Words) (file : List ℕ) (contents : Option Contents) (calls c
       let same = p.source.only tree (form_at bytes fetched tree e form) in
       subst (TakesPart before later) (sym (same_output tree text p.text h (subst (λ t. HasOutput t p.text) (sym same) p.outputs))) p.taken
 
-  abbrev Runs : Status → Type 0
-  Runs status = FileRuns file contents calls calls_after status before later old new
+  abbrev Runs : Outcome → Type 0
+  Runs outcome = FileRuns file contents calls calls_after outcome before later old new
 
-  abbrev Becoming : Status → Status → Type 0
-  Becoming status result = Reported status file result err_before err_later err_old err_new
+  abbrev Becoming : Outcome → Status → Type 0
+  Becoming outcome result = Reported outcome file result err_before err_later err_old err_new
 
-  pub prints_clause : (status result : Status) → Runs status → Becoming status result → (bytes : List ℕ) (tree : List Statement) → HasSource words contents bytes → IsFirstForm bytes tree → NoFault calls calls_after → (Rises old new → ⊥) → (Rises err_old err_new → ⊥) → ((result ≡ Status.Done) × (text : List ℕ) × HasOutput tree text × Takes before later text) ⊎ (result ≡ Status.OutOfMemory)
-  prints_clause Status.Done result f r bytes tree h form files out err =
-      let p = prints_text bytes f.bytes tree (told_is bytes Status.Done h f) form f.runs in inl (r.0, p.0, p.1, p.2)
-  prints_clause Status.Unbuilt result f r bytes tree h form files out err =
-      absurd (f.runs.0 tree (form_at bytes f.bytes tree (told_is bytes Status.Unbuilt h f) form))
-  prints_clause Status.WriteFault result f r bytes tree h form files out err = absurd (out f.runs.1)
-  prints_clause Status.OutOfMemory result f (inl r) bytes tree h form files out err = inr r.0
-  prints_clause Status.OutOfMemory result f (inr r) bytes tree h form files out err = inr r.0
-  prints_clause Status.ReadFault result f r bytes tree h form files out err =
+  pub prints_clause : (outcome : Outcome) (result : Status) → Runs outcome → Becoming outcome result → (bytes : List ℕ) (tree : List Statement) → HasSource words contents bytes → IsFirstForm bytes tree → NoFault calls calls_after → (Rises old new → ⊥) → (Rises err_old err_new → ⊥) → ((result ≡ Status.Done) × (text : List ℕ) × HasOutput tree text × Takes before later text) ⊎ (result ≡ Status.OutOfMemory)
+  prints_clause Outcome.Done result f r bytes tree h form files out err =
+      let p = prints_text bytes f.bytes tree (told_is bytes Outcome.Done h f) form f.runs in inl (r.0, p.0, p.1, p.2)
+  prints_clause (Outcome.BadSource fault) result f r bytes tree h form files out err =
+      absurd (form_not_bad never f.bytes tree fault (form_at bytes f.bytes tree (told_is bytes (Outcome.BadSource fault) h f) form) f.runs.0)
+  prints_clause Outcome.Unbuilt result f r bytes tree h form files out err =
+      absurd (form_not_unbuilt one f.bytes tree (form_at bytes f.bytes tree (told_is bytes Outcome.Unbuilt h f) form) f.runs.0)
+  prints_clause Outcome.WriteFault result f r bytes tree h form files out err = absurd (out f.runs.1)
+  prints_clause Outcome.OutOfMemory result f (inl r) bytes tree h form files out err = inr r.0
+  prints_clause Outcome.OutOfMemory result f (inr r) bytes tree h form files out err = inr r.0
+  prints_clause Outcome.ReadFault result f r bytes tree h form files out err =
       let grown = count_snoc calls (call_of false file true) refl in
       let count : fault_count calls_after ≡ suc (fault_count calls) = ap fault_count f.0 ∙ grown in
       absurd (omega (arith, files, count))
-  prints_clause Status.BadWords result f r bytes tree h form files out err = absurd f.runs
+  prints_clause Outcome.BadWords result f r bytes tree h form files out err = absurd f.runs
 
-  pub part_clause : (status : Status) → Runs status → (bytes : List ℕ) (tree : List Statement) (text : List ℕ) → HasSource words contents bytes → IsFirstForm bytes tree → HasOutput tree text → TakesPart before later text
-  part_clause Status.Done f bytes tree text h form outputs =
-      let p = prints_text bytes f.bytes tree (told_is bytes Status.Done h f) form f.runs in
+  pub part_clause : (outcome : Outcome) → Runs outcome → (bytes : List ℕ) (tree : List Statement) (text : List ℕ) → HasSource words contents bytes → IsFirstForm bytes tree → HasOutput tree text → TakesPart before later text
+  part_clause Outcome.Done f bytes tree text h form outputs =
+      let p = prints_text bytes f.bytes tree (told_is bytes Outcome.Done h f) form f.runs in
       whole_part before later text (subst (Takes before later) (same_output tree p.0 text p.1 outputs) p.2)
-  part_clause Status.Unbuilt f bytes tree text h form outputs = none_part before later text f.runs.1
-  part_clause Status.WriteFault f bytes tree text h form outputs =
-      part_text bytes f.bytes tree text (told_is bytes Status.WriteFault h f) form outputs f.runs.0
-  part_clause Status.OutOfMemory (inl f) bytes tree text h form outputs = none_part before later text f.1
-  part_clause Status.OutOfMemory (inr f) bytes tree text h form outputs =
+  part_clause (Outcome.BadSource fault) f bytes tree text h form outputs = none_part before later text f.runs.1
+  part_clause Outcome.Unbuilt f bytes tree text h form outputs = none_part before later text f.runs.1
+  part_clause Outcome.WriteFault f bytes tree text h form outputs =
+      part_text bytes f.bytes tree text (told_is bytes Outcome.WriteFault h f) form outputs f.runs.0
+  part_clause Outcome.OutOfMemory (inl f) bytes tree text h form outputs = none_part before later text f.1
+  part_clause Outcome.OutOfMemory (inr f) bytes tree text h form outputs =
       elim f.runs [
         | inl none ↦ none_part before later text none
-        | inr p ↦ part_text bytes f.bytes tree text (told_is bytes Status.OutOfMemory h f) form outputs p
+        | inr p ↦ part_text bytes f.bytes tree text (told_is bytes Outcome.OutOfMemory h f) form outputs p
       ]
-  part_clause Status.ReadFault f bytes tree text h form outputs = none_part before later text f.1
-  part_clause Status.BadWords f bytes tree text h form outputs = absurd f.runs
+  part_clause Outcome.ReadFault f bytes tree text h form outputs = none_part before later text f.1
+  part_clause Outcome.BadWords f bytes tree text h form outputs = absurd f.runs
 
   -- a fetch that failed is none that succeeded
   failed_not : Fetched words true calls calls_after → IsFetched file false calls calls_after → ⊥
@@ -111,27 +195,34 @@ module _ (words : Words) (file : List ℕ) (contents : Option Contents) (calls c
       let same = not_both calls (call_of false (named words) true) (call_of false file false) (sym h.listed ∙ f) in
       let failed : true ≡ false = ap (λ (c : FileCall). c.failed) same in cc
 
-  no_form : HasNoSource words contents → (status : Status) (f : FetchedRuns file contents calls calls_after status before later old new) → (tree : List Statement) → IsFirstForm f.bytes tree → ⊥
-  no_form h status f tree form = h.2 tree (subst (λ b. IsFirstForm b tree) (sym (told_is h.0 status h.1 f)) form)
+  fetched_not : Fetched words false calls calls_after → IsFetched file true calls calls_after → ⊥
+  fetched_not h f =
+      let same = not_both calls (call_of false (named words) false) (call_of false file true) (sym h.listed ∙ f) in
+      let failed : false ≡ true = ap (λ (c : FileCall). c.failed) same in cc
 
-  pub nothing_fetched : (status : Status) → Runs status → Fetched words true calls calls_after → Takes before later []
-  nothing_fetched Status.Done f h = absurd (failed_not h f.fetched)
-  nothing_fetched Status.Unbuilt f h = f.runs.1
-  nothing_fetched Status.WriteFault f h = absurd (failed_not h f.fetched)
-  nothing_fetched Status.OutOfMemory (inl f) h = f.1
-  nothing_fetched Status.OutOfMemory (inr f) h = absurd (failed_not h f.fetched)
-  nothing_fetched Status.ReadFault f h = f.1
-  nothing_fetched Status.BadWords f h = absurd f.runs
+  no_form : HasNoSource words contents → (outcome : Outcome) (f : FetchedRuns file contents calls calls_after outcome before later old new) → (tree : List Statement) → IsFirstForm f.bytes tree → ⊥
+  no_form h outcome f tree form = h.2 tree (subst (λ b. IsFirstForm b tree) (sym (told_is h.0 outcome h.1 f)) form)
 
-  pub nothing_built : (status : Status) → Runs status → HasNoSource words contents → Takes before later []
-  nothing_built Status.Done f h = absurd (no_form h Status.Done f f.runs.tree f.runs.source.form)
-  nothing_built Status.Unbuilt f h = f.runs.1
-  nothing_built Status.WriteFault f h = absurd (no_form h Status.WriteFault f f.runs.0.tree f.runs.0.source.form)
-  nothing_built Status.OutOfMemory (inl f) h = f.1
-  nothing_built Status.OutOfMemory (inr f) h =
-      elim f.runs [ inl none ↦ none | inr p ↦ absurd (no_form h Status.OutOfMemory f p.tree p.source.form) ]
-  nothing_built Status.ReadFault f h = f.1
-  nothing_built Status.BadWords f h = absurd f.runs
+  pub nothing_fetched : (outcome : Outcome) → Runs outcome → Fetched words true calls calls_after → Takes before later []
+  nothing_fetched Outcome.Done f h = absurd (failed_not h f.fetched)
+  nothing_fetched (Outcome.BadSource fault) f h = f.runs.1
+  nothing_fetched Outcome.Unbuilt f h = f.runs.1
+  nothing_fetched Outcome.WriteFault f h = absurd (failed_not h f.fetched)
+  nothing_fetched Outcome.OutOfMemory (inl f) h = f.1
+  nothing_fetched Outcome.OutOfMemory (inr f) h = absurd (failed_not h f.fetched)
+  nothing_fetched Outcome.ReadFault f h = f.1
+  nothing_fetched Outcome.BadWords f h = absurd f.runs
+
+  pub nothing_built : (outcome : Outcome) → Runs outcome → HasNoSource words contents → Takes before later []
+  nothing_built Outcome.Done f h = absurd (no_form h Outcome.Done f f.runs.tree f.runs.source.form)
+  nothing_built (Outcome.BadSource fault) f h = f.runs.1
+  nothing_built Outcome.Unbuilt f h = f.runs.1
+  nothing_built Outcome.WriteFault f h = absurd (no_form h Outcome.WriteFault f f.runs.0.tree f.runs.0.source.form)
+  nothing_built Outcome.OutOfMemory (inl f) h = f.1
+  nothing_built Outcome.OutOfMemory (inr f) h =
+      elim f.runs [ inl none ↦ none | inr p ↦ absurd (no_form h Outcome.OutOfMemory f p.tree p.source.form) ]
+  nothing_built Outcome.ReadFault f h = f.1
+  nothing_built Outcome.BadWords f h = absurd f.runs
 
   fetched_is : IsFetched file false calls calls_after → Fetched words false calls calls_after
   fetched_is f = record {
@@ -139,27 +230,66 @@ module _ (words : Words) (file : List ℕ) (contents : Option Contents) (calls c
     listed = f ∙ ap (λ n. calls ++ call_of false n false ∷ []) (sym (named_is words file reads));
   }
 
-  pub unbuilt_clause : (status result : Status) → Runs status → Becoming status result → result ≡ Status.Unbuilt → Fetched words false calls calls_after × ((bytes : List ℕ) → HasSource words contents bytes → IsNotFirstForm bytes)
-  unbuilt_clause Status.Unbuilt result f r e =
-      (fetched_is f.fetched, λ bytes h tree form. f.runs.0 tree (form_at bytes f.bytes tree (told_is bytes Status.Unbuilt h f) form))
-  unbuilt_clause Status.Done result f r e = let done = r.0 in cc
-  unbuilt_clause Status.WriteFault result f (inl r) e = let is = r.0 in cc
-  unbuilt_clause Status.WriteFault result f (inr r) e = let is = r.0 in cc
-  unbuilt_clause Status.OutOfMemory result f (inl r) e = let is = r.0 in cc
-  unbuilt_clause Status.OutOfMemory result f (inr r) e = let is = r.0 in cc
-  unbuilt_clause Status.ReadFault result f (inl r) e = let is = r.0 in cc
-  unbuilt_clause Status.ReadFault result f (inr (inl r, p)) e = let is = r.0 in cc
-  unbuilt_clause Status.ReadFault result f (inr (inr r, p)) e = cc
-  unbuilt_clause Status.BadWords result f r e = absurd f.runs
+  bad_source_runs : (outcome : Outcome) → Runs outcome → status_of outcome ≡ Status.BadSource → Takes err_before err_later (line_of outcome file) → Fetched words false calls calls_after × (fault : LexFault) × ((bytes : List ℕ) → HasSource words contents bytes → IsBadSource bytes fault) × Takes err_before err_later (line_of (Outcome.BadSource fault) (named words))
+  bad_source_runs (Outcome.BadSource fault) f e t = (
+    fetched_is f.fetched,
+    fault,
+    λ bytes h. subst (λ b. IsBadSource b fault) (sym (told_is bytes (Outcome.BadSource fault) h f)) f.runs.0,
+    line_named words file err_before err_later reads (Outcome.BadSource fault) t,
+  )
+  bad_source_runs Outcome.Done f e t = cc
+  bad_source_runs Outcome.BadWords f e t = cc
+  bad_source_runs Outcome.ReadFault f e t = cc
+  bad_source_runs Outcome.WriteFault f e t = cc
+  bad_source_runs Outcome.OutOfMemory f e t = cc
+  bad_source_runs Outcome.Unbuilt f e t = cc
 
-  pub not_built_clause : (status result : Status) → Runs status → Becoming status result → HasNoSource words contents → Fetched words false calls calls_after → Becomes Status.Unbuilt result err_old err_new ⊎ (result ≡ Status.OutOfMemory)
-  not_built_clause Status.Unbuilt result f (inl r) h g = inl (inl r.0)
-  not_built_clause Status.Unbuilt result f (inr r) h g = inl (inr r.0)
-  not_built_clause Status.Done result f r h g = absurd (no_form h Status.Done f f.runs.tree f.runs.source.form)
-  not_built_clause Status.WriteFault result f r h g = absurd (no_form h Status.WriteFault f f.runs.0.tree f.runs.0.source.form)
-  not_built_clause Status.OutOfMemory result f (inl r) h g = inr r.0
-  not_built_clause Status.OutOfMemory result f (inr r) h g = inr r.0
-  not_built_clause Status.ReadFault result f r h g =
-      let same = not_both calls (call_of false (named words) false) (call_of false file true) (sym g.listed ∙ f.0) in
-      let failed : false ≡ true = ap (λ (c : FileCall). c.failed) same in cc
-  not_built_clause Status.BadWords result f r h g = absurd f.runs
+  pub bad_source_clause : (outcome : Outcome) (result : Status) → Runs outcome → Becoming outcome result → result ≡ Status.BadSource → Fetched words false calls calls_after × (fault : LexFault) × ((bytes : List ℕ) → HasSource words contents bytes → IsBadSource bytes fault) × Takes err_before err_later (line_of (Outcome.BadSource fault) (named words))
+  bad_source_clause outcome result f r e =
+      let settled = settled_is err_before err_later err_old err_new outcome file result r (λ w. cc) (λ o. cc) in
+      bad_source_runs outcome f (sym settled.0 ∙ e) settled.1
+
+  unbuilt_runs : (outcome : Outcome) → Runs outcome → status_of outcome ≡ Status.Unbuilt → Fetched words false calls calls_after × ((bytes : List ℕ) → HasSource words contents bytes → IsNotBuilt bytes)
+  unbuilt_runs Outcome.Unbuilt f e =
+      (fetched_is f.fetched, λ bytes h. subst IsNotBuilt (sym (told_is bytes Outcome.Unbuilt h f)) f.runs.0)
+  unbuilt_runs Outcome.Done f e = cc
+  unbuilt_runs Outcome.BadWords f e = cc
+  unbuilt_runs (Outcome.BadSource fault) f e = cc
+  unbuilt_runs Outcome.ReadFault f e = cc
+  unbuilt_runs Outcome.WriteFault f e = cc
+  unbuilt_runs Outcome.OutOfMemory f e = cc
+
+  pub unbuilt_clause : (outcome : Outcome) (result : Status) → Runs outcome → Becoming outcome result → result ≡ Status.Unbuilt → Fetched words false calls calls_after × ((bytes : List ℕ) → HasSource words contents bytes → IsNotBuilt bytes)
+  unbuilt_clause outcome result f r e =
+      let settled = settled_is err_before err_later err_old err_new outcome file result r (λ w. cc) (λ o. cc) in
+      unbuilt_runs outcome f (sym settled.0 ∙ e)
+
+  pub faulty_clause : (outcome : Outcome) (result : Status) → Runs outcome → Becoming outcome result → (bytes : List ℕ) (fault : LexFault) → HasSource words contents bytes → IsBadSource bytes fault → Fetched words false calls calls_after → Becomes Status.BadSource result err_old err_new ⊎ (result ≡ Status.OutOfMemory)
+  faulty_clause (Outcome.BadSource why) result f (inl (inl r)) bytes fault h bad g = inl (inl r.0)
+  faulty_clause (Outcome.BadSource why) result f (inl (inr r)) bytes fault h bad g = inl (inr r.0)
+  faulty_clause (Outcome.BadSource why) result f (inr (inl r)) bytes fault h bad g = inr r.0
+  faulty_clause (Outcome.BadSource why) result f (inr (inr r)) bytes fault h bad g = inr r.0
+  faulty_clause Outcome.Done result f r bytes fault h bad g =
+      absurd (form_not_bad never f.bytes f.runs.tree fault f.runs.source.form (bad_at bytes f.bytes fault (told_is bytes Outcome.Done h f) bad))
+  faulty_clause Outcome.Unbuilt result f r bytes fault h bad g =
+      absurd (bad_not_unbuilt never f.bytes fault (bad_at bytes f.bytes fault (told_is bytes Outcome.Unbuilt h f) bad) f.runs.0)
+  faulty_clause Outcome.WriteFault result f r bytes fault h bad g =
+      absurd (form_not_bad never f.bytes f.runs.0.tree fault f.runs.0.source.form (bad_at bytes f.bytes fault (told_is bytes Outcome.WriteFault h f) bad))
+  faulty_clause Outcome.OutOfMemory result f (inl r) bytes fault h bad g = inr r.0
+  faulty_clause Outcome.OutOfMemory result f (inr r) bytes fault h bad g = inr r.0
+  faulty_clause Outcome.ReadFault result f r bytes fault h bad g = absurd (fetched_not g f.0)
+  faulty_clause Outcome.BadWords result f r bytes fault h bad g = absurd f.runs
+
+  pub not_built_clause : (outcome : Outcome) (result : Status) → Runs outcome → Becoming outcome result → (bytes : List ℕ) → HasSource words contents bytes → IsNotBuilt bytes → Fetched words false calls calls_after → Becomes Status.Unbuilt result err_old err_new ⊎ (result ≡ Status.OutOfMemory)
+  not_built_clause Outcome.Unbuilt result f (inl r) bytes h not g = inl (inl r.0)
+  not_built_clause Outcome.Unbuilt result f (inr r) bytes h not g = inl (inr r.0)
+  not_built_clause Outcome.Done result f r bytes h not g =
+      absurd (form_not_unbuilt one f.bytes f.runs.tree f.runs.source.form (subst IsNotBuilt (told_is bytes Outcome.Done h f) not))
+  not_built_clause (Outcome.BadSource fault) result f r bytes h not g =
+      absurd (bad_not_unbuilt never f.bytes fault f.runs.0 (subst IsNotBuilt (told_is bytes (Outcome.BadSource fault) h f) not))
+  not_built_clause Outcome.WriteFault result f r bytes h not g =
+      absurd (form_not_unbuilt one f.bytes f.runs.0.tree f.runs.0.source.form (subst IsNotBuilt (told_is bytes Outcome.WriteFault h f) not))
+  not_built_clause Outcome.OutOfMemory result f (inl r) bytes h not g = inr r.0
+  not_built_clause Outcome.OutOfMemory result f (inr r) bytes h not g = inr r.0
+  not_built_clause Outcome.ReadFault result f r bytes h not g = absurd (fetched_not g f.0)
+  not_built_clause Outcome.BadWords result f r bytes h not g = absurd f.runs

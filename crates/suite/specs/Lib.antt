@@ -6,5 +6,6 @@ pub mod Effects
 pub mod Running
 pub mod Words
 pub mod Lines
+pub mod Outcome
 pub mod Work
 pub mod Causes

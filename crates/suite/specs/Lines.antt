@@ -1,28 +1,53 @@
--- Statuses, and the line that each puts to the sink of errors.
+-- Statuses, what a call comes to, and the line that each puts to the sink of errors.
 use Rattle.std.specs.Prelude.{◌≡◌, ℕ, List, [], ◌∷◌, ◌++◌, ◌⊎◌, Option, codes}
+use Rattle.std.specs.Fmt.{decimal}
+use Rattle.lexer.specs.declared.fault.LexFault.{LexFault}
 use Rattle.suite_io.specs.Taken.{Takes, Rises}
 use Rattle.suite.specs.declared.status.Status.{Status}
+use Rattle.suite.specs.declared.outcome.Outcome.{Outcome}
 use Rattle.suite.specs.Output.{TakesPart}
 
 abbrev pub number_of : Status → ℕ
 number_of Status.Done = 0
 number_of Status.BadWords = 2
+number_of Status.BadSource = 4
 number_of Status.ReadFault = 8
 number_of Status.WriteFault = 9
 number_of Status.OutOfMemory = 10
 number_of Status.Unbuilt = 11
 
--- the line of a status, for a file of this name: `luasuite: `, the text, and a line end
+-- the status of what the work came to
+abbrev pub status_of : Outcome → Status
+status_of Outcome.Done = Status.Done
+status_of Outcome.BadWords = Status.BadWords
+status_of (Outcome.BadSource fault) = Status.BadSource
+status_of Outcome.ReadFault = Status.ReadFault
+status_of Outcome.WriteFault = Status.WriteFault
+status_of Outcome.OutOfMemory = Status.OutOfMemory
+status_of Outcome.Unbuilt = Status.Unbuilt
+
+-- the name of a fault of a source, and its offset; want of memory is no such fault
+abbrev pub fault_text : LexFault → List ℕ
+fault_text (LexFault.BadByte at) = codes ": BadByte at offset " ++ decimal at
+fault_text (LexFault.UnfinishedString at) = codes ": UnfinishedString at offset " ++ decimal at
+fault_text (LexFault.UnfinishedLong at) = codes ": UnfinishedLong at offset " ++ decimal at
+fault_text (LexFault.BadLongOpen at) = codes ": BadLongOpen at offset " ++ decimal at
+fault_text (LexFault.EscapeTooLarge at) = codes ": EscapeTooLarge at offset " ++ decimal at
+fault_text (LexFault.BadNumber at) = codes ": BadNumber at offset " ++ decimal at
+fault_text LexFault.OutOfMemory = codes ": OutOfMemory"
+
+-- a line that speaks of a file of this name: `luasuite: `, the name, the text, and a line end
 abbrev pub line_with : List ℕ → List ℕ → List ℕ
 line_with name text = codes "luasuite: " ++ (name ++ (text ++ 10 ∷ []))
 
-abbrev pub line_of : Status → List ℕ → List ℕ
-line_of Status.Done name = []
-line_of Status.BadWords name = line_with [] (codes "bad words")
-line_of Status.ReadFault name = line_with name (codes ": read failed")
-line_of Status.WriteFault name = line_with [] (codes "write failed")
-line_of Status.OutOfMemory name = line_with [] (codes "out of memory")
-line_of Status.Unbuilt name = line_with name (codes ": Unbuilt")
+abbrev pub line_of : Outcome → List ℕ → List ℕ
+line_of Outcome.Done name = []
+line_of Outcome.BadWords name = line_with [] (codes "bad words")
+line_of (Outcome.BadSource fault) name = line_with name (fault_text fault)
+line_of Outcome.ReadFault name = line_with name (codes ": read failed")
+line_of Outcome.WriteFault name = line_with [] (codes "write failed")
+line_of Outcome.OutOfMemory name = line_with [] (codes "out of memory")
+line_of Outcome.Unbuilt name = line_with name (codes ": Unbuilt")
 
 -- what becomes of a status whose line was refused. One that is a fault of writing or want of memory stays. Every other
 -- becomes a fault of writing, where the count of the sink rose, or want of memory
@@ -36,7 +61,12 @@ abbrev pub IsPut : Status → List ℕ → Status → Option (List ℕ) → Opti
 IsPut status line result before after old new =
     ((result ≡ status) × Takes before after line) ⊎ (Refused status result old new × TakesPart before after line)
 
--- what becomes of a status while its line is put: nothing is put at success
-abbrev pub Reported : Status → List ℕ → Status → Option (List ℕ) → Option (List ℕ) → ℕ → ℕ → Type 0
-Reported Status.Done name result before after old new = (result ≡ Status.Done) × Takes before after []
-Reported status name result before after old new = IsPut status (line_of status name) result before after old new
+-- what becomes of the status while the line is put. Nothing is put at success, and where there is no memory for the text
+-- of a fault, the line is that of want of memory
+abbrev pub Reported : Outcome → List ℕ → Status → Option (List ℕ) → Option (List ℕ) → ℕ → ℕ → Type 0
+Reported Outcome.Done name result before after old new = (result ≡ Status.Done) × Takes before after []
+Reported (Outcome.BadSource fault) name result before after old new =
+    IsPut Status.BadSource (line_of (Outcome.BadSource fault) name) result before after old new
+    ⊎ IsPut Status.OutOfMemory (line_of Outcome.OutOfMemory name) result before after old new
+Reported outcome name result before after old new =
+    IsPut (status_of outcome) (line_of outcome name) result before after old new

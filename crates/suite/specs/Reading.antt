@@ -1,37 +1,41 @@
--- What reading takes from the front of a text.
-use Rattle.std.specs.Prelude.{◌≡◌, ℕ, Bool, nat_le, ◌==◌, ◌&&◌, ◌||◌, List, [], ◌∷◌, ◌++◌}
-use Rattle.std.specs.List.{AllByRecursion}
-use Rattle.lua_num.specs.Numeral.{IsSpace}
-use Rattle.agrees.specs.Source.{SpellsStatement}
+-- What reading takes from the front of a list of tokens.
+use Rattle.std.specs.Prelude.{◌≡◌, ℤ, List, codes}
+use Rattle.lua_tree.specs.declared.token.TokenKind.{TokenKind}
+use Rattle.lua_tree.specs.declared.token.Token.{Token}
+use Rattle.lexer.specs.declared.fault.LexFault.{LexFault}
 use Rattle.agrees.specs.declared.tree.Statement.{Statement}
+use Rattle.agrees.specs.declared.tree.Statement.TheVariants.{Print}
+use Rattle.agrees.specs.Source.{BeginsWithPrint, IsPrintList}
+use Rattle.suite.specs.declared.outcome.Outcome.{Outcome}
+use Rattle.suite.specs.declared.source.SourceFault.{SourceFault}
 
--- white space, as a test
-abbrev pub is_space_byte : ℕ → Bool
-is_space_byte byte = (nat_le 9 byte && nat_le byte 13) || (byte == 32)
+-- what a fault of lexing is for the reader
+abbrev pub source_fault_of : LexFault → SourceFault
+source_fault_of LexFault.OutOfMemory = SourceFault.OutOfMemory
+source_fault_of fault = SourceFault.Bad fault
 
--- the empty text, or one whose first byte does not have P
-abbrev pub BeginsWithout : (ℕ → Type 0) → List ℕ → Type 0
-BeginsWithout P [] = Unit {0}
-BeginsWithout P (byte ∷ text) = P byte → ⊥
+-- what a fault of reading comes to
+abbrev pub outcome_of : SourceFault → Outcome
+outcome_of (SourceFault.Bad fault) = Outcome.BadSource fault
+outcome_of SourceFault.Unbuilt = Outcome.Unbuilt
+outcome_of SourceFault.OutOfMemory = Outcome.OutOfMemory
 
--- the longest front whose bytes have P, and what is left
-pub record SplitsRun (P : ℕ → Type 0) (text run rest : List ℕ) : Type 0 where
-  pub whole : text ≡ run ++ rest
-  pub within : AllByRecursion P run
-  pub ends : BeginsWithout P rest
+-- these four tokens print n
+pub record ArePrint (name opening number closing : Token) (n : ℤ) : Type 0 where
+  pub name_is : name.kind ≡ TokenKind.Name (codes "print")
+  pub opening_is : opening.kind ≡ TokenKind.OpenParen
+  pub number_is : number.kind ≡ TokenKind.Number n
+  pub closing_is : closing.kind ≡ TokenKind.CloseParen
+  pub same_line : opening.line ≡ name.line
 
--- what is left after all the white space at the front
-pub record SkipsSpace (text rest : List ℕ) : Type 0 where
-  pub space : List ℕ
-  pub split : SplitsRun IsSpace text space rest
+-- a statement at the front, and the tokens after it
+abbrev pub ReadsStatement : List Token → Statement → List Token → Type 0
+ReadsStatement tokens (Print n) rest = BeginsWithPrint tokens n (λ others. others ≡ rest)
 
--- a statement at the front, and what is left after it and all its white space
-pub record ReadsStatement (text : List ℕ) (statement : Statement) (rest : List ℕ) : Type 0 where
-  pub front : List ℕ
-  pub whole : text ≡ front ++ rest
-  pub spelled : SpellsStatement front statement
-  pub ends : BeginsWithout IsSpace rest
+-- no statement stands at the front
+abbrev pub HasNoStatement : List Token → Type 0
+HasNoStatement tokens = (statement : Statement) (rest : List Token) → ReadsStatement tokens statement rest → ⊥
 
--- no front of the text spells a statement
-abbrev pub HasNoStatement : List ℕ → Type 0
-HasNoStatement text = (front rest : List ℕ) (statement : Statement) → text ≡ front ++ rest → SpellsStatement front statement → ⊥
+-- the tokens are of no list of at most 200 printed numbers
+abbrev pub IsNoPrintList : List Token → Type 0
+IsNoPrintList tokens = (tree : List Statement) → IsPrintList tokens tree → ⊥

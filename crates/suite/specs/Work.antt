@@ -1,4 +1,4 @@
--- What a call of the suite does before the line for the sink of errors: its status, the calls of files, and the output.
+-- What a call of the suite does before the line for the sink of errors: its outcome, the calls of files, and the output.
 use Rattle.std.specs.Prelude.{◌≡◌, ℕ, Bool, true, false, List, [], ◌∷◌, ◌++◌, ◌⊎◌, Option, Some, IfSome}
 use Rattle.std.specs.FinMap.{get}
 use Rattle.suite_io.specs.declared.calls.FileCall.{FileCall}
@@ -9,9 +9,10 @@ use Rattle.agrees.specs.declared.tree.Statement.{Statement}
 use Rattle.agrees.specs.Source.{IsFirstForm}
 use Rattle.agrees.specs.Progress.{Done, output}
 use Rattle.agrees.specs.Meaning.{meaning}
-use Rattle.suite.specs.declared.status.Status.{Status}
+use Rattle.suite.specs.declared.outcome.Outcome.{Outcome}
 use Rattle.suite.specs.Output.{TakesPart}
 use Rattle.suite.specs.Words.{Words, Reads, NoCommand, named}
+use Rattle.suite.specs.Outcome.{IsBadSource, IsNotBuilt}
 
 -- the bytes are a source of the first form, of this tree alone
 pub record IsSource (bytes : List ℕ) (tree : List Statement) : Type 0 where
@@ -43,12 +44,13 @@ pub record PrintsPart (bytes : List ℕ) (before after : Option (List ℕ)) : Ty
   pub outputs : HasOutput tree text
   pub taken : TakesPart before after text
 
--- what the bytes of a source come to: the status, what the sink took, and its count of faults
-abbrev pub SourceRuns : List ℕ → Status → Option (List ℕ) → Option (List ℕ) → ℕ → ℕ → Type 0
-SourceRuns bytes Status.Done before after old new = Prints bytes before after
-SourceRuns bytes Status.Unbuilt before after old new = IsNotFirstForm bytes × Takes before after []
-SourceRuns bytes Status.WriteFault before after old new = PrintsPart bytes before after × Rises old new
-SourceRuns bytes Status.OutOfMemory before after old new = Takes before after [] ⊎ PrintsPart bytes before after
+-- what the bytes of a source come to: the outcome, what the sink took, and its count of faults
+abbrev pub SourceRuns : List ℕ → Outcome → Option (List ℕ) → Option (List ℕ) → ℕ → ℕ → Type 0
+SourceRuns bytes Outcome.Done before after old new = Prints bytes before after
+SourceRuns bytes (Outcome.BadSource fault) before after old new = IsBadSource bytes fault × Takes before after []
+SourceRuns bytes Outcome.Unbuilt before after old new = IsNotBuilt bytes × Takes before after []
+SourceRuns bytes Outcome.WriteFault before after old new = PrintsPart bytes before after × Rises old new
+SourceRuns bytes Outcome.OutOfMemory before after old new = Takes before after [] ⊎ PrintsPart bytes before after
 SourceRuns bytes _ before after old new = ⊥
 
 -- the calls of files grew by one fetch of this file
@@ -56,25 +58,25 @@ abbrev pub IsFetched : List ℕ → Bool → List FileCall → List FileCall →
 IsFetched file failed calls calls_after = calls_after ≡ calls ++ call_of false file failed ∷ []
 
 -- the file was fetched, and its bytes come to this
-pub record FetchedRuns (file : List ℕ) (contents : Option Contents) (calls calls_after : List FileCall) (status : Status) (before after : Option (List ℕ)) (old new : ℕ) : Type 0 where
+pub record FetchedRuns (file : List ℕ) (contents : Option Contents) (calls calls_after : List FileCall) (outcome : Outcome) (before after : Option (List ℕ)) (old new : ℕ) : Type 0 where
   pub fetched : IsFetched file false calls calls_after
   pub bytes : List ℕ
   pub told : IfSome contents (λ held. get held file ≡ Some bytes)
-  pub runs : SourceRuns bytes status before after old new
+  pub runs : SourceRuns bytes outcome before after old new
 
 -- what a file comes to: the order is fetch, reading, run
-abbrev pub FileRuns : List ℕ → Option Contents → List FileCall → List FileCall → Status → Option (List ℕ) → Option (List ℕ) → ℕ → ℕ → Type 0
-FileRuns file contents calls calls_after Status.ReadFault before after old new =
+abbrev pub FileRuns : List ℕ → Option Contents → List FileCall → List FileCall → Outcome → Option (List ℕ) → Option (List ℕ) → ℕ → ℕ → Type 0
+FileRuns file contents calls calls_after Outcome.ReadFault before after old new =
     IsFetched file true calls calls_after × Takes before after []
-FileRuns file contents calls calls_after Status.OutOfMemory before after old new =
+FileRuns file contents calls calls_after Outcome.OutOfMemory before after old new =
     ((calls_after ≡ calls) × Takes before after [])
-    ⊎ FetchedRuns file contents calls calls_after Status.OutOfMemory before after old new
-FileRuns file contents calls calls_after status before after old new =
-    FetchedRuns file contents calls calls_after status before after old new
+    ⊎ FetchedRuns file contents calls calls_after Outcome.OutOfMemory before after old new
+FileRuns file contents calls calls_after outcome before after old new =
+    FetchedRuns file contents calls calls_after outcome before after old new
 
 -- what words come to before the line for the sink of errors is put: the order is words, and then their file
-abbrev pub Works : Words → Option Contents → List FileCall → List FileCall → Status → Option (List ℕ) → Option (List ℕ) → ℕ → ℕ → Type 0
-Works words contents calls calls_after Status.BadWords before after old new =
+abbrev pub Works : Words → Option Contents → List FileCall → List FileCall → Outcome → Option (List ℕ) → Option (List ℕ) → ℕ → ℕ → Type 0
+Works words contents calls calls_after Outcome.BadWords before after old new =
     NoCommand words × (calls_after ≡ calls) × Takes before after []
-Works words contents calls calls_after status before after old new =
-    Reads words (named words) × FileRuns (named words) contents calls calls_after status before after old new
+Works words contents calls calls_after outcome before after old new =
+    Reads words (named words) × FileRuns (named words) contents calls calls_after outcome before after old new

@@ -5,8 +5,8 @@ ghost use Rattle.suite.specs.Work.{SourceRuns, FileRuns};
 
 use crate::compile::compile;
 use crate::machine::{RunEnd, run};
-use crate::source::{SourceFault, read_source};
-use crate::status::Status;
+use crate::outcome::Outcome;
+use crate::source::read_source;
 use agrees::meaning_is_steady;
 use std::alloc::Global;
 use suite_io::{FileFault, Files, Sink, Word};
@@ -15,37 +15,41 @@ use suite_io::{FileFault, Files, Sink, Word};
 const MAX_STEPS: u64 = 1_000_000_000;
 
 /// Fetches a file, and runs it as a source of the first form.
-pub fn run_file<F: Files, O: Sink>(alloc: Global, file: &Word, files: &mut F, out: &mut O) -> Status
+pub fn run_file<F: Files, O: Sink>(
+    alloc: Global,
+    file: &Word,
+    files: &mut F,
+    out: &mut O,
+) -> Outcome
     ensures runs { FileRuns (string_bytes file.now) (F.contents files.old) (F.calls files.old) (F.calls files.new) result (O.taken out.old) (O.taken out.new) (O.faults out.old) (O.faults out.new) }
     ensures contents { F.contents files.new ≡ F.contents files.old }
     ensures never_falls { O.faults out.old ≤ O.faults out.new }
 {
     match files.fetch(alloc, file) {
         Ok(source) => run_source(alloc, source.bytes(), out),
-        Err(FileFault::Failed) => Status::ReadFault,
-        Err(FileFault::OutOfMemory) => Status::OutOfMemory,
+        Err(FileFault::Failed) => Outcome::ReadFault,
+        Err(FileFault::OutOfMemory) => Outcome::OutOfMemory,
     }
 }
 
 // Reads, compiles and runs a source.
-fn run_source<O: Sink>(alloc: Global, source: &[u8], out: &mut O) -> Status
+fn run_source<O: Sink>(alloc: Global, source: &[u8], out: &mut O) -> Outcome
     ensures runs { SourceRuns source.now result (O.taken out.old) (O.taken out.new) (O.faults out.old) (O.faults out.new) }
     ensures never_falls { O.faults out.old ≤ O.faults out.new }
 {
     let tree = match read_source(alloc, source) {
         Ok(tree) => tree,
-        Err(SourceFault::Unbuilt) => return Status::Unbuilt,
-        Err(SourceFault::OutOfMemory) => return Status::OutOfMemory,
+        Err(fault) => return fault.outcome(),
     };
     let Ok(chunk) = compile(alloc, &tree) else {
-        return Status::OutOfMemory;
+        return Outcome::OutOfMemory;
     };
     // A law: the source ends, and so its code does, within the steps.
     meaning_is_steady();
     match run(alloc, &chunk, MAX_STEPS, out) {
-        RunEnd::Done => Status::Done,
-        RunEnd::OutFault => Status::WriteFault,
-        RunEnd::OutOfMemory => Status::OutOfMemory,
+        RunEnd::Done => Outcome::Done,
+        RunEnd::OutFault => Outcome::WriteFault,
+        RunEnd::OutOfMemory => Outcome::OutOfMemory,
         RunEnd::Failed(_) => unreachable!(),
         RunEnd::Unfinished => unreachable!(),
     }

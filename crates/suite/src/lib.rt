@@ -6,6 +6,7 @@ mod command;
 mod compile;
 mod effects;
 mod machine;
+mod outcome;
 mod output;
 mod report;
 mod show;

@@ -1,26 +1,61 @@
 // The line that says why a call did not succeed.
-ghost use Rattle.std.specs.Prelude.{◌≡◌, ◌≤◌, ℕ, OnOk, OnErr, IsErrOf};
+ghost use Rattle.std.specs.Prelude.{◌≡◌, ◌≤◌, ℕ, IfOk, OnOk, OnErr, IsErrOf};
+ghost use Rattle.std.specs.String.{string_bytes};
 ghost use Rattle.suite_io.specs.Taken.{Takes, Rises};
-ghost use Rattle.suite.specs.Lines.{Reported, IsPut, Refused, line_with};
+ghost use Rattle.suite.specs.Lines.{Reported, IsPut, Refused, line_with, fault_text as the_text};
 ghost use Rattle.suite.specs.Output.{TakesPart};
 
+use crate::outcome::Outcome;
 use crate::output::put_all;
 use crate::status::Status;
+use lexer::LexFault;
+use std::alloc::{AllocError, Global};
 use suite_io::{Sink, SinkFault};
 
-/// Puts the line of a status, which speaks of a file of this name, and answers what becomes of the
-/// status.
-pub fn report<E: Sink>(err: &mut E, status: Status, name: &str) -> Status
-    ensures reported { Reported status name.now result (E.taken err.old) (E.taken err.new) (E.faults err.old) (E.faults err.new) }
+/// Puts the line of what the work came to, which speaks of a file of this name, and answers what
+/// becomes of the status.
+pub fn report<E: Sink>(alloc: Global, err: &mut E, outcome: Outcome, name: &str) -> Status
+    ensures reported { Reported outcome name.now result (E.taken err.old) (E.taken err.new) (E.faults err.old) (E.faults err.new) }
     ensures never_falls { E.faults err.old ≤ E.faults err.new }
 {
-    match status {
-        Status::Done => Status::Done,
-        Status::BadWords => put_line(err, status, "", "bad words"),
-        Status::ReadFault => put_line(err, status, name, ": read failed"),
-        Status::WriteFault => put_line(err, status, "", "write failed"),
-        Status::OutOfMemory => put_line(err, status, "", "out of memory"),
-        Status::Unbuilt => put_line(err, status, name, ": Unbuilt"),
+    let status = outcome.status();
+    match outcome {
+        Outcome::Done => status,
+        Outcome::BadWords => put_line(err, status, "", "bad words"),
+        Outcome::BadSource(fault) => report_fault(alloc, err, fault, name),
+        Outcome::ReadFault => put_line(err, status, name, ": read failed"),
+        Outcome::WriteFault => put_line(err, status, "", "write failed"),
+        Outcome::OutOfMemory => put_line(err, status, "", "out of memory"),
+        Outcome::Unbuilt => put_line(err, status, name, ": Unbuilt"),
+    }
+}
+
+// Puts the line of a fault of a source. Its text is made first; where there is no memory for it, the
+// line is that of want of memory.
+fn report_fault<E: Sink>(alloc: Global, err: &mut E, fault: LexFault, name: &str) -> Status
+    ensures reported { Reported (Outcome.BadSource fault) name.now result (E.taken err.old) (E.taken err.new) (E.faults err.old) (E.faults err.new) }
+    ensures never_falls { E.faults err.old ≤ E.faults err.new }
+{
+    match fault_text(alloc, fault) {
+        Ok(text) => put_line(err, Status::BadSource, name, text.as_str()),
+        Err(_) => put_line(err, Status::OutOfMemory, "", "out of memory"),
+    }
+}
+
+// The name of a fault of a source, and its offset.
+fn fault_text(alloc: Global, fault: LexFault) -> Result<String, AllocError>
+    ensures { IfOk result (λ text. string_bytes text ≡ the_text fault) }
+{
+    match fault {
+        LexFault::BadByte { at } => format!(in alloc; ": BadByte at offset {at}"),
+        LexFault::UnfinishedString { at } => {
+            format!(in alloc; ": UnfinishedString at offset {at}")
+        }
+        LexFault::UnfinishedLong { at } => format!(in alloc; ": UnfinishedLong at offset {at}"),
+        LexFault::BadLongOpen { at } => format!(in alloc; ": BadLongOpen at offset {at}"),
+        LexFault::EscapeTooLarge { at } => format!(in alloc; ": EscapeTooLarge at offset {at}"),
+        LexFault::BadNumber { at } => format!(in alloc; ": BadNumber at offset {at}"),
+        LexFault::OutOfMemory => String::from_str(alloc, ": OutOfMemory"),
     }
 }
 

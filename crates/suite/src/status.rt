@@ -9,6 +9,8 @@ pub enum Status {
     Done = 0,
     /// The words are no command.
     BadWords = 2,
+    /// The source has a lexical fault.
+    BadSource = 4,
     /// The file could not be read.
     ReadFault = 8,
     /// Output, or the line that says why, could not be written.

@@ -94,8 +94,40 @@ fn a_printed_number_is_done_and_not_want_of_memory(rt: HostRuntime) -> Result<()
 }
 
 #[test]
+fn comments_and_white_space_stand_between_tokens(rt: HostRuntime) -> Result<(), Fail> {
+    for (source, printed) in [
+        ("# first\nprint(0x10)", "16\n"),
+        ("print (3) --c", "3\n"),
+        ("--[=x\n", ""),
+    ] {
+        let outcome = run(rt.alloc(), source.as_bytes())?;
+        assert_outcome(&rt, &outcome, Status::Done, printed, "");
+    }
+    Ok(())
+}
+
+#[test]
+fn a_source_with_a_lexical_fault_is_bad_and_prints_nothing(rt: HostRuntime) -> Result<(), Fail> {
+    for (source, fault) in [
+        ("print(3) --[==[", "UnfinishedLong at offset 11"),
+        ("--[[", "UnfinishedLong at offset 2"),
+        ("x=\"\\300\"", "EscapeTooLarge at offset 3"),
+        ("x='a", "UnfinishedString at offset 2"),
+        ("x=[=a", "BadLongOpen at offset 2"),
+        ("x=@", "BadByte at offset 2"),
+        ("print(9223372036854775808)", "BadNumber at offset 6"),
+    ] {
+        let outcome = run(rt.alloc(), source.as_bytes())?;
+        assert_eq!(rt; outcome.status.number(), 4, "{source:?}");
+        let line = format!(in rt.alloc(); "luasuite: a.lua: {fault}\n")?;
+        assert_outcome(&rt, &outcome, Status::BadSource, "", line.as_str());
+    }
+    Ok(())
+}
+
+#[test]
 fn a_source_of_another_form_is_unbuilt_and_prints_nothing(rt: HostRuntime) -> Result<(), Fail> {
-    for source in ["print(9223372036854775808)", "print(x)", "\x1bLua"] {
+    for source in ["print(x)", "print\n(3)", "\x1bLua"] {
         let outcome = run(rt.alloc(), source.as_bytes())?;
         assert_eq!(rt; outcome.status.number(), 11, "{source:?}");
         let line = "luasuite: a.lua: Unbuilt\n";
@@ -235,6 +267,7 @@ fn each_status_has_its_number(rt: HostRuntime) {
     for (status, number) in [
         (Status::Done, 0),
         (Status::BadWords, 2),
+        (Status::BadSource, 4),
         (Status::ReadFault, 8),
         (Status::WriteFault, 9),
         (Status::OutOfMemory, 10),

@@ -3,22 +3,26 @@ ghost use Rattle.std.specs.Prelude.{◌≡◌, ◌≢◌, ◌⊎◌, true, false
 ghost use Rattle.suite_io.specs.Taken.{Takes, Rises};
 ghost use Rattle.agrees.specs.declared.tree.Statement.{Statement};
 ghost use Rattle.agrees.specs.Source.{IsFirstForm};
-ghost use Rattle.suite.specs.declared.status.Status.{Status as Ended};
+ghost use Rattle.lexer.specs.declared.fault.LexFault.{LexFault};
+ghost use Rattle.suite.specs.declared.outcome.Outcome.{Outcome};
 ghost use Rattle.suite.specs.Output.{TakesPart};
 ghost use Rattle.suite.specs.Words.{NoCommand, Fetched, HasSource, named};
-ghost use Rattle.suite.specs.Lines.{Reported, line_of};
-ghost use Rattle.suite.specs.Work.{Works, HasOutput, IsNotFirstForm, Prints};
+ghost use Rattle.suite.specs.Lines.{Reported, status_of, line_of};
+ghost use Rattle.suite.specs.Outcome.{IsBadSource, IsNotBuilt};
+ghost use Rattle.suite.specs.Work.{Works, HasOutput, Prints};
 ghost use Rattle.suite.specs.Causes.{Becomes, GrowsByOneFetch, NoFault, HasNoSource};
 
 use crate::command::run_file;
+use crate::outcome::Outcome;
 use crate::report::report;
 use crate::status::Status;
 use crate::words::read_words;
+use lua_tree::{never_both, tokens_are_one};
 use std::alloc::Global;
 use suite_io::{Files, Sink, Word};
 
-/// Carries out the command that the words say: `run FILE` runs a source of the first form, a list of
-/// printed numbers. Every other list of words is refused. The work goes in the order words, fetch,
+/// Carries out the command that the words say: `run FILE` lexes the file and runs a list of printed
+/// numbers. Every other list of words is refused. The work goes in the order words, fetch, tokens,
 /// reading, run, and the line for `err` that every status but `Done` has; the first refusal gives
 /// the status. What a run had put to `out` before a refusal stays. Want of memory is a free answer.
 pub fn suite<F: Files, O: Sink, E: Sink>(
@@ -28,8 +32,8 @@ pub fn suite<F: Files, O: Sink, E: Sink>(
     out: &mut O,
     err: &mut E,
 ) -> Status
-    // The whole: the status that the work came to, and what became of it while its line was put.
-    ensures whole { (settled : Ended)
+    // The whole: what the work came to, and what became of its status while its line was put.
+    ensures whole { (settled : Outcome)
         × Works words.now (F.contents files.old) (F.calls files.old) (F.calls files.new) settled (O.taken out.old) (O.taken out.new) (O.faults out.old) (O.faults out.new)
         × Reported settled (named words.now) result (E.taken err.old) (E.taken err.new) (E.faults err.old) (E.faults err.new) }
 
@@ -58,20 +62,31 @@ pub fn suite<F: Files, O: Sink, E: Sink>(
     ensures no_command { NoCommand words.now → Becomes Status.BadWords result (E.faults err.old) (E.faults err.new) }
     ensures read_fault { result ≡ Status.ReadFault → Fetched words.now true (F.calls files.old) (F.calls files.new) }
     ensures fetch_failed { Fetched words.now true (F.calls files.old) (F.calls files.new) → Becomes Status.ReadFault result (E.faults err.old) (E.faults err.new) }
+    ensures bad_source { result ≡ Status.BadSource → Fetched words.now false (F.calls files.old) (F.calls files.new)
+        × (fault : LexFault) × ((bytes : List ℕ) → HasSource words.now (F.contents files.old) bytes → IsBadSource bytes fault)
+        × Takes (E.taken err.old) (E.taken err.new) (line_of (Outcome.BadSource fault) (named words.now)) }
+    ensures faulty { (bytes : List ℕ) (fault : LexFault) → HasSource words.now (F.contents files.old) bytes → IsBadSource bytes fault
+        → Fetched words.now false (F.calls files.old) (F.calls files.new)
+        → Becomes Status.BadSource result (E.faults err.old) (E.faults err.new) ⊎ (result ≡ Status.OutOfMemory) }
     ensures unbuilt { result ≡ Status.Unbuilt → Fetched words.now false (F.calls files.old) (F.calls files.new)
-        × ((bytes : List ℕ) → HasSource words.now (F.contents files.old) bytes → IsNotFirstForm bytes) }
-    ensures not_built { HasNoSource words.now (F.contents files.old) → Fetched words.now false (F.calls files.old) (F.calls files.new)
+        × ((bytes : List ℕ) → HasSource words.now (F.contents files.old) bytes → IsNotBuilt bytes) }
+    ensures not_built { (bytes : List ℕ) → HasSource words.now (F.contents files.old) bytes → IsNotBuilt bytes
+        → Fetched words.now false (F.calls files.old) (F.calls files.new)
         → Becomes Status.Unbuilt result (E.faults err.old) (E.faults err.new) ⊎ (result ≡ Status.OutOfMemory) }
     ensures write_fault { result ≡ Status.WriteFault → Rises (O.faults out.old) (O.faults out.new) ⊎ Rises (E.faults err.old) (E.faults err.new) }
 
     // The line for `err`, whole wherever no put of it can have been refused.
-    ensures line { result ≢ Status.WriteFault → result ≢ Status.OutOfMemory → Takes (E.taken err.old) (E.taken err.new) (line_of result (named words.now)) }
+    ensures line { result ≢ Status.WriteFault → result ≢ Status.OutOfMemory → (settled : Outcome) × (status_of settled ≡ result)
+        × Takes (E.taken err.old) (E.taken err.new) (line_of settled (named words.now)) }
 {
+    // Laws: bytes have one list of tokens, or a fault, and never both.
+    tokens_are_one();
+    never_both();
     match read_words(words) {
         Some(file) => {
-            let status = run_file(alloc, file, files, out);
-            report(err, status, file.as_str())
+            let outcome = run_file(alloc, file, files, out);
+            report(alloc, err, outcome, file.as_str())
         }
-        None => report(err, Status::BadWords, ""),
+        None => report(alloc, err, Outcome::BadWords, ""),
     }
 }

@@ -14,7 +14,7 @@ fn repeated(alloc: Global, text: &[u8], times: usize) -> Result<Vec<u8>, Fail> {
 }
 
 #[test]
-fn reads_statements_between_white_space(rt: HostRuntime) -> Result<(), Fail> {
+fn reads_statements_between_white_space_and_comments(rt: HostRuntime) -> Result<(), Fail> {
     let none = read_source(rt.alloc(), b"")?;
     assert!(rt; none.is_empty());
     let blank = read_source(rt.alloc(), b" \t\n\x0b\x0c\r")?;
@@ -24,7 +24,7 @@ fn reads_statements_between_white_space(rt: HostRuntime) -> Result<(), Fail> {
     assert_eq!(rt; three.as_slice(), [Statement::Print(3)].as_slice());
     let two = read_source(
         rt.alloc(),
-        b" \n print(007)\x0bprint(9223372036854775807)\t",
+        b" \n print ( 007 ) --c\n\x0bprint(0x7fffffffffffffff)\t",
     )?;
     let want = [Statement::Print(7), Statement::Print(i64::MAX)];
     assert_eq!(rt; two.as_slice(), want.as_slice());
@@ -43,12 +43,10 @@ fn reads_two_hundred_statements_and_no_more(rt: HostRuntime) -> Result<(), Fail>
 #[test]
 fn refuses_other_texts(rt: HostRuntime) {
     let texts = [
-        "print(9223372036854775808)",
         "print(x)",
         "print()",
         "print(3",
-        "print (3)",
-        "print( 3)",
+        "print\n(3)",
         "print(-1)",
         "print(3);",
         "Print(3)",
@@ -57,4 +55,11 @@ fn refuses_other_texts(rt: HostRuntime) {
     for text in texts {
         assert!(rt; is_refused(rt.alloc(), text.as_bytes()), "{text:?}");
     }
+}
+
+#[test]
+fn a_fault_of_the_lexer_is_passed_on(rt: HostRuntime) {
+    let read = read_source(rt.alloc(), b"print(3) @");
+    let fault = LexFault::BadByte { at: 9 };
+    assert!(rt; matches!(read, Err(SourceFault::Bad(why)) if why == fault));
 }

@@ -1,16 +1,43 @@
-use Rattle.std.proofs.Common.{subst, inl, inr}
+use Rattle.std.proofs.Common.{[], subst, sym, refl, inl, inr}
+use Rattle.suite.specs.declared.outcome.Outcome.{Outcome}
 use Rattle.suite.specs.Lines.{Reported}
-use Rattle.suite.proofs.Clauses.{prints_clause, part_clause, nothing_fetched, nothing_built, unbuilt_clause, not_built_clause}
+use Rattle.suite.proofs.Putting.{takes_none}
+use Rattle.suite.proofs.Clauses.{settled_is, prints_clause, part_clause, nothing_fetched, nothing_built, line_clause, bad_source_clause, faulty_clause, unbuilt_clause, not_built_clause}
 use Rattle.suite.proofs.top.suite.Goals as goal
 
 pub returns-in-Some-clause-prints : goal.returns-in-Some-clause-prints
 returns-in-Some-clause-prints g c =
-    let reported = subst (λ n. Reported c.run_file-status.result n c.report.result (g.E.Sink.taken c.args.err.now) (g.E.Sink.taken c.report.new.err) (g.E.Sink.faults c.args.err.now) (g.E.Sink.faults c.report.new.err)) c.as_str.ensures.value c.report.ensures.reported in
-    prints_clause c.args.words.now _ _ _ _ _ _ _ _ _ _ _ _ c.in-Some.ensures.file c.run_file-status.result c.report.result c.run_file-status.ensures.runs reported
+    let reported = subst (λ n. Reported c.run_file-outcome.result n c.report.result (g.E.Sink.taken c.args.err.now) (g.E.Sink.taken c.report.new.err) (g.E.Sink.faults c.args.err.now) (g.E.Sink.faults c.report.new.err)) c.as_str.ensures.value c.report.ensures.reported in
+    prints_clause c.tokens_are_one.ensures c.never_both.ensures c.args.words.now _ _ _ _ _ _ _ _ _ _ _ _ c.in-Some.ensures.file c.run_file-outcome.result c.report.result c.run_file-outcome.ensures.runs reported
+
+pub returns-in-Some-clause-bad_source : goal.returns-in-Some-clause-bad_source
+returns-in-Some-clause-bad_source g c =
+    let reported = subst (λ n. Reported c.run_file-outcome.result n c.report.result (g.E.Sink.taken c.args.err.now) (g.E.Sink.taken c.report.new.err) (g.E.Sink.faults c.args.err.now) (g.E.Sink.faults c.report.new.err)) c.as_str.ensures.value c.report.ensures.reported in
+    bad_source_clause c.tokens_are_one.ensures c.never_both.ensures c.args.words.now _ _ _ _ _ _ _ _ _ _ _ _ c.in-Some.ensures.file c.run_file-outcome.result c.report.result c.run_file-outcome.ensures.runs reported
+
+pub returns-in-Some-clause-faulty : goal.returns-in-Some-clause-faulty
+returns-in-Some-clause-faulty g c =
+    let reported = subst (λ n. Reported c.run_file-outcome.result n c.report.result (g.E.Sink.taken c.args.err.now) (g.E.Sink.taken c.report.new.err) (g.E.Sink.faults c.args.err.now) (g.E.Sink.faults c.report.new.err)) c.as_str.ensures.value c.report.ensures.reported in
+    faulty_clause c.tokens_are_one.ensures c.never_both.ensures c.args.words.now _ _ _ _ _ _ _ _ _ _ _ _ c.in-Some.ensures.file c.run_file-outcome.result c.report.result c.run_file-outcome.ensures.runs reported
+
+pub returns-in-Some-clause-unbuilt : goal.returns-in-Some-clause-unbuilt
+returns-in-Some-clause-unbuilt g c =
+    let reported = subst (λ n. Reported c.run_file-outcome.result n c.report.result (g.E.Sink.taken c.args.err.now) (g.E.Sink.taken c.report.new.err) (g.E.Sink.faults c.args.err.now) (g.E.Sink.faults c.report.new.err)) c.as_str.ensures.value c.report.ensures.reported in
+    unbuilt_clause c.tokens_are_one.ensures c.never_both.ensures c.args.words.now _ _ _ _ _ _ _ _ _ _ _ _ c.in-Some.ensures.file c.run_file-outcome.result c.report.result c.run_file-outcome.ensures.runs reported
+
+pub returns-in-Some-clause-not_built : goal.returns-in-Some-clause-not_built
+returns-in-Some-clause-not_built g c =
+    let reported = subst (λ n. Reported c.run_file-outcome.result n c.report.result (g.E.Sink.taken c.args.err.now) (g.E.Sink.taken c.report.new.err) (g.E.Sink.faults c.args.err.now) (g.E.Sink.faults c.report.new.err)) c.as_str.ensures.value c.report.ensures.reported in
+    not_built_clause c.tokens_are_one.ensures c.never_both.ensures c.args.words.now _ _ _ _ _ _ _ _ _ _ _ _ c.in-Some.ensures.file c.run_file-outcome.result c.report.result c.run_file-outcome.ensures.runs reported
+
+pub returns-in-Some-clause-line : goal.returns-in-Some-clause-line
+returns-in-Some-clause-line g c =
+    let reported = subst (λ n. Reported c.run_file-outcome.result n c.report.result (g.E.Sink.taken c.args.err.now) (g.E.Sink.taken c.report.new.err) (g.E.Sink.faults c.args.err.now) (g.E.Sink.faults c.report.new.err)) c.as_str.ensures.value c.report.ensures.reported in
+    line_clause c.args.words.now _ _ _ _ _ c.in-Some.ensures.file c.run_file-outcome.result c.report.result reported
 
 pub returns-in-Some-clause-part : goal.returns-in-Some-clause-part
 returns-in-Some-clause-part g c =
-    part_clause c.args.words.now _ _ _ _ _ _ _ _ (g.E.Sink.taken c.args.err.now) (g.E.Sink.taken c.report.new.err) (g.E.Sink.faults c.args.err.now) (g.E.Sink.faults c.report.new.err) c.in-Some.ensures.file c.run_file-status.result c.run_file-status.ensures.runs
+    part_clause c.tokens_are_one.ensures c.never_both.ensures c.args.words.now _ _ _ _ _ _ _ _ (g.E.Sink.taken c.args.err.now) (g.E.Sink.taken c.report.new.err) (g.E.Sink.faults c.args.err.now) (g.E.Sink.faults c.report.new.err) c.in-Some.ensures.file c.run_file-outcome.result c.run_file-outcome.ensures.runs
 
 pub returns-in-Some-clause-nothing : goal.returns-in-Some-clause-nothing
 returns-in-Some-clause-nothing g c =
@@ -21,17 +48,16 @@ returns-in-Some-clause-nothing g c =
     λ why. elim why [
       | inl none ↦ absurd (none _ c.in-Some.ensures.file)
       | inr other ↦ elim other [
-        | inl fetched ↦ nothing_fetched c.args.words.now _ _ _ _ _ _ _ _ err err_later old new c.in-Some.ensures.file c.run_file-status.result c.run_file-status.ensures.runs fetched
-        | inr source ↦ nothing_built c.args.words.now _ _ _ _ _ _ _ _ err err_later old new c.in-Some.ensures.file c.run_file-status.result c.run_file-status.ensures.runs source
+        | inl fetched ↦ nothing_fetched c.tokens_are_one.ensures c.never_both.ensures c.args.words.now _ _ _ _ _ _ _ _ err err_later old new c.in-Some.ensures.file c.run_file-outcome.result c.run_file-outcome.ensures.runs fetched
+        | inr source ↦ nothing_built c.tokens_are_one.ensures c.never_both.ensures c.args.words.now _ _ _ _ _ _ _ _ err err_later old new c.in-Some.ensures.file c.run_file-outcome.result c.run_file-outcome.ensures.runs source
       ]
     ]
 
-pub returns-in-Some-clause-unbuilt : goal.returns-in-Some-clause-unbuilt
-returns-in-Some-clause-unbuilt g c =
-    let reported = subst (λ n. Reported c.run_file-status.result n c.report.result (g.E.Sink.taken c.args.err.now) (g.E.Sink.taken c.report.new.err) (g.E.Sink.faults c.args.err.now) (g.E.Sink.faults c.report.new.err)) c.as_str.ensures.value c.report.ensures.reported in
-    unbuilt_clause c.args.words.now _ _ _ _ _ _ _ _ _ _ _ _ c.in-Some.ensures.file c.run_file-status.result c.report.result c.run_file-status.ensures.runs reported
+pub returns-in-None-clause-whole : goal.returns-in-None-clause-whole
+returns-in-None-clause-whole g c =
+    (Outcome.BadWords, (c.in-None.ensures.none, refl, takes_none (g.O.Sink.taken c.args.out.now)), c.report-in-None.ensures.reported)
 
-pub returns-in-Some-clause-not_built : goal.returns-in-Some-clause-not_built
-returns-in-Some-clause-not_built g c =
-    let reported = subst (λ n. Reported c.run_file-status.result n c.report.result (g.E.Sink.taken c.args.err.now) (g.E.Sink.taken c.report.new.err) (g.E.Sink.faults c.args.err.now) (g.E.Sink.faults c.report.new.err)) c.as_str.ensures.value c.report.ensures.reported in
-    not_built_clause c.args.words.now _ _ _ _ _ _ _ _ _ _ _ _ c.in-Some.ensures.file c.run_file-status.result c.report.result c.run_file-status.ensures.runs reported
+pub returns-in-None-clause-line : goal.returns-in-None-clause-line
+returns-in-None-clause-line g c = λ no_fault no_want.
+    let settled = settled_is _ _ _ _ Outcome.BadWords [] c.report-in-None.result c.report-in-None.ensures.reported no_fault no_want in
+    (Outcome.BadWords, sym settled.0, settled.1)

@@ -1,0 +1,35 @@
+// What the work of a call comes to.
+ghost use Rattle.std.specs.Prelude.{◌≡◌};
+ghost use Rattle.suite.specs.Lines.{status_of};
+
+use crate::status::Status;
+use lexer::LexFault;
+
+/// What the work came to, before its line is put.
+#[derive(Clone, Copy, Debug, PartialEq, Eq)]
+pub enum Outcome {
+    Done,
+    BadWords,
+    BadSource(LexFault),
+    ReadFault,
+    WriteFault,
+    OutOfMemory,
+    Unbuilt,
+}
+
+impl Outcome {
+    /// The status.
+    pub fn status(self) -> Status
+        ensures { result ≡ status_of self }
+    {
+        match self {
+            Outcome::Done => Status::Done,
+            Outcome::BadWords => Status::BadWords,
+            Outcome::BadSource(_) => Status::BadSource,
+            Outcome::ReadFault => Status::ReadFault,
+            Outcome::WriteFault => Status::WriteFault,
+            Outcome::OutOfMemory => Status::OutOfMemory,
+            Outcome::Unbuilt => Status::Unbuilt,
+        }
+    }
+}
