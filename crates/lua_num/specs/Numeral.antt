@@ -41,13 +41,6 @@ pub record IsNumeral (text : List ℕ) (n : ℤ) : Type 0 where
   pub small : value < 2 ^ 63
   pub number_is : n ≡ pos value
 
--- a good numeral of decimal digits
-pub record IsDecimalNumeral (text : List ℕ) (n : ℤ) : Type 0 where
-  pub value : ℕ
-  pub writes : IsDecimal text value
-  pub small : value < 2 ^ 63
-  pub number_is : n ≡ pos value
-
 -- white space is the bytes 9 to 13 and 32
 abbrev pub IsSpace : ℕ → Type 0
 IsSpace byte = ((9 ≤ byte) × (byte ≤ 13)) ⊎ (byte ≡ 32)
