@@ -9,6 +9,8 @@ mod marks;
 mod piece;
 mod runs;
 mod strings;
+#[cfg(test)]
+mod tests;
 mod tokenize;
 mod words;
 
