@@ -1,6 +1,10 @@
 // The files and the output of the system, which tell nothing of their content.
-ghost use Rattle.std.specs.Prelude.{◌≡◌, ◌<◌, ◌≤◌, [], List, None, ◌↔◌, length, IfOk, OnOk, OnErr, IsErrOf};
+ghost use Rattle.std.specs.Prelude.{◌≡◌, false, ◌<◌, ◌≤◌, ◌^◌, [], List, Option, Some, None, ◌↔◌, length, IfOk, IfSome, OnOk, OnErr, IsErrOf};
+ghost use Rattle.std.specs.String.{string_bytes};
+ghost use Rattle.std.specs.FinMap as map;
 ghost use Rattle.std.specs.IoError.{error_kind};
+ghost use Rattle.suite_io.specs.Contents.{Contents};
+ghost use Rattle.suite_io.specs.Calls.{calls_after};
 ghost use Rattle.suite_io.specs.Held.{one_more};
 ghost use Rattle.suite_io.specs.Taken.{Rises};
 
@@ -85,7 +89,13 @@ impl<R: rt::Files> Files for RealFiles<'_, R> {
 
     /// Also fails where the file passes `MAX_FILE_BYTES` bytes, of which it reads no more than one
     /// beyond.
-    fn fetch(&mut self, alloc: Global, name: &Word) -> Result<ByteText, FileFault> {
+    fn fetch(&mut self, alloc: Global, name: &Word) -> Result<ByteText, FileFault>
+        ensures told { IfOk result (λ bytes. IfSome None (λ (held : Contents). map.get held (string_bytes name.now) ≡ Some bytes)) }
+        ensures short { IfOk result (λ bytes. length bytes < 2 ^ 28) }
+        ensures unchanged { ◌≡◌ {A = Option Contents} None None }
+        ensures listed { self.new ≡ calls_after self.old false (string_bytes name.now) result }
+        ensures within { IfOk result (λ bytes. length bytes ≤ MAX_FILE_BYTES) }
+    {
         let answer = read_file(alloc, self.system, name.as_str());
         if answer == Err(FileFault::OutOfMemory) {
             return answer;
