@@ -92,9 +92,8 @@ impl<R: rt::Files> Files for RealFiles<'_, R> {
     fn fetch(&mut self, alloc: Global, name: &Word) -> Result<ByteText, FileFault>
         ensures told { IfOk result (λ bytes. IfSome None (λ (held : Contents). map.get held (string_bytes name.now) ≡ Some bytes)) }
         ensures short { IfOk result (λ bytes. length bytes < 2 ^ 28) }
-        ensures unchanged { ◌≡◌ {A = Option Contents} None None }
         ensures listed { self.new ≡ calls_after self.old false (string_bytes name.now) result }
-        ensures within { IfOk result (λ bytes. length bytes ≤ MAX_FILE_BYTES) }
+        ensures within { IfOk result (λ bytes. length bytes ≤ 67108864) }
     {
         let answer = read_file(alloc, self.system, name.as_str());
         if answer == Err(FileFault::OutOfMemory) {
