@@ -1,7 +1,7 @@
 -- Tokens read so far, and the text that is left: whatever tiles the rest, the whole is tiled by what was read and that.
 use Rattle.std.proofs.Math.Seq.{take-add}
 use Rattle.std.proofs.lemmas.List.{drop-drop, length-drop}
-use Rattle.std.proofs.Common.{◌≤◌, ◌-◌, Result, Ok, Err, IfOk, IfErr, ◌≡◌, ◌⊎◌, ℕ, ◌+◌, Option, Some, None, List, [], ◌∷◌, ◌++◌, length, take, drop, refl, sym, ap, subst, ◌∙◌, inl, inr, append_assoc, append-nil, length-append, true, arith}
+use Rattle.std.proofs.Common.{◌≤◌, Result, Ok, Err, IfOk, IfErr, ◌≡◌, ◌⊎◌, ℕ, ◌+◌, Option, Some, None, List, [], ◌∷◌, ◌++◌, length, take, drop, refl, sym, ap, subst, ◌∙◌, inl, inr, append_assoc, append-nil, arith}
 use Rattle.lua_tree.specs.declared.token.TokenKind.{TokenKind}
 use Rattle.lua_tree.specs.declared.token.Token.{Token}
 use Rattle.lua_tree.specs.Bytes.{is_space, Each}

@@ -1,12 +1,10 @@
 -- The longest mark at the front of a text, by the marks of one and of two bytes.
-use Rattle.std.proofs.Common.{◌≡◌, ◌&&◌, ℕ, ◌<◌, ◌≤◌, Bool, true, false, List, [], ◌∷◌, ◌++◌, length, max, refl, sym, ap, subst, ◌∙◌, drop, get_or, take, ◌==◌, arith, rules}
+use Rattle.std.proofs.Common.{◌≡◌, ◌&&◌, ℕ, ◌<◌, ◌≤◌, Bool, true, false, List, [], ◌∷◌, ◌++◌, length, max, refl, sym, ap, ◌∙◌, drop, get_or, arith, rules}
 use Rattle.std.specs.Prelude.{codes, if◌then◌else◌, nat_eq}
 use Rattle.std.specs.List.{starts_with}
-use Rattle.std.proofs.lemmas.Bool.Decides.{nat_tests}
 use Rattle.lua_tree.specs.Bytes.{has_front, longest}
-use Rattle.lua_tree.specs.Tokens.{marks, IsMark, IsMarkPlace, IsToken}
+use Rattle.lua_tree.specs.Tokens.{marks}
 use Rattle.lua_tree.specs.declared.token.TokenKind.{TokenKind}
-use Rattle.lexer.specs.Fronts.{IsFront}
 use Rattle.lexer.proofs.FrontLemmas.{front_test, Rest, front_rest}
 use Rattle.lexer.specs.Marks.{IsMarkKind, MarkFront, double_marks, single_marks}
 

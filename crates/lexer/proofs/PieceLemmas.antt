@@ -1,15 +1,13 @@
 -- Faults at the front of a text, and its first line.
-use Rattle.std.proofs.Common.{◌≡◌, ◌⊎◌, ◌&&◌, ◌||◌, ℕ, ℤ, suc, ◌+◌, ◌<◌, ◌≤◌, ◌^◌, Bool, true, false, not, List, [], ◌∷◌, ◌++◌, length, drop, refl, sym, ap, subst, ◌∙◌, ◌==◌, max, inl, inr, length-append, arith}
+use Rattle.std.proofs.Common.{◌≡◌, ◌&&◌, ◌||◌, ℕ, ℤ, suc, ◌+◌, ◌<◌, ◌≤◌, Bool, true, false, not, List, [], ◌∷◌, ◌++◌, length, drop, refl, sym, ap, subst, ◌∙◌, ◌==◌, max, inl, inr, length-append, arith}
 use Rattle.std.specs.Prelude.{codes, if◌then◌else◌}
 use Rattle.std.proofs.lemmas.Bool.Decides.{nat_tests}
 use Rattle.lua_num.specs.Numeral.{IsNumeral}
-use Rattle.lua_tree.specs.declared.token.TokenKind.{TokenKind}
-use Rattle.lua_tree.specs.Bytes.{is_space, is_digit, is_letter, is_word, is_numeral, ends_line, is_within, has_front, longest, Each, BeginsWith, BeginsWithout, IsRun}
+use Rattle.lua_tree.specs.Bytes.{is_space, is_digit, is_letter, is_word, is_numeral, ends_line, is_within, has_front, longest, BeginsWith, BeginsWithout}
 use Rattle.lua_tree.specs.Strings.{Item, item_text, items_text}
 use Rattle.lua_tree.specs.Tokens.{marks, BeginsNumeral}
 use Rattle.lua_tree.specs.Tiling.{IsBadNumber, IsBadByte, IsTooLarge}
 use Rattle.lexer.specs.declared.piece.PieceKind.{PieceKind}
-use Rattle.lexer.specs.declared.piece.Piece.{Piece}
 use Rattle.lexer.specs.Fronts.{IsFront, RunFront}
 use Rattle.lexer.specs.Classes.{begins, begins_numeral, begins_first_line, IsLeft}
 use Rattle.lexer.specs.Pieces.{PieceFront}

@@ -1,5 +1,5 @@
 -- With what a text begins: the tests by which the code tells its pieces apart.
-use Rattle.std.specs.Prelude.{◌≡◌, ◌&&◌, ◌||◌, ℕ, Bool, true, false, List, [], ◌∷◌, codes, ◌==◌}
+use Rattle.std.specs.Prelude.{◌≡◌, ◌&&◌, ◌||◌, ℕ, Bool, false, List, [], ◌∷◌, codes, ◌==◌}
 use Rattle.lua_tree.specs.Bytes.{is_space, is_digit, is_letter, has_front}
 use Rattle.lexer.specs.StringParts.{is_quote}
 

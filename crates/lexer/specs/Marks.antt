@@ -1,8 +1,7 @@
 -- What the code reads of marks.
-use Rattle.std.specs.Prelude.{◌≡◌, ℕ, ◌<◌, List, [], ◌∷◌, codes}
+use Rattle.std.specs.Prelude.{ℕ, ◌<◌, List, [], ◌∷◌, codes}
 use Rattle.lua_tree.specs.declared.token.TokenKind.{TokenKind}
-use Rattle.lua_tree.specs.Bytes.{longest}
-use Rattle.lua_tree.specs.Tokens.{marks, IsMark, IsMarkPlace, IsToken}
+use Rattle.lua_tree.specs.Tokens.{IsMark, IsMarkPlace, IsToken}
 use Rattle.lexer.specs.Fronts.{IsFront}
 
 -- wherever these bytes stand as a mark, they are this token

@@ -1,4 +1,3 @@
-use Rattle.std.proofs.Common.{rules}
 use Rattle.lexer.proofs.MarkLemmas.{three_dots, two_front, first_front, none_front, none_only}
 use Rattle.lexer.proofs.marks.mark.Goals as goal
 

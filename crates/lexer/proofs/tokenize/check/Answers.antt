@@ -1,6 +1,6 @@
 use Rattle.std.proofs.Common.{◌≡◌, ◌+◌, List, ℕ, Option, drop, take, subst, Err, rules}
 use Rattle.lua_tree.specs.declared.token.TokenKind.{TokenKind}
-use Rattle.lexer.specs.Pieces.{TokenFront, FaultAt, listed}
+use Rattle.lexer.specs.Pieces.{TokenFront, FaultAt}
 use Rattle.lexer.proofs.StringItems.{tail_is}
 use Rattle.lexer.proofs.LineLemmas.{a_line}
 use Rattle.lexer.proofs.LexLemmas.{turn_within, turn_lexing, turn_fault, turns_end}

@@ -1,5 +1,4 @@
-use Rattle.std.proofs.Common.{◌≡◌, ◌++◌, ◌+◌, List, ℕ, length, take, drop, subst, sym, ◌∙◌, Option, Err, rules}
-use Rattle.lua_tree.specs.Lines.{IsLineOf}
+use Rattle.std.proofs.Common.{◌≡◌, ◌++◌, ◌+◌, List, ℕ, take, drop, subst, sym, Err, rules}
 use Rattle.lexer.specs.Lines.{IsCounted}
 use Rattle.lexer.specs.Pieces.{TokenFront, FaultAt, listed}
 use Rattle.lexer.proofs.StringItems.{tail_is}
