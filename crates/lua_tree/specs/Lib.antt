@@ -4,3 +4,6 @@ pub mod Brackets
 pub mod Strings
 pub mod Tokens
 pub mod Tiling
+pub mod Syntax
+pub mod View
+pub mod Spelling

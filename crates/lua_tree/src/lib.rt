@@ -1,10 +1,15 @@
-// Tokens of Lua source.
+// Tokens and trees of Lua source.
 #![tactic(auto)]
 
 mod laws;
 #[cfg(test)]
 mod tests;
 mod token;
+mod tree;
 
 pub use laws::{faults_are_one, lines_are_one, never_both, tokens_are_one};
 pub use token::{Token, TokenKind, Tokens};
+pub use tree::{
+    Args, Arm, Arms, BinaryOp, Block, Body, Exp, ExpKind, Exps, Item, ItemKind, Items, Separator,
+    Stat, StatKind, Tree, UnaryOp,
+};

@@ -1,0 +1,347 @@
+// The syntax tree of a source (manual 8, the complete syntax).
+ghost use Rattle.std.specs.Prelude.{◌≡◌, [], ◌∷◌, ◌++◌, OnOk, OnErr};
+ghost use Rattle.lua_tree.specs.declared.tree.Block.{out-Block};
+ghost use Rattle.lua_tree.specs.declared.tree.Exps.{out-Exps};
+ghost use Rattle.lua_tree.specs.declared.tree.Arms.{out-Arms};
+ghost use Rattle.lua_tree.specs.declared.tree.Items.{out-Items};
+
+use lua_num::{ByteText, Names};
+use std::alloc::{AllocError, Global};
+
+/// A whole source: its main chunk, and the line on which it ends.
+#[derive(Drop)]
+pub struct Tree {
+    pub body: Block,
+    pub last_line: u32,
+}
+
+/// A list of statements.
+#[cycle(tree)]
+#[derive(Drop)]
+pub struct Block {
+    stats: Vec<Stat>,
+}
+
+/// A list of expressions.
+#[cycle(tree)]
+#[derive(Drop)]
+pub struct Exps {
+    exps: Vec<Exp>,
+}
+
+/// The arms of an `if`.
+#[cycle(tree)]
+#[derive(Drop)]
+pub struct Arms {
+    arms: Vec<Arm>,
+}
+
+/// The items of a constructor.
+#[cycle(tree)]
+#[derive(Drop)]
+pub struct Items {
+    items: Vec<Item>,
+}
+
+/// A statement, with the line of its first token.
+#[cycle(tree)]
+#[derive(Drop)]
+pub struct Stat {
+    pub line: u32,
+    /// Whether a semicolon follows.
+    pub semi: bool,
+    pub kind: StatKind,
+}
+
+/// What a statement is.
+#[cycle(tree)]
+#[derive(Drop)]
+pub enum StatKind {
+    Assign {
+        targets: Exps,
+        exps: Exps,
+    },
+    Call(Exp),
+    Do(Block),
+    While {
+        cond: Exp,
+        body: Block,
+    },
+    Repeat {
+        body: Block,
+        cond: Exp,
+    },
+    If {
+        arms: Arms,
+        last: Option<Block>,
+    },
+    NumFor {
+        name: ByteText,
+        from: Exp,
+        to: Exp,
+        step: Option<Exp>,
+        body: Block,
+    },
+    GenFor {
+        names: Names,
+        exps: Exps,
+        body: Block,
+    },
+    Function {
+        path: Names,
+        method: Option<ByteText>,
+        body: Body,
+    },
+    LocalFunction {
+        name: ByteText,
+        body: Body,
+    },
+    Local {
+        names: Names,
+        exps: Exps,
+    },
+    Return(Exps),
+    Break,
+}
+
+/// An arm of an `if`: a condition, and what is done where it holds.
+#[cycle(tree)]
+#[derive(Drop)]
+pub struct Arm {
+    pub cond: Exp,
+    pub body: Block,
+}
+
+/// A function's parameters and block, with the lines of its `function` and its `end`.
+#[cycle(tree)]
+#[derive(Drop)]
+pub struct Body {
+    pub params: Names,
+    pub vararg: bool,
+    pub block: Block,
+    pub first_line: u32,
+    pub last_line: u32,
+}
+
+/// An expression. Its line is its operator's for a binary one, that of the first token of the
+/// arguments for a call, that of `[` or `.` for an index or a field, else its first token's.
+#[cycle(tree)]
+#[derive(Drop)]
+pub struct Exp {
+    pub line: u32,
+    pub kind: ExpKind,
+}
+
+/// What an expression is. `on_line` is the line of the token before the arguments of a call.
+#[cycle(tree)]
+#[derive(Drop)]
+pub enum ExpKind {
+    Nil,
+    True,
+    False,
+    Number(i64),
+    Text(ByteText),
+    Vararg,
+    Function(Body),
+    Name(ByteText),
+    Index {
+        on: Box<Exp>,
+        key: Box<Exp>,
+    },
+    Field {
+        on: Box<Exp>,
+        name: ByteText,
+    },
+    Call {
+        on: Box<Exp>,
+        args: Args,
+        on_line: u32,
+    },
+    Method {
+        on: Box<Exp>,
+        name: ByteText,
+        args: Args,
+        on_line: u32,
+    },
+    And(Box<Exp>, Box<Exp>),
+    Or(Box<Exp>, Box<Exp>),
+    Binary {
+        op: BinaryOp,
+        left: Box<Exp>,
+        right: Box<Exp>,
+    },
+    Unary {
+        op: UnaryOp,
+        of: Box<Exp>,
+    },
+    Table(Items),
+    Paren(Box<Exp>),
+}
+
+/// The arguments of a call: a list in parentheses, a string, or a constructor.
+#[cycle(tree)]
+#[derive(Drop)]
+pub enum Args {
+    List(Exps),
+    Text(ByteText),
+    Table(Items),
+}
+
+/// An item of a constructor, and what separates it from the next.
+#[cycle(tree)]
+#[derive(Drop)]
+pub struct Item {
+    pub kind: ItemKind,
+    pub sep: Separator,
+}
+
+/// What an item is.
+#[cycle(tree)]
+#[derive(Drop)]
+pub enum ItemKind {
+    Positional(Exp),
+    Named(ByteText, Exp),
+    Keyed(Exp, Exp),
+}
+
+/// What follows an item.
+#[derive(Clone, Copy, Debug, PartialEq, Eq)]
+pub enum Separator {
+    Comma,
+    Semicolon,
+    Missing,
+}
+
+/// The binary operators but `and` and `or`.
+#[derive(Clone, Copy, Debug, PartialEq, Eq)]
+pub enum BinaryOp {
+    Add,
+    Sub,
+    Mul,
+    Div,
+    Rem,
+    Pow,
+    Concat,
+    Eq,
+    Ne,
+    Lt,
+    Le,
+    Gt,
+    Ge,
+}
+
+/// The unary operators.
+#[derive(Clone, Copy, Debug, PartialEq, Eq)]
+pub enum UnaryOp {
+    Neg,
+    Not,
+    Len,
+}
+
+impl Block {
+    /// No statements, which takes no memory.
+    pub fn new(alloc: Global) -> Self
+        ensures { (out-Block result).stats.items ≡ [] }
+    {
+        Self {
+            stats: Vec::new(alloc),
+        }
+    }
+
+    /// Appends a statement.
+    pub fn push(&mut self, statement: Stat) -> Result<(), AllocError>
+        ensures ok { OnOk result ((out-Block self.new).stats.items ≡ (out-Block self.old).stats.items ++ statement ∷ []) }
+        ensures err { OnErr result ((out-Block self.new).stats.items ≡ (out-Block self.old).stats.items) }
+    {
+        self.stats.push(statement)?;
+        Ok(())
+    }
+
+    /// The statements.
+    pub fn items(&self) -> &[Stat]
+        ensures { result.now ≡ (out-Block self.now).stats.items }
+    {
+        self.stats.as_slice()
+    }
+}
+
+impl Exps {
+    /// No expressions, which takes no memory.
+    pub fn new(alloc: Global) -> Self
+        ensures { (out-Exps result).exps.items ≡ [] }
+    {
+        Self {
+            exps: Vec::new(alloc),
+        }
+    }
+
+    /// Appends an expression.
+    pub fn push(&mut self, expression: Exp) -> Result<(), AllocError>
+        ensures ok { OnOk result ((out-Exps self.new).exps.items ≡ (out-Exps self.old).exps.items ++ expression ∷ []) }
+        ensures err { OnErr result ((out-Exps self.new).exps.items ≡ (out-Exps self.old).exps.items) }
+    {
+        self.exps.push(expression)?;
+        Ok(())
+    }
+
+    /// The expressions.
+    pub fn items(&self) -> &[Exp]
+        ensures { result.now ≡ (out-Exps self.now).exps.items }
+    {
+        self.exps.as_slice()
+    }
+}
+
+impl Arms {
+    /// No arms, which takes no memory.
+    pub fn new(alloc: Global) -> Self
+        ensures { (out-Arms result).arms.items ≡ [] }
+    {
+        Self {
+            arms: Vec::new(alloc),
+        }
+    }
+
+    /// Appends an arm.
+    pub fn push(&mut self, arm: Arm) -> Result<(), AllocError>
+        ensures ok { OnOk result ((out-Arms self.new).arms.items ≡ (out-Arms self.old).arms.items ++ arm ∷ []) }
+        ensures err { OnErr result ((out-Arms self.new).arms.items ≡ (out-Arms self.old).arms.items) }
+    {
+        self.arms.push(arm)?;
+        Ok(())
+    }
+
+    /// The arms.
+    pub fn items(&self) -> &[Arm]
+        ensures { result.now ≡ (out-Arms self.now).arms.items }
+    {
+        self.arms.as_slice()
+    }
+}
+
+impl Items {
+    /// No items, which takes no memory.
+    pub fn new(alloc: Global) -> Self
+        ensures { (out-Items result).items.items ≡ [] }
+    {
+        Self {
+            items: Vec::new(alloc),
+        }
+    }
+
+    /// Appends an item.
+    pub fn push(&mut self, item: Item) -> Result<(), AllocError>
+        ensures ok { OnOk result ((out-Items self.new).items.items ≡ (out-Items self.old).items.items ++ item ∷ []) }
+        ensures err { OnErr result ((out-Items self.new).items.items ≡ (out-Items self.old).items.items) }
+    {
+        self.items.push(item)?;
+        Ok(())
+    }
+
+    /// The items.
+    pub fn items(&self) -> &[Item]
+        ensures { result.now ≡ (out-Items self.now).items.items }
+    {
+        self.items.as_slice()
+    }
+}
