@@ -7,3 +7,6 @@ pub mod Tiling
 pub mod Syntax
 pub mod View
 pub mod Spelling
+pub mod Names
+pub mod Precedence
+pub mod WellFormed
