@@ -10,3 +10,4 @@ pub mod Spelling
 pub mod Names
 pub mod Precedence
 pub mod WellFormed
+pub mod TreeLists

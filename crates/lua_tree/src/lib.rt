@@ -2,12 +2,14 @@
 #![tactic(auto)]
 
 mod laws;
+mod speller;
 #[cfg(test)]
 mod tests;
 mod token;
 mod tree;
 
 pub use laws::{faults_are_one, lines_are_one, never_both, tokens_are_one};
+pub use speller::spell;
 pub use token::{Token, TokenKind, Tokens};
 pub use tree::{
     Args, Arm, Arms, BinaryOp, Block, Body, Exp, ExpKind, Exps, Item, ItemKind, Items, Separator,
