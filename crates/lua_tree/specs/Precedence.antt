@@ -1,6 +1,6 @@
 -- How tightly expressions bind (manual 2.5.6).
 use Rattle.std.specs.Prelude.{◌||◌, ℕ, ◌+◌, Bool, true, false, not, nat_le}
-use Rattle.lua_tree.specs.Syntax.{Expression, nil_literal, true_literal, false_literal, vararg_expression, number_literal, text_literal, name_expression, function_expression, index_expression, field_expression, call_expression, method_call, and_expression, or_expression, binary_expression, unary_expression, constructor, parenthesized}
+use Rattle.lua_tree.specs.Syntax.{Expression, and_expression, or_expression, binary_expression, unary_expression}
 use Rattle.lua_tree.specs.declared.tree.BinaryOp.{BinaryOp}
 
 -- from `or`, 1, to what stands for itself, 9: `and` is 2, and a unary operator 7
