@@ -11,6 +11,7 @@ use Rattle.lua_tree.specs.Bytes.{Each, BeginsWithout, ends_line, has_front, hold
 use Rattle.lua_tree.specs.Brackets.{opening, closing, almost_closing, ends_opening, opens_long}
 use Rattle.lexer.specs.Fronts.{RunFront, LongFront, CommentFront}
 use Rattle.lexer.specs.Openings.{is_equals, FirstClosing}
+use Rattle.lexer.proofs.FrontLemmas.{front_parts}
 
 both_false : (a b : Bool) → a ≡ false → b ≡ false → (a || b) ≡ false
 both_false a b none others = rw (none, others)
@@ -28,16 +29,6 @@ pub front_pointwise : (word text : List ℕ) → has_front word text ≡ pointwi
 front_pointwise [] text = refl
 front_pointwise (byte ∷ word) [] = refl
 front_pointwise (byte ∷ word) (other ∷ text) = ap (λ t. (byte == other) && t) (front_pointwise word text)
-
--- a text that begins with a word is the word and what is left
-pub front_parts : (word text : List ℕ) → has_front word text ≡ true → text ≡ word ++ drop (length word) text
-front_parts [] text h = refl
-front_parts (byte ∷ word) [] h = absurd (cc)
-front_parts (byte ∷ word) (other ∷ text) h =
-    let rest : has_front word text ≡ true = grind (arith, nat_tests) in
-    let same : other ≡ byte = grind (arith, nat_tests) in
-    let tails : text ≡ word ++ drop (length word) text = front_parts word text rest in
-    ap (λ b. b ∷ text) same ∙ ap (λ t. byte ∷ t) tails
 
 -- `starts_with` of one byte, behind n bytes
 pub byte_stands : (byte n : ℕ) (text : List ℕ) → starts_with ◌==◌ (take (length text - n) (drop n text)) (byte ∷ []) ≡ has_front (byte ∷ []) (drop n text)

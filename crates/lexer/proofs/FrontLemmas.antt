@@ -1,5 +1,6 @@
 -- The front of a text, by its length and by its bytes.
 use Rattle.std.proofs.Common.{◌≡◌, ◌&&◌, ℕ, ◌+◌, ◌≤◌, true, List, [], ◌∷◌, ◌++◌, length, take, drop, refl, sym, ap, ◌∙◌, ◌==◌, length-append, arith}
+use Rattle.std.proofs.Math.Seq.{take-append_seam, drop-append_seam}
 use Rattle.std.specs.Prelude.{nat_eq}
 use Rattle.std.specs.List.{starts_with}
 use Rattle.std.proofs.lemmas.Bool.Decides.{nat_tests}
@@ -12,18 +13,15 @@ front_test [] text = refl
 front_test (byte ∷ word) [] = refl
 front_test (byte ∷ word) (other ∷ text) = ap (λ b. (byte == other) && b) (front_test word text)
 
-pub record Rest (word text : List ℕ) : Type 0 where
-  pub after : List ℕ
-  pub whole : text ≡ word ++ after
-
-pub front_rest : (word text : List ℕ) → has_front word text ≡ true → Rest word text
-front_rest [] text h = record { after = text; whole = refl }
-front_rest (byte ∷ word) [] h = cc
-front_rest (byte ∷ word) (other ∷ text) h =
-    let same : byte ≡ other = grind (arith, nat_tests) in
-    let there : has_front word text ≡ true = grind (arith, nat_tests) in
-    let rest : Rest word text = front_rest word text there in
-    record { after = rest.after; whole = ap (λ t. other ∷ t) rest.whole ∙ ap (λ b. b ∷ (word ++ rest.after)) (sym same) }
+-- a text that begins with a word is the word and what is left
+pub front_parts : (word text : List ℕ) → has_front word text ≡ true → text ≡ word ++ drop (length word) text
+front_parts [] text h = refl
+front_parts (byte ∷ word) [] h = absurd (cc)
+front_parts (byte ∷ word) (other ∷ text) h =
+    let rest : has_front word text ≡ true = grind (arith, nat_tests) in
+    let same : other ≡ byte = grind (arith, nat_tests) in
+    let tails : text ≡ word ++ drop (length word) text = front_parts word text rest in
+    ap (λ b. b ∷ text) same ∙ ap (λ t. byte ∷ t) tails
 
 -- a front of so many bytes is what is taken of the text, and the rest is what is dropped
 pub front_within : (n : ℕ) (text front after : List ℕ) → IsFront n text front after → n ≤ length text
@@ -32,16 +30,8 @@ front_within n text front after is =
     let few = is.length_is in
     omega (arith, sizes, few)
 
-take_front : (front after : List ℕ) → take (length front) (front ++ after) ≡ front
-take_front [] after = refl
-take_front (byte ∷ front) after = ap (λ t. byte ∷ t) (take_front front after)
-
-drop_front : (front after : List ℕ) → drop (length front) (front ++ after) ≡ after
-drop_front [] after = refl
-drop_front (byte ∷ front) after = drop_front front after
-
 pub front_taken : (n : ℕ) (text front after : List ℕ) → IsFront n text front after → take n text ≡ front
-front_taken n text front after is = ap (λ m. take m text) (sym is.length_is) ∙ (ap (take (length front)) is.whole ∙ take_front front after)
+front_taken n text front after is = ap (λ m. take m text) (sym is.length_is) ∙ (ap (take (length front)) is.whole ∙ take-append_seam front after)
 
 pub front_dropped : (n : ℕ) (text front after : List ℕ) → IsFront n text front after → drop n text ≡ after
-front_dropped n text front after is = ap (λ m. drop m text) (sym is.length_is) ∙ (ap (drop (length front)) is.whole ∙ drop_front front after)
+front_dropped n text front after is = ap (λ m. drop m text) (sym is.length_is) ∙ (ap (drop (length front)) is.whole ∙ drop-append_seam front after)

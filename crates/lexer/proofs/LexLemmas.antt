@@ -1,6 +1,6 @@
 -- Tokens read so far, and the text that is left: whatever tiles the rest, the whole is tiled by what was read and that.
 use Rattle.std.proofs.Math.Seq.{take-add}
-use Rattle.std.proofs.lemmas.List.{drop-drop, length-drop}
+use Rattle.std.proofs.lemmas.List.{drop-drop, drop_all, length-drop}
 use Rattle.std.proofs.Common.{◌≤◌, Result, Ok, Err, IfOk, IfErr, ◌≡◌, ◌⊎◌, ℕ, ◌+◌, Option, Some, None, List, [], ◌∷◌, ◌++◌, length, take, drop, refl, sym, ap, subst, ◌∙◌, inl, inr, append_assoc, append-nil, arith}
 use Rattle.lua_tree.specs.declared.token.TokenKind.{TokenKind}
 use Rattle.lua_tree.specs.declared.token.Token.{Token}
@@ -98,15 +98,8 @@ turn_lexing bytes at n line tokens token front on_line lexing =
 pub turn_counted : (bytes : List ℕ) (at n : ℕ) (counter : LineCounter) → IsCounted (take at bytes ++ take n (drop at bytes)) counter → IsCounted (take (at + n) bytes) counter
 turn_counted bytes at n counter counted = subst (λ t. IsCounted t counter) (sym (take-add at n bytes)) counted
 
-none_left : (bytes : List ℕ) (at : ℕ) → length bytes ≤ at → drop at bytes ≡ []
-none_left bytes at all = no_bytes (drop at bytes) (let size = length-drop at bytes in omega (arith, size, all))
-  where
-    no_bytes : (text : List ℕ) → length text ≡ 0 → text ≡ []
-    no_bytes [] h = refl
-    no_bytes (byte ∷ text) h = absurd (omega (arith, h))
-
 pub turns_end : (bytes : List ℕ) (at : ℕ) (tokens : List Token) → length bytes ≤ at → Lexing bytes (drop at bytes) at tokens → Lexes bytes tokens
-turns_end bytes at tokens all lexing = lexing_end bytes (drop at bytes) at tokens (none_left bytes at all) lexing
+turns_end bytes at tokens all lexing = lexing_end bytes (drop at bytes) at tokens (drop_all at bytes all) lexing
 
 -- a fault at the front of the rest is the text's
 fault_here : (bytes : List ℕ) (at : ℕ) (tokens : List Token) (cause : Cause) (place : ℕ) → at ≤ length bytes → FaultOf cause at (drop at bytes) place → Lexing bytes (drop at bytes) at tokens → Stops bytes cause place

@@ -5,7 +5,7 @@ use Rattle.std.specs.List.{starts_with}
 use Rattle.lua_tree.specs.Bytes.{has_front, longest}
 use Rattle.lua_tree.specs.Tokens.{marks}
 use Rattle.lua_tree.specs.declared.token.TokenKind.{TokenKind}
-use Rattle.lexer.proofs.FrontLemmas.{front_test, Rest, front_rest}
+use Rattle.lexer.proofs.FrontLemmas.{front_test, front_parts}
 use Rattle.lexer.specs.Marks.{IsMarkKind, MarkFront, double_marks, single_marks}
 
 longest_both : (words others : List (List ℕ)) (text : List ℕ) → longest (words ++ others) text ≡ max (longest words text) (longest others text)
@@ -119,8 +119,8 @@ mark_front kind mark text after whole some is long = record {
 pub three_dots : (text : List ℕ) (started : Bool) → started ≡ starts_with nat_eq text (codes "...") → started ≡ true → MarkFront TokenKind.DotDotDot 3 text
 three_dots text started value is =
     let there : has_front (codes "...") text ≡ true = sym (front_test (codes "...") text) ∙ (sym value ∙ is) in
-    let rest : Rest (codes "...") text = front_rest (codes "...") text there in
-    mark_front TokenKind.DotDotDot (codes "...") text rest.after rest.whole (omega arith) (λ at after h. h) (ap (longest marks) rest.whole)
+    let whole : text ≡ codes "..." ++ drop 3 text = front_parts (codes "...") text there in
+    mark_front TokenKind.DotDotDot (codes "...") text (drop 3 text) whole (omega arith) (λ at after h. h) (ap (longest marks) whole)
 
 no_dots : (text : List ℕ) (started : Bool) → started ≡ starts_with nat_eq text (codes "...") → started ≡ false → has_front (codes "...") text ≡ false
 no_dots text started value is = sym (front_test (codes "...") text) ∙ (sym value ∙ is)

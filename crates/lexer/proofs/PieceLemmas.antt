@@ -11,7 +11,7 @@ use Rattle.lexer.specs.declared.piece.PieceKind.{PieceKind}
 use Rattle.lexer.specs.Fronts.{IsFront, RunFront}
 use Rattle.lexer.specs.Classes.{begins, begins_numeral, begins_first_line, IsLeft}
 use Rattle.lexer.specs.Pieces.{PieceFront}
-use Rattle.lexer.proofs.FrontLemmas.{Rest, front_rest}
+use Rattle.lexer.proofs.FrontLemmas.{front_parts}
 
 -- numerals
 numeral_begins : (text : List ℕ) → begins_numeral text ≡ true → BeginsNumeral text
@@ -59,13 +59,12 @@ too_large_within text distance is =
 -- the first line of a source
 pub first_line_piece : (n : ℕ) (text : List ℕ) → begins_first_line 0 text ≡ true → RunFront (λ byte. not (ends_line byte)) n (drop 1 text) → PieceFront 0 text (record { kind = PieceKind.Comment; length = 1 + n })
 first_line_piece n text first run =
-    let hash : Rest (codes "#") text = front_rest (codes "#") text first in
-    let rest : hash.after ≡ run.front ++ run.after = ap (drop 1) (sym hash.whole) ∙ run.is_front.whole in
+    let hash : text ≡ codes "#" ++ drop 1 text = front_parts (codes "#") text first in
     let size = run.is_front.length_is in
     record {
       front = 35 ∷ run.front;
       after = run.after;
-      is_front = record { whole = hash.whole ∙ ap (λ t. 35 ∷ t) rest; length_is = omega (arith, size) };
+      is_front = record { whole = hash ∙ ap (λ t. 35 ∷ t) run.is_front.whole; length_is = omega (arith, size) };
       some = omega arith;
       piece_is = inr (inr (record { first = refl; body = run.front; whole = refl; run = run.run }));
     }

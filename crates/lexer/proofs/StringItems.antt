@@ -1,6 +1,6 @@
 -- The items between the quotes of a short string, so far.
-use Rattle.std.proofs.Common.{◌≡◌, ℕ, ◌+◌, ◌-◌, ◌≤◌, Bool, true, false, not, List, [], ◌∷◌, ◌++◌, length, get_or, take, drop, refl, sym, ap, subst, ◌∙◌, inl, inr, append_assoc, arith, length-append}
-use Rattle.std.proofs.Math.Seq.{take-length, drop-append_seam}
+use Rattle.std.proofs.Common.{◌≡◌, ℕ, ◌+◌, ◌-◌, ◌≤◌, Bool, true, false, not, List, [], ◌∷◌, ◌++◌, length, get_or, drop, refl, sym, ap, subst, ◌∙◌, inl, inr, append_assoc, arith, length-append}
+use Rattle.std.proofs.Math.Seq.{drop-append_seam}
 use Rattle.std.proofs.lemmas.Bool.Decides.{nat_tests}
 use Rattle.std.proofs.lemmas.List.{append-nil, length-drop, drop-drop}
 use Rattle.lua_tree.specs.Bytes.{ends_line, BeginsWith}
@@ -45,10 +45,6 @@ pub record Reaches (quote at : ℕ) (text : List ℕ) : Type 0 where
   pub passed : IsPassed quote items (drop 1 text) (drop at text)
   pub at_is : at ≡ 1 + length (items_text items [])
   pub within : at ≤ length text
-
--- a slice to the end
-pub tail_is : (at : ℕ) (text : List ℕ) → take (length text - at) (drop at text) ≡ drop at text
-tail_is at text = rw (← length-drop at text) (take-length (drop at text))
 
 items_length_push : (items : List Item) (item : Item) → length (items_text (items ++ item ∷ []) []) ≡ length (items_text items []) + length (item_text item)
 items_length_push items item =

@@ -9,7 +9,7 @@ ghost use Rattle.lexer.specs.Openings.{is_equals, FirstClosing};
 use crate::runs::line_length;
 
 /// An opening has two brackets beside its `=`, and so has a closing.
-const BRACKETS: usize = 2;
+pub const BRACKETS: usize = 2;
 
 /// The level of the long bracket that opens at the front of a text: the number of `=` between its
 /// two `[`.

@@ -1,18 +1,16 @@
 // Lines: their ends, how many there are, and what long strings make of them.
 ghost use Rattle.std.specs.Prelude.{◌≡◌, ℕ, ◌<◌, List, [], ◌∷◌, ◌++◌, length, IfOk, IfSome, IfNone};
 ghost use Rattle.lua_tree.specs.Brackets.{IsLong, LongMeans};
-ghost use Rattle.lua_tree.specs.Bytes.{ends_line};
 ghost use Rattle.lua_tree.specs.Lines.{line_end, IsLineOf};
 ghost use Rattle.lexer.specs.Lines.{begins_end, IsCounted, IsPlain, BeginsPlain};
 
+use crate::brackets::BRACKETS;
+use crate::runs::is_line_end;
 use lua_num::ByteText;
 use std::alloc::{AllocError, Global};
 
 /// The greatest line: those beyond it have its number.
 const LAST_LINE: u32 = 2_147_483_647;
-
-/// A long bracket of level 0 opens and closes with this many bytes.
-const SHORTEST_BRACKET: usize = 2;
 
 /// How many bytes the line end at the front of a text takes: 2 for a pair of the bytes 10 and 13,
 /// 1 for one of them alone, 0 where none stands there.
@@ -24,12 +22,6 @@ pub fn line_end_length(text: &[u8]) -> usize
         [b'\n' | b'\r', ..] => 1,
         _ => 0,
     }
-}
-
-fn ends_line(byte: u8) -> bool
-    ensures { result ≡ ends_line byte }
-{
-    matches!(byte, b'\n' | b'\r')
 }
 
 /// Counts the lines of a text that is gone through from the left, in pieces that may part a line
@@ -87,8 +79,8 @@ fn begins_line_end(open_end: Option<u8>, byte: u8) -> bool
     ensures { result ≡ begins_end open_end byte }
 {
     match open_end {
-        Some(first) => ends_line(byte) && first == byte,
-        None => ends_line(byte),
+        Some(first) => is_line_end(byte) && first == byte,
+        None => is_line_end(byte),
     }
 }
 
@@ -98,7 +90,7 @@ pub fn long_value(alloc: Global, level: usize, text: &[u8]) -> Result<ByteText, 
     requires { (inside : List ℕ) × IsLong level inside text.now }
     ensures { IfOk result (λ bytes. (inside : List ℕ) → IsLong level inside text.now → LongMeans inside bytes) }
 {
-    let bracket = level + SHORTEST_BRACKET;
+    let bracket = level + BRACKETS;
     inside_value(alloc, &text[bracket..text.len() - bracket])
 }
 

@@ -52,7 +52,8 @@ fn is_numeral_byte(byte: u8) -> bool
     is_word_byte(byte) || byte == b'.'
 }
 
-fn is_line_end(byte: u8) -> bool
+/// Whether a byte ends a line: the bytes 10 and 13.
+pub fn is_line_end(byte: u8) -> bool
     ensures { result ≡ ends_line byte }
 {
     matches!(byte, b'\n' | b'\r')

@@ -1,6 +1,7 @@
 use Rattle.std.proofs.Common.{◌≡◌, ◌++◌, ◌∙◌, ap, sym}
 use Rattle.std.specs.Prelude.{codes}
-use Rattle.lexer.proofs.BracketLemmas.{front_parts, long_comment, short_comment}
+use Rattle.lexer.proofs.BracketLemmas.{long_comment, short_comment}
+use Rattle.lexer.proofs.FrontLemmas.{front_parts}
 use Rattle.lexer.proofs.brackets.comment_length.Goals as goal
 
 pub returns-in_ok-long_length-in-Some-clause-some : goal.returns-in_ok-long_length-in-Some-clause-some

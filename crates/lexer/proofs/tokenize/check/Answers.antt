@@ -1,7 +1,7 @@
 use Rattle.std.proofs.Common.{◌≡◌, ◌+◌, List, ℕ, Option, drop, take, subst, Err, rules}
 use Rattle.lua_tree.specs.declared.token.TokenKind.{TokenKind}
 use Rattle.lexer.specs.Pieces.{TokenFront, FaultAt}
-use Rattle.lexer.proofs.StringItems.{tail_is}
+use Rattle.std.proofs.lemmas.List.{take_rest}
 use Rattle.lexer.proofs.LineLemmas.{a_line}
 use Rattle.lexer.proofs.LexLemmas.{turn_within, turn_lexing, turn_fault, turns_end}
 use Rattle.lexer.proofs.tokenize.check.Goals as goal
@@ -11,7 +11,7 @@ returns-in_err-length-clause-fault c =
     let bytes : List ℕ = c.args.bytes.now in
     let at : ℕ = c.loop-at.at in
     let same : c.from_residual.result ≡ Err c.in_err-length.field-0.0 = search rules in
-    let fault : FaultAt at (drop at bytes) c.in_err-length.field-0.0 = subst (λ t. FaultAt at t c.in_err-length.field-0.0) (tail_is at bytes) c.in_err-length.ensures.fault in
+    let fault : FaultAt at (drop at bytes) c.in_err-length.field-0.0 = subst (λ t. FaultAt at t c.in_err-length.field-0.0) (take_rest bytes at) c.in_err-length.ensures.fault in
     rw same (turn_fault bytes at c.loop-at.invariant.lexing.0 c.in_err-length.field-0.0 c.loop-at.invariant.within fault c.loop-at.invariant.lexing.1)
 
 pub loop-at-preserved : goal.loop-at-preserved
@@ -19,7 +19,7 @@ loop-at-preserved c =
     let bytes : List ℕ = c.args.bytes.now in
     let at : ℕ = c.loop-at.at in
     let n : ℕ = c.in_ok-length.length in
-    let front : (token : Option TokenKind) × TokenFront at n (drop at bytes) token = subst (λ t. (token : Option TokenKind) × TokenFront at n t token) (tail_is at bytes) c.in_ok-length.ensures.token in
+    let front : (token : Option TokenKind) × TokenFront at n (drop at bytes) token = subst (λ t. (token : Option TokenKind) × TokenFront at n t token) (take_rest bytes at) c.in_ok-length.ensures.token in
     let line = a_line (take (at + n) bytes) in
     record {
       within = turn_within bytes at n front.0 c.loop-at.invariant.within front.1;
