@@ -11,14 +11,10 @@ use Rattle.lua_tree.specs.Bytes.{Each, BeginsWithout, ends_line, has_front, hold
 use Rattle.lua_tree.specs.Brackets.{opening, closing, almost_closing, ends_opening, opens_long}
 use Rattle.lexer.specs.Fronts.{RunFront, LongFront, CommentFront}
 use Rattle.lexer.specs.Openings.{is_equals, FirstClosing}
-use Rattle.lexer.proofs.FrontLemmas.{front_parts}
+use Rattle.lexer.proofs.FrontLemmas.{and_false, front_parts}
 
 both_false : (a b : Bool) → a ≡ false → b ≡ false → (a || b) ≡ false
 both_false a b none others = rw (none, others)
-
-and_false : (a : Bool) → (a && false) ≡ false
-and_false true = refl
-and_false false = refl
 
 no_front_both : (same a b : Bool) → (same && a) ≡ false → (a ≡ false → b ≡ false) → (same && b) ≡ false
 no_front_both true a b h next = next h

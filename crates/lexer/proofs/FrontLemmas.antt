@@ -1,5 +1,5 @@
 -- The front of a text, by its length and by its bytes.
-use Rattle.std.proofs.Common.{◌≡◌, ◌&&◌, ℕ, ◌+◌, ◌≤◌, true, List, [], ◌∷◌, ◌++◌, length, take, drop, refl, sym, ap, ◌∙◌, ◌==◌, length-append, arith}
+use Rattle.std.proofs.Common.{◌≡◌, ◌&&◌, ℕ, ◌+◌, ◌≤◌, Bool, true, false, List, [], ◌∷◌, ◌++◌, length, take, drop, refl, sym, ap, ◌∙◌, ◌==◌, length-append, arith}
 use Rattle.std.proofs.Math.Seq.{take-append_seam, drop-append_seam}
 use Rattle.std.specs.Prelude.{nat_eq}
 use Rattle.std.specs.List.{starts_with}
@@ -35,3 +35,7 @@ front_taken n text front after is = ap (λ m. take m text) (sym is.length_is) �
 
 pub front_dropped : (n : ℕ) (text front after : List ℕ) → IsFront n text front after → drop n text ≡ after
 front_dropped n text front after is = ap (λ m. drop m text) (sym is.length_is) ∙ (ap (drop (length front)) is.whole ∙ drop-append_seam front after)
+
+pub and_false : (a : Bool) → (a && false) ≡ false
+and_false true = refl
+and_false false = refl

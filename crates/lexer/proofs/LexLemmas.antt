@@ -24,9 +24,6 @@ pub record Extends (bytes : List ℕ) (at : ℕ) (tokens : List Token) (tiles : 
 pub record Lexing (bytes rest : List ℕ) (at : ℕ) (tokens : List Token) : Type 0 where
   pub extends : (tiles : List Tile) (left : List ℕ) → Tiles tiles at rest left → Extends bytes at tokens tiles left
 
-pub lexing_start : (bytes : List ℕ) → Lexing bytes bytes 0 []
-lexing_start bytes = record { extends = λ tiles left tiled. record { whole = tiles; tiled = tiled; lists = λ more h. h } }
-
 -- white space or a comment
 gap_next : (bytes front after : List ℕ) (at : ℕ) (tokens : List Token) (piece : Piece) → ((tiles : List Tile) (more : List Token) → AreTokens bytes tiles (at + length front) more → AreTokens bytes (record { piece = piece; text = front } ∷ tiles) at more) → IsPiece piece at front after → Lexing bytes (front ++ after) at tokens → Lexing bytes after (at + length front) tokens
 gap_next bytes front after at tokens piece none is lexing = record {

@@ -1,11 +1,11 @@
 -- The longest mark at the front of a text, by the marks of one and of two bytes.
-use Rattle.std.proofs.Common.{◌≡◌, ◌&&◌, ℕ, ◌<◌, ◌≤◌, Bool, true, false, List, [], ◌∷◌, ◌++◌, length, max, refl, sym, ap, ◌∙◌, drop, get_or, arith, rules}
+use Rattle.std.proofs.Common.{◌≡◌, ℕ, ◌<◌, ◌≤◌, Bool, true, false, List, [], ◌∷◌, ◌++◌, length, max, refl, sym, ap, ◌∙◌, drop, get_or, arith, rules}
 use Rattle.std.specs.Prelude.{codes, if◌then◌else◌, nat_eq}
 use Rattle.std.specs.List.{starts_with}
 use Rattle.lua_tree.specs.Bytes.{has_front, longest}
 use Rattle.lua_tree.specs.Tokens.{marks}
 use Rattle.lua_tree.specs.declared.token.TokenKind.{TokenKind}
-use Rattle.lexer.proofs.FrontLemmas.{front_test, front_parts}
+use Rattle.lexer.proofs.FrontLemmas.{and_false, front_test, front_parts}
 use Rattle.lexer.specs.Marks.{IsMarkKind, MarkFront, double_marks, single_marks}
 
 longest_both : (words others : List (List ℕ)) (text : List ℕ) → longest (words ++ others) text ≡ max (longest words text) (longest others text)
@@ -58,17 +58,6 @@ short_longest (word ∷ words) text all = short_either (has_front word text) (le
 
 singles_short : AllShort single_marks
 singles_short = search (rules, arith)
-
--- what follows the byte of a mark of one byte, or the two of a mark of two, does not count
-single_here : (a : ℕ) (rest : List ℕ) → longest single_marks (a ∷ rest) ≡ longest single_marks (a ∷ [])
-single_here a rest = refl
-
-double_here : (a b : ℕ) (rest : List ℕ) → longest double_marks (a ∷ b ∷ rest) ≡ longest double_marks (a ∷ b ∷ [])
-double_here a b rest = refl
-
-and_false : (b : Bool) → (b && false) ≡ false
-and_false true = refl
-and_false false = refl
 
 no_double : (a : ℕ) → longest double_marks (a ∷ []) ≡ 0
 no_double a = simp and_false
@@ -151,11 +140,6 @@ module _ (text : List ℕ) (started : Bool) (value : started ≡ starts_with nat
 
   pub none_front : longest single_marks (a ∷ []) ≡ 0 → longest double_marks (a ∷ b ∷ []) ≡ 0 → longest marks text ≡ 0
   none_front one two = let all = longest_of in omega (arith, all, one, two)
-
-pub only_front : (text : List ℕ) (kind : TokenKind) → 1 ≤ length text → length text < 2 → IsMarkKind (get_or text 0 0 ∷ []) kind → longest single_marks (get_or text 0 0 ∷ []) ≡ 1 → MarkFront kind 1 text
-only_front text kind some few mark long =
-    let whole : text ≡ get_or text 0 0 ∷ [] = only_first text some few in
-    mark_front kind (get_or text 0 0 ∷ []) text [] whole (omega arith) mark (ap (longest marks) whole ∙ (one_byte (get_or text 0 0) ∙ long))
 
 pub none_only : (text : List ℕ) → 1 ≤ length text → length text < 2 → longest single_marks (get_or text 0 0 ∷ []) ≡ 0 → longest marks text ≡ 0
 none_only text some few none = ap (longest marks) (only_first text some few) ∙ (one_byte (get_or text 0 0) ∙ none)

@@ -26,10 +26,6 @@ same_word (byte ∷ word) (other ∷ text) h =
     let rest : text ≡ word = same_word word text (grind (arith, nat_tests)) in
     ap (λ t. other ∷ t) rest ∙ ap (λ b. b ∷ word) (sym same)
 
-either_true : (a b : Bool) → a ≡ false → (a || b) ≡ true → b ≡ true
-either_true true b e h = let no : true ≡ false = e in cc
-either_true false b e h = h
-
 go_keyword : (word after : List ℕ) (at : ℕ) (first : List ℕ) (same others : Bool) → same ≡ (has_front first word && (length first == length word)) → ((kind : TokenKind) × ((at : ℕ) (text after : List ℕ) → IsKeyword first text after → IsToken kind at text after)) → (others ≡ true → (kind : TokenKind) × IsToken kind at word after) → (same || others) ≡ true → IsWord word after → (kind : TokenKind) × IsToken kind at word after
 go_keyword word after at first true others e here there among is = (here.0, here.1 at word after (record { text_is = same_word first word (sym e); is_word = is }))
 go_keyword word after at first false others e here there among is = there among
