@@ -10,4 +10,7 @@ pub mod Spelling
 pub mod Names
 pub mod Precedence
 pub mod WellFormed
+pub mod Spelled
+pub mod Joins
 pub mod TreeLists
+pub mod SpelledLaws

@@ -1,6 +1,7 @@
 // Laws of the definitions, with nothing to run.
 ghost use Rattle.std.specs.Prelude.{◌≡◌, ℕ, List};
 ghost use Rattle.lua_tree.specs.Lines.{IsLineOf};
+ghost use Rattle.lua_tree.specs.SpelledLaws.{SpelledAsSpelling};
 ghost use Rattle.lua_tree.specs.Tiling.{Cause, Lexes, Stops};
 ghost use Rattle.lua_tree.specs.declared.token.Token.{Token as OneToken};
 
@@ -22,4 +23,9 @@ pub fn faults_are_one()
 /// A text that has tokens has no fault.
 pub fn never_both()
     ensures { (bytes : List ℕ) (tokens : List OneToken) (cause : Cause) (at : ℕ) → Lexes bytes tokens → Stops bytes cause at → ⊥ }
+{}
+
+/// Law: tokens that spell a source, with their lines, have the kinds of its spelling.
+pub fn spelled_as_spelling()
+    ensures { SpelledAsSpelling }
 {}

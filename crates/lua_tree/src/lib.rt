@@ -8,7 +8,7 @@ mod tests;
 mod token;
 mod tree;
 
-pub use laws::{faults_are_one, lines_are_one, never_both, tokens_are_one};
+pub use laws::{faults_are_one, lines_are_one, never_both, spelled_as_spelling, tokens_are_one};
 pub use speller::spell;
 pub use token::{Token, TokenKind, Tokens};
 pub use tree::{

@@ -1,5 +1,8 @@
 // The syntax tree of a source (manual 8, the complete syntax).
 ghost use Rattle.std.specs.Prelude.{◌≡◌, [], ◌∷◌, ◌++◌, OnOk, OnErr};
+ghost use Rattle.lua_tree.specs.Syntax.{no_statements, statement as one_statement, no_expressions, expression as one_expression, no_branches, no_fields};
+ghost use Rattle.lua_tree.specs.View.{view_block, view_statement, view_exps, view_exp, view_arms, view_arm, view_items, view_item};
+ghost use Rattle.lua_tree.specs.Joins.{join_statements, join_expressions, join_branches, join_fields};
 ghost use Rattle.lua_tree.specs.declared.tree.Block.{out-Block};
 ghost use Rattle.lua_tree.specs.declared.tree.Exps.{out-Exps};
 ghost use Rattle.lua_tree.specs.declared.tree.Arms.{out-Arms};
@@ -241,6 +244,22 @@ pub enum UnaryOp {
 impl Block {
     /// No statements, which takes no memory.
     pub fn new(alloc: Global) -> Self
+        ensures items { (out-Block result).stats.items ≡ [] }
+        ensures view { view_block result ≡ no_statements }
+    {
+        Self::empty(alloc)
+    }
+
+    /// Appends a statement.
+    pub fn push(&mut self, statement: Stat) -> Result<(), AllocError>
+        ensures ok { OnOk result ((out-Block self.new).stats.items ≡ (out-Block self.old).stats.items ++ statement ∷ []) }
+        ensures view { OnOk result (view_block self.new ≡ join_statements (view_block self.old) (one_statement statement.line statement.semi (view_statement statement.kind) no_statements)) }
+        ensures err { OnErr result ((out-Block self.new).stats.items ≡ (out-Block self.old).stats.items) }
+    {
+        self.append(statement)
+    }
+
+    fn empty(alloc: Global) -> Self
         ensures { (out-Block result).stats.items ≡ [] }
     {
         Self {
@@ -248,8 +267,7 @@ impl Block {
         }
     }
 
-    /// Appends a statement.
-    pub fn push(&mut self, statement: Stat) -> Result<(), AllocError>
+    fn append(&mut self, statement: Stat) -> Result<(), AllocError>
         ensures ok { OnOk result ((out-Block self.new).stats.items ≡ (out-Block self.old).stats.items ++ statement ∷ []) }
         ensures err { OnErr result ((out-Block self.new).stats.items ≡ (out-Block self.old).stats.items) }
     {
@@ -268,6 +286,22 @@ impl Block {
 impl Exps {
     /// No expressions, which takes no memory.
     pub fn new(alloc: Global) -> Self
+        ensures items { (out-Exps result).exps.items ≡ [] }
+        ensures view { view_exps result ≡ no_expressions }
+    {
+        Self::empty(alloc)
+    }
+
+    /// Appends an expression.
+    pub fn push(&mut self, expression: Exp) -> Result<(), AllocError>
+        ensures ok { OnOk result ((out-Exps self.new).exps.items ≡ (out-Exps self.old).exps.items ++ expression ∷ []) }
+        ensures view { OnOk result (view_exps self.new ≡ join_expressions (view_exps self.old) (one_expression (view_exp expression) no_expressions)) }
+        ensures err { OnErr result ((out-Exps self.new).exps.items ≡ (out-Exps self.old).exps.items) }
+    {
+        self.append(expression)
+    }
+
+    fn empty(alloc: Global) -> Self
         ensures { (out-Exps result).exps.items ≡ [] }
     {
         Self {
@@ -275,8 +309,7 @@ impl Exps {
         }
     }
 
-    /// Appends an expression.
-    pub fn push(&mut self, expression: Exp) -> Result<(), AllocError>
+    fn append(&mut self, expression: Exp) -> Result<(), AllocError>
         ensures ok { OnOk result ((out-Exps self.new).exps.items ≡ (out-Exps self.old).exps.items ++ expression ∷ []) }
         ensures err { OnErr result ((out-Exps self.new).exps.items ≡ (out-Exps self.old).exps.items) }
     {
@@ -295,6 +328,22 @@ impl Exps {
 impl Arms {
     /// No arms, which takes no memory.
     pub fn new(alloc: Global) -> Self
+        ensures items { (out-Arms result).arms.items ≡ [] }
+        ensures view { view_arms result ≡ no_branches }
+    {
+        Self::empty(alloc)
+    }
+
+    /// Appends an arm.
+    pub fn push(&mut self, arm: Arm) -> Result<(), AllocError>
+        ensures ok { OnOk result ((out-Arms self.new).arms.items ≡ (out-Arms self.old).arms.items ++ arm ∷ []) }
+        ensures view { OnOk result (view_arms self.new ≡ join_branches (view_arms self.old) (view_arm arm no_branches)) }
+        ensures err { OnErr result ((out-Arms self.new).arms.items ≡ (out-Arms self.old).arms.items) }
+    {
+        self.append(arm)
+    }
+
+    fn empty(alloc: Global) -> Self
         ensures { (out-Arms result).arms.items ≡ [] }
     {
         Self {
@@ -302,8 +351,7 @@ impl Arms {
         }
     }
 
-    /// Appends an arm.
-    pub fn push(&mut self, arm: Arm) -> Result<(), AllocError>
+    fn append(&mut self, arm: Arm) -> Result<(), AllocError>
         ensures ok { OnOk result ((out-Arms self.new).arms.items ≡ (out-Arms self.old).arms.items ++ arm ∷ []) }
         ensures err { OnErr result ((out-Arms self.new).arms.items ≡ (out-Arms self.old).arms.items) }
     {
@@ -322,6 +370,22 @@ impl Arms {
 impl Items {
     /// No items, which takes no memory.
     pub fn new(alloc: Global) -> Self
+        ensures items { (out-Items result).items.items ≡ [] }
+        ensures view { view_items result ≡ no_fields }
+    {
+        Self::empty(alloc)
+    }
+
+    /// Appends an item.
+    pub fn push(&mut self, item: Item) -> Result<(), AllocError>
+        ensures ok { OnOk result ((out-Items self.new).items.items ≡ (out-Items self.old).items.items ++ item ∷ []) }
+        ensures view { OnOk result (view_items self.new ≡ join_fields (view_items self.old) (view_item item.kind item.sep no_fields)) }
+        ensures err { OnErr result ((out-Items self.new).items.items ≡ (out-Items self.old).items.items) }
+    {
+        self.append(item)
+    }
+
+    fn empty(alloc: Global) -> Self
         ensures { (out-Items result).items.items ≡ [] }
     {
         Self {
@@ -329,8 +393,7 @@ impl Items {
         }
     }
 
-    /// Appends an item.
-    pub fn push(&mut self, item: Item) -> Result<(), AllocError>
+    fn append(&mut self, item: Item) -> Result<(), AllocError>
         ensures ok { OnOk result ((out-Items self.new).items.items ≡ (out-Items self.old).items.items ++ item ∷ []) }
         ensures err { OnErr result ((out-Items self.new).items.items ≡ (out-Items self.old).items.items) }
     {

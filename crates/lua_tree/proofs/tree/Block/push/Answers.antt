@@ -1,0 +1,6 @@
+use Rattle.std.proofs.Common.{rules}
+use Rattle.lua_tree.proofs.TreeJoins.{pushed_stat}
+use Rattle.lua_tree.proofs.tree.Block.push.Goals as goal
+
+pub returns-clause-view : goal.returns-clause-view
+returns-clause-view c = search (rules, pushed_stat)

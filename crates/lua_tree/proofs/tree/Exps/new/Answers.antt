@@ -1,0 +1,6 @@
+use Rattle.std.proofs.Common.{rules}
+use Rattle.lua_tree.proofs.TreeJoins.{no_exps}
+use Rattle.lua_tree.proofs.tree.Exps.new.Goals as goal
+
+pub returns-clause-view : goal.returns-clause-view
+returns-clause-view c = search (rules, no_exps)

@@ -1,0 +1,11 @@
+-- What the two ways to say how a tree is spelled have to do with each other.
+use Rattle.std.specs.Prelude.{◌≡◌, List}
+use Rattle.lua_tree.specs.Syntax.{Source}
+use Rattle.lua_tree.specs.Spelled.{SpellsSource}
+use Rattle.lua_tree.specs.Spelling.{spell_source}
+use Rattle.lua_tree.specs.TreeLists.{kinds_of}
+use Rattle.lua_tree.specs.declared.token.Token.{Token}
+
+-- the grammar with lines and the spelling without them give the same kinds
+abbrev pub SpelledAsSpelling : Type 0
+SpelledAsSpelling = (source : Source) (tokens : List Token) → SpellsSource source tokens → kinds_of tokens ≡ spell_source source
