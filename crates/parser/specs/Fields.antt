@@ -1,0 +1,28 @@
+-- Parts of the program's trees as the definitions have them.
+use Rattle.std.specs.Prelude.{ℕ, max, Option, Some, None}
+use Rattle.lua_tree.specs.Syntax.{Expression, ForStep, no_step, by_step}
+use Rattle.lua_tree.specs.View.{view_exp}
+use Rattle.lua_tree.specs.declared.tree.Exp.{Exp}
+use Rattle.lua_tree.specs.View.{view_kind}
+use Rattle.lua_tree.specs.WellFormed.{depth_of_expression}
+use Rattle.lua_tree.specs.Spelled.{Field, positional_field, named_field, keyed_field}
+use Rattle.lua_tree.specs.declared.tree.ItemKind.{ItemKind, Positional', Named', Keyed'}
+
+abbrev pub field_of : ItemKind → Field
+field_of (Positional' l k) = positional_field (view_kind k l)
+field_of (Named' n l k) = named_field n (view_kind k l)
+field_of (Keyed' l k l' k') = keyed_field (view_kind k l) (view_kind k' l')
+
+abbrev pub depth_of_field : Field → ℕ
+depth_of_field (positional_field e) = depth_of_expression e
+depth_of_field (named_field name e) = depth_of_expression e
+depth_of_field (keyed_field key e) = max (depth_of_expression key) (depth_of_expression e)
+
+abbrev pub step_of : Option Exp → ForStep
+step_of None = no_step
+step_of (Some e) = by_step (view_exp e)
+
+-- a literal, where there is one
+abbrev pub literal_view : Option Exp → Option Expression
+literal_view None = None
+literal_view (Some e) = Some (view_exp e)

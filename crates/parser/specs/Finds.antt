@@ -1,0 +1,66 @@
+-- What the parser's functions answer, by the programs.
+use Rattle.std.specs.Prelude.{◌≡◌, ◌≤◌, ◌<◌, ℕ, Bool, true, false, List, [], ◌∷◌, Some}
+use Rattle.lua_tree.specs.Spelled.{Phrase, Meant}
+use Rattle.lua_tree.specs.declared.token.Token.{Token}
+use Rattle.lua_tree.specs.declared.token.TokenKind.{TokenKind}
+use Rattle.parser.specs.declared.cursor.Halt.{Halt}
+use Rattle.parser.specs.Program.{Goal, Program, reads}
+use Rattle.parser.specs.Runs.{unexpected, too_deep, End, done, fault, Runs, kind_of}
+
+-- the next token, in a depth that is allowed, is taken
+pub record Takes (depth : ℕ) (tokens : List Token) (line : ℕ) (rest : List Token) : Type 0 where
+  pub token : Token
+  pub first : tokens ≡ token ∷ rest
+  pub on : line ≡ token.line
+  pub low : depth ≤ 200
+
+-- there is no next token, or its depth is too great
+abbrev pub IsNoNext : ℕ → List Token → Halt → Type 0
+IsNoNext depth [] halt = halt ≡ Halt.Unexpected
+IsNoNext depth (token ∷ tokens) halt = (halt ≡ Halt.TooDeep) × (200 < depth)
+
+pub record TakesNot (depth : ℕ) (tokens rest : List Token) (halt : Halt) : Type 0 where
+  pub left : rest ≡ tokens
+  pub why : IsNoNext depth tokens halt
+
+-- whether the next token is of this kind
+pub record Tests (kind : TokenKind) (tokens : List Token) (answer : Bool) : Type 0 where
+  pub yes : answer ≡ true → kind_of tokens ≡ Some kind
+  pub no : answer ≡ false → kind_of tokens ≡ Some kind → ⊥
+
+-- the next token, which is of this kind, is taken
+pub record Wants (kind : TokenKind) (tokens : List Token) (line : ℕ) (rest : List Token) : Type 0 where
+  pub token : Token
+  pub first : tokens ≡ token ∷ rest
+  pub is : token.kind ≡ kind
+  pub on : line ≡ token.line
+
+-- the next token is not of this kind
+pub record WantsNot (kind : TokenKind) (tokens rest : List Token) (halt : Halt) : Type 0 where
+  pub left : rest ≡ tokens
+  pub why : halt ≡ Halt.Unexpected
+  pub not : kind_of tokens ≡ Some kind → ⊥
+
+-- an answer, the line of the last token and the tokens left, or a fault at the first of these, or want of memory
+pub data Outcome (answer : Phrase) : Type 0 where
+  found : Meant answer → ℕ → List Token → Outcome answer
+  halted : Halt → List Token → Outcome answer
+
+-- the end of a run that an outcome stands for
+abbrev pub Means : {answer : Phrase} → Outcome answer → End answer → Type 0
+Means (found meant last rest) end = end ≡ done meant last rest
+Means (halted Halt.Unexpected rest) end = end ≡ fault unexpected rest
+Means (halted Halt.TooDeep rest) end = end ≡ fault too_deep rest
+Means (halted Halt.OutOfMemory rest) end = ⊥
+
+-- a program runs to the end that an outcome stands for
+pub record Leads {answer : Phrase} (program : Program answer) (before : ℕ) (tokens : List Token) (outcome : Outcome answer) : Type 0 where
+  pub run : (end : End answer) → Means outcome end → Runs 200 answer program before tokens end
+
+-- what reads a goal answers this
+pub record Finds {answer : Phrase} (goal : Goal answer) (before : ℕ) (tokens : List Token) (meant : Meant answer) (last : ℕ) (rest : List Token) : Type 0 where
+  pub leads : Leads (reads goal) before tokens (found meant last rest)
+
+-- or has this fault
+pub record Refuses {answer : Phrase} (goal : Goal answer) (before : ℕ) (tokens rest : List Token) (halt : Halt) : Type 0 where
+  pub leads : Leads (reads goal) before tokens (halted halt rest)
