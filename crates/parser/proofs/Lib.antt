@@ -10,9 +10,11 @@ pub mod Found
 pub mod FoundExpressions
 pub mod FoundLists
 pub mod FoundStatements
+pub mod LoopSteps
 pub mod Looks
 pub mod MarkLemmas
 pub mod OneTree
+pub mod Passing
 pub mod Posts
 pub mod Reading
 pub mod RunSteps

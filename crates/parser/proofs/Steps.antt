@@ -1,13 +1,15 @@
 -- Steps of a run, from what the parser's functions answer.
-use Rattle.std.proofs.Common.{◌≡◌, ℕ, ◌≤◌, Bool, true, false, List, [], ◌∷◌, Option, refl, sym, subst}
-use Rattle.lua_tree.specs.Spelled.{Phrase, Meant}
+use Rattle.std.proofs.Common.{cond, ◌≡◌, ℕ, ◌≤◌, Bool, true, false, List, [], ◌∷◌, Option, refl, sym, subst}
+use Rattle.lua_tree.specs.Syntax.{Text}
+use Rattle.lua_tree.specs.Spelled.{Phrase, names_phrase, more_names_phrase, Meant}
 use Rattle.lua_tree.specs.declared.token.Token.{Token}
 use Rattle.lua_tree.specs.declared.token.TokenKind.{TokenKind}
 use Rattle.parser.specs.declared.cursor.Halt.{Halt}
-use Rattle.parser.specs.Program.{Goal, Program, give, stop, look, skip, want, choose, call, reads}
-use Rattle.parser.specs.Runs.{unexpected, too_deep, kind_of, line_of, End, done, fault, Runs, gives, stops, looks, skips, deep, ends, wants, misses, chooses, passes, calls, fails}
+use Rattle.parser.specs.Program.{Goal, Program, give, stop, look, skip, want, choose, call, become, more_names_by, reads}
+use Rattle.parser.specs.Runs.{Why, unexpected, too_deep, kind_of, line_of, End, done, fault, Runs, gives, stops, looks, skips, deep, ends, wants, misses, chooses, passes, calls, fails}
 use Rattle.parser.proofs.Ends.{one_end}
-use Rattle.parser.specs.Finds.{Takes, Tests, TakesNot, IsNoNext, Wants, WantsNot, Outcome, found, halted, Means, Leads, Finds, Refuses}
+use Rattle.parser.specs.Finds.{Takes, Tests, TakesNot, IsNoNext, Wants, WantsNot, Outcome, found, halted, Means, Leads, Finds, Refuses, FindsNames, RefusesNames}
+use Rattle.parser.specs.Loops.{names_with}
 
 pub finds : {answer : Phrase} {goal : Goal answer} {before last : ℕ} {tokens rest : List Token} {meant : Meant answer} →
     Leads (reads goal) before tokens (found meant last rest) → Finds goal before tokens meant last rest
@@ -16,6 +18,14 @@ finds r = record { leads = r }
 pub refuses : {answer : Phrase} {goal : Goal answer} {before : ℕ} {tokens rest : List Token} {halt : Halt} →
     Leads (reads goal) before tokens (halted halt rest) → Refuses goal before tokens rest halt
 refuses r = record { leads = r }
+
+pub finds_names : {mark : TokenKind} {first : Text} {before last : ℕ} {tokens rest : List Token} {names : List Text} →
+    Leads (names_with mark (first ∷ [])) before tokens (found names last rest) → FindsNames mark first before tokens names last rest
+finds_names r = record { leads = r }
+
+pub refuses_names : {mark : TokenKind} {first : Text} {before : ℕ} {tokens rest : List Token} {halt : Halt} →
+    Leads (names_with mark (first ∷ [])) before tokens (halted halt rest) → RefusesNames mark first before tokens rest halt
+refuses_names r = record { leads = r }
 
 -- a run to a known end
 lead_to : {answer : Phrase} {program : Program answer} {before last : ℕ} {tokens rest : List Token} {meant : Meant answer} →
@@ -98,16 +108,36 @@ pub lead_call_not : {answer inner : Phrase} {goal : Goal inner} {then : Meant in
     Refuses goal before tokens rest halt → Leads (call goal then) before tokens (halted halt rest)
 lead_call_not {halt} r = record { run = call_fault halt r }
 
--- a goal whose items follow one another: the answer for the first is what the rest answers, with the first before it
-pub lead_more : {answer inner : Phrase} {goal : Goal inner} {then : Meant inner → Program answer} {before line : ℕ} {tokens rest : List Token} {outcome : Outcome answer} (add : Meant inner → Meant inner) →
-    ((all : Outcome inner) → Leads (call goal (λ meant. give (add meant))) line rest all → Leads (reads goal) before tokens all) →
-    Leads (call goal (λ meant. then (add meant))) line rest outcome → Leads (call goal then) before tokens outcome
-lead_more {answer} {inner} {goal} {then} {before} {line} {tokens} {rest} {outcome} add step l = record { run = λ end m. go end (l.run end m) }
+pub lead_then : {answer : Phrase} {before : ℕ} {tokens : List Token} {outcome : Outcome answer} (test : Bool) (one other : Program answer) → test ≡ true → Leads one before tokens outcome → Leads (cond test one other) before tokens outcome
+lead_then {before} {tokens} {outcome} test one other e l = subst (λ x. Leads (cond x one other) before tokens outcome) (sym e) l
+
+pub lead_else : {answer : Phrase} {before : ℕ} {tokens : List Token} {outcome : Outcome answer} (test : Bool) (one other : Program answer) → test ≡ false → Leads other before tokens outcome → Leads (cond test one other) before tokens outcome
+lead_else {before} {tokens} {outcome} test one other e l = subst (λ x. Leads (cond x one other) before tokens outcome) (sym e) l
+
+into : {answer : Phrase} {goal : Goal answer} {before : ℕ} {tokens : List Token} (end : End answer) → Runs 200 answer (reads goal) before tokens end → Runs 200 answer (become goal) before tokens end
+into (done meant last rest) r = calls r gives
+into (fault why rest) r = fails r
+
+pub lead_become : {answer : Phrase} {goal : Goal answer} {before : ℕ} {tokens : List Token} {outcome : Outcome answer} → Leads (reads goal) before tokens outcome → Leads (become goal) before tokens outcome
+lead_become l = record { run = λ end m. into end (l.run end m) }
+
+out_of : {answer : Phrase} {goal : Goal answer} {before : ℕ} {tokens : List Token} (end : End answer) → Runs 200 answer (become goal) before tokens end → Runs 200 answer (reads goal) before tokens end
+out_of {answer} {goal} {before} {tokens} end (calls r s) = subst (λ x. Runs 200 answer (reads goal) before tokens x) (one_end gives s) r
+out_of (fault why rest) (fails r) = r
+
+pub lead_open : {answer : Phrase} {goal : Goal answer} {before : ℕ} {tokens : List Token} {outcome : Outcome answer} → Leads (become goal) before tokens outcome → Leads (reads goal) before tokens outcome
+lead_open l = record { run = λ end m. out_of end (l.run end m) }
+
+-- a goal whose items follow one another: what the rest answers, with the first before it, is the answer
+pub lead_more : {answer inner outer : Phrase} {goal : Goal outer} {next : Goal inner} {then : Meant outer → Program answer} {before line : ℕ} {tokens rest : List Token} {outcome : Outcome answer} (add : Meant inner → Meant outer) →
+    ((all : Outcome outer) → Leads (call next (λ meant. give (add meant))) line rest all → Leads (reads goal) before tokens all) →
+    Leads (call next (λ meant. then (add meant))) line rest outcome → Leads (call goal then) before tokens outcome
+lead_more {answer} {inner} {outer} {goal} {next} {then} {before} {line} {tokens} {rest} {outcome} add step l = record { run = λ end m. go end (l.run end m) }
   where
-    go : (end : End answer) → Runs 200 answer (call goal (λ meant. then (add meant))) line rest end → Runs 200 answer (call goal then) before tokens end
-    go end (calls {last} {rest = left} {meant} r s) = calls ((step (found (add meant) last left) (record { run = λ e m. subst (λ x. Runs 200 inner (call goal (λ meant. give (add meant))) line rest x) (sym m) (calls r gives) })).run _ refl) s
-    go end (fails {rest = left} {why = unexpected} r) = fails ((step (halted Halt.Unexpected left) (record { run = λ e m. subst (λ x. Runs 200 inner (call goal (λ meant. give (add meant))) line rest x) (sym m) (fails r) })).run _ refl)
-    go end (fails {rest = left} {why = too_deep} r) = fails ((step (halted Halt.TooDeep left) (record { run = λ e m. subst (λ x. Runs 200 inner (call goal (λ meant. give (add meant))) line rest x) (sym m) (fails r) })).run _ refl)
+    go : (end : End answer) → Runs 200 answer (call next (λ meant. then (add meant))) line rest end → Runs 200 answer (call goal then) before tokens end
+    go end (calls {last} {rest = left} {meant} r s) = calls ((step (found (add meant) last left) (record { run = λ e m. subst (λ x. Runs 200 outer (call next (λ meant. give (add meant))) line rest x) (sym m) (calls r gives) })).run _ refl) s
+    go end (fails {rest = left} {why = unexpected} r) = fails ((step (halted Halt.Unexpected left) (record { run = λ e m. subst (λ x. Runs 200 outer (call next (λ meant. give (add meant))) line rest x) (sym m) (fails r) })).run _ refl)
+    go end (fails {rest = left} {why = too_deep} r) = fails ((step (halted Halt.TooDeep left) (record { run = λ e m. subst (λ x. Runs 200 outer (call next (λ meant. give (add meant))) line rest x) (sym m) (fails r) })).run _ refl)
 
 -- what follows an end
 abbrev After : {answer outer : Phrase} → (Meant outer → Program answer) → End outer → End answer → Type 0
@@ -123,4 +153,20 @@ pub lead_through : {answer inner outer : Phrase} {goal : Goal inner} (then : Mea
     Leads {answer = outer} (call goal (λ part. give (made part))) before tokens (found meant last rest) → Leads (then meant) last rest outcome → Leads (call goal (λ part. then (made part))) before tokens outcome
 lead_through then made l k = record { run = λ end m. through then made (l.run _ refl) (k.run end m) }
 
-pub ruleset steps = (finds, refuses, lead_give, lead_stop, lead_memory, lead_look, lead_skip, lead_skip_not, lead_want, lead_want_not, lead_yes, lead_no, lead_call, lead_call_not)
+-- names that are refused are refused whatever was to follow them
+names_fault : {answer : Phrase} {mark : TokenKind} {then : Meant (more_names_phrase mark) → Program answer} (read : List Text) {before : ℕ} {tokens rest : List Token} {why : Why} →
+    Runs 200 (names_phrase mark) (names_with mark read) before tokens (fault why rest) → Runs 200 answer (call (more_names_by mark) then) before tokens (fault why rest)
+names_fault read (calls r s) = let e = one_end gives s in cc
+names_fault read (fails r) = fails r
+
+refused_names : {answer : Phrase} {mark : TokenKind} {then : Meant (more_names_phrase mark) → Program answer} {first : Text} {before : ℕ} {tokens rest : List Token} (halt : Halt) → RefusesNames mark first before tokens rest halt →
+    (end : End answer) → Means {answer = answer} (halted halt rest) end → Runs 200 answer (call (more_names_by mark) then) before tokens end
+refused_names {answer} {mark} {then} {first} {before} {tokens} {rest} Halt.Unexpected r end m = subst (λ x. Runs 200 answer (call (more_names_by mark) then) before tokens x) (sym m) (names_fault (first ∷ []) (r.leads.run _ refl))
+refused_names {answer} {mark} {then} {first} {before} {tokens} {rest} Halt.TooDeep r end m = subst (λ x. Runs 200 answer (call (more_names_by mark) then) before tokens x) (sym m) (names_fault (first ∷ []) (r.leads.run _ refl))
+refused_names Halt.OutOfMemory r end m = absurd m
+
+pub lead_names_not : {answer : Phrase} {mark : TokenKind} {then : Meant (more_names_phrase mark) → Program answer} {first : Text} {before : ℕ} {tokens rest : List Token} {halt : Halt} →
+    RefusesNames mark first before tokens rest halt → Leads (call (more_names_by mark) then) before tokens (halted halt rest)
+lead_names_not {halt} r = record { run = refused_names halt r }
+
+pub ruleset steps = (finds, refuses, finds_names, refuses_names, lead_give, lead_stop, lead_memory, lead_look, lead_skip, lead_skip_not, lead_want, lead_want_not, lead_yes, lead_no, lead_call, lead_call_not)

@@ -1,8 +1,9 @@
 -- Parts of the program's trees as the definitions have them.
 use Rattle.std.specs.Prelude.{ℕ, max, Option, Some, None}
-use Rattle.lua_tree.specs.Syntax.{Expression, ForStep, no_step, by_step}
-use Rattle.lua_tree.specs.View.{view_exp}
+use Rattle.lua_tree.specs.Syntax.{Expression, Statements, ForStep, no_step, by_step}
+use Rattle.lua_tree.specs.View.{view_exp, view_block}
 use Rattle.lua_tree.specs.declared.tree.Exp.{Exp}
+use Rattle.lua_tree.specs.declared.tree.Arm.{Arm, Arm'}
 use Rattle.lua_tree.specs.View.{view_kind}
 use Rattle.lua_tree.specs.WellFormed.{depth_of_expression}
 use Rattle.lua_tree.specs.Spelled.{Field, positional_field, named_field, keyed_field}
@@ -26,3 +27,10 @@ step_of (Some e) = by_step (view_exp e)
 abbrev pub literal_view : Option Exp → Option Expression
 literal_view None = None
 literal_view (Some e) = Some (view_exp e)
+
+-- the condition and the block of an arm
+abbrev pub cond_of : Arm → Expression
+cond_of (Arm' l k b) = view_kind k l
+
+abbrev pub inside_of : Arm → Statements
+inside_of (Arm' l k b) = view_block b

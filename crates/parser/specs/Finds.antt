@@ -1,10 +1,13 @@
 -- What the parser's functions answer, by the programs.
 use Rattle.std.specs.Prelude.{◌≡◌, ◌≤◌, ◌<◌, ℕ, Bool, true, false, List, [], ◌∷◌, Some}
-use Rattle.lua_tree.specs.Spelled.{Phrase, Meant}
+use Rattle.lua_tree.specs.Syntax.{Text, Expression, Statements}
+use Rattle.lua_tree.specs.Spelled.{Phrase, Meant, Parameters}
 use Rattle.lua_tree.specs.declared.token.Token.{Token}
 use Rattle.lua_tree.specs.declared.token.TokenKind.{TokenKind}
 use Rattle.parser.specs.declared.cursor.Halt.{Halt}
-use Rattle.parser.specs.Program.{Goal, Program, reads}
+use Rattle.parser.specs.declared.functions.Parameters.{Parameters as MadeParameters}
+use Rattle.parser.specs.Program.{Goal, Program, call, want, whole, block, reads}
+use Rattle.parser.specs.Loops.{names_with}
 use Rattle.parser.specs.Runs.{unexpected, too_deep, End, done, fault, Runs, kind_of}
 
 -- the next token, in a depth that is allowed, is taken
@@ -64,3 +67,24 @@ pub record Finds {answer : Phrase} (goal : Goal answer) (before : ℕ) (tokens :
 -- or has this fault
 pub record Refuses {answer : Phrase} (goal : Goal answer) (before : ℕ) (tokens rest : List Token) (halt : Halt) : Type 0 where
   pub leads : Leads (reads goal) before tokens (halted halt rest)
+
+-- a condition, `then` and a block are read, whatever is to follow them
+abbrev pub arm_before : {answer : Phrase} → ℕ → (Expression → Statements → Program answer) → Program answer
+arm_before depth then = call (whole depth 0) (λ cond. want TokenKind.Then (call (block depth) (λ inside. then cond inside)))
+
+pub record FindsArm (depth before : ℕ) (tokens : List Token) (cond : Expression) (inside : Statements) (last : ℕ) (rest : List Token) : Type 0 where
+  pub leads : (answer : Phrase) (then : Expression → Statements → Program answer) (outcome : Outcome answer) → Leads (then cond inside) last rest outcome → Leads (arm_before depth then) before tokens outcome
+
+pub record RefusesArm (depth before : ℕ) (tokens rest : List Token) (halt : Halt) : Type 0 where
+  pub leads : (answer : Phrase) (then : Expression → Statements → Program answer) → Leads (arm_before depth then) before tokens (halted halt rest)
+
+-- names with a mark between them, behind the first
+pub record FindsNames (mark : TokenKind) (first : Text) (before : ℕ) (tokens : List Token) (names : List Text) (last : ℕ) (rest : List Token) : Type 0 where
+  pub leads : Leads (names_with mark (first ∷ [])) before tokens (found names last rest)
+
+pub record RefusesNames (mark : TokenKind) (first : Text) (before : ℕ) (tokens rest : List Token) (halt : Halt) : Type 0 where
+  pub leads : Leads (names_with mark (first ∷ [])) before tokens (halted halt rest)
+
+-- the parameters of the program
+abbrev pub parameters_of : MadeParameters → Parameters
+parameters_of made = record { names = made.names; vararg = made.vararg }

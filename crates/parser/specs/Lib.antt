@@ -4,5 +4,6 @@ pub mod Marks
 pub mod Program
 pub mod Runs
 pub mod Fields
+pub mod Loops
 pub mod Finds
 pub mod Laws

@@ -3,9 +3,15 @@
 
 mod classes;
 mod cursor;
+mod expressions;
+mod fields;
+mod functions;
 mod laws;
 mod mark;
 mod operator;
+mod prefixes;
+mod statements;
+mod tall;
 mod word;
 
 pub use laws::trees_are_one;
