@@ -6,13 +6,14 @@ use Rattle.lua_tree.specs.Spelled.{statement_phrase, block_phrase, expressions_p
 use Rattle.lua_tree.specs.WellFormed.{depth_of_statements, depth_of_statement, depth_of_branches, depth_of_expressions, depth_of_expression, depth_of_fields, is_target, ends_block}
 use Rattle.lua_tree.specs.declared.token.Token.{Token}
 use Rattle.lua_tree.specs.declared.token.TokenKind.{TokenKind}
-use Rattle.lua_tree.specs.View.{view_item}
+use Rattle.lua_tree.specs.View.{view_item, view_arm}
+use Rattle.lua_tree.specs.declared.tree.Arm.{Arm, Arm'}
 use Rattle.lua_tree.specs.declared.tree.ItemKind.{ItemKind, Positional', Named', Keyed'}
 use Rattle.lua_tree.specs.declared.tree.Separator.{Separator}
 use Rattle.parser.specs.declared.cursor.Halt.{Halt}
 use Rattle.parser.specs.Classes.{Role, is_block_end}
 use Rattle.parser.specs.Operators.{Infix, infix_expression}
-use Rattle.parser.specs.Fields.{depth_of_field, field_of}
+use Rattle.parser.specs.Fields.{depth_of_field, field_of, cond_of, inside_of}
 use Rattle.parser.specs.Program.{Program, give, stop, skip, want, choose, call, reads, one_name, more_names_by, method_name, body, values, expressions_at, generic_of, first_parameter, whole, more_expressions_at, fields, one_field, separator, fields_after, add_field, block, one_statement, semicolon, branches, prefix, targets}
 use Rattle.parser.specs.Runs.{kind_of, line_of}
 use Rattle.parser.specs.Loops.{names_with, parameters_with, expressions_with, fields_with, block_with, targets_with, if_with}
@@ -238,3 +239,6 @@ pub infix_height : (start line : ℕ) (op : Infix) (left right : Expression) (a 
 infix_height start line Infix.And left right a b m h k e = omega arith
 infix_height start line Infix.Or left right a b m h k e = omega arith
 infix_height start line (Infix.Binary op) left right a b m h k e = omega arith
+
+pub arm_view : (arm : Arm) (rest : Branches) → view_arm arm rest ≡ branch (cond_of arm) (inside_of arm) rest
+arm_view (Arm' l k b) rest = refl

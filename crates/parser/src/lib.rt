@@ -2,11 +2,13 @@
 #![tactic(auto)]
 
 mod classes;
+mod control;
 mod cursor;
 mod expressions;
 mod fields;
 mod functions;
 mod laws;
+mod lists;
 mod mark;
 mod operator;
 mod prefixes;

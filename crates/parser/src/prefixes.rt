@@ -37,6 +37,83 @@ impl Role {
 }
 
 impl Cursor<'_> {
+    /// A name or an expression in parentheses, with all its suffixes.
+    #[cycle(parser)]
+    pub fn prefix(&mut self, alloc: Global, depth: usize, role: Role) -> Result<Tall<Exp>, Halt>
+        requires { depth ≤ 201 }
+        ensures found { IfOk result (λ x. Finds (prefix depth role) self.old.line self.old.rest.now (view_exp x.part) self.new.line self.new.rest.now) }
+        ensures height { IfOk result (λ x. x.height ≡ depth_of_expression (view_exp x.part)) }
+        ensures low { IfOk result (λ x. depth + x.height ≤ 200) }
+        ensures refused { IfErr result (Refuses (prefix depth role) self.old.line self.old.rest.now self.new.rest.now) }
+        ensures shorter { IfOk result (λ _. length self.new.rest.now < length self.old.rest.now) }
+    {
+        let line = self.next_line();
+        if let Some(name) = self.next_name() {
+            self.take(depth + 1)?;
+            let name = copy_of(alloc, name)?;
+            let part = named_exp(line, name);
+            let first = Tall { part, height: 1 };
+            let whole = self.suffix(alloc, depth, role, first)?;
+            return Ok(whole);
+        }
+        if !self.is(Mark::OpenParen) {
+            return Err(Halt::Unexpected);
+        }
+        let first = self.paren(alloc, depth, role)?;
+        let whole = self.suffix(alloc, depth, role, first)?;
+        Ok(whole)
+    }
+
+    /// An expression in parentheses.
+    #[cycle(parser)]
+    fn paren(&mut self, alloc: Global, depth: usize, role: Role) -> Result<Tall<Exp>, Halt>
+        requires { depth ≤ 201 }
+        ensures found { IfOk result (λ x. Finds (paren_of depth role) self.old.line self.old.rest.now (view_exp x.part) self.new.line self.new.rest.now) }
+        ensures height { IfOk result (λ x. x.height ≡ depth_of_expression (view_exp x.part)) }
+        ensures low { IfOk result (λ x. depth + x.height ≤ 200) }
+        ensures refused { IfErr result (Refuses (paren_of depth role) self.old.line self.old.rest.now self.new.rest.now) }
+        ensures shorter { IfOk result (λ _. length self.new.rest.now < length self.old.rest.now) }
+    {
+        let line = self.next_line();
+        let spare = role.paren_spare();
+        self.take(depth + spare + 2)?;
+        let inner = self.whole(alloc, depth + spare + 1, 0)?;
+        self.want(Mark::CloseParen)?;
+        Ok(Tall {
+            height: inner.height + 1,
+            part: parenthesized(alloc, line, inner.part)?,
+        })
+    }
+
+    /// The suffixes that follow an expression.
+    #[cycle(parser)]
+    pub fn suffix(
+        &mut self,
+        alloc: Global,
+        depth: usize,
+        role: Role,
+        first: Tall<Exp>,
+    ) -> Result<Tall<Exp>, Halt>
+        requires low { depth + first.height ≤ 200 }
+        requires height { first.height ≡ depth_of_expression (view_exp first.part) }
+        ensures found { IfOk result (λ x. Finds (suffix depth role (view_exp first.part)) self.old.line self.old.rest.now (view_exp x.part) self.new.line self.new.rest.now) }
+        ensures height { IfOk result (λ x. x.height ≡ depth_of_expression (view_exp x.part)) }
+        ensures low { IfOk result (λ x. depth + x.height ≤ 200) }
+        ensures refused { IfErr result (Refuses (suffix depth role (view_exp first.part)) self.old.line self.old.rest.now self.new.rest.now) }
+        ensures shorter { IfOk result (λ _. length self.new.rest.now ≤ length self.old.rest.now) }
+    {
+        let mut on = first;
+        loop {
+            on = match self.next_suffix() {
+                Suffix::Field => self.field_of(alloc, depth, on)?,
+                Suffix::Index => self.index_of(alloc, depth, on)?,
+                Suffix::Method => self.method_of(alloc, depth, role, on)?,
+                Suffix::Call => self.call_of(alloc, depth, role, on)?,
+                Suffix::Missing => return Ok(on),
+            };
+        }
+    }
+
     /// A field of an expression.
     fn field_of(&mut self, alloc: Global, depth: usize, on: Tall<Exp>) -> Result<Tall<Exp>, Halt>
         requires low { depth + on.height ≤ 200 }
@@ -53,6 +130,83 @@ impl Cursor<'_> {
         Ok(Tall {
             height: on.height + 1,
             part: field(alloc, line, on.part, name)?,
+        })
+    }
+
+    /// An expression indexed by a key in brackets.
+    #[cycle(parser)]
+    fn index_of(&mut self, alloc: Global, depth: usize, on: Tall<Exp>) -> Result<Tall<Exp>, Halt>
+        requires low { depth + on.height ≤ 200 }
+        requires height { on.height ≡ depth_of_expression (view_exp on.part) }
+        ensures found { IfOk result (λ x. Finds (index_of depth (view_exp on.part)) self.old.line self.old.rest.now (view_exp x.part) self.new.line self.new.rest.now) }
+        ensures height { IfOk result (λ x. x.height ≡ depth_of_expression (view_exp x.part)) }
+        ensures low { IfOk result (λ x. depth + x.height ≤ 200) }
+        ensures refused { IfErr result (Refuses (index_of depth (view_exp on.part)) self.old.line self.old.rest.now self.new.rest.now) }
+        ensures shorter { IfOk result (λ _. length self.new.rest.now < length self.old.rest.now) }
+    {
+        let line = self.next_line();
+        self.take(depth + 1 + on.height)?;
+        let key = self.whole(alloc, depth + 1, 0)?;
+        self.want(Mark::CloseBracket)?;
+        Ok(Tall {
+            height: on.height.max(key.height) + 1,
+            part: index(alloc, line, on.part, key.part)?,
+        })
+    }
+
+    /// A call of a method.
+    #[cycle(parser)]
+    fn method_of(
+        &mut self,
+        alloc: Global,
+        depth: usize,
+        role: Role,
+        on: Tall<Exp>,
+    ) -> Result<Tall<Exp>, Halt>
+        requires low { depth + on.height ≤ 200 }
+        requires height { on.height ≡ depth_of_expression (view_exp on.part) }
+        ensures found { IfOk result (λ x. Finds (method_of depth role (view_exp on.part)) self.old.line self.old.rest.now (view_exp x.part) self.new.line self.new.rest.now) }
+        ensures height { IfOk result (λ x. x.height ≡ depth_of_expression (view_exp x.part)) }
+        ensures low { IfOk result (λ x. depth + x.height ≤ 200) }
+        ensures refused { IfErr result (Refuses (method_of depth role (view_exp on.part)) self.old.line self.old.rest.now self.new.rest.now) }
+        ensures shorter { IfOk result (λ _. length self.new.rest.now < length self.old.rest.now) }
+    {
+        let spare = role.call_spare();
+        self.take(depth + spare + 1 + on.height)?;
+        let name = self.name(alloc)?;
+        let on_line = self.line;
+        let line = self.next_line();
+        let args = self.arguments(alloc, depth + spare + 1, 0)?;
+        Ok(Tall {
+            height: on.height.max(args.height) + 1,
+            part: method(alloc, line, on.part, name, args.part, on_line)?,
+        })
+    }
+
+    /// A call.
+    #[cycle(parser)]
+    fn call_of(
+        &mut self,
+        alloc: Global,
+        depth: usize,
+        role: Role,
+        on: Tall<Exp>,
+    ) -> Result<Tall<Exp>, Halt>
+        requires low { depth + on.height ≤ 200 }
+        requires height { on.height ≡ depth_of_expression (view_exp on.part) }
+        ensures found { IfOk result (λ x. Finds (call_of depth role (view_exp on.part)) self.old.line self.old.rest.now (view_exp x.part) self.new.line self.new.rest.now) }
+        ensures height { IfOk result (λ x. x.height ≡ depth_of_expression (view_exp x.part)) }
+        ensures low { IfOk result (λ x. depth + x.height ≤ 200) }
+        ensures refused { IfErr result (Refuses (call_of depth role (view_exp on.part)) self.old.line self.old.rest.now self.new.rest.now) }
+        ensures shorter { IfOk result (λ _. length self.new.rest.now < length self.old.rest.now) }
+    {
+        let spare = role.call_spare();
+        let on_line = self.line;
+        let line = self.next_line();
+        let args = self.arguments(alloc, depth + spare + 1, depth + spare + 1 + on.height)?;
+        Ok(Tall {
+            height: on.height.max(args.height) + 1,
+            part: call(alloc, line, on.part, args.part, on_line)?,
         })
     }
 }
