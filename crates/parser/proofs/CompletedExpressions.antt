@@ -1,6 +1,6 @@
 -- Expressions, and what stands in them, can be completed behind each of their tokens.
-use Rattle.std.proofs.Common.{◌≡◌, ℕ, ◌+◌, ◌≤◌, ◌||◌, ◌==◌, nat_lt, Bool, true, false, List, [], ◌∷◌, Option, Some, None, if◌then◌else◌, refl, sym, ◌∙◌, ap, subst, arith}
-use Rattle.lua_tree.specs.Syntax.{Text, no_statements, function_body, no_expressions, expression, Expression, nil_literal, true_literal, false_literal, vararg_expression, number_literal, text_literal, name_expression, function_expression, index_expression, field_expression, call_expression, method_call, and_expression, or_expression, binary_expression, unary_expression, constructor, parenthesized, text_argument, no_fields}
+use Rattle.std.proofs.Common.{◌≡◌, ℕ, ◌+◌, ◌≤◌, ◌==◌, nat_lt, Bool, true, false, List, [], ◌∷◌, Option, Some, None, if◌then◌else◌, refl, sym, subst, arith}
+use Rattle.lua_tree.specs.Syntax.{Text, no_statements, function_body, no_expressions, expression, Expression, nil_literal, name_expression, field_expression, method_call, unary_expression, text_argument, no_fields}
 use Rattle.lua_tree.specs.WellFormed.{is_target, is_call, depth_of_expression}
 use Rattle.lua_tree.specs.Spelled.{Phrase, Meant, Field, positional_field, expressions_phrase, expression_phrase}
 use Rattle.lua_tree.specs.declared.token.Token.{Token}
@@ -11,15 +11,12 @@ use Rattle.parser.specs.Classes.{Role, Suffix, suffix_of, literal_of, name_of, t
 use Rattle.parser.specs.Operators.{Infix, infix_of, unary_of, left_power, right_power, infix_expression}
 use Rattle.parser.specs.Program.{Program, give, call, reads, become, block, body, parameters, first_parameter, more_parameters, one_name, expressions_at, more_expressions_at, whole, climb, simple, prefix, suffix, function_value, table_of, paren_of, field_of, index_of, method_of, call_of, arguments, listed, fields, one_field, keyed_of, named_of, separator, call_spare, paren_spare, text_on, whole_on, climb_on, simple_on, prefix_on, suffix_on, fields_after, field_on, name_on}
 use Rattle.parser.specs.Runs.{kind_of, line_of, done, Runs, gives, looks, skips, chooses, passes, calls}
+use Rattle.parser.proofs.Small.{or_left, or_right, not_it, depth_positive}
 use Rattle.parser.proofs.Completions.{ends_expression, ends_list, closes_paren, closes_brace, any_token, suits, good_of, Ends, Opens, mark, Full, Within, same_test, end_call, end_become, full_give, full_want, opens_call, full_call, opens_become, full_become, opens_skip}
 
 -- a name
 abbrev pub letter : Text
 letter = 120 ∷ []
-
--- a kind that fails a test is not the next one
-pub not_next : (ending : Option TokenKind → Bool) (kind other : Option TokenKind) → ending kind ≡ true → ending other ≡ false → kind ≡ other → ⊥
-not_next ending kind other h i e = let q : true ≡ false = sym h ∙ (ap ending e ∙ i) in cc
 
 pub within_any : (ending : Option TokenKind → Bool) → Within ending any_token
 within_any ending kind s = refl
@@ -81,30 +78,6 @@ paren_ends_list : Within closes_paren ends_list
 paren_ends_list (Some TokenKind.CloseParen) s = refl
 paren_ends_list kind s = cc
 
-one_more : (a : ℕ) → 1 ≤ 1 + a
-one_more a = omega arith
-
--- an expression has a depth
-pub some_depth : (e : Expression) → 1 ≤ depth_of_expression e
-some_depth (nil_literal line) = omega arith
-some_depth (true_literal line) = omega arith
-some_depth (false_literal line) = omega arith
-some_depth (vararg_expression line) = omega arith
-some_depth (number_literal line n) = omega arith
-some_depth (text_literal line text) = omega arith
-some_depth (name_expression line name) = omega arith
-some_depth (function_expression line b) = one_more _
-some_depth (index_expression line on key) = one_more _
-some_depth (field_expression line on name) = one_more _
-some_depth (call_expression line on args on_line) = one_more _
-some_depth (method_call line on name args on_line) = one_more _
-some_depth (and_expression line left right) = one_more _
-some_depth (or_expression line left right) = one_more _
-some_depth (binary_expression line op left right) = one_more _
-some_depth (unary_expression line op e) = one_more _
-some_depth (constructor line items) = one_more _
-some_depth (parenthesized line e) = one_more _
-
 -- plain facts about depths
 holder : (d a most : ℕ) → 1 ≤ a → d + a ≤ most → d + 1 ≤ most
 holder d a most h i = omega arith
@@ -114,7 +87,7 @@ two_more d most h = omega arith
 
 -- where an operand fits, there is room for one
 pub room : (d most : ℕ) (e : Expression) → d + depth_of_expression e ≤ most → d + 1 ≤ most
-room d most e h = holder d (depth_of_expression e) most (some_depth e) h
+room d most e h = holder d (depth_of_expression e) most (depth_positive e) h
 
 -- a name, and what stops at once
 pub name_ends : {most : ℕ} {first : Option TokenKind → Bool} {before : ℕ} → first (Some (TokenKind.Name letter)) ≡ true → Ends most any_token first (good_of one_name) (reads one_name) before
@@ -151,14 +124,6 @@ suffix_ends : {most : ℕ} {first : Option TokenKind → Bool} (d : ℕ) (role :
     Ends most ends_expression first (good_of (suffix d role on)) (reads (suffix d role on)) before
 suffix_ends d role on {before} fine within =
     record { new = []; meant = on; last = before; fine = fine; starts = λ rest s. within (kind_of rest) s; run = λ rest s. suffix_stops d role on before rest s }
-
-or_left : (a b : Bool) → a ≡ true → a || b ≡ true
-or_left true b h = refl
-or_left false b h = cc
-
-or_right : (a b : Bool) → b ≡ true → a || b ≡ true
-or_right true b h = refl
-or_right false b h = h
 
 target_suits : (role : Role) (e : Expression) → is_target e ≡ true → suits role e ≡ true
 target_suits Role.Operand e h = refl
@@ -210,7 +175,7 @@ more_expressions_ends d {before} within = record {
   last = before;
   fine = refl;
   starts = λ rest s. within (kind_of rest) s;
-  run = λ rest s. passes (not_next ends_list (kind_of rest) (Some TokenKind.Comma) s refl) gives;
+  run = λ rest s. passes (not_it ends_list s refl) gives;
 }
 
 pub block_ends : {most : ℕ} {first : Option TokenKind → Bool} (d : ℕ) {before : ℕ} → Within is_block_end first → Ends most is_block_end first (good_of (block d)) (reads (block d)) before
@@ -251,7 +216,7 @@ more_parameters_ends {before} = record {
   last = before;
   fine = refl;
   starts = λ rest s. refl;
-  run = λ rest s. passes (not_next ends_list (kind_of rest) (Some TokenKind.Comma) s refl) gives;
+  run = λ rest s. passes (not_it ends_list s refl) gives;
 }
 
 -- lists that are closed at once
@@ -268,7 +233,7 @@ separator_ends {before} within = record {
   last = before;
   fine = refl;
   starts = λ rest s. within (kind_of rest) s;
-  run = λ rest s. passes (not_next closes_brace (kind_of rest) (Some TokenKind.Comma) s refl) (passes (not_next closes_brace (kind_of rest) (Some TokenKind.Semicolon) s refl) gives);
+  run = λ rest s. passes (not_it closes_brace s refl) (passes (not_it closes_brace s refl) gives);
 }
 
 named_ends : {most : ℕ} (d start : ℕ) (name : Text) {before : ℕ} → Ends most closes_brace any_token (good_of (named_of d start name)) (reads (named_of d start name)) before
@@ -280,7 +245,7 @@ named_ends d start name {before} = record {
   starts = λ rest s. refl;
   run = λ rest s.
       let x = brace_ends_expression (kind_of rest) s in
-      passes (not_next closes_brace (kind_of rest) (Some TokenKind.Equal) s refl) (calls (suffix_stops d Role.Operand (name_expression start name) before rest x) (calls (climb_stops d 0 start (name_expression start name) before rest x) gives));
+      passes (not_it closes_brace s refl) (calls (suffix_stops d Role.Operand (name_expression start name) before rest x) (calls (climb_stops d 0 start (name_expression start name) before rest x) gives));
 }
 
 -- what holds of both programs holds of the one that a test takes

@@ -1,5 +1,5 @@
 -- Statements and blocks can be completed behind each of their tokens.
-use Rattle.std.proofs.Common.{◌≡◌, ℕ, ◌+◌, ◌≤◌, ◌||◌, Bool, true, false, List, [], ◌∷◌, ◌++◌, Option, Some, None, if◌then◌else◌, refl, sym, ◌∙◌, ap, subst}
+use Rattle.std.proofs.Common.{◌≡◌, ℕ, ◌+◌, ◌≤◌, ◌||◌, Bool, true, false, List, [], ◌∷◌, Option, Some, None, if◌then◌else◌, refl, sym, ◌∙◌, ap, subst}
 use Rattle.lua_tree.specs.Syntax.{Text, assignment, call_statement, no_branches, no_otherwise, no_step, generic_for, local_statement, Expressions, no_expressions, expression, Expression}
 use Rattle.lua_tree.specs.WellFormed.{is_target, is_call, ends_block}
 use Rattle.lua_tree.specs.Spelled.{Phrase, Meant, block_phrase, statement_phrase, expressions_phrase}
@@ -7,8 +7,9 @@ use Rattle.lua_tree.specs.declared.token.TokenKind.{TokenKind}
 use Rattle.parser.specs.Classes.{Role, Start, start_of, is_block_end}
 use Rattle.parser.specs.Program.{Program, give, want, call, reads, main_chunk, block, semicolon, one_statement, if_of, while_of, do_of, for_of, repeat_of, function_of, local_of, return_of, break_of, numeric_of, generic_of, local_function_of, local_names_of, expression_statement, branches, step, method_name, values, results, targets, one_name, more_names_by, expressions_at, statement_on, main_on}
 use Rattle.parser.specs.Runs.{kind_of, done, Runs, gives, looks, skips, chooses, passes, calls}
+use Rattle.parser.proofs.Small.{not_it}
 use Rattle.parser.proofs.Completions.{is_last, ends_expression, ends_list, ends_branches, ends_names, opens_paren, sets, any_token, suits, good_of, Ends, Opens, mark, Full, Within, same_test, end_give, end_call, end_become, full_give, full_want, opens_call, full_call, opens_become, opens_skip}
-use Rattle.parser.proofs.CompletedExpressions.{not_next, within_any, list_ends_expression, room, name_ends, whole_ends, prefix_ends, block_ends, opens_if, body_full, expressions_ends}
+use Rattle.parser.proofs.CompletedExpressions.{within_any, list_ends_expression, room, name_ends, whole_ends, prefix_ends, block_ends, opens_if, body_full, expressions_ends}
 
 -- what one test on the next token says of another
 block_ends_list : Within is_block_end ends_list
@@ -76,7 +77,7 @@ semicolon_ends {before} within = record {
   last = before;
   fine = refl;
   starts = λ rest s. within (kind_of rest) s;
-  run = λ rest s. passes (not_next is_block_end (kind_of rest) (Some TokenKind.Semicolon) s refl) gives;
+  run = λ rest s. passes (not_it is_block_end s refl) gives;
 }
 
 branches_ends : {most : ℕ} {first : Option TokenKind → Bool} (d : ℕ) {before : ℕ} → Within ends_branches first → Ends most ends_branches first (good_of (branches d)) (reads (branches d)) before
@@ -86,7 +87,7 @@ branches_ends d {before} within = record {
   last = before;
   fine = refl;
   starts = λ rest s. within (kind_of rest) s;
-  run = λ rest s. passes (not_next ends_branches (kind_of rest) (Some TokenKind.Elseif) s refl) (passes (not_next ends_branches (kind_of rest) (Some TokenKind.Else) s refl) gives);
+  run = λ rest s. passes (not_it ends_branches s refl) (passes (not_it ends_branches s refl) gives);
 }
 
 step_ends : {most : ℕ} {first : Option TokenKind → Bool} (d : ℕ) {before : ℕ} → Within ends_list first → Ends most ends_list first (good_of (step d)) (reads (step d)) before
@@ -96,7 +97,7 @@ step_ends d {before} within = record {
   last = before;
   fine = refl;
   starts = λ rest s. within (kind_of rest) s;
-  run = λ rest s. passes (not_next ends_list (kind_of rest) (Some TokenKind.Comma) s refl) gives;
+  run = λ rest s. passes (not_it ends_list s refl) gives;
 }
 
 method_ends : {most : ℕ} {first : Option TokenKind → Bool} {before : ℕ} → Within opens_paren first → Ends most opens_paren first (good_of method_name) (reads method_name) before
@@ -106,7 +107,7 @@ method_ends {before} within = record {
   last = before;
   fine = refl;
   starts = λ rest s. within (kind_of rest) s;
-  run = λ rest s. passes (not_next opens_paren (kind_of rest) (Some TokenKind.Colon) s refl) gives;
+  run = λ rest s. passes (not_it opens_paren s refl) gives;
 }
 
 values_ends : {most : ℕ} {first : Option TokenKind → Bool} (d : ℕ) {before : ℕ} → Within is_block_end first → Ends most is_block_end first (good_of (values d)) (reads (values d)) before
@@ -116,7 +117,7 @@ values_ends d {before} within = record {
   last = before;
   fine = refl;
   starts = λ rest s. within (kind_of rest) s;
-  run = λ rest s. passes (not_next is_block_end (kind_of rest) (Some TokenKind.Equal) s refl) gives;
+  run = λ rest s. passes (not_it is_block_end s refl) gives;
 }
 
 results_ends : {most : ℕ} (d : ℕ) {before : ℕ} → Ends most is_block_end any_token (good_of (results d)) (reads (results d)) before
@@ -126,7 +127,7 @@ results_ends d {before} = record {
   last = before;
   fine = refl;
   starts = λ rest s. refl;
-  run = λ rest s. passes (not_next is_block_end (kind_of rest) (Some TokenKind.Semicolon) s refl) (looks (rw s gives));
+  run = λ rest s. passes (not_it is_block_end s refl) (looks (rw s gives));
 }
 
 targets_ends : {most : ℕ} (d : ℕ) (e : Expression) {before : ℕ} → is_target e ≡ true → Ends most sets ends_expression (good_of (targets d e)) (reads (targets d e)) before
@@ -136,7 +137,7 @@ targets_ends d e {before} h = record {
   last = before;
   fine = refl;
   starts = λ rest s. set_ends_expression (kind_of rest) s;
-  run = λ rest s. rw h (passes (not_next sets (kind_of rest) (Some TokenKind.Comma) s refl) (chooses (is_set (kind_of rest) s) gives));
+  run = λ rest s. rw h (passes (not_it sets s refl) (chooses (is_set (kind_of rest) s) gives));
 }
 
 names_end : {most : ℕ} {first : Option TokenKind → Bool} (kind : TokenKind) {before : ℕ} → Within (ends_names kind) first → Ends most (ends_names kind) first (good_of (more_names_by kind)) (reads (more_names_by kind)) before
@@ -229,7 +230,7 @@ open_for most d before = opens_skip (λ h l. full_call tt (name_ends refl) (λ n
         last = e.last;
         fine = refl;
         starts = λ rest s. refl;
-        run = λ rest s. passes (not_next is_in (kind_of (e.new ++ rest)) (Some TokenKind.Equal) (e.starts rest s) refl) (e.run rest s);
+        run = λ rest s. passes (not_it is_in (e.starts rest s) refl) (e.run rest s);
       };
       opens = (opens_become (numeric_of d name) tt (λ m g. refl) (same_test is_block_end), opens_become (generic_of d name) h (λ m g. refl) (same_test is_block_end));
     }))
@@ -281,7 +282,7 @@ open_local most d before = opens_skip (λ h l.
         last = e.last;
         fine = refl;
         starts = λ rest s. refl;
-        run = λ rest s. passes (not_next is_letter (kind_of (e.new ++ rest)) (Some TokenKind.Function) (e.starts rest s) refl) (e.run rest s);
+        run = λ rest s. passes (not_it is_letter (e.starts rest s) refl) (e.run rest s);
       };
       opens = (opens_become (local_function_of d) tt (λ m g. refl) (same_test is_block_end), opens_become (local_names_of d) tt (λ m g. refl) (same_test is_block_end));
     })

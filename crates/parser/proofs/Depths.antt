@@ -8,14 +8,11 @@ use Rattle.lua_tree.specs.declared.token.TokenKind.{TokenKind}
 use Rattle.lua_tree.specs.declared.tree.UnaryOp.{UnaryOp}
 use Rattle.lua_tree.specs.declared.tree.Separator.{Separator}
 use Rattle.parser.specs.Classes.{Role, Start, Suffix, start_of, suffix_of, literal_of, name_of, text_of, is_block_end}
-use Rattle.parser.specs.Operators.{Infix, infix_of, unary_of, left_power, infix_expression}
+use Rattle.parser.specs.Operators.{Infix, infix_of, unary_of, left_power}
 use Rattle.parser.specs.Program.{Goal, Program, give, stop, look, skip, want, choose, call, reads, main_chunk, block, one_statement, if_of, while_of, do_of, for_of, repeat_of, function_of, local_of, return_of, break_of, numeric_of, generic_of, local_function_of, local_names_of, expression_statement, branches, step, values, results, targets, body, expressions_at, more_expressions_at, whole, climb, simple, prefix, suffix, function_value, table_of, paren_of, field_of, index_of, method_of, call_of, arguments, listed, fields, one_field, keyed_of, named_of, call_spare, paren_spare, statement_on, text_on, whole_on, climb_on, simple_on, prefix_on, suffix_on, add_field, fields_after, field_on, main_on}
+use Rattle.parser.specs.Fields.{depth_of_field}
 use Rattle.parser.specs.Runs.{End, done, fault, Runs, gives, stops, looks, skips, deep, ends, wants, misses, chooses, passes, calls, fails}
-
-abbrev pub depth_of_field : Field → ℕ
-depth_of_field (positional_field e) = depth_of_expression e
-depth_of_field (named_field name e) = depth_of_expression e
-depth_of_field (keyed_field key e) = max (depth_of_expression key) (depth_of_expression e)
+use Rattle.parser.proofs.Small.{two_fit, two_fit_below, with_none, under, less_one, without, infix_depth}
 
 -- how deep what is found lies
 abbrev pub Fits : ℕ → {answer : Phrase} → Goal answer → Meant answer → Type 0
@@ -97,25 +94,6 @@ end_keeps {most} all (calls {inner} {goal} {last = between} {rest = left} {meant
     end_keeps all b meant last rest e q (k found (end_keeps all a found between left refl (Fits most goal) (all inner goal)))
 end_keeps all (fails a) meant last rest e q k = cc
 
--- facts about depths, over plain numbers
-join : (d a b most : ℕ) → d + a ≤ most → d + b ≤ most → d + max a b ≤ most
-join d a b most h i = omega arith
-
-join_under : (d a b most : ℕ) → d + 1 + a ≤ most → d + 1 + b ≤ most → d + (1 + max a b) ≤ most
-join_under d a b most h i = omega arith
-
-under : (d a most : ℕ) → d + 1 + a ≤ most → d + (1 + a) ≤ most
-under d a most h = omega arith
-
-none_of : (d most : ℕ) → d ≤ most → d + 0 ≤ most
-none_of d most h = omega arith
-
-less_one : (d most : ℕ) → d + 1 ≤ most → d ≤ most
-less_one d most h = omega arith
-
-less : (d a most : ℕ) → d + a ≤ most → d ≤ most
-less d a most h = omega arith
-
 -- every program keeps what always holds
 keep_nothing : (most : ℕ) {answer : Phrase} (program : Program answer) → Keeps most program (λ meant. Unit {0})
 keep_nothing most (give meant) = tt
@@ -134,7 +112,7 @@ join_if : (d a b c e most : ℕ) → d + a ≤ most → d + b ≤ most → d + m
 join_if d a b c e most h i j = omega arith
 
 join_four : (d a b c e most : ℕ) → d + a ≤ most → d + b ≤ most → d + c ≤ most → d + e ≤ most → d + max (max a b) (max c e) ≤ most
-join_four d a b c e most h i j k = join d (max a b) (max c e) most (join d a b most h i) (join d c e most j k)
+join_four d a b c e most h i j k = two_fit d (max a b) (max c e) most (two_fit d a b most h i) (two_fit d c e most j k)
 
 drop_spare : (d spare a most : ℕ) → d + spare + a ≤ most → d + a ≤ most
 drop_spare d spare a most h = omega arith
@@ -160,16 +138,10 @@ keep_whole : (most d limit line : ℕ) (op : Option UnaryOp) → Keeps most (who
 keep_whole most d limit line (Some op) = λ h e f more g. g (under d (depth_of_expression e) most f)
 keep_whole most d limit line None = λ e f more g. g f
 
--- each operator is one deeper than its operands
-depth_of_infix : (start line : ℕ) (op : Infix) (left right : Expression) → depth_of_expression (infix_expression start line op left right) ≡ 1 + max (depth_of_expression left) (depth_of_expression right)
-depth_of_infix start line Infix.And left right = refl
-depth_of_infix start line Infix.Or left right = refl
-depth_of_infix start line (Infix.Binary op) left right = refl
-
 keep_climb : (most d limit start : ℕ) (left : Expression) (line : ℕ) (op : Option Infix) → Keeps most (climb_on d limit start left line op) (λ e. d + depth_of_expression left ≤ most → d + depth_of_expression e ≤ most)
 keep_climb most d limit start left line None = λ h. h
 keep_climb most d limit start left line (Some op) = keep_if most (nat_lt limit (left_power op)) _ _ _
-    (λ h right f e g i. g (subst (λ x. d + x ≤ most) (sym (depth_of_infix start line op left right)) (join_under d (depth_of_expression left) (depth_of_expression right) most h f)))
+    (λ h right f e g i. g (subst (λ x. d + x ≤ most) (sym (infix_depth op start line left right)) (two_fit_below d (depth_of_expression left) (depth_of_expression right) most h f)))
     (λ h. h)
 
 -- a literal is one deep
@@ -202,16 +174,16 @@ keep_suffix most d role on Suffix.Call = λ e f more g i. g (drop_spare d (call_
 keep_suffix most d role on Suffix.Missing = λ i. i
 
 keep_text : (most d needed : ℕ) (text : Option Text) → Keeps most (text_on needed text) (λ args. needed ≤ most × (d ≤ most → d + depth_of_arguments args ≤ most))
-keep_text most d needed (Some text) = λ h. (h, λ i. none_of d most i)
+keep_text most d needed (Some text) = λ h. (h, λ i. with_none d most i)
 keep_text most d needed None = tt
 
 with_item : (d most : ℕ) (item : Field) (mark : Separator) (rest : Fields) → d + depth_of_field item ≤ most → d + depth_of_fields rest ≤ most → d + depth_of_fields (add_field item mark rest) ≤ most
-with_item d most (positional_field e) mark rest h i = join d (depth_of_expression e) (depth_of_fields rest) most h i
-with_item d most (named_field name e) mark rest h i = join d (depth_of_expression e) (depth_of_fields rest) most h i
-with_item d most (keyed_field key e) mark rest h i = join d (max (depth_of_expression key) (depth_of_expression e)) (depth_of_fields rest) most h i
+with_item d most (positional_field e) mark rest h i = two_fit d (depth_of_expression e) (depth_of_fields rest) most h i
+with_item d most (named_field name e) mark rest h i = two_fit d (depth_of_expression e) (depth_of_fields rest) most h i
+with_item d most (keyed_field key e) mark rest h i = two_fit d (max (depth_of_expression key) (depth_of_expression e)) (depth_of_fields rest) most h i
 
 keep_fields : (most d : ℕ) (item : Field) (mark : Separator) → d + depth_of_field item ≤ most → Keeps most (fields_after d item mark) (λ items. d ≤ most → d + depth_of_fields items ≤ most)
-keep_fields most d item Separator.Missing h = λ i. with_item d most item Separator.Missing no_fields h (none_of d most i)
+keep_fields most d item Separator.Missing h = λ i. with_item d most item Separator.Missing no_fields h (with_none d most i)
 keep_fields most d item Separator.Comma h = λ rest g i. with_item d most item Separator.Comma rest h (g i)
 keep_fields most d item Separator.Semicolon h = λ rest g i. with_item d most item Separator.Semicolon rest h (g i)
 
@@ -222,39 +194,39 @@ keep_field most d None line = (λ item h. h, λ e h. h)
 -- the answers of each goal fit
 keeps : (most : ℕ) (answer : Phrase) (goal : Goal answer) → Keeps most (reads goal) (Fits most goal)
 keeps most answer main_chunk = λ inside f before kind line. keep_main most inside kind
-keeps most answer (block d) = λ before kind line. keep_if most (is_block_end kind) _ _ _ (λ h. none_of d most h)
-    (λ s f semi u. keep_if most (ends_block s) _ _ _ (λ h. join d (1 + depth_of_statement s) 0 most (under d (depth_of_statement s) most f) (none_of d most h))
-    (λ rest g h. join d (1 + depth_of_statement s) (depth_of_statements rest) most (under d (depth_of_statement s) most f) (g h)))
+keeps most answer (block d) = λ before kind line. keep_if most (is_block_end kind) _ _ _ (λ h. with_none d most h)
+    (λ s f semi u. keep_if most (ends_block s) _ _ _ (λ h. two_fit d (1 + depth_of_statement s) 0 most (under d (depth_of_statement s) most f) (with_none d most h))
+    (λ rest g h. two_fit d (1 + depth_of_statement s) (depth_of_statements rest) most (under d (depth_of_statement s) most f) (g h)))
 keeps most answer (one_statement d) = λ before kind line. keep_statement most d (start_of kind)
 keeps most answer (if_of d) = λ h e f b g left i.
     join_if d (depth_of_expression e) (depth_of_statements b) (depth_of_branches left.branches) (depth_of_otherwise left.last) most f (g (less_one d most h)) (i (less_one d most h))
-keeps most answer (while_of d) = λ h e f b g. join d (depth_of_expression e) (depth_of_statements b) most f (g (less_one d most h))
+keeps most answer (while_of d) = λ h e f b g. two_fit d (depth_of_expression e) (depth_of_statements b) most f (g (less_one d most h))
 keeps most answer (do_of d) = λ h b g. g h
 keeps most answer (for_of d) = λ h name u. (λ s i. i, λ s i. i)
 keeps most answer (numeric_of d name) = λ h e f e' f' by i b g.
     join_four d (depth_of_expression e) (depth_of_expression e') (depth_of_step by) (depth_of_statements b) most f f' (i (less_one d most h)) (g (less_one d most h))
-keeps most answer (generic_of d name) = λ names u. (λ h es f b g. join d (depth_of_expressions es) (depth_of_statements b) most f (g (less_one d most h)), tt)
-keeps most answer (repeat_of d) = λ h b g e f. join d (depth_of_statements b) (depth_of_expression e) most (g (less_one d most h)) f
+keeps most answer (generic_of d name) = λ names u. (λ h es f b g. two_fit d (depth_of_expressions es) (depth_of_statements b) most f (g (less_one d most h)), tt)
+keeps most answer (repeat_of d) = λ h b g e f. two_fit d (depth_of_statements b) (depth_of_expression e) most (g (less_one d most h)) f
 keeps most answer (function_of d) = λ before kind line h name u names u' method u'' b g. under d (depth_of_body b) most (g h)
 keeps most answer (local_of d) = λ h. (λ s i. i, λ s i. i h)
 keeps most answer (local_function_of d) = λ before kind line h name u b g. under d (depth_of_body b) most (g h)
 keeps most answer (local_names_of d) = λ name u names u' es g. g
 keeps most answer (return_of d) = λ h es g. g h
-keeps most answer (break_of d) = λ h. none_of d most h
-keeps most answer (expression_statement d) = λ e f. keep_if most (is_call e) _ _ _ f (λ lefts g rights h. join d (depth_of_expressions lefts) (depth_of_expressions rights) most (g f) h)
+keeps most answer (break_of d) = λ h. with_none d most h
+keeps most answer (expression_statement d) = λ e f. keep_if most (is_call e) _ _ _ f (λ lefts g rights h. two_fit d (depth_of_expressions lefts) (depth_of_expressions rights) most (g f) h)
 keeps most answer (branches d) = (
   λ h e f b g left i j. join_if d (depth_of_expression e) (depth_of_statements b) (depth_of_branches left.branches) (depth_of_otherwise left.last) most f (g j) (i j),
-  (λ h b g j. join d 0 (depth_of_statements b) most (none_of d most j) (g j), λ j. join d 0 0 most (none_of d most j) (none_of d most j)),
+  (λ h b g j. two_fit d 0 (depth_of_statements b) most (with_none d most j) (g j), λ j. two_fit d 0 0 most (with_none d most j) (with_none d most j)),
 )
-keeps most answer (step d) = (λ h e f i. f, λ i. none_of d most i)
-keeps most answer (values d) = (λ h es f i. f, λ i. none_of d most i)
-keeps most answer (results d) = (λ i. none_of d most i, λ before kind line. keep_if most (is_block_end kind) _ _ _ (λ i. none_of d most i) (λ es f i. f))
+keeps most answer (step d) = (λ h e f i. f, λ i. with_none d most i)
+keeps most answer (values d) = (λ h es f i. f, λ i. with_none d most i)
+keeps most answer (results d) = (λ i. with_none d most i, λ before kind line. keep_if most (is_block_end kind) _ _ _ (λ i. with_none d most i) (λ es f i. f))
 keeps most answer (targets d e) = keep_if most (is_target e) _ _ _
-    (λ h next f rest g i. join d (depth_of_expression e) (depth_of_expressions rest) most i (g f), (λ i. join d (depth_of_expression e) 0 most i (none_of d most (less d (depth_of_expression e) most i)), tt))
+    (λ h next f rest g i. two_fit d (depth_of_expression e) (depth_of_expressions rest) most i (g f), (λ i. two_fit d (depth_of_expression e) 0 most i (with_none d most (without d (depth_of_expression e) most i)), tt))
     tt
 keeps most answer (body d first) = λ params u b g last kind line. g
-keeps most answer (expressions_at d) = λ e f rest g. join d (depth_of_expression e) (depth_of_expressions rest) most f (g (less d (depth_of_expression e) most f))
-keeps most answer (more_expressions_at d) = (λ h e f rest g i. join d (depth_of_expression e) (depth_of_expressions rest) most f (g i), λ i. none_of d most i)
+keeps most answer (expressions_at d) = λ e f rest g. two_fit d (depth_of_expression e) (depth_of_expressions rest) most f (g (without d (depth_of_expression e) most f))
+keeps most answer (more_expressions_at d) = (λ h e f rest g i. two_fit d (depth_of_expression e) (depth_of_expressions rest) most f (g i), λ i. with_none d most i)
 keeps most answer (whole d limit) = λ before kind line. keep_whole most d limit line (unary_of kind)
 keeps most answer (climb d limit start left) = λ before kind line. keep_climb most d limit start left line (infix_of kind)
 keeps most answer (simple d) = λ before kind line. keep_simple most d line kind (literal_of line kind) refl
@@ -264,19 +236,19 @@ keeps most answer (function_value d) = λ before kind line h b g. under d (depth
 keeps most answer (table_of d) = λ before kind line h items g. under d (depth_of_fields items) most (g h)
 keeps most answer (paren_of d role) = λ before kind line h e f. under (d + paren_spare role) (depth_of_expression e) most f
 keeps most answer (field_of d on) = λ before kind line h name u. under d (depth_of_expression on) most h
-keeps most answer (index_of d on) = λ before kind line h key f. join_under d (depth_of_expression on) (depth_of_expression key) most h f
+keeps most answer (index_of d on) = λ before kind line h key f. two_fit_below d (depth_of_expression on) (depth_of_expression key) most h f
 keeps most answer (method_of d role on) = λ h name u on_line kind line args f.
-    join_under (d + call_spare role) (depth_of_expression on) (depth_of_arguments args) most h (f.1 (less (d + call_spare role + 1) (depth_of_expression on) most h))
+    two_fit_below (d + call_spare role) (depth_of_expression on) (depth_of_arguments args) most h (f.1 (without (d + call_spare role + 1) (depth_of_expression on) most h))
 keeps most answer (call_of d role on) = λ before kind line args f.
-    join_under (d + call_spare role) (depth_of_expression on) (depth_of_arguments args) most f.0 (f.1 (less (d + call_spare role + 1) (depth_of_expression on) most f.0))
+    two_fit_below (d + call_spare role) (depth_of_expression on) (depth_of_arguments args) most f.0 (f.1 (without (d + call_spare role + 1) (depth_of_expression on) most f.0))
 keeps most answer (arguments d needed) = (
   λ before kind line. keep_if most (before == line) _ _ _ (λ h es g. (h, g)) tt,
   (λ h items g. (h, g), λ before kind line. keep_text most d needed (text_of kind)),
 )
-keeps most answer (listed d) = (λ i. none_of d most i, λ es h i. h)
-keeps most answer (fields d) = (λ i. none_of d most i, λ item f mark u. keep_fields most d item mark f)
+keeps most answer (listed d) = (λ i. with_none d most i, λ es h i. h)
+keeps most answer (fields d) = (λ i. with_none d most i, λ item f mark u. keep_fields most d item mark f)
 keeps most answer (one_field d) = λ before kind line. keep_field most d (name_of kind) line
-keeps most answer (keyed_of d) = λ h key f e g. join d (depth_of_expression key) (depth_of_expression e) most f g
+keeps most answer (keyed_of d) = λ h key f e g. two_fit d (depth_of_expression key) (depth_of_expression e) most f g
 keeps most answer (named_of d start name) = (λ h e f i. f, λ e f more g i. g (f i))
 keeps most answer goal = keep_nothing most (reads goal)
 

@@ -10,11 +10,7 @@ use Rattle.lua_tree.specs.declared.tree.UnaryOp.{UnaryOp}
 use Rattle.parser.specs.Classes.{Suffix, suffix_of, is_block_end}
 use Rattle.parser.specs.Operators.{infix_of}
 use Rattle.parser.specs.Runs.{kind_of}
-use Rattle.parser.proofs.RunSteps.{and_left, and_right, not_both}
-
--- a class of next tokens without another: no member is that other
-pub not_it : (class : Option TokenKind → Bool) {next other : Option TokenKind} → class next ≡ true → class other ≡ false → next ≡ other → ⊥
-not_it class h o e = not_both h (ap class e ∙ o)
+use Rattle.parser.proofs.Small.{and_left, and_right}
 
 -- a known next token is in a class
 pub in_class : (class : Option TokenKind → Bool) {is kind : TokenKind} → is ≡ kind → class (Some kind) ≡ true → class (Some is) ≡ true

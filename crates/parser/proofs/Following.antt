@@ -10,7 +10,7 @@ use Rattle.lua_tree.specs.declared.tree.BinaryOp.{BinaryOp}
 use Rattle.parser.specs.Classes.{Suffix, suffix_of}
 use Rattle.parser.specs.Operators.{Infix, infix_of, left_power, right_power}
 use Rattle.parser.specs.Runs.{kind_of}
-use Rattle.parser.proofs.RunSteps.{and_left, and_right}
+use Rattle.parser.proofs.Small.{and_left, and_right}
 
 -- the least power of the operators at the left edge of an expression, and at its right edge
 abbrev pub left_edge : Expression → ℕ

@@ -1,5 +1,5 @@
 -- A run on what spells a well-formed source finds it.
-use Rattle.std.proofs.Common.{◌≡◌, ◌&&◌, ℕ, ◌≤◌, pos, negsuc, Bool, true, false, List, [], ◌∷◌, refl, arith}
+use Rattle.std.proofs.Common.{◌≡◌, ◌&&◌, ℕ, ◌≤◌, pos, negsuc, true, false, List, [], ◌∷◌, refl, arith}
 use Rattle.lua_tree.specs.Syntax.{Statements, no_statements, statement, Statement, assignment, call_statement, do_block, while_loop, repeat_loop, if_statement, numeric_for, generic_for, function_statement, local_function, local_statement, return_statement, break_statement, Branches, no_branches, branch, Otherwise, no_otherwise, otherwise, ForStep, no_step, by_step, FunctionBody, function_body, Expressions, no_expressions, expression, Expression, nil_literal, true_literal, false_literal, vararg_expression, number_literal, text_literal, name_expression, function_expression, index_expression, field_expression, call_expression, method_call, and_expression, or_expression, binary_expression, unary_expression, constructor, parenthesized, Arguments, argument_list, text_argument, table_argument, Fields, no_fields, positional, named, keyed, Source}
 use Rattle.lua_tree.specs.Names.{is_name, are_names, are_some_names}
 use Rattle.lua_tree.specs.WellFormed.{is_prefix, is_call, is_target, are_targets, is_optional_name, ends_item, formed_statements, formed_statement, formed_branches, formed_otherwise, formed_step, formed_body, formed_expressions, formed_expression, formed_arguments, formed_fields, is_formed, depth_of_statements}
@@ -8,7 +8,7 @@ use Rattle.lua_tree.specs.declared.token.Token.{Token}
 use Rattle.parser.specs.Operators.{Infix}
 use Rattle.parser.specs.Program.{reads, main_chunk}
 use Rattle.parser.specs.Runs.{done, Runs, gives, looks, calls}
-use Rattle.parser.proofs.RunSteps.{and_left, and_right}
+use Rattle.parser.proofs.Small.{and_left, and_right, not_both}
 use Rattle.parser.proofs.Following.{formed_parts}
 use Rattle.parser.proofs.FirstTokens.{call_is_prefix, target_is_prefix, assignment_formed}
 use Rattle.parser.proofs.Reading.{PrefixReads, WholeReads, ExpressionReads, ArgumentsReads, FieldsReads, BodyReads, BlockReads, StatementReads, BranchesReads, StepReads}
@@ -23,10 +23,7 @@ pub record ExpressionFound (most : ℕ) (e : Expression) : Type 0 where
   pub ends : ExpressionReads most e
 
 from_whole : (most : ℕ) (e : Expression) → is_prefix e ≡ false → WholeReads most e → ExpressionFound most e
-from_whole most e n r = record { prefixes = λ p. absurd (both (is_prefix e) p n); wholes = r; ends = whole_ends most e r }
-  where
-    both : (b : Bool) → b ≡ true → b ≡ false → ⊥
-    both b p n = cc
+from_whole most e n r = record { prefixes = λ p. absurd (not_both p n); wholes = r; ends = whole_ends most e r }
 
 from_prefix : (most : ℕ) (e : Expression) → is_prefix e ≡ true → formed_expression e ≡ true → PrefixReads most e → ExpressionFound most e
 from_prefix most e p f r =

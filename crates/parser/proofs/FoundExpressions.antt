@@ -15,9 +15,10 @@ use Rattle.parser.specs.Classes.{Role, Suffix, suffix_of, literal_of, name_of}
 use Rattle.parser.specs.Operators.{Infix, infix_of, unary_of, left_power, right_power, infix_expression}
 use Rattle.parser.specs.Program.{Program, call_spare, paren_spare, reads, one_name, body, whole, climb, simple, suffix, name_on, whole_on, climb_on, simple_on, prefix_on, suffix_on}
 use Rattle.parser.specs.Runs.{kind_of, line_of, End, done, Runs, gives, looks, skips, wants, calls}
+use Rattle.parser.proofs.Small.{not_it, none_is, depth_positive}
 use Rattle.parser.proofs.RunSteps.{look_at, choose_at, pass_at, pass_on, tail}
 use Rattle.parser.proofs.Following.{left_edge, right_edge, Formed, right_open, unary_open, zero_open, operator_follows}
-use Rattle.parser.proofs.FirstTokens.{not_it, begins_prefix, prefix_first, arguments_first}
+use Rattle.parser.proofs.FirstTokens.{begins_prefix, prefix_first, arguments_first}
 use Rattle.parser.proofs.Reading.{needed, PrefixReads, WholeReads, Closed, ExpressionReads, ArgumentsReads, FieldsReads, BodyReads}
 
 -- a test that passes
@@ -28,11 +29,6 @@ if_true false one other h r = cc
 pub if_false : {most : ℕ} {answer : Phrase} {before : ℕ} {tokens : List Token} {end : End answer} (b : Bool) (one other : Program answer) → b ≡ false → Runs most answer other before tokens end → Runs most answer (cond b one other) before tokens end
 if_false true one other h r = cc
 if_false false one other h r = r
-
--- an expression lies at least one deep
-pub depth_positive : (e : Expression) → 1 ≤ depth_of_expression e
-depth_positive (nil_literal line) = omega arith
-depth_positive e = omega arith
 
 call_spare_small : (role : Role) → call_spare role ≤ 1
 call_spare_small Role.Target = omega arith
@@ -98,9 +94,6 @@ pub whole_ends : (most : ℕ) (e : Expression) → WholeReads most e → Express
 whole_ends most e reads d pv last ts rest s h c =
     reads d 0 pv last ts rest _ s h (zero_open e) (record { operators = λ op i. absurd (none_is op (sym c.operator ∙ i)); suffix = c.suffix })
     (climb_stops most d 0 (line_of ts) e last rest (λ op i. absurd (none_is op (sym c.operator ∙ i))))
-  where
-    none_is : (op : Infix) → None ≡ Some op → ⊥
-    none_is op i = cc
 
 -- a token that goes on with no expression
 pub closes : {takes : Bool} {token : Token} {tokens : List Token} {kind : TokenKind} → token.kind ≡ kind → infix_of (Some kind) ≡ None → suffix_of (Some kind) ≡ Suffix.Missing → Closed takes (token ∷ tokens)

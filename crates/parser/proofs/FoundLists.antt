@@ -1,5 +1,5 @@
 -- Each list of names, parameters, expressions, targets, arguments and items is read where it is spelled, if its parts are.
-use Rattle.std.proofs.Common.{◌≡◌, ◌==◌, ℕ, ◌+◌, ◌≤◌, max, Bool, true, false, cond, List, [], ◌∷◌, Option, Some, None, refl, sym, ◌∙◌, ap, subst, arith}
+use Rattle.std.proofs.Common.{◌≡◌, ◌==◌, ℕ, ◌+◌, ◌≤◌, max, Bool, true, false, List, [], ◌∷◌, Option, Some, None, refl, sym, ◌∙◌, ap, subst, arith}
 use Rattle.std.proofs.lemmas.Bool.Decides.{nat_tests}
 use Rattle.lua_tree.specs.Syntax.{Text, Statements, function_body, Expressions, no_expressions, expression, Expression, name_expression, call_expression, method_call, parenthesized, argument_list, text_argument, table_argument, Fields, no_fields, positional, named, keyed}
 use Rattle.lua_tree.specs.Names.{is_name, are_names}
@@ -9,14 +9,16 @@ use Rattle.lua_tree.specs.declared.token.TokenKind.{TokenKind}
 use Rattle.lua_tree.specs.declared.token.Token.{Token}
 use Rattle.lua_tree.specs.declared.tree.Separator.{Separator}
 use Rattle.parser.specs.Classes.{Role, Suffix, suffix_of, literal_of, name_of, is_block_end}
-use Rattle.parser.specs.Operators.{Infix, infix_of, unary_of}
+use Rattle.parser.specs.Operators.{infix_of, unary_of}
 use Rattle.parser.specs.Program.{Goal, Program, give, prefix, look, skip, choose, call, become, reads, parameters, more_parameters, more_names_by, fields, one_field, separator, whole, climb, suffix, whole_on, simple_on, prefix_on, field_on, add_field, fields_after}
 use Rattle.parser.specs.Runs.{kind_of, line_of, End, done, Runs, gives, looks, skips, wants, chooses, passes, calls}
+use Rattle.parser.proofs.Small.{and_left, and_right, not_it, none_is, depth_positive}
 use Rattle.parser.proofs.Ends.{one_end, left}
-use Rattle.parser.proofs.RunSteps.{and_left, and_right, look_at, choose_at, pass_at, pass_on, tail}
-use Rattle.parser.proofs.FirstTokens.{not_it, in_class, begins_expression, expression_first}
+use Rattle.parser.proofs.RunSteps.{look_at, choose_at, pass_at, pass_on, tail}
+use Rattle.parser.proofs.SoundSteps.{name_kind}
+use Rattle.parser.proofs.FirstTokens.{in_class, begins_expression, expression_first}
 use Rattle.parser.proofs.Reading.{needed, PrefixReads, Closed, ExpressionReads, ExpressionsReads, MoreReads, TargetsReads, ArgumentsReads, FieldsReads, BodyReads, BlockReads}
-use Rattle.parser.proofs.FoundExpressions.{if_true, depth_positive, climb_stops, suffix_stops, name_reads, good_name, closes}
+use Rattle.parser.proofs.FoundExpressions.{if_true, climb_stops, suffix_stops, name_reads, good_name, closes}
 
 -- names behind a mark
 pub more_names_reads : (most : ℕ) (mark : TokenKind) (names : List Text) {pv last : ℕ} {ts rest : List Token} → are_names names ≡ true → Spelled (more_names_parts mark names) pv ts last rest → (kind_of rest ≡ Some mark → ⊥) →
@@ -203,15 +205,6 @@ named_run most d pv last name token tokens rest e k n r =
     let q = skip_in (subst (λ x. Runs most expression_phrase (prefix_on d Role.Operand x token.line) pv (token ∷ tokens) (done c.meant c.last c.rest)) n p) in
     record { operand = c.meant; line = c.last; middle = c.rest; fits = q.fits; suffixes = become_in q.after; operators = become_in c.after }
 
--- a token that is a name
-name_kind : (next : Option TokenKind) (name : Text) → name_of next ≡ Some name → next ≡ Some (TokenKind.Name name)
-name_kind (Some (TokenKind.Name other)) name h = by (is_name other) h
-  where
-    by : (b : Bool) → cond b (Some other) None ≡ Some name → Some (TokenKind.Name other) ≡ Some (TokenKind.Name name)
-    by true h = cc
-    by false h = cc
-name_kind next name h = cc
-
 -- an item that is an expression
 abbrev FieldReads : ℕ → Field → ℕ → Type 0
 FieldReads most item depth =
@@ -225,9 +218,6 @@ no_equal most d name token tokens e last rest r q =
     let at_middle : kind_of r.middle ≡ Some TokenKind.Equal = ap kind_of a ∙ q in
     let b : rest ≡ r.middle = ap left (one_end r.operators (climb_stops most d 0 token.line r.operand r.line r.middle (λ op i. absurd (none_is op (sym (ap infix_of at_middle) ∙ i))))) in
     ap kind_of b ∙ at_middle
-  where
-    none_is : (op : Infix) → None ≡ Some op → ⊥
-    none_is op i = cc
 
 named_item : (most d pv last : ℕ) (name : Text) (token : Token) (tokens rest : List Token) (e : Expression) → name_of (Some token.kind) ≡ Some name → after_item (kind_of rest) ≡ true →
     NamedRun most d name token tokens e last rest → Runs most field_phrase (reads (one_field d)) pv (token ∷ tokens) (done (positional_field e) last rest)
@@ -244,7 +234,7 @@ positional_reads most e inner d pv last ts rest (by_phrase s no_part) h a = by (
     at_name : (name : Text) (ts : List Token) → name_of (kind_of ts) ≡ Some name → Runs most expression_phrase (reads (whole d 0)) pv ts (done e last rest) → Runs most field_phrase (reads (one_field d)) pv ts (done (positional_field e) last rest)
     at_name name [] n r = cc
     at_name name (token ∷ tokens) n r =
-        let k : Some token.kind ≡ Some (TokenKind.Name name) = name_kind (Some token.kind) name n in
+        let k : Some token.kind ≡ Some (TokenKind.Name name) = (name_kind (Some token.kind) name n).is in
         named_item most d pv last name token tokens rest e n a (named_run most d pv last name token tokens rest e (cc) n r)
 
     by : (found : Option Text) → name_of (kind_of ts) ≡ found → Runs most field_phrase (reads (one_field d)) pv ts (done (positional_field e) last rest)

@@ -10,10 +10,11 @@ use Rattle.parser.specs.Classes.{Role, Start, start_of, suffix_of, is_block_end}
 use Rattle.parser.specs.Operators.{infix_of}
 use Rattle.parser.specs.Program.{give, call, reads, block, one_statement, expression_statement, statement_on, method_name, values, results, body, semicolon}
 use Rattle.parser.specs.Runs.{kind_of, done, Runs, gives, looks, skips, wants, chooses, passes, calls}
-use Rattle.parser.proofs.RunSteps.{and_left, and_right, look_at, choose_at, pass_at, pass_on, tail}
-use Rattle.parser.proofs.FirstTokens.{not_it, in_class, begins_prefix, prefix_first, begins_expression, expression_first, begins_statement, stands_after, statement_first, statement_paren, start_no_end, expression_no_end, start_stands, end_stands, stands_operator, stands_suffix, branches_first, call_is_prefix, target_is_prefix}
+use Rattle.parser.proofs.Small.{and_left, and_right, not_it, depth_positive}
+use Rattle.parser.proofs.RunSteps.{look_at, choose_at, pass_at, pass_on, tail}
+use Rattle.parser.proofs.FirstTokens.{in_class, begins_prefix, prefix_first, begins_expression, expression_first, begins_statement, stands_after, statement_first, statement_paren, start_no_end, expression_no_end, start_stands, end_stands, stands_operator, stands_suffix, branches_first, call_is_prefix, target_is_prefix}
 use Rattle.parser.proofs.Reading.{needed, PrefixReads, Closed, ExpressionReads, ExpressionsReads, TargetsReads, BodyReads, BlockReads, Behind, StatementReads, BranchesReads, StepReads}
-use Rattle.parser.proofs.FoundExpressions.{if_true, if_false, depth_positive, suffix_stops, name_reads, closes}
+use Rattle.parser.proofs.FoundExpressions.{if_true, if_false, suffix_stops, name_reads, closes}
 use Rattle.parser.proofs.FoundLists.{more_names_reads, behind_target, target_reads, ExpressionsFound, fits_list}
 
 not_twice : (a b : Bool) → not (a && b) ≡ true → a ≡ true → b ≡ true → ⊥

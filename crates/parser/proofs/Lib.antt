@@ -18,6 +18,7 @@ pub mod Passing
 pub mod Posts
 pub mod Reading
 pub mod RunSteps
+pub mod Small
 pub mod Sound
 pub mod SoundBlocks
 pub mod SoundExpressions

@@ -18,6 +18,7 @@ use Rattle.parser.specs.Program.{Program, give, stop, skip, want, choose, call, 
 use Rattle.parser.specs.Runs.{kind_of, line_of}
 use Rattle.parser.specs.Loops.{names_with, parameters_with, expressions_with, fields_with, block_with, targets_with, if_with}
 use Rattle.parser.specs.Finds.{Takes, Tests, Outcome, found, halted, Leads, Finds, FindsArm, FindsNames}
+use Rattle.parser.proofs.SoundLists.{add_depth}
 use Rattle.parser.proofs.Steps.{finds, refuses, lead_look, lead_give, lead_stop, lead_skip, lead_yes, lead_no, lead_call, lead_call_not, lead_more, lead_through, lead_then, lead_else}
 
 -- lists that grow at their end
@@ -72,16 +73,8 @@ fields_end (positional x s read) = ap (positional x s) (fields_end read)
 fields_end (named n x s read) = ap (named n x s) (fields_end read)
 fields_end (keyed k x s read) = ap (keyed k x s) (fields_end read)
 
-add_depth : (item : Field) (mark : Separator) → depth_of_fields (add_field item mark no_fields) ≡ depth_of_field item
-add_depth (positional_field e) mark = omega arith
-add_depth (named_field name e) mark = omega arith
-add_depth (keyed_field key e) mark = omega arith
-
-max_zero : (n : ℕ) → n ≡ max 0 n
-max_zero n = omega arith
-
 pub fields_depth : (read : Fields) (item : Field) (mark : Separator) → depth_of_fields (join_fields read (add_field item mark no_fields)) ≡ max (depth_of_fields read) (depth_of_field item)
-fields_depth no_fields item mark = add_depth item mark ∙ max_zero (depth_of_field item)
+fields_depth no_fields item mark = let h = add_depth item mark no_fields in omega arith
 fields_depth (positional x s read) item mark = let h = fields_depth read item mark in omega arith
 fields_depth (named n x s read) item mark = let h = fields_depth read item mark in omega arith
 fields_depth (keyed k x s read) item mark = let h = fields_depth read item mark in omega arith

@@ -1,5 +1,5 @@
 -- What holds of an answer, goal by goal; and of each end of a program, by what holds of its calls.
-use Rattle.std.proofs.Common.{◌≡◌, ◌&&◌, ℕ, ◌+◌, ◌<◌, ◌≤◌, Bool, true, false, List, [], ◌∷◌, Option, Some, refl, max}
+use Rattle.std.proofs.Common.{◌≡◌, ◌&&◌, ℕ, ◌+◌, ◌<◌, ◌≤◌, Bool, true, false, List, [], ◌∷◌, Option, Some, refl}
 use Rattle.lua_tree.specs.Spelled.{Phrase, Meant, Field, positional_field, named_field, keyed_field, Parameters, BranchesLeft, Part, word, Spelled, no_part, by_word, first_line_of}
 use Rattle.lua_tree.specs.Spelled.{expression_parts, statement_parts, arguments_parts, field_parts, fields_parts, branches_parts, parameters_parts, more_parameters_parts, more_names_parts, expressions_parts, more_expressions_parts, values_parts, semicolon_parts, separator_parts, method_parts, step_parts, body_parts, block_parts}
 use Rattle.lua_tree.specs.Syntax.{Text, Statements, Statement, ForStep, FunctionBody, Expressions, Expression, Arguments, Fields}
@@ -11,6 +11,7 @@ use Rattle.lua_tree.specs.declared.token.TokenKind.{TokenKind}
 use Rattle.parser.specs.Classes.{Suffix, suffix_of}
 use Rattle.parser.specs.Operators.{Infix, infix_of, left_power}
 use Rattle.parser.specs.Program.{Goal, main_chunk, block, semicolon, one_statement, if_of, while_of, do_of, for_of, repeat_of, function_of, local_of, return_of, break_of, numeric_of, generic_of, local_function_of, local_names_of, expression_statement, branches, step, method_name, values, results, targets, body, parameters, first_parameter, more_parameters, one_name, more_names_by, expressions_at, more_expressions_at, whole, climb, simple, prefix, suffix, function_value, table_of, paren_of, field_of, index_of, method_of, call_of, arguments, listed, fields, one_field, keyed_of, named_of, separator, Program, give, stop, look, skip, want, choose, call, reads}
+use Rattle.parser.specs.Fields.{depth_of_field}
 use Rattle.parser.specs.Runs.{kind_of, line_of, End, done, fault, Runs, gives, stops, looks, skips, deep, ends, wants, misses, chooses, passes, calls, fails}
 
 -- the level of an operator, and whether it is right associative
@@ -124,11 +125,6 @@ abbrev pub formed_field : Field → Bool
 formed_field (positional_field e) = formed_expression e
 formed_field (named_field name e) = is_name name && formed_expression e
 formed_field (keyed_field key e) = formed_expression key && formed_expression e
-
-abbrev pub depth_of_field : Field → ℕ
-depth_of_field (positional_field e) = depth_of_expression e
-depth_of_field (named_field name e) = depth_of_expression e
-depth_of_field (keyed_field key e) = max (depth_of_expression key) (depth_of_expression e)
 
 pub record FieldRead (most depth before : ℕ) (tokens : List Token) (item : Field) (last : ℕ) (rest : List Token) : Type 0 where
   pub spelled : Spelled (field_parts item) before tokens last rest

@@ -1,21 +1,10 @@
--- Steps of runs at a token whose kind is known, and what a conjunction of tests says.
-use Rattle.std.proofs.Common.{◌≡◌, ◌&&◌, ℕ, Bool, true, false, List, ◌∷◌, Option, Some, sym, ◌∙◌, ap, subst}
+-- Steps of runs at a token whose kind is known.
+use Rattle.std.proofs.Common.{◌≡◌, ℕ, List, ◌∷◌, Option, Some, sym, ◌∙◌, ap, subst}
 use Rattle.lua_tree.specs.Spelled.{Phrase}
 use Rattle.lua_tree.specs.declared.token.Token.{Token}
 use Rattle.lua_tree.specs.declared.token.TokenKind.{TokenKind}
 use Rattle.parser.specs.Program.{Goal, Program, look, choose, reads, become}
 use Rattle.parser.specs.Runs.{kind_of, line_of, End, done, fault, Runs, gives, looks, chooses, passes, calls, fails}
-
-pub and_left : (a b : Bool) → a && b ≡ true → a ≡ true
-and_left true b h = cc
-and_left false b h = cc
-
-pub and_right : (a b : Bool) → a && b ≡ true → b ≡ true
-and_right true b h = h
-and_right false b h = cc
-
-pub not_both : {a : Bool} → a ≡ true → a ≡ false → ⊥
-not_both h i = let q : true ≡ false = sym h ∙ i in cc
 
 -- a look at tokens whose first is known
 pub look_on : {most : ℕ} {answer : Phrase} {then : ℕ → Option TokenKind → ℕ → Program answer} {before : ℕ} {tokens : List Token} {end : End answer} {next : Option TokenKind} →

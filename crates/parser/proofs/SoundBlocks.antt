@@ -8,8 +8,9 @@ use Rattle.lua_tree.specs.declared.token.TokenKind.{TokenKind}
 use Rattle.parser.specs.Classes.{Suffix, suffix_of, is_block_end}
 use Rattle.parser.specs.Program.{main_chunk, block, semicolon, one_statement, main_on, give, call}
 use Rattle.parser.specs.Runs.{kind_of, line_of}
+use Rattle.parser.proofs.Small.{both, with_none}
 use Rattle.parser.proofs.Posts.{StatementRead, BlockRead, Post, Holds, Good}
-use Rattle.parser.proofs.SoundSteps.{taken, from_next, none_left, both, with_none}
+use Rattle.parser.proofs.SoundSteps.{taken, from_next, none_left}
 
 -- the first token of what begins with a parenthesis
 paren_first : (e : Expression) {line last : ℕ} {tokens rest : List Token} → begins_with_paren e ≡ true → Spelled (expression_parts e) line tokens last rest → kind_of tokens ≡ Some TokenKind.OpenParen

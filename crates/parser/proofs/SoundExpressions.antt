@@ -12,9 +12,10 @@ use Rattle.parser.specs.Classes.{literal_of}
 use Rattle.parser.specs.Operators.{Infix, infix_of, unary_of, left_power, right_power, infix_expression}
 use Rattle.parser.specs.Program.{whole, climb, simple, function_value, table_of, whole_on, climb_on, simple_on, give, skip, call, become}
 use Rattle.parser.specs.Runs.{kind_of, line_of}
+use Rattle.parser.proofs.Small.{both, not_both, two_fit_below, infix_depth}
 use Rattle.parser.proofs.Posts.{PrefixRead, simple_shape, unary_shape, infix_shape, WholeRead, ClimbSoFar, SimpleRead, Post, Behind, Holds, Good}
-use Rattle.parser.proofs.SoundSteps.{behind, taken_on, from_next, word_off_line, some_not_none, both, below, not_below, two_fit_below, no_more}
-use Rattle.parser.proofs.SoundPowers.{right_operand, unary_operand, left_simple, left_unary, left_infix, infix_level, infix_takes, infix_depth, infix_formed, infix_word, infix_kind, unary_kind, prefix_level}
+use Rattle.parser.proofs.SoundSteps.{behind, taken_on, from_next, word_off_line, some_not_none, below, not_below}
+use Rattle.parser.proofs.SoundPowers.{right_operand, unary_operand, left_simple, left_unary, left_infix, infix_level, infix_takes, infix_formed, infix_word, infix_kind, unary_kind, prefix_level}
 
 -- an expression has a token
 some_token : (e : Expression) {line last : ℕ} (tokens : List Token) {rest : List Token} → Spelled (expression_parts e) line tokens last rest → kind_of tokens ≡ None → ⊥
@@ -156,7 +157,7 @@ good_simple most depth before tokens = go (literal_of (line_of tokens) (kind_of 
             spelled = subst (λ x. Spelled x before tokens between middle) (sym l.spelling) (taken_on before l.token b l.is);
             formed = l.formed;
             shallow = subst (λ x. depth + x ≤ most) (sym deep) d;
-            closed = λ t. absurd (no_more l.takes t);
+            closed = λ t. absurd (not_both t l.takes);
           };
           level = l.level;
         }
@@ -177,7 +178,7 @@ good_function_value most depth before tokens between middle b d made last rest r
             (behind (subst (λ x. Spelled (word_on x TokenKind.Function ∷ []) before tokens between middle) (sym f.first_line) (taken_on before TokenKind.Function b k)) (by_phrase f.spelled no_part));
         formed = f.formed;
         shallow = let s = f.shallow in omega arith;
-        closed = λ t. absurd (no_more refl t);
+        closed = λ t. absurd (not_both t refl);
       };
       level = refl;
     }
@@ -190,7 +191,7 @@ good_table_of most depth before tokens between middle b d items last rest f last
         spelled = behind (taken_on before TokenKind.OpenBrace b k) (by_phrase g.spelled w);
         formed = g.formed;
         shallow = let s = g.shallow in omega arith;
-        closed = λ t. absurd (no_more refl t);
+        closed = λ t. absurd (not_both t refl);
       };
       level = refl;
     }

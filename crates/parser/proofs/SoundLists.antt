@@ -9,9 +9,11 @@ use Rattle.lua_tree.specs.declared.token.TokenKind.{TokenKind}
 use Rattle.lua_tree.specs.declared.tree.Separator.{Separator}
 use Rattle.parser.specs.Classes.{Suffix, suffix_of, name_of, is_block_end}
 use Rattle.parser.specs.Program.{method_name, values, results, body, parameters, first_parameter, more_parameters, one_name, more_names_by, expressions_at, more_expressions_at, listed, fields, one_field, keyed_of, named_of, separator, name_on, field_on, fields_after, add_field, give, become}
+use Rattle.parser.specs.Fields.{depth_of_field}
 use Rattle.parser.specs.Runs.{kind_of, line_of}
-use Rattle.parser.proofs.Posts.{ListRead, FieldRead, FieldsRead, formed_field, depth_of_field, Post, Holds, Good}
-use Rattle.parser.proofs.SoundSteps.{behind, taken, word_at_line, word_at_start, none_left, both, first_holds, second_holds, two_fit, no_more, name_kind}
+use Rattle.parser.proofs.Small.{both, and_left, and_right, not_both, two_fit}
+use Rattle.parser.proofs.Posts.{ListRead, FieldRead, FieldsRead, formed_field, Post, Holds, Good}
+use Rattle.parser.proofs.SoundSteps.{behind, taken, word_at_line, word_at_start, none_left, name_kind}
 use Rattle.parser.proofs.SoundExpressions.{simple_begins, prefix_simple}
 
 pub good_one_name : (most : ℕ) → Good most one_name
@@ -95,7 +97,7 @@ good_more_expressions_at most depth before tokens = (
         shallow = two_fit depth (depth_of_expression e) (depth_of_expressions es) most t.shallow l.shallow;
         closed = last_closed e es t.closed l;
       },
-  λ n d. record { spelled = no_part; formed = refl; shallow = omega arith; closed = λ t. absurd (no_more refl t) },
+  λ n d. record { spelled = no_part; formed = refl; shallow = omega arith; closed = λ t. absurd (not_both t refl) },
 )
 
 values_of : (es : Expressions) → has_expressions es ≡ true → values_parts es ≡ word TokenKind.Equal ∷ of expressions_phrase es ∷ []
@@ -112,12 +114,12 @@ good_values most depth before tokens = (
         shallow = l.shallow;
         closed = l.closed;
       },
-  λ n d. record { spelled = no_part; formed = refl; shallow = omega arith; closed = λ t. absurd (no_more refl t) },
+  λ n d. record { spelled = no_part; formed = refl; shallow = omega arith; closed = λ t. absurd (not_both t refl) },
 )
 
 -- no expressions at all
 nothing : {most depth before : ℕ} {tokens : List Token} → depth ≤ most → ListRead most depth [] before tokens no_expressions before tokens
-nothing d = record { spelled = no_part; formed = refl; shallow = omega arith; closed = λ t. absurd (no_more refl t) }
+nothing d = record { spelled = no_part; formed = refl; shallow = omega arith; closed = λ t. absurd (not_both t refl) }
 
 pub good_results : (most depth : ℕ) → Good most (results depth)
 good_results most depth before tokens = (λ k d. nothing d, λ n. go (is_block_end (kind_of tokens)))
@@ -143,10 +145,10 @@ add_spelled (keyed_field key e) mark items = refl
 
 add_formed : (item : Field) (mark : Separator) (items : Fields) → ends_item mark items ≡ true → formed_field item ≡ true → formed_fields items ≡ true → formed_fields (add_field item mark items) ≡ true
 add_formed (positional_field e) mark items h f i = both h (both f i)
-add_formed (named_field name e) mark items h f i = both h (both (first_holds (is_name name) (formed_expression e) f) (both (second_holds (is_name name) (formed_expression e) f) i))
-add_formed (keyed_field key e) mark items h f i = both h (both (first_holds (formed_expression key) (formed_expression e) f) (both (second_holds (formed_expression key) (formed_expression e) f) i))
+add_formed (named_field name e) mark items h f i = both h (both (and_left (is_name name) (formed_expression e) f) (both (and_right (is_name name) (formed_expression e) f) i))
+add_formed (keyed_field key e) mark items h f i = both h (both (and_left (formed_expression key) (formed_expression e) f) (both (and_right (formed_expression key) (formed_expression e) f) i))
 
-add_depth : (item : Field) (mark : Separator) (items : Fields) → depth_of_fields (add_field item mark items) ≡ max (depth_of_field item) (depth_of_fields items)
+pub add_depth : (item : Field) (mark : Separator) (items : Fields) → depth_of_fields (add_field item mark items) ≡ max (depth_of_field item) (depth_of_fields items)
 add_depth (positional_field e) mark items = refl
 add_depth (named_field name e) mark items = refl
 add_depth (keyed_field key e) mark items = refl

@@ -1,15 +1,16 @@
 -- The numbers by which operators bind, and the levels of the grammar.
-use Rattle.std.proofs.Common.{◌≡◌, ℕ, ◌+◌, ◌<◌, ◌≤◌, Bool, true, false, not, Option, Some, refl, ap, max, arith}
+use Rattle.std.proofs.Common.{◌≡◌, ℕ, ◌+◌, ◌<◌, ◌≤◌, Bool, true, false, not, Option, Some, refl, ap, arith}
 use Rattle.lua_tree.specs.Syntax.{Expression, and_expression, or_expression, binary_expression, unary_expression}
 use Rattle.lua_tree.specs.Precedence.{level_of, is_unary, binds, left_binds, right_binds}
-use Rattle.lua_tree.specs.WellFormed.{is_prefix, takes_arguments, formed_expression, depth_of_expression}
+use Rattle.lua_tree.specs.WellFormed.{is_prefix, takes_arguments, formed_expression}
 use Rattle.lua_tree.specs.declared.token.TokenKind.{TokenKind}
 use Rattle.lua_tree.specs.declared.tree.BinaryOp.{BinaryOp}
 use Rattle.lua_tree.specs.declared.tree.UnaryOp.{UnaryOp}
 use Rattle.lua_tree.specs.Spelling.{spell_op, spell_unary}
 use Rattle.parser.specs.Operators.{Infix, infix_of, unary_of, left_power, right_power, infix_expression}
+use Rattle.parser.proofs.Small.{both, or_left, or_right}
 use Rattle.parser.proofs.Posts.{level_of_infix, is_right_infix, Shape, simple_shape, unary_shape, infix_shape}
-use Rattle.parser.proofs.SoundSteps.{both, or_left, or_right, at_most}
+use Rattle.parser.proofs.SoundSteps.{at_most}
 
 -- the least level of an operand on a side where the operator associates, or on the other
 abbrev least : ℕ → Bool → ℕ
@@ -137,11 +138,6 @@ pub infix_takes : (op : Infix) (start line : ℕ) (left right : Expression) → 
 infix_takes Infix.And start line left right = refl
 infix_takes Infix.Or start line left right = refl
 infix_takes (Infix.Binary op) start line left right = refl
-
-pub infix_depth : (op : Infix) (start line : ℕ) (left right : Expression) → depth_of_expression (infix_expression start line op left right) ≡ 1 + max (depth_of_expression left) (depth_of_expression right)
-infix_depth Infix.And start line left right = refl
-infix_depth Infix.Or start line left right = refl
-infix_depth (Infix.Binary op) start line left right = refl
 
 pub infix_formed : (op : Infix) (start line : ℕ) (left right : Expression) →
     left_binds (level_of_infix op) (is_right_infix op) left ≡ true → right_binds (level_of_infix op) (is_right_infix op) right ≡ true →

@@ -8,8 +8,9 @@ use Rattle.lua_tree.specs.declared.token.TokenKind.{TokenKind}
 use Rattle.parser.specs.Classes.{Role, Suffix, suffix_of, name_of, text_of}
 use Rattle.parser.specs.Program.{prefix, suffix, paren_of, field_of, index_of, method_of, call_of, arguments, listed, prefix_on, suffix_on, text_on, call_spare, give, stop, skip, want, call}
 use Rattle.parser.specs.Runs.{kind_of, line_of}
+use Rattle.parser.proofs.Small.{both, two_fit_below, without}
 use Rattle.parser.proofs.Posts.{Post, Holds, Good}
-use Rattle.parser.proofs.SoundSteps.{behind, taken, taken_on, word_at_line, from_next, both, same_line, two_fit_below, name_kind}
+use Rattle.parser.proofs.SoundSteps.{behind, taken, taken_on, word_at_line, from_next, same_line, name_kind}
 
 pub good_prefix : (most depth : ℕ) (role : Role) → Good most (prefix depth role)
 good_prefix most depth role before tokens = go (name_of (kind_of tokens)) refl
@@ -75,9 +76,6 @@ some_argument (table_argument items) [] s h = elim s [ ]
 
 within_spare : (d s a m : ℕ) → d + s + 1 + a ≤ m → d + 1 + a ≤ m
 within_spare d s a m h = omega arith
-
-without : (d a m : ℕ) → d + a ≤ m → d ≤ m
-without d a m h = omega arith
 
 pub good_method_of : (most depth : ℕ) (role : Role) (on : Expression) → Good most (method_of depth role on)
 good_method_of most depth role on before tokens between middle b d name last rest n args last' rest' p k line front c =

@@ -1,5 +1,5 @@
 -- The answers of the goals of statements.
-use Rattle.std.proofs.Common.{◌≡◌, ℕ, ◌+◌, ◌≤◌, Bool, true, false, List, [], ◌∷◌, Option, Some, refl, sym, subst, arith, if◌then◌else◌}
+use Rattle.std.proofs.Common.{◌≡◌, ℕ, ◌+◌, Bool, true, false, List, [], ◌∷◌, Option, Some, refl, sym, subst, arith, if◌then◌else◌}
 use Rattle.lua_tree.specs.Syntax.{Text, assignment, call_statement, FunctionBody, Expressions, no_expressions, expression, Expression}
 use Rattle.lua_tree.specs.Spelled.{statement_phrase, expressions_phrase, names_phrase, Part, word, word_on, of, Spelled, no_part, by_word, by_phrase, more_expressions_parts, expressions_parts, more_names_parts, first_line_of}
 use Rattle.lua_tree.specs.WellFormed.{is_call, is_target, has_expressions, depth_of_expression}
@@ -8,8 +8,9 @@ use Rattle.lua_tree.specs.declared.token.TokenKind.{TokenKind}
 use Rattle.parser.specs.Classes.{Role, Start, start_of}
 use Rattle.parser.specs.Program.{one_statement, if_of, while_of, do_of, for_of, repeat_of, function_of, local_of, return_of, break_of, numeric_of, generic_of, local_function_of, local_names_of, expression_statement, branches, step, targets, expressions_at, prefix, statement_on, give, stop, skip, want, choose, call}
 use Rattle.parser.specs.Runs.{kind_of, line_of}
+use Rattle.parser.proofs.Small.{both, not_both, two_fit, with_none, under, less_one}
 use Rattle.parser.proofs.Posts.{Post, Behind, Holds, Good}
-use Rattle.parser.proofs.SoundSteps.{behind, behind_two, taken, taken_on, both, two_fit, no_more, with_none, without_more}
+use Rattle.parser.proofs.SoundSteps.{behind, behind_two, taken, taken_on, without_more}
 
 if_kind : (kind : Option TokenKind) → start_of kind ≡ Start.If → kind ≡ Some TokenKind.If
 if_kind (Some TokenKind.If) h = refl
@@ -62,9 +63,6 @@ good_one_statement most depth before tokens = go (start_of (kind_of tokens)) ref
     go Start.Break i = λ s last rest r. r (break_kind (kind_of tokens) i)
     go Start.Expression i = λ s last rest r. r
 
-less_one : (d m : ℕ) → d + 1 ≤ m → d ≤ m
-less_one d m h = omega arith
-
 pub good_if_of : (most depth : ℕ) → Good most (if_of depth)
 good_if_of most depth before tokens between middle b d cond last rest r between' middle' w inside last' rest' i left last'' rest'' l between'' middle'' w' k =
     let h = less_one depth most d in
@@ -75,7 +73,7 @@ good_if_of most depth before tokens between middle b d cond last rest r between'
       spelled = behind (taken before TokenKind.If b k) (by_phrase t.spelled (behind w (by_phrase j.spelled (by_phrase m.spelled w'))));
       formed = both (both t.formed (both j.formed m.formed)) m.formed_last;
       shallow = two_fit depth _ _ most (two_fit depth _ _ most (two_fit depth _ _ most t.shallow j.shallow) m.shallow) m.shallow_last;
-      closed = λ t. absurd (no_more refl t);
+      closed = λ t. absurd (not_both t refl);
     }
 
 pub good_while_of : (most depth : ℕ) → Good most (while_of depth)
@@ -86,7 +84,7 @@ good_while_of most depth before tokens between middle b d cond last rest r betwe
       spelled = behind (taken before TokenKind.While b k) (by_phrase t.spelled (behind w (by_phrase j.spelled w')));
       formed = both t.formed j.formed;
       shallow = two_fit depth _ _ most t.shallow j.shallow;
-      closed = λ t. absurd (no_more refl t);
+      closed = λ t. absurd (not_both t refl);
     }
 
 pub good_do_of : (most depth : ℕ) → Good most (do_of depth)
@@ -96,7 +94,7 @@ good_do_of most depth before tokens between middle b d inside last rest i betwee
       spelled = behind (taken before TokenKind.Do b k) (by_phrase j.spelled w);
       formed = j.formed;
       shallow = j.shallow;
-      closed = λ t. absurd (no_more refl t);
+      closed = λ t. absurd (not_both t refl);
     }
 
 pub good_for_of : (most depth : ℕ) → Good most (for_of depth)
@@ -116,7 +114,7 @@ good_numeric_of most depth name before tokens between middle b d first last rest
       spelled = behind_two p (behind (taken before TokenKind.Equal b k) (by_phrase t.spelled (behind w1 (by_phrase t2.spelled (by_phrase u.spelled (behind w4 (by_phrase j.spelled w6)))))));
       formed = both n (both t.formed (both t2.formed (both u.formed j.formed)));
       shallow = two_fit depth _ _ most (two_fit depth _ _ most t.shallow t2.shallow) (two_fit depth _ _ most u.shallow j.shallow);
-      closed = λ t. absurd (no_more refl t);
+      closed = λ t. absurd (not_both t refl);
     }
 
 -- names behind a word
@@ -134,7 +132,7 @@ good_generic_of most depth name before tokens names last rest m = (
         spelled = names_behind p m.spelled (behind (taken last TokenKind.In b e) (by_phrase l.spelled (behind w2 (by_phrase j.spelled w4))));
         formed = both (both n m.formed) (both s.some (both l.formed j.formed));
         shallow = two_fit depth _ _ most l.shallow j.shallow;
-        closed = λ t. absurd (no_more refl t);
+        closed = λ t. absurd (not_both t refl);
       },
   λ n. tt,
 )
@@ -155,9 +153,6 @@ function_word : {tokens middle : List Token} {between : ℕ} (before : ℕ) (mad
     first_line_of made ≡ line_of tokens → Spelled (word_on (first_line_of made) TokenKind.Function ∷ []) before tokens between middle
 function_word {tokens} {middle} {between} before made b k l = subst (λ x. Spelled (word_on x TokenKind.Function ∷ []) before tokens between middle) (sym l) (taken_on before TokenKind.Function b k)
 
-under : (d a m : ℕ) → d + 1 + a ≤ m → d + (1 + a) ≤ m
-under d a m h = omega arith
-
 pub good_function_of : (most depth : ℕ) → Good most (function_of depth)
 good_function_of most depth before tokens between middle b d name last rest n names last1 rest1 m method last2 rest2 o made last3 rest3 f k =
     let g = f d in
@@ -165,7 +160,7 @@ good_function_of most depth before tokens between middle b d name last rest n na
       spelled = behind (function_word before made b k g.first_line) (by_phrase (behind n.spelled (by_phrase m.spelled no_part)) (by_phrase o.spelled (by_phrase g.spelled no_part)));
       formed = both (both n.formed m.formed) (both o.formed g.formed);
       shallow = under depth _ most g.shallow;
-      closed = λ t. absurd (no_more refl t);
+      closed = λ t. absurd (not_both t refl);
     }
 
 pub good_local_of : (most depth : ℕ) → Good most (local_of depth)
@@ -181,7 +176,7 @@ good_local_function_of most depth before tokens between middle b d name last res
       spelled = behind w (behind (function_word before made b k g.first_line) (behind n.spelled (by_phrase g.spelled no_part)));
       formed = both n.formed g.formed;
       shallow = under depth _ most g.shallow;
-      closed = λ t. absurd (no_more refl t);
+      closed = λ t. absurd (not_both t refl);
     }
 
 pub good_local_names_of : (most depth : ℕ) → Good most (local_names_of depth)
@@ -201,7 +196,7 @@ good_return_of most depth before tokens between middle b d es last rest v k =
       spelled = behind (taken before TokenKind.Return b k) (by_phrase l.spelled no_part);
       formed = l.formed;
       shallow = l.shallow;
-      closed = λ t. absurd (no_more refl t);
+      closed = λ t. absurd (not_both t refl);
     }
 
 pub good_break_of : (most depth : ℕ) → Good most (break_of depth)
@@ -209,7 +204,7 @@ good_break_of most depth before tokens between middle b d k = record {
   spelled = taken before TokenKind.Break b k;
   formed = refl;
   shallow = omega arith;
-  closed = λ t. absurd (no_more refl t);
+  closed = λ t. absurd (not_both t refl);
 }
 
 -- expressions behind a comma

@@ -1,5 +1,5 @@
 -- Steps of the proofs that an answer is spelled and well formed.
-use Rattle.std.proofs.Common.{◌≡◌, ◌&&◌, ◌||◌, ℕ, ◌+◌, ◌<◌, ◌≤◌, ◌==◌, Bool, true, false, List, [], ◌∷◌, Option, Some, None, refl, sym, ◌∙◌, ap, subst, max, nat_le, nat_lt, arith, if◌then◌else◌}
+use Rattle.std.proofs.Common.{◌≡◌, ℕ, ◌+◌, ◌<◌, ◌≤◌, ◌==◌, Bool, true, false, List, [], ◌∷◌, Option, Some, None, refl, sym, ◌∙◌, ap, subst, nat_le, nat_lt, arith, if◌then◌else◌}
 use Rattle.std.proofs.lemmas.Bool.Decides.{nat_tests}
 use Rattle.lua_tree.specs.Spelled.{Part, word, word_on, from_line, Spelled, no_part, by_word, by_word_on, by_next, by_last, by_phrase}
 use Rattle.lua_tree.specs.Syntax.{Text}
@@ -69,24 +69,6 @@ some_not_none kind k a b = let q : Some k ≡ None = sym a ∙ b in cc
 pub none_left : {line last : ℕ} {tokens rest : List Token} → Spelled [] line tokens last rest → tokens ≡ rest
 none_left no_part = refl
 
-pub both : {a b : Bool} → a ≡ true → b ≡ true → a && b ≡ true
-both {a} {b} h i = subst (λ x. x && b ≡ true) (sym h) i
-
-pub first_holds : (a b : Bool) → a && b ≡ true → a ≡ true
-first_holds true b h = refl
-first_holds false b h = h
-
-pub second_holds : (a b : Bool) → a && b ≡ true → b ≡ true
-second_holds true b h = h
-second_holds false b h = cc
-
-pub or_left : (a b : Bool) → a ≡ true → a || b ≡ true
-or_left a b h = subst (λ x. x || b ≡ true) (sym h) refl
-
-pub or_right : (a b : Bool) → b ≡ true → a || b ≡ true
-or_right true b h = refl
-or_right false b h = h
-
 pub at_most : (a b : ℕ) → a ≤ b → nat_le a b ≡ true
 at_most a b h = grind (arith, nat_tests)
 
@@ -99,21 +81,8 @@ not_below a b h = grind (arith, nat_tests)
 pub same_line : (a b : ℕ) → a == b ≡ true → b == a ≡ true
 same_line a b h = grind (arith, nat_tests)
 
--- the deeper of two
-pub two_fit : (d a b m : ℕ) → d + a ≤ m → d + b ≤ m → d + max a b ≤ m
-two_fit d a b m h i = omega arith
-
-pub two_fit_below : (d a b m : ℕ) → d + 1 + a ≤ m → d + 1 + b ≤ m → d + (1 + max a b) ≤ m
-two_fit_below d a b m h i = omega arith
-
-pub with_none : (d m : ℕ) → d ≤ m → d + 0 ≤ m
-with_none d m h = omega arith
-
 pub without_more : (d a m : ℕ) → d + a ≤ m → d + 0 ≤ m
 without_more d a m h = omega arith
-
-pub no_more : {b : Bool} → b ≡ false → b ≡ true → ⊥
-no_more {b} h i = let q : false ≡ true = sym h ∙ i in cc
 
 -- a token that is a name
 pub record IsName (kind : Option TokenKind) (name : Text) : Type 0 where

@@ -8,6 +8,7 @@ use Rattle.parser.specs.declared.cursor.Halt.{Halt}
 use Rattle.parser.specs.Program.{Goal, Program, give, stop, look, skip, want, choose, call, become, more_names_by, reads}
 use Rattle.parser.specs.Runs.{Why, unexpected, too_deep, kind_of, line_of, End, done, fault, Runs, gives, stops, looks, skips, deep, ends, wants, misses, chooses, passes, calls, fails}
 use Rattle.parser.proofs.Ends.{one_end}
+use Rattle.parser.proofs.RunSteps.{tail}
 use Rattle.parser.specs.Finds.{Takes, Tests, TakesNot, IsNoNext, Wants, WantsNot, Outcome, found, halted, Means, Leads, Finds, Refuses, FindsNames, RefusesNames}
 use Rattle.parser.specs.Loops.{names_with}
 
@@ -114,12 +115,8 @@ lead_then {before} {tokens} {outcome} test one other e l = subst (λ x. Leads (c
 pub lead_else : {answer : Phrase} {before : ℕ} {tokens : List Token} {outcome : Outcome answer} (test : Bool) (one other : Program answer) → test ≡ false → Leads other before tokens outcome → Leads (cond test one other) before tokens outcome
 lead_else {before} {tokens} {outcome} test one other e l = subst (λ x. Leads (cond x one other) before tokens outcome) (sym e) l
 
-into : {answer : Phrase} {goal : Goal answer} {before : ℕ} {tokens : List Token} (end : End answer) → Runs 200 answer (reads goal) before tokens end → Runs 200 answer (become goal) before tokens end
-into (done meant last rest) r = calls r gives
-into (fault why rest) r = fails r
-
 pub lead_become : {answer : Phrase} {goal : Goal answer} {before : ℕ} {tokens : List Token} {outcome : Outcome answer} → Leads (reads goal) before tokens outcome → Leads (become goal) before tokens outcome
-lead_become l = record { run = λ end m. into end (l.run end m) }
+lead_become l = record { run = λ end m. tail (l.run end m) }
 
 out_of : {answer : Phrase} {goal : Goal answer} {before : ℕ} {tokens : List Token} (end : End answer) → Runs 200 answer (become goal) before tokens end → Runs 200 answer (reads goal) before tokens end
 out_of {answer} {goal} {before} {tokens} end (calls r s) = subst (λ x. Runs 200 answer (reads goal) before tokens x) (one_end gives s) r

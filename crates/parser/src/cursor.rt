@@ -1,8 +1,6 @@
 // A place among the tokens.
-ghost use Rattle.std.specs.Prelude.{◌≡◌, ◌≤◌, ◌<◌, ◌+◌, length, IfOk, IfErr, IsTrue, ◌↔◌, option_copied, Some, ℕ};
-ghost use Rattle.lua_tree.specs.Spelled.{name_phrase, method_phrase};
-ghost use Rattle.lua_tree.specs.declared.token.Token.{Token as OneToken};
-ghost use Rattle.parser.specs.Program.{one_name, method_name};
+ghost use Rattle.std.specs.Prelude.{◌≡◌, ◌<◌, ◌+◌, length, IfOk, IfErr, option_copied, Some};
+ghost use Rattle.parser.specs.Program.{one_name};
 ghost use Rattle.parser.specs.Runs.{kind_of, line_of};
 ghost use Rattle.parser.specs.Fields.{literal_view};
 ghost use Rattle.parser.specs.Classes.{literal_of, name_of, text_of, start_of, suffix_of, is_block_end};

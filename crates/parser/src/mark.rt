@@ -1,5 +1,5 @@
 // Marks and keywords that a phrase has at a fixed place.
-ghost use Rattle.std.specs.Prelude.{◌≡◌, option_copied, IsTrue, ◌↔◌};
+ghost use Rattle.std.specs.Prelude.{◌≡◌, option_copied};
 ghost use Rattle.parser.specs.Marks.{mark_of};
 
 use lua_tree::TokenKind;
