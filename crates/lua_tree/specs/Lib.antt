@@ -11,6 +11,7 @@ pub mod Names
 pub mod Precedence
 pub mod WellFormed
 pub mod Spelled
+pub mod Trees
 pub mod Joins
 pub mod TreeLists
 pub mod SpelledLaws

@@ -2,6 +2,7 @@
 ghost use Rattle.std.specs.Prelude.{◌≡◌, [], ◌∷◌, ◌++◌, OnOk, OnErr};
 ghost use Rattle.lua_tree.specs.Syntax.{no_statements, statement as one_statement, no_expressions, expression as one_expression, no_branches, no_fields};
 ghost use Rattle.lua_tree.specs.View.{view_block, view_statement, view_exps, view_exp, view_arms, view_arm, view_items, view_item};
+ghost use Rattle.lua_tree.specs.TreeLists.{statements_of, branches_of, expressions_of, fields_of};
 ghost use Rattle.lua_tree.specs.Joins.{join_statements, join_expressions, join_branches, join_fields};
 ghost use Rattle.lua_tree.specs.declared.tree.Block.{out-Block};
 ghost use Rattle.lua_tree.specs.declared.tree.Exps.{out-Exps};
@@ -277,7 +278,8 @@ impl Block {
 
     /// The statements.
     pub fn items(&self) -> &[Stat]
-        ensures { result.now ≡ (out-Block self.now).stats.items }
+        ensures items { result.now ≡ (out-Block self.now).stats.items }
+        ensures view { view_block self.now ≡ statements_of result.now }
     {
         self.stats.as_slice()
     }
@@ -319,7 +321,8 @@ impl Exps {
 
     /// The expressions.
     pub fn items(&self) -> &[Exp]
-        ensures { result.now ≡ (out-Exps self.now).exps.items }
+        ensures items { result.now ≡ (out-Exps self.now).exps.items }
+        ensures view { view_exps self.now ≡ expressions_of result.now }
     {
         self.exps.as_slice()
     }
@@ -361,7 +364,8 @@ impl Arms {
 
     /// The arms.
     pub fn items(&self) -> &[Arm]
-        ensures { result.now ≡ (out-Arms self.now).arms.items }
+        ensures items { result.now ≡ (out-Arms self.now).arms.items }
+        ensures view { view_arms self.now ≡ branches_of result.now }
     {
         self.arms.as_slice()
     }
@@ -403,7 +407,8 @@ impl Items {
 
     /// The items.
     pub fn items(&self) -> &[Item]
-        ensures { result.now ≡ (out-Items self.now).items.items }
+        ensures items { result.now ≡ (out-Items self.now).items.items }
+        ensures view { view_items self.now ≡ fields_of result.now }
     {
         self.items.as_slice()
     }

@@ -15,6 +15,7 @@ pub mod Looks
 pub mod MarkLemmas
 pub mod OneTree
 pub mod Passing
+pub mod Places
 pub mod Posts
 pub mod Reading
 pub mod RunSteps

@@ -1,18 +1,19 @@
 -- Steps of a run that look at what the next token begins.
-use Rattle.std.proofs.Common.{◌≡◌, ◌==◌, ℕ, true, false, List, Option, Some, sym, ◌∙◌, subst, nat_lt, arith, ap, ◌<◌, ◌≤◌, pos}
+use Rattle.std.proofs.Common.{◌≡◌, ◌==◌, ℕ, true, false, List, Option, Some, None, is_some, sym, ◌∙◌, subst, nat_lt, arith, ap, ◌<◌, ◌≤◌, pos}
 use Rattle.std.proofs.lemmas.Bool.Decides.{nat_tests}
-use Rattle.lua_tree.specs.Syntax.{Text, Expression, nil_literal, true_literal, false_literal, vararg_expression, number_literal, text_literal}
+use Rattle.lua_tree.specs.Syntax.{Text, Statements, Expression, nil_literal, true_literal, false_literal, vararg_expression, number_literal, text_literal}
 use Rattle.lua_tree.specs.WellFormed.{depth_of_expression}
-use Rattle.lua_tree.specs.Spelled.{Phrase}
+use Rattle.lua_tree.specs.Spelled.{Phrase, block_phrase}
 use Rattle.lua_tree.specs.declared.token.Token.{Token}
 use Rattle.lua_tree.specs.declared.token.TokenKind.{TokenKind}
 use Rattle.lua_tree.specs.declared.tree.UnaryOp.{UnaryOp}
+use Rattle.parser.specs.declared.cursor.Halt.{Halt}
 use Rattle.parser.specs.Classes.{Role, Start, Suffix, start_of, suffix_of, literal_of, name_of, text_of}
 use Rattle.parser.specs.Operators.{Infix, infix_of, unary_of}
-use Rattle.parser.specs.Program.{Program, look, reads, one_name, name_on, text_on, one_statement, statement_on, whole, whole_on, climb, climb_on, simple, simple_on, prefix, prefix_on, suffix, suffix_on, one_field, field_on}
+use Rattle.parser.specs.Program.{Program, look, reads, one_name, name_on, text_on, one_statement, statement_on, whole, whole_on, climb, climb_on, simple, simple_on, prefix, prefix_on, suffix, suffix_on, one_field, field_on, main_on}
 use Rattle.parser.specs.Runs.{kind_of, line_of}
-use Rattle.parser.specs.Finds.{Outcome, Leads}
-use Rattle.parser.proofs.Steps.{lead_look}
+use Rattle.parser.specs.Finds.{Outcome, Leads, found, halted}
+use Rattle.parser.proofs.Steps.{lead_look, lead_stop, lead_give}
 
 look_by : {A : Type 0} {answer : Phrase} (class : Option TokenKind → A) (then : ℕ → A → ℕ → Program answer) (next : A) {before : ℕ} {tokens : List Token} {outcome : Outcome answer} →
     next ≡ class (kind_of tokens) → Leads (then before next (line_of tokens)) before tokens outcome → Leads (look (λ before kind line. then before (class kind) line)) before tokens outcome
@@ -67,3 +68,12 @@ literal_height line (Some TokenKind.DotDotDot) e l = let q : e ≡ vararg_expres
 literal_height line (Some (TokenKind.Number (pos n))) e l = let q : e ≡ number_literal line (pos n) = cc in ap depth_of_expression (sym q)
 literal_height line (Some (TokenKind.Text text)) e l = let q : e ≡ text_literal line text = cc in ap depth_of_expression (sym q)
 literal_height line kind e l = cc
+
+-- behind the block of a source no token stands
+pub lead_past : {before : ℕ} {tokens : List Token} (inside : Statements) (next : Option TokenKind) → next ≡ kind_of tokens → is_some next ≡ true → Leads {answer = block_phrase} (look (λ before kind line. main_on inside kind)) before tokens (halted Halt.Unexpected tokens)
+lead_past inside (Some kind) n some = look_by (λ k. k) (λ before k line. main_on inside k) (Some kind) n lead_stop
+lead_past inside None n some = cc
+
+pub lead_end : {before : ℕ} {tokens : List Token} (inside : Statements) (next : Option TokenKind) → next ≡ kind_of tokens → is_some next ≡ false → Leads {answer = block_phrase} (look (λ before kind line. main_on inside kind)) before tokens (found inside before tokens)
+lead_end inside None n none = look_by (λ k. k) (λ before k line. main_on inside k) None n lead_give
+lead_end inside (Some kind) n none = cc

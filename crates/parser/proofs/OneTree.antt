@@ -3,7 +3,8 @@ use Rattle.std.proofs.Common.{◌≡◌, List, [], ap, ◌∙◌}
 use Rattle.lua_tree.specs.Syntax.{Source}
 use Rattle.lua_tree.specs.Spelled.{block_phrase}
 use Rattle.lua_tree.specs.declared.token.Token.{Token}
-use Rattle.parser.specs.Laws.{TreesAreOne, IsTreeOf}
+use Rattle.lua_tree.specs.Trees.{IsTreeOf}
+use Rattle.parser.specs.Laws.{TreesAreOne}
 use Rattle.parser.specs.Program.{reads, main_chunk}
 use Rattle.parser.specs.Runs.{Runs, End, done}
 use Rattle.parser.proofs.Ends.{one_end}

@@ -1,5 +1,6 @@
 -- A fault that a call hands on.
-use Rattle.std.proofs.Common.{◌≡◌, refl, ℕ, Bool, Result, Ok, Err, sym, subst, IfOk, IfErr}
+use Rattle.std.proofs.Common.{◌≡◌, refl, ℕ, Bool, Option, Some, None, is_some, Bor, Result, Ok, Err, sym, subst, IfOk, IfErr}
+use Rattle.std.specs.Option.{option_copied}
 use Rattle.std.specs.Result.{IsErrAnd}
 use Rattle.lua_num.specs.declared.names.Names.{Names}
 use Rattle.lua_tree.specs.Syntax.{function_body}
@@ -36,3 +37,8 @@ cond_made cond body = refl
 pub inside_made : (cond : Exp) (body : Block) → inside_of (roll-Arm (record { cond = cond; body = body })) ≡ view_block body
 unfolding roll-Arm denote.Hole.Carrier.roll
 inside_made cond body = refl
+
+-- whether there is a value behind a reference
+pub copied_some : {A : Type 0} (o : Option (Bor A)) → is_some (option_copied o) ≡ is_some o
+copied_some None = refl
+copied_some (Some a) = refl

@@ -6,4 +6,5 @@ pub mod Runs
 pub mod Fields
 pub mod Loops
 pub mod Finds
+pub mod Places
 pub mod Laws

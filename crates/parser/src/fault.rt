@@ -1,0 +1,17 @@
+// Why tokens are no tree.
+use thiserror::Error;
+
+/// Why tokens are no tree: the first token, by its index, with which no well-formed tree's tokens
+/// begin, or the number of tokens, where more of them are wanted at their end. (Manual 8; depth is at
+/// most 200.)
+#[derive(Clone, Copy, Debug, PartialEq, Eq, Error)]
+pub enum SyntaxFault {
+    /// No tree's tokens begin so, however deep.
+    #[error("Unexpected at token {at}")]
+    Unexpected { at: usize },
+    /// Only trees of a greater depth have tokens that begin so.
+    #[error("TooDeep at token {at}")]
+    TooDeep { at: usize },
+    #[error("out of memory")]
+    OutOfMemory,
+}
