@@ -1,14 +1,13 @@
 -- The definitions, computed on small sources.
-use Rattle.std.proofs.Common.{◌≡◌, ℕ, pos, List, [], ◌∷◌, Some, None, refl, arith}
+use Rattle.std.proofs.Common.{◌≡◌, ℕ, pos, true, false, List, [], ◌∷◌, Some, None, refl, arith}
 use Rattle.std.specs.Prelude.{codes}
 use Rattle.std.specs.Fmt.{digits}
-use Rattle.lua_tree.specs.declared.token.TokenKind.{TokenKind}
-use Rattle.lua_tree.specs.declared.token.Token.{Token}
+use Rattle.lua_tree.specs.Syntax.{Statements, no_statements, statement, call_statement, call_expression, name_expression, argument_list, expression, no_expressions, number_literal}
 use Rattle.agrees.specs.declared.tree.Statement.{Statement}
 use Rattle.agrees.specs.declared.tree.Statement.TheVariants.{Print}
 use Rattle.agrees.specs.declared.chunk.Instruction.TheVariants.{GetGlobal, LoadK, Call, Return}
 use Rattle.agrees.specs.declared.chunk.Constant.{Constant}
-use Rattle.agrees.specs.Source.{Spells, IsPrintList}
+use Rattle.agrees.specs.Source.{PrintsNumber, IsPrintList}
 use Rattle.agrees.specs.Progress.{Done}
 use Rattle.agrees.specs.Meaning.{meaning}
 use Rattle.agrees.specs.Rules.{ran}
@@ -54,46 +53,26 @@ code_of_none = refl
 run_of_none : ran (scheme []) 1 ≡ record { pieces = []; end = Some Done }
 run_of_none = refl
 
--- the tokens of `print(7)`, with all but the name on this line
-abbrev seven : ℕ → List Token
-seven line =
-    record { kind = TokenKind.Name (codes "print"); at = 0; line = 1 }
-    ∷ record { kind = TokenKind.OpenParen; at = 5; line = line }
-    ∷ record { kind = TokenKind.Number (pos 7); at = 6; line = line }
-    ∷ record { kind = TokenKind.CloseParen; at = 7; line = line }
-    ∷ []
+-- the statements of `print(7); print(7)`, which are called by this name
+abbrev sevens : List ℕ → Statements
+sevens name =
+    let call = call_statement (call_expression 1 (name_expression 1 name) (argument_list (expression (number_literal 1 (pos 7)) no_expressions)) 1) in
+    statement 1 true call (statement 1 false call no_statements)
 
-seven_is_listed : IsPrintList (seven 1) (Print (pos 7) ∷ [])
-seven_is_listed = record {
-  spelled = record {
-    name = record { kind = TokenKind.Name (codes "print"); at = 0; line = 1 };
-    opening = record { kind = TokenKind.OpenParen; at = 5; line = 1 };
-    number = record { kind = TokenKind.Number (pos 7); at = 6; line = 1 };
-    closing = record { kind = TokenKind.CloseParen; at = 7; line = 1 };
-    rest = [];
-    whole = refl;
-    name_is = refl;
-    opening_is = refl;
-    number_is = refl;
-    closing_is = refl;
-    same_line = refl;
-    others = refl;
-  };
-  few = omega arith;
-}
+seven_printed : PrintsNumber (call_statement (call_expression 1 (name_expression 1 (codes "print")) (argument_list (expression (number_literal 1 (pos 7)) no_expressions)) 1)) (pos 7)
+seven_printed = record { call_line = 1; name_line = 1; number_line = 1; on_line = 1; is = refl }
 
--- no tokens are those of the empty source
-none_is_listed : IsPrintList [] []
-none_is_listed = record { spelled = refl; few = omega arith }
+sevens_are_listed : IsPrintList (sevens (codes "print")) (Print (pos 7) ∷ Print (pos 7) ∷ [])
+sevens_are_listed = record { printed = (seven_printed, (seven_printed, tt)); few = omega arith }
 
--- `(` on the line after the name begins no statement
-apart_is_not_spelled : (tree : List Statement) → Spells (seven 2) tree → ⊥
-apart_is_not_spelled [] spelled = cc
-apart_is_not_spelled (Print n ∷ rest) spelled =
-    let opening : spelled.opening.line ≡ 2 = cc in
-    let name : spelled.name.line ≡ 1 = cc in
-    let same : spelled.opening.line ≡ spelled.name.line = spelled.same_line in
-    absurd (omega arith)
+-- no statements are those of the empty source
+none_is_listed : IsPrintList no_statements []
+none_is_listed = record { printed = tt; few = omega arith }
 
-apart_is_not_listed : (tree : List Statement) → IsPrintList (seven 2) tree → ⊥
-apart_is_not_listed tree is = apart_is_not_spelled tree is.spelled
+-- calls of another name are no printed numbers
+others_are_not_listed : (tree : List Statement) → IsPrintList (sevens (codes "prints")) tree → ⊥
+others_are_not_listed [] is = is.printed
+others_are_not_listed (Print n ∷ rest) is =
+    let first = is.printed.0 in
+    let call = first.is in
+    cc

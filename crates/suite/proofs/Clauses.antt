@@ -8,26 +8,44 @@ use Rattle.suite_io.specs.Contents.{Contents}
 use Rattle.suite_io.specs.Calls.{call_of, fault_count}
 use Rattle.suite_io.specs.Taken.{Takes, Rises}
 use Rattle.lua_tree.specs.declared.token.Token.{Token}
+use Rattle.lua_tree.specs.Syntax.{Source}
 use Rattle.lua_tree.specs.Tiling.{Cause, Lexes, Stops}
+use Rattle.lua_tree.specs.Trees.{IsTreeOf}
 use Rattle.lexer.specs.declared.fault.LexFault.{LexFault}
-use Rattle.lexer.specs.Faults.{IsFaultOf}
+use Rattle.lexer.specs.Faults as lexical
+use Rattle.parser.specs.declared.fault.SyntaxFault.{SyntaxFault}
+use Rattle.parser.specs.Places as syntax
+use Rattle.parser.specs.Laws.{TreesAreOne, NeverBoth}
 use Rattle.agrees.specs.declared.tree.Statement.{Statement}
 use Rattle.agrees.specs.Source.{is_chunk, IsFirstForm}
+use Rattle.suite.specs.declared.fault.Fault.{Fault}
 use Rattle.suite.specs.declared.status.Status.{Status}
 use Rattle.suite.specs.declared.outcome.Outcome.{Outcome}
 use Rattle.suite.specs.Output.{TakesPart}
 use Rattle.suite.specs.Words.{Words, Reads, named, second_of, Fetched, Tells, HasSource}
 use Rattle.suite.specs.Lines.{status_of, line_of, Refused, IsPut, Reported}
-use Rattle.suite.specs.Outcome.{IsBadSource, IsNotBuilt}
+use Rattle.suite.specs.Outcome.{IsBadSource, IsNotBuilt, IsFaultIn}
 use Rattle.suite.specs.Work.{FileRuns, FetchedRuns, IsFetched, HasOutput, Prints, PrintsPart}
 use Rattle.suite.specs.Causes.{Becomes, NoFault, HasNoSource}
-use Rattle.suite.proofs.SourceLemmas.{form_listed}
+use Rattle.suite.proofs.SourceLemmas.{TokensAreOne, form_listed}
 
-abbrev pub AreOne : Type 0
-AreOne = (bytes : List ℕ) (tokens others : List Token) → Lexes bytes tokens → Lexes bytes others → tokens ≡ others
+abbrev pub TokensOrFault : Type 0
+TokensOrFault = (bytes : List ℕ) (tokens : List Token) (cause : Cause) (at : ℕ) → Lexes bytes tokens → Stops bytes cause at → ⊥
 
-abbrev pub NeverBoth : Type 0
-NeverBoth = (bytes : List ℕ) (tokens : List Token) (cause : Cause) (at : ℕ) → Lexes bytes tokens → Stops bytes cause at → ⊥
+-- bytes have tokens or a fault, tokens have a tree or a fault, and each is one
+pub record Laws : Type 0 where
+  pub tokens_are_one : TokensAreOne
+  pub tokens_or_fault : TokensOrFault
+  pub trees_are_one : TreesAreOne
+  pub tree_or_fault : NeverBoth
+
+pub laws_of : TokensAreOne → TokensOrFault → TreesAreOne → NeverBoth → Laws
+laws_of tokens_one tokens_never trees_one trees_never = record {
+  tokens_are_one = tokens_one;
+  tokens_or_fault = tokens_never;
+  trees_are_one = trees_one;
+  tree_or_fault = trees_never;
+}
 
 pub named_is : (words : Words) (file : List ℕ) → Reads words file → named words ≡ file
 named_is words file r = ap second_of r.words_are
@@ -63,26 +81,42 @@ none_part : (before later : Option (List ℕ)) (text : List ℕ) → Takes befor
 none_part before later text t = ([], (text, refl), t)
 
 -- tokens and a fault of one text never stand together, for each fault
-no_fault : NeverBoth → (bytes : List ℕ) (tokens : List Token) (fault : LexFault) → Lexes bytes tokens → IsFaultOf bytes fault → ⊥
-no_fault never bytes tokens (LexFault.BadByte at) lexed is = never bytes tokens _ at lexed is
-no_fault never bytes tokens (LexFault.UnfinishedString at) lexed is = never bytes tokens _ at lexed is
-no_fault never bytes tokens (LexFault.UnfinishedLong at) lexed is = never bytes tokens _ at lexed is
-no_fault never bytes tokens (LexFault.BadLongOpen at) lexed is = never bytes tokens _ at lexed is
-no_fault never bytes tokens (LexFault.EscapeTooLarge at) lexed is = never bytes tokens _ at lexed is
-no_fault never bytes tokens (LexFault.BadNumber at) lexed is = never bytes tokens _ at lexed is
-no_fault never bytes tokens LexFault.OutOfMemory lexed is = is
+no_lexical_fault : TokensOrFault → (bytes : List ℕ) (tokens : List Token) (fault : LexFault) → Lexes bytes tokens → lexical.IsFaultOf bytes fault → ⊥
+no_lexical_fault never bytes tokens (LexFault.BadByte at) lexed is = never bytes tokens _ at lexed is
+no_lexical_fault never bytes tokens (LexFault.UnfinishedString at) lexed is = never bytes tokens _ at lexed is
+no_lexical_fault never bytes tokens (LexFault.UnfinishedLong at) lexed is = never bytes tokens _ at lexed is
+no_lexical_fault never bytes tokens (LexFault.BadLongOpen at) lexed is = never bytes tokens _ at lexed is
+no_lexical_fault never bytes tokens (LexFault.EscapeTooLarge at) lexed is = never bytes tokens _ at lexed is
+no_lexical_fault never bytes tokens (LexFault.BadNumber at) lexed is = never bytes tokens _ at lexed is
+no_lexical_fault never bytes tokens LexFault.OutOfMemory lexed is = is
+
+no_syntax_fault : Laws → (bytes : List ℕ) (tokens others : List Token) (whole : Source) (fault : SyntaxFault) → Lexes bytes tokens → IsTreeOf tokens whole → Lexes bytes others → syntax.IsFaultOf others fault → ⊥
+no_syntax_fault laws bytes tokens others whole fault lexed parsed lexed_too is =
+    laws.tree_or_fault others whole fault (subst (λ t. IsTreeOf t whole) (laws.tokens_are_one bytes tokens others lexed lexed_too) parsed) is
+
+-- nor do a tree and a fault
+no_fault : Laws → (bytes : List ℕ) (tokens : List Token) (whole : Source) (fault : Fault) → Lexes bytes tokens → IsTreeOf tokens whole → IsFaultIn bytes fault → ⊥
+no_fault laws bytes tokens whole (Fault.Lexical fault) lexed parsed is =
+    no_lexical_fault laws.tokens_or_fault bytes tokens fault lexed is
+no_fault laws bytes tokens whole (Fault.Unexpected offset) lexed parsed is =
+    no_syntax_fault laws bytes tokens is.tokens whole (SyntaxFault.Unexpected is.at) lexed parsed is.lexed is.fault
+no_fault laws bytes tokens whole (Fault.TooDeep offset) lexed parsed is =
+    no_syntax_fault laws bytes tokens is.tokens whole (SyntaxFault.TooDeep is.at) lexed parsed is.lexed is.fault
 
 -- source of the first form, source with a fault and what is not built are three
-form_not_bad : NeverBoth → (bytes : List ℕ) (tree : List Statement) (fault : LexFault) → IsFirstForm bytes tree → IsBadSource bytes fault → ⊥
-form_not_bad never bytes tree fault form bad = no_fault never bytes form.tokens fault form.lexed bad.fault_is
+form_not_bad : Laws → (bytes : List ℕ) (tree : List Statement) (fault : Fault) → IsFirstForm bytes tree → IsBadSource bytes fault → ⊥
+form_not_bad laws bytes tree fault form bad =
+    no_fault laws bytes form.tokens form.whole fault form.lexed form.parsed bad.fault_is
 
-form_not_unbuilt : AreOne → (bytes : List ℕ) (tree : List Statement) → IsFirstForm bytes tree → IsNotBuilt bytes → ⊥
-form_not_unbuilt one bytes tree form (inl chunk) = let source : is_chunk bytes ≡ false = form.source in cc
-form_not_unbuilt one bytes tree form (inr other) = other.no_list tree (form_listed bytes other.tokens tree one other.lexed form)
+form_not_unbuilt : Laws → (bytes : List ℕ) (tree : List Statement) → IsFirstForm bytes tree → IsNotBuilt bytes → ⊥
+form_not_unbuilt laws bytes tree form (inl chunk) = let source : is_chunk bytes ≡ false = form.source in cc
+form_not_unbuilt laws bytes tree form (inr other) =
+    other.no_list tree (form_listed laws.tokens_are_one laws.trees_are_one bytes other.tokens other.whole tree other.lexed other.parsed form)
 
-bad_not_unbuilt : NeverBoth → (bytes : List ℕ) (fault : LexFault) → IsBadSource bytes fault → IsNotBuilt bytes → ⊥
-bad_not_unbuilt never bytes fault bad (inl chunk) = let source : is_chunk bytes ≡ false = bad.source in cc
-bad_not_unbuilt never bytes fault bad (inr other) = no_fault never bytes other.tokens fault other.lexed bad.fault_is
+bad_not_unbuilt : Laws → (bytes : List ℕ) (fault : Fault) → IsBadSource bytes fault → IsNotBuilt bytes → ⊥
+bad_not_unbuilt laws bytes fault bad (inl chunk) = let source : is_chunk bytes ≡ false = bad.source in cc
+bad_not_unbuilt laws bytes fault bad (inr other) =
+    no_fault laws bytes other.tokens other.whole fault other.lexed other.parsed bad.fault_is
 
 -- a status whose line was refused is then one of two
 refused_is : (status result : Status) (old new : ℕ) → Refused status result old new → (result ≡ Status.WriteFault) ⊎ (result ≡ Status.OutOfMemory)
@@ -127,7 +161,7 @@ line_clause words file err_before err_later err_old err_new reads outcome result
     let settled = settled_is err_before err_later err_old err_new outcome file result r no_fault no_want in
     (outcome, sym settled.0, line_named words file err_before err_later reads outcome settled.1)
 
-module _ (one : AreOne) (never : NeverBoth) (words : Words) (file : List ℕ) (contents : Option Contents) (calls calls_after : List FileCall) (before later : Option (List ℕ)) (old new : ℕ) (err_before err_later : Option (List ℕ)) (err_old err_new : ℕ) (reads : Reads words file) where
+module _ (laws : Laws) (words : Words) (file : List ℕ) (contents : Option Contents) (calls calls_after : List FileCall) (before later : Option (List ℕ)) (old new : ℕ) (err_before err_later : Option (List ℕ)) (err_old err_new : ℕ) (reads : Reads words file) where
   -- the bytes that were fetched are those that were told
   told_is : (bytes : List ℕ) (outcome : Outcome) → HasSource words contents bytes → (f : FetchedRuns file contents calls calls_after outcome before later old new) → bytes ≡ f.bytes
   told_is bytes outcome h f =
@@ -136,7 +170,7 @@ module _ (one : AreOne) (never : NeverBoth) (words : Words) (file : List ℕ) (c
   form_at : (bytes fetched : List ℕ) (tree : List Statement) → bytes ≡ fetched → IsFirstForm bytes tree → IsFirstForm fetched tree
   form_at bytes fetched tree e form = subst (λ b. IsFirstForm b tree) e form
 
-  bad_at : (bytes fetched : List ℕ) (fault : LexFault) → bytes ≡ fetched → IsBadSource bytes fault → IsBadSource fetched fault
+  bad_at : (bytes fetched : List ℕ) (fault : Fault) → bytes ≡ fetched → IsBadSource bytes fault → IsBadSource fetched fault
   bad_at bytes fetched fault e bad = subst (λ b. IsBadSource b fault) e bad
 
   -- a tree's output, where the sink took the output of the bytes
@@ -160,9 +194,9 @@ module _ (one : AreOne) (never : NeverBoth) (words : Words) (file : List ℕ) (c
   prints_clause Outcome.Done result f r bytes tree h form files out err =
       let p = prints_text bytes f.bytes tree (told_is bytes Outcome.Done h f) form f.runs in inl (r.0, p.0, p.1, p.2)
   prints_clause (Outcome.BadSource fault) result f r bytes tree h form files out err =
-      absurd (form_not_bad never f.bytes tree fault (form_at bytes f.bytes tree (told_is bytes (Outcome.BadSource fault) h f) form) f.runs.0)
+      absurd (form_not_bad laws f.bytes tree fault (form_at bytes f.bytes tree (told_is bytes (Outcome.BadSource fault) h f) form) f.runs.0)
   prints_clause Outcome.Unbuilt result f r bytes tree h form files out err =
-      absurd (form_not_unbuilt one f.bytes tree (form_at bytes f.bytes tree (told_is bytes Outcome.Unbuilt h f) form) f.runs.0)
+      absurd (form_not_unbuilt laws f.bytes tree (form_at bytes f.bytes tree (told_is bytes Outcome.Unbuilt h f) form) f.runs.0)
   prints_clause Outcome.WriteFault result f r bytes tree h form files out err = absurd (out f.runs.1)
   prints_clause Outcome.OutOfMemory result f (inl r) bytes tree h form files out err = inr r.0
   prints_clause Outcome.OutOfMemory result f (inr r) bytes tree h form files out err = inr r.0
@@ -230,7 +264,7 @@ module _ (one : AreOne) (never : NeverBoth) (words : Words) (file : List ℕ) (c
     listed = f ∙ ap (λ n. calls ++ call_of false n false ∷ []) (sym (named_is words file reads));
   }
 
-  bad_source_runs : (outcome : Outcome) → Runs outcome → status_of outcome ≡ Status.BadSource → Takes err_before err_later (line_of outcome file) → Fetched words false calls calls_after × (fault : LexFault) × ((bytes : List ℕ) → HasSource words contents bytes → IsBadSource bytes fault) × Takes err_before err_later (line_of (Outcome.BadSource fault) (named words))
+  bad_source_runs : (outcome : Outcome) → Runs outcome → status_of outcome ≡ Status.BadSource → Takes err_before err_later (line_of outcome file) → Fetched words false calls calls_after × (fault : Fault) × ((bytes : List ℕ) → HasSource words contents bytes → IsBadSource bytes fault) × Takes err_before err_later (line_of (Outcome.BadSource fault) (named words))
   bad_source_runs (Outcome.BadSource fault) f e t = (
     fetched_is f.fetched,
     fault,
@@ -244,7 +278,7 @@ module _ (one : AreOne) (never : NeverBoth) (words : Words) (file : List ℕ) (c
   bad_source_runs Outcome.OutOfMemory f e t = cc
   bad_source_runs Outcome.Unbuilt f e t = cc
 
-  pub bad_source_clause : (outcome : Outcome) (result : Status) → Runs outcome → Becoming outcome result → result ≡ Status.BadSource → Fetched words false calls calls_after × (fault : LexFault) × ((bytes : List ℕ) → HasSource words contents bytes → IsBadSource bytes fault) × Takes err_before err_later (line_of (Outcome.BadSource fault) (named words))
+  pub bad_source_clause : (outcome : Outcome) (result : Status) → Runs outcome → Becoming outcome result → result ≡ Status.BadSource → Fetched words false calls calls_after × (fault : Fault) × ((bytes : List ℕ) → HasSource words contents bytes → IsBadSource bytes fault) × Takes err_before err_later (line_of (Outcome.BadSource fault) (named words))
   bad_source_clause outcome result f r e =
       let settled = settled_is err_before err_later err_old err_new outcome file result r (λ w. cc) (λ o. cc) in
       bad_source_runs outcome f (sym settled.0 ∙ e) settled.1
@@ -264,17 +298,17 @@ module _ (one : AreOne) (never : NeverBoth) (words : Words) (file : List ℕ) (c
       let settled = settled_is err_before err_later err_old err_new outcome file result r (λ w. cc) (λ o. cc) in
       unbuilt_runs outcome f (sym settled.0 ∙ e)
 
-  pub faulty_clause : (outcome : Outcome) (result : Status) → Runs outcome → Becoming outcome result → (bytes : List ℕ) (fault : LexFault) → HasSource words contents bytes → IsBadSource bytes fault → Fetched words false calls calls_after → Becomes Status.BadSource result err_old err_new ⊎ (result ≡ Status.OutOfMemory)
+  pub faulty_clause : (outcome : Outcome) (result : Status) → Runs outcome → Becoming outcome result → (bytes : List ℕ) (fault : Fault) → HasSource words contents bytes → IsBadSource bytes fault → Fetched words false calls calls_after → Becomes Status.BadSource result err_old err_new ⊎ (result ≡ Status.OutOfMemory)
   faulty_clause (Outcome.BadSource why) result f (inl (inl r)) bytes fault h bad g = inl (inl r.0)
   faulty_clause (Outcome.BadSource why) result f (inl (inr r)) bytes fault h bad g = inl (inr r.0)
   faulty_clause (Outcome.BadSource why) result f (inr (inl r)) bytes fault h bad g = inr r.0
   faulty_clause (Outcome.BadSource why) result f (inr (inr r)) bytes fault h bad g = inr r.0
   faulty_clause Outcome.Done result f r bytes fault h bad g =
-      absurd (form_not_bad never f.bytes f.runs.tree fault f.runs.source.form (bad_at bytes f.bytes fault (told_is bytes Outcome.Done h f) bad))
+      absurd (form_not_bad laws f.bytes f.runs.tree fault f.runs.source.form (bad_at bytes f.bytes fault (told_is bytes Outcome.Done h f) bad))
   faulty_clause Outcome.Unbuilt result f r bytes fault h bad g =
-      absurd (bad_not_unbuilt never f.bytes fault (bad_at bytes f.bytes fault (told_is bytes Outcome.Unbuilt h f) bad) f.runs.0)
+      absurd (bad_not_unbuilt laws f.bytes fault (bad_at bytes f.bytes fault (told_is bytes Outcome.Unbuilt h f) bad) f.runs.0)
   faulty_clause Outcome.WriteFault result f r bytes fault h bad g =
-      absurd (form_not_bad never f.bytes f.runs.0.tree fault f.runs.0.source.form (bad_at bytes f.bytes fault (told_is bytes Outcome.WriteFault h f) bad))
+      absurd (form_not_bad laws f.bytes f.runs.0.tree fault f.runs.0.source.form (bad_at bytes f.bytes fault (told_is bytes Outcome.WriteFault h f) bad))
   faulty_clause Outcome.OutOfMemory result f (inl r) bytes fault h bad g = inr r.0
   faulty_clause Outcome.OutOfMemory result f (inr r) bytes fault h bad g = inr r.0
   faulty_clause Outcome.ReadFault result f r bytes fault h bad g = absurd (fetched_not g f.0)
@@ -284,11 +318,11 @@ module _ (one : AreOne) (never : NeverBoth) (words : Words) (file : List ℕ) (c
   not_built_clause Outcome.Unbuilt result f (inl r) bytes h not g = inl (inl r.0)
   not_built_clause Outcome.Unbuilt result f (inr r) bytes h not g = inl (inr r.0)
   not_built_clause Outcome.Done result f r bytes h not g =
-      absurd (form_not_unbuilt one f.bytes f.runs.tree f.runs.source.form (subst IsNotBuilt (told_is bytes Outcome.Done h f) not))
+      absurd (form_not_unbuilt laws f.bytes f.runs.tree f.runs.source.form (subst IsNotBuilt (told_is bytes Outcome.Done h f) not))
   not_built_clause (Outcome.BadSource fault) result f r bytes h not g =
-      absurd (bad_not_unbuilt never f.bytes fault f.runs.0 (subst IsNotBuilt (told_is bytes (Outcome.BadSource fault) h f) not))
+      absurd (bad_not_unbuilt laws f.bytes fault f.runs.0 (subst IsNotBuilt (told_is bytes (Outcome.BadSource fault) h f) not))
   not_built_clause Outcome.WriteFault result f r bytes h not g =
-      absurd (form_not_unbuilt one f.bytes f.runs.0.tree f.runs.0.source.form (subst IsNotBuilt (told_is bytes Outcome.WriteFault h f) not))
+      absurd (form_not_unbuilt laws f.bytes f.runs.0.tree f.runs.0.source.form (subst IsNotBuilt (told_is bytes Outcome.WriteFault h f) not))
   not_built_clause Outcome.OutOfMemory result f (inl r) bytes h not g = inr r.0
   not_built_clause Outcome.OutOfMemory result f (inr r) bytes h not g = inr r.0
   not_built_clause Outcome.ReadFault result f r bytes h not g = absurd (fetched_not g f.0)

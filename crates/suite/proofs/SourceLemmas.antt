@@ -1,133 +1,102 @@
--- Tokens have one reading at most.
-use Rattle.std.proofs.Common.{◌≡◌, ◌≢◌, ℕ, ◌≤◌, Bool, true, false, List, [], ◌∷◌, ◌++◌, length, refl, sym, ap, subst, ◌∙◌, append_assoc, append-nil, arith, length-append}
-use Rattle.std.proofs.lemmas.Bool.Decides.{nat_tests}
-use Rattle.std.specs.Prelude.{nat_eq}
-use Rattle.lua_tree.specs.declared.token.TokenKind.{TokenKind}
-use Rattle.lua_tree.specs.declared.token.Token.{Token}
+-- Statements have one list of printed numbers at most.
+use Rattle.std.proofs.Common.{◌≡◌, ◌≢◌, ℕ, ◌+◌, ◌<◌, ◌≤◌, ℤ, Bool, List, [], ◌∷◌, ◌++◌, length, get_or, drop, IfNone, Option, Some, None, sym, ap, subst, ◌∙◌, append_assoc, append-nil, arith, length-append}
+use Rattle.std.proofs.lemmas.List.{at_drop_more, at_drop_all}
+use Rattle.lua_tree.specs.Syntax as syntax
+use Rattle.lua_tree.specs.Syntax.{Statements, no_statements, call_statement, Expressions, Expression, call_expression, argument_list, Source}
 use Rattle.lua_tree.specs.Tiling.{Lexes}
-use Rattle.agrees.specs.Source.{Spells, IsPrintList, IsFirstForm}
+use Rattle.lua_tree.specs.Trees.{IsTreeOf}
+use Rattle.lua_tree.specs.View.{view_exp}
+use Rattle.lua_tree.specs.TreeLists.{expressions_of, statements_of}
+use Rattle.lua_tree.specs.declared.tree.Exp.{Exp}
+use Rattle.lua_tree.specs.declared.tree.Stat.{Stat}
+use Rattle.lua_tree.specs.declared.token.Token.{Token}
+use Rattle.parser.specs.Laws.{TreesAreOne}
+use Rattle.agrees.specs.Source.{PrintsNumber, ArePrinted, IsPrintList, IsFirstForm}
 use Rattle.agrees.specs.declared.tree.Statement.{Statement}
 use Rattle.agrees.specs.declared.tree.Statement.TheVariants.{Print}
-use Rattle.suite.specs.Reading.{ReadsStatement, HasNoStatement, IsNoPrintList}
+use Rattle.suite.specs.Reading.{IsNoPrintList, IsNumber, IsNumberList}
 
--- a statement that is read, and what the others spell
-reads_spelled : (tokens rest : List Token) (s : Statement) (others : List Statement) → ReadsStatement tokens s rest → Spells rest others → Spells tokens (s ∷ others)
-reads_spelled tokens rest (Print n) others read spelled = record {
-  name = read.name;
-  opening = read.opening;
-  number = read.number;
-  closing = read.closing;
-  rest = read.rest;
-  whole = read.whole;
-  name_is = read.name_is;
-  opening_is = read.opening_is;
-  number_is = read.number_is;
-  closing_is = read.closing_is;
-  same_line = read.same_line;
-  others = subst (λ l. Spells l others) (sym read.others) spelled;
-}
+pub none_weaker : {A P Q : Type 0} (o : Option A) → (P → Q) → IfNone o P → IfNone o Q
+none_weaker (Some x) f h = tt
+none_weaker None f h = f h
 
--- a first statement that is spelled can be read
-spelled_reads : (tokens : List Token) (s : Statement) (others : List Statement) → Spells tokens (s ∷ others) → (rest : List Token) × ReadsStatement tokens s rest
-spelled_reads tokens (Print n) others spelled = (
-  spelled.rest,
-  record {
-    name = spelled.name;
-    opening = spelled.opening;
-    number = spelled.number;
-    closing = spelled.closing;
-    rest = spelled.rest;
-    whole = spelled.whole;
-    name_is = spelled.name_is;
-    opening_is = spelled.opening_is;
-    number_is = spelled.number_is;
-    closing_is = spelled.closing_is;
-    same_line = spelled.same_line;
-    others = refl;
-  },
-)
+-- a call of a list prints what is in the list
+pub call_is : (s : syntax.Statement) (line : ℕ) (on : Expression) (list : Expressions) (on_line : ℕ) (n : ℤ) → s ≡ call_statement (call_expression line on (argument_list list) on_line) → PrintsNumber s n → IsNumberList list n
+call_is s line on list on_line n e printed =
+    let whole = printed.is in record { line = printed.number_line; is = cc }
 
--- the statement that is read is the one that is spelled
-record SameRead (s : Statement) (rest : List Token) (t : Statement) (others : List Statement) : Type 0 where
-  statements : s ≡ t
-  spelled : Spells rest others
+-- a list of one expression is that number, and a list of more is none
+pub one_number_is : (list : List Exp) (only : Exp) (n : ℤ) → 1 ≤ length list → length list < 2 → only ≡ get_or list 0 only → IsNumberList (expressions_of list) n → IsNumber (view_exp only) n
+one_number_is [] only n some few at is = absurd (omega arith)
+one_number_is (e ∷ []) only n some few at is = let whole = is.is in record { line = is.line; is = ap view_exp at ∙ cc }
+one_number_is (e ∷ f ∷ list) only n some few at is = absurd (omega arith)
 
-same_read : (tokens rest : List Token) (s t : Statement) (others : List Statement) → ReadsStatement tokens s rest → Spells tokens (t ∷ others) → SameRead s rest t others
-same_read tokens rest (Print n) (Print m) others read spelled =
-    let rests : spelled.rest ≡ rest = cc in
-    let numbers : read.number ≡ spelled.number = cc in
-    let kinds : TokenKind.Number n ≡ TokenKind.Number m = sym read.number_is ∙ (ap (λ (t : Token). t.kind) numbers ∙ spelled.number_is) in
-    record { statements = cc; spelled = subst (λ l. Spells l others) rests spelled.others }
+pub more_are_none : (list : List Exp) → 2 ≤ length list → (n : ℤ) → IsNumberList (expressions_of list) n → ⊥
+more_are_none [] more n is = absurd (omega arith)
+more_are_none (e ∷ []) more n is = absurd (omega arith)
+more_are_none (e ∷ f ∷ list) more n is = let whole = is.is in cc
 
--- tokens with a statement at the front are some
-reads_some : (tokens rest : List Token) (s : Statement) → ReadsStatement tokens s rest → tokens ≡ [] → ⊥
-reads_some tokens rest (Print n) read empty = cc
-
--- a tree is the statements so far, and a tree of what is left
-pub record Continues (statements : List Statement) (rest : List Token) (tree : List Statement) : Type 0 where
+-- a list of printed numbers is those so far, and a list of what is left
+pub record Continues (prints : List Statement) (rest : Statements) (tree : List Statement) : Type 0 where
   pub others : List Statement
-  pub whole : tree ≡ statements ++ others
-  pub spelled : Spells rest others
+  pub whole : tree ≡ prints ++ others
+  pub printed : ArePrinted rest others
 
--- the statements so far, and the tokens that are left: their trees are the ends of those of all tokens
-pub record IsReading (start : List Token) (statements : List Statement) (rest : List Token) : Type 0 where
-  pub back : (others : List Statement) → Spells rest others → Spells start (statements ++ others)
-  pub forth : (tree : List Statement) → Spells start tree → Continues statements rest tree
-  pub few : length statements ≤ 200
+-- the numbers so far, and the statements that are left: their lists are the ends of those of all statements
+pub record IsReading (all : Statements) (prints : List Statement) (rest : Statements) : Type 0 where
+  pub back : (others : List Statement) → ArePrinted rest others → ArePrinted all (prints ++ others)
+  pub forth : (tree : List Statement) → ArePrinted all tree → Continues prints rest tree
+  pub few : length prints ≤ 200
 
-continues_more : (statements tree others : List Statement) (rest after : List Token) (s : Statement) → ReadsStatement rest s after → tree ≡ statements ++ others → Spells rest others → Continues (statements ++ s ∷ []) after tree
-continues_more statements tree [] rest after s read whole empty = absurd (reads_some rest after s read empty)
-continues_more statements tree (t ∷ others) rest after s read whole spelled =
-    let same : SameRead s after t others = same_read rest after s t others read spelled in
-    record { others = others; whole = rw (append_assoc, same.statements) whole; spelled = same.spelled }
+-- the first statement prints one number at most
+same_number : (s : syntax.Statement) (n m : ℤ) → PrintsNumber s n → PrintsNumber s m → n ≡ m
+same_number s n m one other = let a = one.is in let b = other.is in cc
 
-pub reading_more : (start : List Token) (statements : List Statement) (rest after : List Token) (s : Statement) → IsReading start statements rest → length statements ≢ 200 → ReadsStatement rest s after → IsReading start (statements ++ s ∷ []) after
-reading_more start statements rest after s reading room read = record {
-  back = λ others h. rw append_assoc (reading.back (s ∷ others) (reads_spelled rest after s others read h));
-  forth = λ tree h. let more : Continues statements rest tree = reading.forth tree h in continues_more statements tree more.others rest after s read more.whole more.spelled;
-  few = let few : length statements ≤ 200 = reading.few in rw length-append (omega arith);
+continues_more : (prints tree others : List Statement) (line : ℕ) (semi : Bool) (s : syntax.Statement) (rest : Statements) (n : ℤ) → PrintsNumber s n → tree ≡ prints ++ others → ArePrinted (syntax.statement line semi s rest) others → Continues (prints ++ Print n ∷ []) rest tree
+continues_more prints tree [] line semi s rest n number whole printed = absurd printed
+continues_more prints tree (Print m ∷ others) line semi s rest n number whole printed =
+    let same : n ≡ m = same_number s n m number printed.0 in
+    record { others = others; whole = rw (append_assoc, same) whole; printed = printed.1 }
+
+pub reading_more : (all : Statements) (prints : List Statement) (line : ℕ) (semi : Bool) (s : syntax.Statement) (rest : Statements) (n : ℤ) → IsReading all prints (syntax.statement line semi s rest) → length prints ≢ 200 → PrintsNumber s n → IsReading all (prints ++ Print n ∷ []) rest
+reading_more all prints line semi s rest n reading room number = record {
+  back = λ others h. rw append_assoc (reading.back (Print n ∷ others) (number, h));
+  forth = λ tree h. let more : Continues prints (syntax.statement line semi s rest) tree = reading.forth tree h in continues_more prints tree more.others line semi s rest n number more.whole more.printed;
+  few = let few : length prints ≤ 200 = reading.few in rw length-append (omega arith);
 }
 
--- where nothing is left, the statements are the one tree
-pub print_list : (start : List Token) (statements : List Statement) (rest : List Token) → IsReading start statements rest → rest ≡ [] → IsPrintList start statements
-print_list start statements rest reading empty = record {
-  spelled = subst (Spells start) (append-nil statements) (reading.back [] empty);
+-- where nothing is left, the numbers are the one list
+pub print_list : (all : Statements) (prints : List Statement) → IsReading all prints no_statements → IsPrintList all prints
+print_list all prints reading = record {
+  printed = subst (ArePrinted all) (append-nil prints) (reading.back [] tt);
   few = reading.few;
 }
 
-none_left : (rest : List Token) (others : List Statement) → rest ≡ [] → Spells rest others → others ≡ []
-none_left rest [] empty h = refl
-none_left rest (s ∷ others) empty h = let read = spelled_reads rest s others h in absurd (reads_some rest read.0 s read.1 empty)
+-- where the next statement prints no number, there is no list
+no_number : (line : ℕ) (semi : Bool) (s : syntax.Statement) (rest : Statements) (others : List Statement) → ((n : ℤ) → PrintsNumber s n → ⊥) → ArePrinted (syntax.statement line semi s rest) others → ⊥
+no_number line semi s rest [] none h = h
+no_number line semi s rest (Print n ∷ others) none h = none n h.0
 
-pub only_print_list : (start : List Token) (statements : List Statement) (rest : List Token) → IsReading start statements rest → rest ≡ [] → (tree : List Statement) → IsPrintList start tree → tree ≡ statements
-only_print_list start statements rest reading empty tree is =
-    let more : Continues statements rest tree = reading.forth tree is.spelled in
-    let ended : more.others ≡ [] = none_left rest more.others empty more.spelled in
-    more.whole ∙ (ap (λ l. statements ++ l) ended ∙ append-nil statements)
+pub stop_refused : (all : Statements) (prints : List Statement) (line : ℕ) (semi : Bool) (s : syntax.Statement) (rest : Statements) → IsReading all prints (syntax.statement line semi s rest) → ((n : ℤ) → PrintsNumber s n → ⊥) → IsNoPrintList all
+stop_refused all prints line semi s rest reading none tree is =
+    let more : Continues prints (syntax.statement line semi s rest) tree = reading.forth tree is.printed in
+    no_number line semi s rest more.others none more.printed
 
--- where tokens are left and no statement stands at their front, there is no tree
-no_statement : (rest : List Token) (others : List Statement) → rest ≢ [] → HasNoStatement rest → Spells rest others → ⊥
-no_statement rest [] some none empty = some empty
-no_statement rest (s ∷ others) some none h = let read = spelled_reads rest s others h in none s read.0 read.1
+-- what is left of a block, and what is left at its end
+pub left_next : (all : Statements) (prints : List Statement) (stats : List Stat) (i : ℕ) (stat : Stat) → i < length stats → stat ≡ get_or stats i stat → IsReading all prints (statements_of (drop i stats)) → IsReading all prints (statements_of (stat ∷ drop (i + 1) stats))
+left_next all prints stats i stat within at reading =
+    subst (IsReading all prints) (at_drop_more statements_of stats i stat within ∙ ap (λ s. statements_of (s ∷ drop (i + 1) stats)) (sym at)) reading
 
-pub stop_refused : (start : List Token) (statements : List Statement) (rest : List Token) → IsReading start statements rest → rest ≢ [] → HasNoStatement rest → IsNoPrintList start
-stop_refused start statements rest reading some none tree is =
-    let more : Continues statements rest tree = reading.forth tree is.spelled in
-    no_statement rest more.others some none more.spelled
+pub left_none : (all : Statements) (prints : List Statement) (stats : List Stat) (i : ℕ) → length stats ≤ i → IsReading all prints (statements_of (drop i stats)) → IsReading all prints no_statements
+left_none all prints stats i ended reading =
+    subst (IsReading all prints) (at_drop_all statements_of stats i ended) reading
 
--- what `is_empty` answers
-pub left_some : (tokens : List Token) (empty : Bool) → empty ≡ nat_eq (length tokens) 0 → empty ≡ false → tokens ≢ []
-left_some [] empty e h = λ _. cc
-left_some (token ∷ tokens) empty e h = λ same. cc
+abbrev pub TokensAreOne : Type 0
+TokensAreOne = (bytes : List ℕ) (tokens others : List Token) → Lexes bytes tokens → Lexes bytes others → tokens ≡ others
 
-length_none : (tokens : List Token) → length tokens ≡ 0 → tokens ≡ []
-length_none [] h = refl
-length_none (token ∷ tokens) h = absurd (omega arith)
-
-pub left_none : (tokens : List Token) (empty : Bool) → empty ≡ nat_eq (length tokens) 0 → empty ≡ true → tokens ≡ []
-left_none tokens empty e h = let none : length tokens ≡ 0 = grind (arith, nat_tests) in length_none tokens none
-
--- a tree of the bytes is one of their tokens
-pub form_listed : (bytes : List ℕ) (tokens : List Token) (tree : List Statement) → ((text : List ℕ) (a b : List Token) → Lexes text a → Lexes text b → a ≡ b) → Lexes bytes tokens → IsFirstForm bytes tree → IsPrintList tokens tree
-form_listed bytes tokens tree are_one lexed form =
-    subst (λ t. IsPrintList t tree) (are_one bytes form.tokens tokens form.lexed lexed) form.listed
+-- a list of the bytes is one of their tree
+pub form_listed : TokensAreOne → TreesAreOne → (bytes : List ℕ) (tokens : List Token) (whole : Source) (tree : List Statement) → Lexes bytes tokens → IsTreeOf tokens whole → IsFirstForm bytes tree → IsPrintList whole.body tree
+form_listed tokens_one trees_one bytes tokens whole tree lexed parsed form =
+    let tokens_same : form.tokens ≡ tokens = tokens_one bytes form.tokens tokens form.lexed lexed in
+    let form_parsed : IsTreeOf tokens form.whole = subst (λ t. IsTreeOf t form.whole) tokens_same form.parsed in
+    subst (λ (w : Source). IsPrintList w.body tree) (trees_one tokens form.whole whole form_parsed parsed) form.listed

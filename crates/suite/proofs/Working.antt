@@ -3,7 +3,7 @@ use Rattle.std.proofs.Common.{◌≡◌, ℕ, false, List, Option, Some, IfSome,
 use Rattle.std.specs.FinMap.{get}
 use Rattle.suite_io.specs.declared.calls.FileCall.{FileCall}
 use Rattle.suite_io.specs.Contents.{Contents}
-use Rattle.lexer.specs.declared.fault.LexFault.{LexFault}
+use Rattle.suite.specs.declared.fault.Fault.{Fault}
 use Rattle.suite.specs.declared.source.SourceFault.{SourceFault}
 use Rattle.suite.specs.declared.outcome.Outcome.{Outcome}
 use Rattle.suite.specs.Reading.{outcome_of}
@@ -12,7 +12,7 @@ use Rattle.suite.specs.Work.{SourceRuns, FetchedRuns, IsFetched, FileRuns}
 use Rattle.suite.proofs.Putting.{takes_none}
 
 -- a source that is not read is not run
-pub refused_runs : (bytes : List ℕ) (fault : SourceFault) (taken : Option (List ℕ)) (faults : ℕ) → ((why : LexFault) → fault ≡ SourceFault.Bad why → IsBadSource bytes why) → (fault ≡ SourceFault.Unbuilt → IsNotBuilt bytes) → SourceRuns bytes (outcome_of fault) taken taken faults faults
+pub refused_runs : (bytes : List ℕ) (fault : SourceFault) (taken : Option (List ℕ)) (faults : ℕ) → ((why : Fault) → fault ≡ SourceFault.Bad why → IsBadSource bytes why) → (fault ≡ SourceFault.Unbuilt → IsNotBuilt bytes) → SourceRuns bytes (outcome_of fault) taken taken faults faults
 refused_runs bytes (SourceFault.Bad why) taken faults bad unbuilt = (bad why refl, takes_none taken)
 refused_runs bytes SourceFault.Unbuilt taken faults bad unbuilt = (unbuilt refl, takes_none taken)
 refused_runs bytes SourceFault.OutOfMemory taken faults bad unbuilt = inl (takes_none taken)

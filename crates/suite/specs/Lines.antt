@@ -3,6 +3,7 @@ use Rattle.std.specs.Prelude.{◌≡◌, ℕ, List, [], ◌∷◌, ◌++◌, ◌
 use Rattle.std.specs.Fmt.{decimal}
 use Rattle.lexer.specs.declared.fault.LexFault.{LexFault}
 use Rattle.suite_io.specs.Taken.{Takes, Rises}
+use Rattle.suite.specs.declared.fault.Fault.{Fault}
 use Rattle.suite.specs.declared.status.Status.{Status}
 use Rattle.suite.specs.declared.outcome.Outcome.{Outcome}
 use Rattle.suite.specs.Output.{TakesPart}
@@ -26,15 +27,21 @@ status_of Outcome.WriteFault = Status.WriteFault
 status_of Outcome.OutOfMemory = Status.OutOfMemory
 status_of Outcome.Unbuilt = Status.Unbuilt
 
--- the name of a fault of a source, and its offset; want of memory is no such fault
-abbrev pub fault_text : LexFault → List ℕ
-fault_text (LexFault.BadByte at) = codes ": BadByte at offset " ++ decimal at
-fault_text (LexFault.UnfinishedString at) = codes ": UnfinishedString at offset " ++ decimal at
-fault_text (LexFault.UnfinishedLong at) = codes ": UnfinishedLong at offset " ++ decimal at
-fault_text (LexFault.BadLongOpen at) = codes ": BadLongOpen at offset " ++ decimal at
-fault_text (LexFault.EscapeTooLarge at) = codes ": EscapeTooLarge at offset " ++ decimal at
-fault_text (LexFault.BadNumber at) = codes ": BadNumber at offset " ++ decimal at
-fault_text LexFault.OutOfMemory = codes ": OutOfMemory"
+-- the name of a fault of lexing, and its offset; want of memory is no such fault
+abbrev pub lexical_text : LexFault → List ℕ
+lexical_text (LexFault.BadByte at) = codes ": BadByte at offset " ++ decimal at
+lexical_text (LexFault.UnfinishedString at) = codes ": UnfinishedString at offset " ++ decimal at
+lexical_text (LexFault.UnfinishedLong at) = codes ": UnfinishedLong at offset " ++ decimal at
+lexical_text (LexFault.BadLongOpen at) = codes ": BadLongOpen at offset " ++ decimal at
+lexical_text (LexFault.EscapeTooLarge at) = codes ": EscapeTooLarge at offset " ++ decimal at
+lexical_text (LexFault.BadNumber at) = codes ": BadNumber at offset " ++ decimal at
+lexical_text LexFault.OutOfMemory = codes ": OutOfMemory"
+
+-- the name of a fault of a source, and its offset
+abbrev pub fault_text : Fault → List ℕ
+fault_text (Fault.Lexical fault) = lexical_text fault
+fault_text (Fault.Unexpected offset) = codes ": Unexpected at offset " ++ decimal offset
+fault_text (Fault.TooDeep offset) = codes ": TooDeep at offset " ++ decimal offset
 
 -- a line that speaks of a file of this name: `luasuite: `, the name, the text, and a line end
 abbrev pub line_with : List ℕ → List ℕ → List ℕ

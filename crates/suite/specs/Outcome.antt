@@ -1,23 +1,47 @@
 -- What is wrong with the bytes of a file that is not run.
-use Rattle.std.specs.Prelude.{◌≡◌, ◌⊎◌, ℕ, true, false, List}
+use Rattle.std.specs.Prelude.{◌≡◌, ◌⊎◌, ℕ, true, false, List, length, slice_get, Option, Some, None}
+use Rattle.lua_tree.specs.Syntax.{Source}
+use Rattle.lua_tree.specs.Trees.{IsTreeOf}
 use Rattle.lua_tree.specs.declared.token.Token.{Token}
 use Rattle.lua_tree.specs.Tiling.{Lexes}
-use Rattle.lexer.specs.declared.fault.LexFault.{LexFault}
 use Rattle.lexer.specs.Faults.{IsFaultOf}
+use Rattle.parser.specs.Places.{IsUnexpectedAt, IsTooDeepAt}
 use Rattle.agrees.specs.declared.tree.Statement.{Statement}
 use Rattle.agrees.specs.Source.{is_chunk, IsPrintList}
+use Rattle.suite.specs.declared.fault.Fault.{Fault}
+
+-- the offset of a token, or the length of the bytes, where there is none
+abbrev pub offset_of : ℕ → Option Token → ℕ
+offset_of total (Some token) = token.at
+offset_of total None = total
+
+-- the bytes have tokens that are no tree, at the one with this offset
+pub record HasNoTree (IsFault : List Token → ℕ → Type 0) (bytes : List ℕ) (offset : ℕ) : Type 0 where
+  pub tokens : List Token
+  pub lexed : Lexes bytes tokens
+  pub at : ℕ
+  pub fault : IsFault tokens at
+  pub offset_is : offset ≡ offset_of (length bytes) (slice_get tokens at)
+
+-- a fault of the bytes of a source: one of lexing, else one of syntax
+abbrev pub IsFaultIn : List ℕ → Fault → Type 0
+IsFaultIn bytes (Fault.Lexical fault) = IsFaultOf bytes fault
+IsFaultIn bytes (Fault.Unexpected offset) = HasNoTree IsUnexpectedAt bytes offset
+IsFaultIn bytes (Fault.TooDeep offset) = HasNoTree IsTooDeepAt bytes offset
 
 -- the bytes are source, and this is their fault
-pub record IsBadSource (bytes : List ℕ) (fault : LexFault) : Type 0 where
+pub record IsBadSource (bytes : List ℕ) (fault : Fault) : Type 0 where
   pub source : is_chunk bytes ≡ false
-  pub fault_is : IsFaultOf bytes fault
+  pub fault_is : IsFaultIn bytes fault
 
--- the bytes are source with tokens, and those are not the tokens of at most 200 printed numbers
+-- the bytes are source with a tree, and its statements are not at most 200 printed numbers
 pub record IsOtherSource (bytes : List ℕ) : Type 0 where
   pub source : is_chunk bytes ≡ false
   pub tokens : List Token
   pub lexed : Lexes bytes tokens
-  pub no_list : (tree : List Statement) → IsPrintList tokens tree → ⊥
+  pub whole : Source
+  pub parsed : IsTreeOf tokens whole
+  pub no_list : (tree : List Statement) → IsPrintList whole.body tree → ⊥
 
 -- a chunk, or source that is not built
 abbrev pub IsNotBuilt : List ℕ → Type 0

@@ -1,18 +1,17 @@
--- What reading takes from the front of a list of tokens.
-use Rattle.std.specs.Prelude.{◌≡◌, ℤ, List, codes}
-use Rattle.lua_tree.specs.declared.token.TokenKind.{TokenKind}
-use Rattle.lua_tree.specs.declared.token.Token.{Token}
+-- What reading a source comes to.
+use Rattle.std.specs.Prelude.{◌≡◌, ℕ, ℤ, List, codes}
+use Rattle.lua_tree.specs.Syntax.{Statements, Expressions, expression, no_expressions, Expression, name_expression, number_literal}
 use Rattle.lexer.specs.declared.fault.LexFault.{LexFault}
 use Rattle.agrees.specs.declared.tree.Statement.{Statement}
-use Rattle.agrees.specs.declared.tree.Statement.TheVariants.{Print}
-use Rattle.agrees.specs.Source.{BeginsWithPrint, IsPrintList}
+use Rattle.agrees.specs.Source.{IsPrintList}
+use Rattle.suite.specs.declared.fault.Fault.{Fault}
 use Rattle.suite.specs.declared.outcome.Outcome.{Outcome}
 use Rattle.suite.specs.declared.source.SourceFault.{SourceFault}
 
 -- what a fault of lexing is for the reader
 abbrev pub source_fault_of : LexFault → SourceFault
 source_fault_of LexFault.OutOfMemory = SourceFault.OutOfMemory
-source_fault_of fault = SourceFault.Bad fault
+source_fault_of fault = SourceFault.Bad (Fault.Lexical fault)
 
 -- what a fault of reading comes to
 abbrev pub outcome_of : SourceFault → Outcome
@@ -20,22 +19,21 @@ outcome_of (SourceFault.Bad fault) = Outcome.BadSource fault
 outcome_of SourceFault.Unbuilt = Outcome.Unbuilt
 outcome_of SourceFault.OutOfMemory = Outcome.OutOfMemory
 
--- these four tokens print n
-pub record ArePrint (name opening number closing : Token) (n : ℤ) : Type 0 where
-  pub name_is : name.kind ≡ TokenKind.Name (codes "print")
-  pub opening_is : opening.kind ≡ TokenKind.OpenParen
-  pub number_is : number.kind ≡ TokenKind.Number n
-  pub closing_is : closing.kind ≡ TokenKind.CloseParen
-  pub same_line : opening.line ≡ name.line
+-- the statements are no list of at most 200 printed numbers
+abbrev pub IsNoPrintList : Statements → Type 0
+IsNoPrintList body = (tree : List Statement) → IsPrintList body tree → ⊥
 
--- a statement at the front, and the tokens after it
-abbrev pub ReadsStatement : List Token → Statement → List Token → Type 0
-ReadsStatement tokens (Print n) rest = BeginsWithPrint tokens n (λ others. others ≡ rest)
+-- the name `print`
+pub record IsPrintName (e : Expression) : Type 0 where
+  pub line : ℕ
+  pub is : e ≡ name_expression line (codes "print")
 
--- no statement stands at the front
-abbrev pub HasNoStatement : List Token → Type 0
-HasNoStatement tokens = (statement : Statement) (rest : List Token) → ReadsStatement tokens statement rest → ⊥
+-- the number n
+pub record IsNumber (e : Expression) (n : ℤ) : Type 0 where
+  pub line : ℕ
+  pub is : e ≡ number_literal line n
 
--- the tokens are of no list of at most 200 printed numbers
-abbrev pub IsNoPrintList : List Token → Type 0
-IsNoPrintList tokens = (tree : List Statement) → IsPrintList tokens tree → ⊥
+-- a list of the number n alone
+pub record IsNumberList (es : Expressions) (n : ℤ) : Type 0 where
+  pub line : ℕ
+  pub is : es ≡ expression (number_literal line n) no_expressions

@@ -5,6 +5,7 @@ mod chunk;
 mod command;
 mod compile;
 mod effects;
+mod fault;
 mod machine;
 mod outcome;
 mod output;
@@ -18,5 +19,7 @@ mod words;
 pub use status::Status;
 pub use top::suite;
 
+#[cfg(test)]
+mod grammar_tests;
 #[cfg(test)]
 mod tests;

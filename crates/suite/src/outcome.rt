@@ -2,15 +2,15 @@
 ghost use Rattle.std.specs.Prelude.{◌≡◌};
 ghost use Rattle.suite.specs.Lines.{status_of};
 
+use crate::fault::Fault;
 use crate::status::Status;
-use lexer::LexFault;
 
 /// What the work came to, before its line is put.
 #[derive(Clone, Copy, Debug, PartialEq, Eq)]
 pub enum Outcome {
     Done,
     BadWords,
-    BadSource(LexFault),
+    BadSource(Fault),
     ReadFault,
     WriteFault,
     OutOfMemory,

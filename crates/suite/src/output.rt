@@ -1,5 +1,5 @@
 // Putting whole pieces into a sink.
-ghost use Rattle.std.specs.Prelude.{◌≡◌, ◌≤◌, OnOk, OnErr, IsErrOf};
+ghost use Rattle.std.specs.Prelude.{◌≤◌, OnOk, OnErr, IsErrOf};
 ghost use Rattle.suite_io.specs.Taken.{Takes, Rises};
 ghost use Rattle.suite.specs.Output.{TakesPart};
 

@@ -2,9 +2,10 @@
 ghost use Rattle.std.specs.Prelude.{◌≡◌, ◌≤◌, ℕ, IfOk, OnOk, OnErr, IsErrOf};
 ghost use Rattle.std.specs.String.{string_bytes};
 ghost use Rattle.suite_io.specs.Taken.{Takes, Rises};
-ghost use Rattle.suite.specs.Lines.{Reported, IsPut, Refused, line_with, fault_text as the_text};
+ghost use Rattle.suite.specs.Lines.{Reported, IsPut, Refused, line_with, fault_text as the_text, lexical_text as the_lexical_text};
 ghost use Rattle.suite.specs.Output.{TakesPart};
 
+use crate::fault::Fault;
 use crate::outcome::Outcome;
 use crate::output::put_all;
 use crate::status::Status;
@@ -32,7 +33,7 @@ pub fn report<E: Sink>(alloc: Global, err: &mut E, outcome: Outcome, name: &str)
 
 // Puts the line of a fault of a source. Its text is made first; where there is no memory for it, the
 // line is that of want of memory.
-fn report_fault<E: Sink>(alloc: Global, err: &mut E, fault: LexFault, name: &str) -> Status
+fn report_fault<E: Sink>(alloc: Global, err: &mut E, fault: Fault, name: &str) -> Status
     ensures reported { Reported (Outcome.BadSource fault) name.now result (E.taken err.old) (E.taken err.new) (E.faults err.old) (E.faults err.new) }
     ensures never_falls { E.faults err.old ≤ E.faults err.new }
 {
@@ -43,8 +44,19 @@ fn report_fault<E: Sink>(alloc: Global, err: &mut E, fault: LexFault, name: &str
 }
 
 // The name of a fault of a source, and its offset.
-fn fault_text(alloc: Global, fault: LexFault) -> Result<String, AllocError>
+fn fault_text(alloc: Global, fault: Fault) -> Result<String, AllocError>
     ensures { IfOk result (λ text. string_bytes text ≡ the_text fault) }
+{
+    match fault {
+        Fault::Lexical(fault) => lexical_text(alloc, fault),
+        Fault::Unexpected { offset } => format!(in alloc; ": Unexpected at offset {offset}"),
+        Fault::TooDeep { offset } => format!(in alloc; ": TooDeep at offset {offset}"),
+    }
+}
+
+// The name of a fault of lexing, and its offset.
+fn lexical_text(alloc: Global, fault: LexFault) -> Result<String, AllocError>
+    ensures { IfOk result (λ text. string_bytes text ≡ the_lexical_text fault) }
 {
     match fault {
         LexFault::BadByte { at } => format!(in alloc; ": BadByte at offset {at}"),

@@ -1,23 +1,28 @@
 // Reading a source of the first form.
-ghost use Rattle.std.specs.Prelude.{◌≡◌, ◌<◌, ◌↔◌, ℤ, List, length, codes, IfOk, IsErrOf, IfSome, IfNone, IsTrue};
-ghost use Rattle.lua_tree.specs.declared.token.TokenKind.{TokenKind as Kind};
-ghost use Rattle.lexer.specs.declared.fault.LexFault.{LexFault};
-ghost use Rattle.agrees.specs.Source.{IsFirstForm, IsPrintList, is_chunk as the_is_chunk};
+ghost use Rattle.std.specs.Prelude.{◌≡◌, ℤ, List, IfOk, IsErrOf, IfSome, IfNone, IsTrue, ◌↔◌};
+ghost use Rattle.lua_tree.specs.View.{view_block, view_statement, view_exp};
+ghost use Rattle.lua_tree.specs.TreeLists.{expressions_of};
+ghost use Rattle.lua_tree.specs.Tiling.{Lexes};
+ghost use Rattle.parser.specs.Places.{StopsBy};
+ghost use Rattle.agrees.specs.Source.{IsFirstForm, IsPrintList, PrintsNumber, is_chunk as the_is_chunk};
 ghost use Rattle.agrees.specs.declared.tree.Statement.{Statement};
-ghost use Rattle.suite.specs.Outcome.{IsBadSource, IsNotBuilt};
-ghost use Rattle.suite.specs.Reading.{outcome_of, ArePrint, ReadsStatement, HasNoStatement, IsNoPrintList};
+ghost use Rattle.suite.specs.declared.fault.Fault.{Fault as OneFault};
+ghost use Rattle.suite.specs.Outcome.{IsBadSource, IsNotBuilt, IsFaultIn};
+ghost use Rattle.suite.specs.Reading.{outcome_of, IsNoPrintList, IsPrintName, IsNumber, IsNumberList};
 
+use crate::fault::{Fault, offset_of};
 use crate::outcome::Outcome;
 use agrees::tree::Statement;
 use lexer::{LexFault, lex};
-use lua_tree::{Token, TokenKind, tokens_are_one};
+use lua_tree::{Args, Block, Exp, ExpKind, StatKind, Token, tokens_are_one};
+use parser::{SyntaxFault, parse, trees_are_one};
 use std::alloc::Global;
 
 /// Why a source was not read.
 #[derive(Clone, Copy, Debug, PartialEq, Eq)]
 pub enum SourceFault {
-    /// The source has a lexical fault.
-    Bad(LexFault),
+    /// The source has a lexical or a syntax fault.
+    Bad(Fault),
     /// The file is a chunk, or source of another form.
     Unbuilt,
     OutOfMemory,
@@ -45,7 +50,7 @@ impl From<LexFault> for SourceFault {
     fn from(fault: LexFault) -> Self {
         match fault {
             LexFault::OutOfMemory => SourceFault::OutOfMemory,
-            _ => SourceFault::Bad(fault),
+            _ => SourceFault::Bad(Fault::Lexical(fault)),
         }
     }
 }
@@ -61,16 +66,20 @@ const MAX_STATEMENTS: usize = 200;
 pub fn read_source(alloc: Global, bytes: &[u8]) -> Result<Vec<Statement>, SourceFault>
     ensures tree { IfOk result (λ tree. IsFirstForm bytes.now tree.items) }
     ensures only_tree { IfOk result (λ tree. (other : List Statement) → IsFirstForm bytes.now other → other ≡ tree.items) }
-    ensures bad { (fault : LexFault) → result ≡ Err (SourceFault.Bad fault) → IsBadSource bytes.now fault }
+    ensures bad { (fault : OneFault) → result ≡ Err (SourceFault.Bad fault) → IsBadSource bytes.now fault }
     ensures unbuilt { IsErrOf result SourceFault.Unbuilt → IsNotBuilt bytes.now }
 {
     if is_chunk(bytes) {
         return Err(SourceFault::Unbuilt);
     }
     let tokens = lex(alloc, bytes)?;
-    // A law: these are the only tokens of the source.
+    // Laws: these are the only tokens of the source, and they have one tree.
     tokens_are_one();
-    read_tokens(alloc, tokens.items())
+    trees_are_one();
+    match parse(alloc, &tokens) {
+        Ok(tree) => read_block(alloc, &tree.body),
+        Err(fault) => Err(syntax_fault(fault, tokens.items(), bytes)),
+    }
 }
 
 fn is_chunk(bytes: &[u8]) -> bool
@@ -82,71 +91,90 @@ fn is_chunk(bytes: &[u8]) -> bool
     }
 }
 
-// The statements of these tokens.
-fn read_tokens(alloc: Global, tokens: &[Token]) -> Result<Vec<Statement>, SourceFault>
-    ensures tree { IfOk result (λ tree. IsPrintList tokens.now tree.items) }
-    ensures only_tree { IfOk result (λ tree. (other : List Statement) → IsPrintList tokens.now other → other ≡ tree.items) }
-    ensures never_bad { (fault : LexFault) → result ≡ Err (SourceFault.Bad fault) → ⊥ }
-    ensures unbuilt { IsErrOf result SourceFault.Unbuilt → IsNoPrintList tokens.now }
+// What a fault of syntax is for the reader of these bytes.
+fn syntax_fault(fault: SyntaxFault, tokens: &[Token], bytes: &[u8]) -> SourceFault
+    requires lexed { Lexes bytes.now tokens.now }
+    requires fault { StopsBy tokens.now fault }
+    ensures bad { (found : OneFault) → result ≡ SourceFault.Bad found → IsFaultIn bytes.now found }
+    ensures built { result ≡ SourceFault.Unbuilt → ⊥ }
 {
-    let mut statements = Vec::new(alloc);
-    let mut rest = tokens;
-    while !rest.is_empty() {
-        if statements.len() == MAX_STATEMENTS {
-            return Err(SourceFault::Unbuilt);
-        }
-        let (statement, after) = read_statement(rest).ok_or(SourceFault::Unbuilt)?;
-        statements
-            .push(statement)
-            .map_err(|_| SourceFault::OutOfMemory)?;
-        rest = after;
+    match fault {
+        SyntaxFault::Unexpected { at } => SourceFault::Bad(Fault::Unexpected {
+            offset: offset_of(tokens, at, bytes.len()),
+        }),
+        SyntaxFault::TooDeep { at } => SourceFault::Bad(Fault::TooDeep {
+            offset: offset_of(tokens, at, bytes.len()),
+        }),
+        SyntaxFault::OutOfMemory => SourceFault::OutOfMemory,
     }
-    Ok(statements)
 }
 
-// The first statement, and the tokens after it.
-fn read_statement(tokens: &[Token]) -> Option<(Statement, &[Token])>
-    ensures read { IfSome result (λ read. ReadsStatement tokens.now read.0 read.1.now) }
-    ensures shorter { IfSome result (λ read. length read.1.now < length tokens.now) }
-    ensures none { IfNone result (HasNoStatement tokens.now) }
+// The numbers that these statements print.
+fn read_block(alloc: Global, block: &Block) -> Result<Vec<Statement>, SourceFault>
+    ensures tree { IfOk result (λ tree. IsPrintList (view_block block.now) tree.items) }
+    ensures only_tree { IfOk result (λ tree. (other : List Statement) → IsPrintList (view_block block.now) other → other ≡ tree.items) }
+    ensures never_bad { (fault : OneFault) → result ≡ Err (SourceFault.Bad fault) → ⊥ }
+    ensures unbuilt { IsErrOf result SourceFault.Unbuilt → IsNoPrintList (view_block block.now) }
 {
-    match tokens {
-        [name, opening, number, closing, rest @ ..] => {
-            let printed = printed_number(name, opening, number, closing)?;
-            Some((Statement::Print(printed), rest))
+    let mut prints = Vec::new(alloc);
+    for statement in block.items() {
+        if prints.len() == MAX_STATEMENTS {
+            return Err(SourceFault::Unbuilt);
         }
+        let number = printed_number(&statement.kind).ok_or(SourceFault::Unbuilt)?;
+        prints
+            .push(Statement::Print(number))
+            .map_err(|_| SourceFault::OutOfMemory)?;
+    }
+    Ok(prints)
+}
+
+// The number that a statement prints.
+fn printed_number(kind: &StatKind) -> Option<i64>
+    ensures some { IfSome result (PrintsNumber (view_statement kind.now)) }
+    ensures none { IfNone result ((n : ℤ) → PrintsNumber (view_statement kind.now) n → ⊥) }
+{
+    let StatKind::Call(call) = kind else {
+        return None;
+    };
+    match &call.kind {
+        ExpKind::Call {
+            on,
+            args: Args::List(list),
+            ..
+        } if is_print(on) => one_number(list.items()),
         _ => None,
     }
 }
 
-// The number that these four tokens print.
-fn printed_number(name: &Token, opening: &Token, number: &Token, closing: &Token) -> Option<i64>
-    ensures some { IfSome result (ArePrint name.now opening.now number.now closing.now) }
-    ensures none { IfNone result ((n : ℤ) → ArePrint name.now opening.now number.now closing.now n → ⊥) }
+// Whether an expression is the name `print`.
+fn is_print(expression: &Exp) -> bool
+    ensures { IsTrue result ↔ IsPrintName (view_exp expression.now) }
 {
-    let is_call = is_print(name)
-        && matches!(opening.kind, TokenKind::OpenParen)
-        && opening.line == name.line
-        && matches!(closing.kind, TokenKind::CloseParen);
-    if is_call { value_of(number) } else { None }
-}
-
-fn is_print(token: &Token) -> bool
-    ensures { IsTrue result ↔ (token.now.kind ≡ Kind.Name (codes "print")) }
-{
-    match &token.kind {
-        TokenKind::Name(name) => name.bytes() == b"print".as_slice(),
+    match &expression.kind {
+        ExpKind::Name(name) => name.bytes() == b"print".as_slice(),
         _ => false,
     }
 }
 
-// The value of a numeral.
-fn value_of(token: &Token) -> Option<i64>
-    ensures some { IfSome result (λ n. token.now.kind ≡ Kind.Number n) }
-    ensures none { IfNone result ((n : ℤ) → token.now.kind ≡ Kind.Number n → ⊥) }
+// The number, where a list has that alone.
+fn one_number(list: &[Exp]) -> Option<i64>
+    ensures some { IfSome result (IsNumberList (expressions_of list.now)) }
+    ensures none { IfNone result ((n : ℤ) → IsNumberList (expressions_of list.now) n → ⊥) }
 {
-    match token.kind {
-        TokenKind::Number(n) => Some(n),
+    match list {
+        [only] => number_of(only),
+        _ => None,
+    }
+}
+
+// The number that an expression is.
+fn number_of(expression: &Exp) -> Option<i64>
+    ensures some { IfSome result (IsNumber (view_exp expression.now)) }
+    ensures none { IfNone result ((n : ℤ) → IsNumber (view_exp expression.now) n → ⊥) }
+{
+    match expression.kind {
+        ExpKind::Number(n) => Some(n),
         _ => None,
     }
 }

@@ -9,7 +9,7 @@ pub enum Status {
     Done = 0,
     /// The words are no command.
     BadWords = 2,
-    /// The source has a lexical fault.
+    /// The source has a lexical or a syntax fault.
     BadSource = 4,
     /// The file could not be read.
     ReadFault = 8,

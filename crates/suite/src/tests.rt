@@ -98,6 +98,7 @@ fn comments_and_white_space_stand_between_tokens(rt: HostRuntime) -> Result<(), 
     for (source, printed) in [
         ("# first\nprint(0x10)", "16\n"),
         ("print (3) --c", "3\n"),
+        ("print(1); print(2);", "1\n2\n"),
         ("--[=x\n", ""),
     ] {
         let outcome = run(rt.alloc(), source.as_bytes())?;
@@ -107,7 +108,7 @@ fn comments_and_white_space_stand_between_tokens(rt: HostRuntime) -> Result<(), 
 }
 
 #[test]
-fn a_source_with_a_lexical_fault_is_bad_and_prints_nothing(rt: HostRuntime) -> Result<(), Fail> {
+fn a_source_with_a_fault_is_bad_and_prints_nothing(rt: HostRuntime) -> Result<(), Fail> {
     for (source, fault) in [
         ("print(3) --[==[", "UnfinishedLong at offset 11"),
         ("--[[", "UnfinishedLong at offset 2"),
@@ -116,6 +117,9 @@ fn a_source_with_a_lexical_fault_is_bad_and_prints_nothing(rt: HostRuntime) -> R
         ("x=[=a", "BadLongOpen at offset 2"),
         ("x=@", "BadByte at offset 2"),
         ("print(9223372036854775808)", "BadNumber at offset 6"),
+        ("f() = @", "BadByte at offset 6"),
+        ("print(3", "Unexpected at offset 7"),
+        ("print(1) print\n(3)", "Unexpected at offset 15"),
     ] {
         let outcome = run(rt.alloc(), source.as_bytes())?;
         assert_eq!(rt; outcome.status.number(), 4, "{source:?}");
@@ -127,7 +131,7 @@ fn a_source_with_a_lexical_fault_is_bad_and_prints_nothing(rt: HostRuntime) -> R
 
 #[test]
 fn a_source_of_another_form_is_unbuilt_and_prints_nothing(rt: HostRuntime) -> Result<(), Fail> {
-    for source in ["print(x)", "print\n(3)", "\x1bLua"] {
+    for source in ["print(x)", "print(1) x=1", "\x1bLua"] {
         let outcome = run(rt.alloc(), source.as_bytes())?;
         assert_eq!(rt; outcome.status.number(), 11, "{source:?}");
         let line = "luasuite: a.lua: Unbuilt\n";

@@ -3,7 +3,7 @@ ghost use Rattle.std.specs.Prelude.{◌≡◌, ◌≢◌, ◌⊎◌, true, false
 ghost use Rattle.suite_io.specs.Taken.{Takes, Rises};
 ghost use Rattle.agrees.specs.declared.tree.Statement.{Statement};
 ghost use Rattle.agrees.specs.Source.{IsFirstForm};
-ghost use Rattle.lexer.specs.declared.fault.LexFault.{LexFault};
+ghost use Rattle.suite.specs.declared.fault.Fault.{Fault};
 ghost use Rattle.suite.specs.declared.outcome.Outcome.{Outcome};
 ghost use Rattle.suite.specs.Output.{TakesPart};
 ghost use Rattle.suite.specs.Words.{NoCommand, Fetched, HasSource, named};
@@ -17,13 +17,12 @@ use crate::outcome::Outcome;
 use crate::report::report;
 use crate::status::Status;
 use crate::words::read_words;
-use lua_tree::{never_both, tokens_are_one};
 use std::alloc::Global;
 use suite_io::{Files, Sink, Word};
 
-/// Carries out the command that the words say: `run FILE` lexes the file and runs a list of printed
-/// numbers. Every other list of words is refused. The work goes in the order words, fetch, tokens,
-/// reading, run, and the line for `err` that every status but `Done` has; the first refusal gives
+/// Carries out the command that the words say: `run FILE` reads the file to a tree and runs a list of
+/// printed numbers. Every other list of words is refused. The work goes in the order words, fetch,
+/// tokens, tree, statements, run, and the line for `err` that every status but `Done` has; the first refusal gives
 /// the status. What a run had put to `out` before a refusal stays. Want of memory is a free answer.
 pub fn suite<F: Files, O: Sink, E: Sink>(
     alloc: Global,
@@ -63,9 +62,9 @@ pub fn suite<F: Files, O: Sink, E: Sink>(
     ensures read_fault { result ≡ Status.ReadFault → Fetched words.now true (F.calls files.old) (F.calls files.new) }
     ensures fetch_failed { Fetched words.now true (F.calls files.old) (F.calls files.new) → Becomes Status.ReadFault result (E.faults err.old) (E.faults err.new) }
     ensures bad_source { result ≡ Status.BadSource → Fetched words.now false (F.calls files.old) (F.calls files.new)
-        × (fault : LexFault) × ((bytes : List ℕ) → HasSource words.now (F.contents files.old) bytes → IsBadSource bytes fault)
+        × (fault : Fault) × ((bytes : List ℕ) → HasSource words.now (F.contents files.old) bytes → IsBadSource bytes fault)
         × Takes (E.taken err.old) (E.taken err.new) (line_of (Outcome.BadSource fault) (named words.now)) }
-    ensures faulty { (bytes : List ℕ) (fault : LexFault) → HasSource words.now (F.contents files.old) bytes → IsBadSource bytes fault
+    ensures faulty { (bytes : List ℕ) (fault : Fault) → HasSource words.now (F.contents files.old) bytes → IsBadSource bytes fault
         → Fetched words.now false (F.calls files.old) (F.calls files.new)
         → Becomes Status.BadSource result (E.faults err.old) (E.faults err.new) ⊎ (result ≡ Status.OutOfMemory) }
     ensures unbuilt { result ≡ Status.Unbuilt → Fetched words.now false (F.calls files.old) (F.calls files.new)
@@ -79,9 +78,11 @@ pub fn suite<F: Files, O: Sink, E: Sink>(
     ensures line { result ≢ Status.WriteFault → result ≢ Status.OutOfMemory → (settled : Outcome) × (status_of settled ≡ result)
         × Takes (E.taken err.old) (E.taken err.new) (line_of settled (named words.now)) }
 {
-    // Laws: bytes have one list of tokens, or a fault, and never both.
-    tokens_are_one();
-    never_both();
+    // Laws: bytes have one list of tokens, or a fault, and never both; so it is with tokens and trees.
+    lua_tree::tokens_are_one();
+    lua_tree::never_both();
+    parser::trees_are_one();
+    parser::never_both();
     match read_words(words) {
         Some(file) => {
             let outcome = run_file(alloc, file, files, out);

@@ -1,5 +1,5 @@
 // Reading the words of a call.
-ghost use Rattle.std.specs.Prelude.{◌≡◌, IfSome, IfNone};
+ghost use Rattle.std.specs.Prelude.{IfSome, IfNone};
 ghost use Rattle.std.specs.String.{string_bytes};
 ghost use Rattle.suite.specs.Words.{Reads, NoCommand};
 

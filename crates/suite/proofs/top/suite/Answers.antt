@@ -2,33 +2,38 @@ use Rattle.std.proofs.Common.{[], subst, sym, refl, inl, inr}
 use Rattle.suite.specs.declared.outcome.Outcome.{Outcome}
 use Rattle.suite.specs.Lines.{Reported}
 use Rattle.suite.proofs.Putting.{takes_none}
-use Rattle.suite.proofs.Clauses.{settled_is, prints_clause, part_clause, nothing_fetched, nothing_built, line_clause, bad_source_clause, faulty_clause, unbuilt_clause, not_built_clause}
+use Rattle.suite.proofs.Clauses.{laws_of, settled_is, prints_clause, part_clause, nothing_fetched, nothing_built, line_clause, bad_source_clause, faulty_clause, unbuilt_clause, not_built_clause}
 use Rattle.suite.proofs.top.suite.Goals as goal
 
 pub returns-in-Some-clause-prints : goal.returns-in-Some-clause-prints
 returns-in-Some-clause-prints g c =
+    let laws = laws_of c.tokens_are_one.ensures c.never_both.ensures c.trees_are_one.ensures c.never_both-2.ensures in
     let reported = subst (λ n. Reported c.run_file-outcome.result n c.report.result (g.E.Sink.taken c.args.err.now) (g.E.Sink.taken c.report.new.err) (g.E.Sink.faults c.args.err.now) (g.E.Sink.faults c.report.new.err)) c.as_str.ensures.value c.report.ensures.reported in
-    prints_clause c.tokens_are_one.ensures c.never_both.ensures c.args.words.now _ _ _ _ _ _ _ _ _ _ _ _ c.in-Some.ensures.file c.run_file-outcome.result c.report.result c.run_file-outcome.ensures.runs reported
+    prints_clause laws c.args.words.now _ _ _ _ _ _ _ _ _ _ _ _ c.in-Some.ensures.file c.run_file-outcome.result c.report.result c.run_file-outcome.ensures.runs reported
 
 pub returns-in-Some-clause-bad_source : goal.returns-in-Some-clause-bad_source
 returns-in-Some-clause-bad_source g c =
+    let laws = laws_of c.tokens_are_one.ensures c.never_both.ensures c.trees_are_one.ensures c.never_both-2.ensures in
     let reported = subst (λ n. Reported c.run_file-outcome.result n c.report.result (g.E.Sink.taken c.args.err.now) (g.E.Sink.taken c.report.new.err) (g.E.Sink.faults c.args.err.now) (g.E.Sink.faults c.report.new.err)) c.as_str.ensures.value c.report.ensures.reported in
-    bad_source_clause c.tokens_are_one.ensures c.never_both.ensures c.args.words.now _ _ _ _ _ _ _ _ _ _ _ _ c.in-Some.ensures.file c.run_file-outcome.result c.report.result c.run_file-outcome.ensures.runs reported
+    bad_source_clause laws c.args.words.now _ _ _ _ _ _ _ _ _ _ _ _ c.in-Some.ensures.file c.run_file-outcome.result c.report.result c.run_file-outcome.ensures.runs reported
 
 pub returns-in-Some-clause-faulty : goal.returns-in-Some-clause-faulty
 returns-in-Some-clause-faulty g c =
+    let laws = laws_of c.tokens_are_one.ensures c.never_both.ensures c.trees_are_one.ensures c.never_both-2.ensures in
     let reported = subst (λ n. Reported c.run_file-outcome.result n c.report.result (g.E.Sink.taken c.args.err.now) (g.E.Sink.taken c.report.new.err) (g.E.Sink.faults c.args.err.now) (g.E.Sink.faults c.report.new.err)) c.as_str.ensures.value c.report.ensures.reported in
-    faulty_clause c.tokens_are_one.ensures c.never_both.ensures c.args.words.now _ _ _ _ _ _ _ _ _ _ _ _ c.in-Some.ensures.file c.run_file-outcome.result c.report.result c.run_file-outcome.ensures.runs reported
+    faulty_clause laws c.args.words.now _ _ _ _ _ _ _ _ _ _ _ _ c.in-Some.ensures.file c.run_file-outcome.result c.report.result c.run_file-outcome.ensures.runs reported
 
 pub returns-in-Some-clause-unbuilt : goal.returns-in-Some-clause-unbuilt
 returns-in-Some-clause-unbuilt g c =
+    let laws = laws_of c.tokens_are_one.ensures c.never_both.ensures c.trees_are_one.ensures c.never_both-2.ensures in
     let reported = subst (λ n. Reported c.run_file-outcome.result n c.report.result (g.E.Sink.taken c.args.err.now) (g.E.Sink.taken c.report.new.err) (g.E.Sink.faults c.args.err.now) (g.E.Sink.faults c.report.new.err)) c.as_str.ensures.value c.report.ensures.reported in
-    unbuilt_clause c.tokens_are_one.ensures c.never_both.ensures c.args.words.now _ _ _ _ _ _ _ _ _ _ _ _ c.in-Some.ensures.file c.run_file-outcome.result c.report.result c.run_file-outcome.ensures.runs reported
+    unbuilt_clause laws c.args.words.now _ _ _ _ _ _ _ _ _ _ _ _ c.in-Some.ensures.file c.run_file-outcome.result c.report.result c.run_file-outcome.ensures.runs reported
 
 pub returns-in-Some-clause-not_built : goal.returns-in-Some-clause-not_built
 returns-in-Some-clause-not_built g c =
+    let laws = laws_of c.tokens_are_one.ensures c.never_both.ensures c.trees_are_one.ensures c.never_both-2.ensures in
     let reported = subst (λ n. Reported c.run_file-outcome.result n c.report.result (g.E.Sink.taken c.args.err.now) (g.E.Sink.taken c.report.new.err) (g.E.Sink.faults c.args.err.now) (g.E.Sink.faults c.report.new.err)) c.as_str.ensures.value c.report.ensures.reported in
-    not_built_clause c.tokens_are_one.ensures c.never_both.ensures c.args.words.now _ _ _ _ _ _ _ _ _ _ _ _ c.in-Some.ensures.file c.run_file-outcome.result c.report.result c.run_file-outcome.ensures.runs reported
+    not_built_clause laws c.args.words.now _ _ _ _ _ _ _ _ _ _ _ _ c.in-Some.ensures.file c.run_file-outcome.result c.report.result c.run_file-outcome.ensures.runs reported
 
 pub returns-in-Some-clause-line : goal.returns-in-Some-clause-line
 returns-in-Some-clause-line g c =
@@ -37,10 +42,12 @@ returns-in-Some-clause-line g c =
 
 pub returns-in-Some-clause-part : goal.returns-in-Some-clause-part
 returns-in-Some-clause-part g c =
-    part_clause c.tokens_are_one.ensures c.never_both.ensures c.args.words.now _ _ _ _ _ _ _ _ (g.E.Sink.taken c.args.err.now) (g.E.Sink.taken c.report.new.err) (g.E.Sink.faults c.args.err.now) (g.E.Sink.faults c.report.new.err) c.in-Some.ensures.file c.run_file-outcome.result c.run_file-outcome.ensures.runs
+    let laws = laws_of c.tokens_are_one.ensures c.never_both.ensures c.trees_are_one.ensures c.never_both-2.ensures in
+    part_clause laws c.args.words.now _ _ _ _ _ _ _ _ (g.E.Sink.taken c.args.err.now) (g.E.Sink.taken c.report.new.err) (g.E.Sink.faults c.args.err.now) (g.E.Sink.faults c.report.new.err) c.in-Some.ensures.file c.run_file-outcome.result c.run_file-outcome.ensures.runs
 
 pub returns-in-Some-clause-nothing : goal.returns-in-Some-clause-nothing
 returns-in-Some-clause-nothing g c =
+    let laws = laws_of c.tokens_are_one.ensures c.never_both.ensures c.trees_are_one.ensures c.never_both-2.ensures in
     let err = g.E.Sink.taken c.args.err.now in
     let err_later = g.E.Sink.taken c.report.new.err in
     let old = g.E.Sink.faults c.args.err.now in
@@ -48,8 +55,8 @@ returns-in-Some-clause-nothing g c =
     λ why. elim why [
       | inl none ↦ absurd (none _ c.in-Some.ensures.file)
       | inr other ↦ elim other [
-        | inl fetched ↦ nothing_fetched c.tokens_are_one.ensures c.never_both.ensures c.args.words.now _ _ _ _ _ _ _ _ err err_later old new c.in-Some.ensures.file c.run_file-outcome.result c.run_file-outcome.ensures.runs fetched
-        | inr source ↦ nothing_built c.tokens_are_one.ensures c.never_both.ensures c.args.words.now _ _ _ _ _ _ _ _ err err_later old new c.in-Some.ensures.file c.run_file-outcome.result c.run_file-outcome.ensures.runs source
+        | inl fetched ↦ nothing_fetched laws c.args.words.now _ _ _ _ _ _ _ _ err err_later old new c.in-Some.ensures.file c.run_file-outcome.result c.run_file-outcome.ensures.runs fetched
+        | inr source ↦ nothing_built laws c.args.words.now _ _ _ _ _ _ _ _ err err_later old new c.in-Some.ensures.file c.run_file-outcome.result c.run_file-outcome.ensures.runs source
       ]
     ]
 

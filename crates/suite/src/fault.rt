@@ -1,0 +1,25 @@
+// What is wrong with a source.
+ghost use Rattle.std.specs.Prelude.{◌≡◌, slice_get};
+ghost use Rattle.suite.specs.Outcome.{offset_of as the_offset};
+
+use lexer::LexFault;
+use lua_tree::Token;
+
+/// What is wrong with a source, and the offset at which it stands.
+#[derive(Clone, Copy, Debug, PartialEq, Eq)]
+pub enum Fault {
+    Lexical(LexFault),
+    /// The offset is that of a token, or the source's length, where more tokens are wanted.
+    Unexpected { offset: usize },
+    TooDeep { offset: usize },
+}
+
+/// The offset of the token at an index, or the length of the source at the end of the tokens.
+pub fn offset_of(tokens: &[Token], at: usize, length: usize) -> usize
+    ensures { result ≡ the_offset length (slice_get tokens.now at) }
+{
+    match tokens.get(at) {
+        Some(token) => token.at,
+        None => length,
+    }
+}
