@@ -15,3 +15,5 @@ pub mod Trees
 pub mod Joins
 pub mod TreeLists
 pub mod SpelledLaws
+pub mod Outline
+pub mod Scoping
