@@ -8,4 +8,3 @@ pub mod RunLemmas
 pub mod StringLemmas
 pub mod StringItems
 pub mod TokenLemmas
-pub mod WordLemmas

@@ -13,10 +13,6 @@ use Rattle.lexer.specs.declared.piece.PieceKind.{PieceKind}
 use Rattle.lexer.specs.declared.piece.Piece.{Piece}
 use Rattle.lexer.specs.Fronts.{IsFront}
 
--- wherever the word stands whole, it is this token
-abbrev pub IsWordKind : List ℕ → TokenKind → Type 0
-IsWordKind word kind = (at : ℕ) (after : List ℕ) → IsWord word after → IsToken kind at word after
-
 -- what the front of a text is, by the kind that is answered
 abbrev pub PieceIs : PieceKind → ℕ → List ℕ → List ℕ → Type 0
 PieceIs PieceKind.Space at front after = Each is_space front

@@ -64,3 +64,15 @@ no_items new is = view_items_items new ∙ ap fields_of is
 
 pub pushed_item : (old new : Items) (i : Item) → (out-Items new).items.items ≡ (out-Items old).items.items ++ i ∷ [] → view_items new ≡ join_fields (view_items old) (view_item i.kind i.sep no_fields)
 pushed_item old new i is = view_items_items new ∙ ap fields_of is ∙ fields_joined (out-Items old).items.items (i ∷ []) ∙ ap (λ x. join_fields x (view_item i.kind i.sep no_fields)) (sym (view_items_items old))
+
+pub same_stats : (old new : Block) → (out-Block new).stats.items ≡ (out-Block old).stats.items → view_block new ≡ view_block old
+same_stats old new is = view_block_items new ∙ ap statements_of is ∙ sym (view_block_items old)
+
+pub same_exps : (old new : Exps) → (out-Exps new).exps.items ≡ (out-Exps old).exps.items → view_exps new ≡ view_exps old
+same_exps old new is = view_exps_items new ∙ ap expressions_of is ∙ sym (view_exps_items old)
+
+pub same_arms : (old new : Arms) → (out-Arms new).arms.items ≡ (out-Arms old).arms.items → view_arms new ≡ view_arms old
+same_arms old new is = view_arms_items new ∙ ap branches_of is ∙ sym (view_arms_items old)
+
+pub same_items : (old new : Items) → (out-Items new).items.items ≡ (out-Items old).items.items → view_items new ≡ view_items old
+same_items old new is = view_items_items new ∙ ap fields_of is ∙ sym (view_items_items old)

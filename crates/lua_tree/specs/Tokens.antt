@@ -112,3 +112,7 @@ IsToken TokenKind.Comma at text after = IsMark (codes ",") at text after
 IsToken TokenKind.Dot at text after = IsMark (codes ".") at text after
 IsToken TokenKind.DotDot at text after = IsMark (codes "..") at text after
 IsToken TokenKind.DotDotDot at text after = IsMark (codes "...") at text after
+
+-- wherever the word stands whole, it is this token
+abbrev pub IsWordKind : List ℕ → TokenKind → Type 0
+IsWordKind word kind = (at : ℕ) (after : List ℕ) → IsWord word after → IsToken kind at word after

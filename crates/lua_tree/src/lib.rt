@@ -7,6 +7,7 @@ mod speller;
 mod tests;
 mod token;
 mod tree;
+mod word;
 
 pub use laws::{faults_are_one, lines_are_one, never_both, spelled_as_spelling, tokens_are_one};
 pub use speller::spell;
@@ -15,3 +16,4 @@ pub use tree::{
     Args, Arm, Arms, BinaryOp, Block, Body, Exp, ExpKind, Exps, Item, ItemKind, Items, Separator,
     Stat, StatKind, Tree, UnaryOp,
 };
+pub use word::{is_name, keyword};

@@ -1,5 +1,5 @@
 // What no clause says: that calls succeed where there is memory.
-use crate::{Token, TokenKind, Tokens};
+use crate::{Token, TokenKind, Tokens, is_name, keyword};
 use lua_num::ByteText;
 use std::alloc::{AllocError, Global};
 use std::test::Fail;
@@ -36,5 +36,16 @@ fn tokens_differ_by_kind_offset_and_line(rt: HostRuntime) -> Result<(), Fail> {
     assert!(rt; one != name(rt.alloc(), "b", 3)?);
     assert!(rt; one != name(rt.alloc(), "a", 4)?);
     assert!(rt; TokenKind::Dot != TokenKind::DotDot);
+    Ok(())
+}
+
+#[test]
+fn words_are_keywords_or_names(rt: HostRuntime) -> Result<(), Fail> {
+    assert_eq!(rt; keyword(b"until"), Some(TokenKind::Until));
+    assert_eq!(rt; keyword(b"Until"), None);
+    assert!(rt; is_name(b"_until9"));
+    assert!(rt; !is_name(b"until"));
+    assert!(rt; !is_name(b"9until"));
+    assert!(rt; !is_name(b""));
     Ok(())
 }

@@ -256,6 +256,7 @@ impl Block {
         ensures ok { OnOk result ((out-Block self.new).stats.items ≡ (out-Block self.old).stats.items ++ statement ∷ []) }
         ensures view { OnOk result (view_block self.new ≡ join_statements (view_block self.old) (one_statement statement.line statement.semi (view_statement statement.kind) no_statements)) }
         ensures err { OnErr result ((out-Block self.new).stats.items ≡ (out-Block self.old).stats.items) }
+        ensures err_view { OnErr result (view_block self.new ≡ view_block self.old) }
     {
         self.append(statement)
     }
@@ -299,6 +300,7 @@ impl Exps {
         ensures ok { OnOk result ((out-Exps self.new).exps.items ≡ (out-Exps self.old).exps.items ++ expression ∷ []) }
         ensures view { OnOk result (view_exps self.new ≡ join_expressions (view_exps self.old) (one_expression (view_exp expression) no_expressions)) }
         ensures err { OnErr result ((out-Exps self.new).exps.items ≡ (out-Exps self.old).exps.items) }
+        ensures err_view { OnErr result (view_exps self.new ≡ view_exps self.old) }
     {
         self.append(expression)
     }
@@ -342,6 +344,7 @@ impl Arms {
         ensures ok { OnOk result ((out-Arms self.new).arms.items ≡ (out-Arms self.old).arms.items ++ arm ∷ []) }
         ensures view { OnOk result (view_arms self.new ≡ join_branches (view_arms self.old) (view_arm arm no_branches)) }
         ensures err { OnErr result ((out-Arms self.new).arms.items ≡ (out-Arms self.old).arms.items) }
+        ensures err_view { OnErr result (view_arms self.new ≡ view_arms self.old) }
     {
         self.append(arm)
     }
@@ -385,6 +388,7 @@ impl Items {
         ensures ok { OnOk result ((out-Items self.new).items.items ≡ (out-Items self.old).items.items ++ item ∷ []) }
         ensures view { OnOk result (view_items self.new ≡ join_fields (view_items self.old) (view_item item.kind item.sep no_fields)) }
         ensures err { OnErr result ((out-Items self.new).items.items ≡ (out-Items self.old).items.items) }
+        ensures err_view { OnErr result (view_items self.new ≡ view_items self.old) }
     {
         self.append(item)
     }

@@ -30,4 +30,3 @@ pub mod SoundStatements
 pub mod SoundSteps
 pub mod Steps
 pub mod Viable
-pub mod WordLemmas

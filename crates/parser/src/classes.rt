@@ -4,9 +4,8 @@ ghost use Rattle.parser.specs.Classes.{start_of, suffix_of, is_block_end, text_o
 ghost use Rattle.parser.specs.Operators.{infix_of, unary_of};
 
 use crate::operator::Infix;
-use crate::word::is_name;
 use lua_num::ByteText;
-use lua_tree::{BinaryOp, TokenKind, UnaryOp};
+use lua_tree::{BinaryOp, TokenKind, UnaryOp, is_name};
 
 /// What an expression that begins with a name or a parenthesis is read for.
 #[derive(Clone, Copy, Debug, PartialEq, Eq)]

@@ -16,7 +16,6 @@ mod parsing;
 mod prefixes;
 mod statements;
 mod tall;
-mod word;
 
 pub use fault::SyntaxFault;
 pub use laws::{faults_are_one, never_both, trees_are_one};

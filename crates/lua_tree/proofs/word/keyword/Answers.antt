@@ -1,7 +1,7 @@
 -- The word differs from each keyword.
 use Rattle.std.proofs.Common.{refl}
-use Rattle.lexer.proofs.WordLemmas.{rejects}
-use Rattle.lexer.proofs.words.keyword.Goals as goal
+use Rattle.lua_tree.proofs.WordLemmas.{rejects}
+use Rattle.lua_tree.proofs.word.keyword.Goals as goal
 
 pub returns-clause-none : goal.returns-clause-none
 returns-clause-none c =
