@@ -1,5 +1,5 @@
 -- Steps of a run that look at what the next token begins.
-use Rattle.std.proofs.Common.{◌≡◌, ◌==◌, ℕ, true, false, List, Option, Some, None, is_some, sym, ◌∙◌, subst, nat_lt, arith, ap, ◌<◌, ◌≤◌, pos}
+use Rattle.std.proofs.Common.{◌≡◌, ℕ, true, false, List, Option, Some, None, is_some, sym, subst, nat_lt, arith, ap, ◌<◌, ◌≤◌, pos}
 use Rattle.std.proofs.lemmas.Bool.Decides.{nat_tests}
 use Rattle.lua_tree.specs.Syntax.{Text, Statements, Expression, nil_literal, true_literal, false_literal, vararg_expression, number_literal, text_literal}
 use Rattle.lua_tree.specs.WellFormed.{depth_of_expression}
@@ -45,13 +45,6 @@ lead_field {depth} next n l = look_by name_of (λ before x line. field_on depth 
 
 pub lead_text : {needed before : ℕ} {tokens : List Token} {outcome : Outcome _} (next : Option Text) → next ≡ text_of (kind_of tokens) → Leads (text_on needed next) before tokens outcome → Leads (look (λ before kind line. text_on needed (text_of kind))) before tokens outcome
 lead_text {needed} next n l = look_by text_of (λ before x line. text_on needed x) next n l
-
--- whether two lines are one, as the programs test it
-pub lines_differ : {one other line : ℕ} → (one ≡ other → ⊥) → other ≡ line → (one == line) ≡ false
-lines_differ {one} {other} {line} n e = let m : one ≡ line → ⊥ = λ x. n (x ∙ sym e) in grind (arith, nat_tests)
-
-pub lines_agree : {one other line : ℕ} → one ≡ other → other ≡ line → (one == line) ≡ true
-lines_agree {one} {other} {line} n e = let m : one ≡ line = n ∙ e in grind (arith, nat_tests)
 
 -- whether an operator binds more strongly than the limit, as the programs test it
 pub power_above : {limit power shown : ℕ} → limit < shown → shown ≡ power → nat_lt limit power ≡ true

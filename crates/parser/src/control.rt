@@ -194,20 +194,11 @@ impl Cursor<'_> {
 fn numeric_for(name: ByteText, from: Exp, to: Exp, step: Option<Exp>, body: Block) -> StatKind
     ensures { view_statement result ≡ a_numeric_for name (view_exp from) (view_exp to) (step_of step) (view_block body) }
 {
-    match step {
-        Some(step) => StatKind::NumFor {
-            name,
-            from,
-            to,
-            step: Some(step),
-            body,
-        },
-        None => StatKind::NumFor {
-            name,
-            from,
-            to,
-            step: None,
-            body,
-        },
+    StatKind::NumFor {
+        name,
+        from,
+        to,
+        step,
+        body,
     }
 }

@@ -1,5 +1,5 @@
 // A place among the tokens.
-ghost use Rattle.std.specs.Prelude.{◌≡◌, ◌<◌, ◌+◌, length, IfOk, IfErr, option_copied, Some};
+ghost use Rattle.std.specs.Prelude.{◌≡◌, ◌<◌, ◌+◌, ◌==◌, length, IfOk, IfErr, option_copied, Some};
 ghost use Rattle.parser.specs.Program.{one_name};
 ghost use Rattle.parser.specs.Runs.{kind_of, line_of};
 ghost use Rattle.parser.specs.Fields.{literal_view};
@@ -61,6 +61,13 @@ impl<'a> Cursor<'a> {
             [] => 0,
             [token, ..] => token.line,
         }
+    }
+
+    /// Whether the next token stands on the line of the token before it.
+    pub fn is_on_line(&self) -> bool
+        ensures { result ≡ (self.now.line == line_of self.now.rest.now) }
+    {
+        self.line == self.next_line()
     }
 
     /// Whether the next token is this mark.

@@ -70,7 +70,7 @@ impl Cursor<'_> {
                 return Ok(left);
             }
             let line = self.next_line();
-            self.take(depth + 1 + left.height)?;
+            self.take(left.needed_behind(depth))?;
             let right = self.whole(alloc, depth + 1, op.right_power())?;
             left = Tall {
                 height: left.height.max(right.height) + 1,

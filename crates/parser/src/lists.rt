@@ -29,7 +29,7 @@ impl Cursor<'_> {
         ensures shorter { IfOk result (λ _. length self.new.rest.now < length self.old.rest.now) }
     {
         if self.is(Mark::OpenParen) {
-            if self.line != self.next_line() {
+            if !self.is_on_line() {
                 return Err(Halt::Unexpected);
             }
             self.take(needed)?;

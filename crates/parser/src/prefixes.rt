@@ -125,7 +125,7 @@ impl Cursor<'_> {
         ensures shorter { IfOk result (λ _. length self.new.rest.now < length self.old.rest.now) }
     {
         let line = self.next_line();
-        self.take(depth + 1 + on.height)?;
+        self.take(on.needed_behind(depth))?;
         let name = self.name(alloc)?;
         Ok(Tall {
             height: on.height + 1,
@@ -145,7 +145,7 @@ impl Cursor<'_> {
         ensures shorter { IfOk result (λ _. length self.new.rest.now < length self.old.rest.now) }
     {
         let line = self.next_line();
-        self.take(depth + 1 + on.height)?;
+        self.take(on.needed_behind(depth))?;
         let key = self.whole(alloc, depth + 1, 0)?;
         self.want(Mark::CloseBracket)?;
         Ok(Tall {
@@ -172,7 +172,7 @@ impl Cursor<'_> {
         ensures shorter { IfOk result (λ _. length self.new.rest.now < length self.old.rest.now) }
     {
         let spare = role.call_spare();
-        self.take(depth + spare + 1 + on.height)?;
+        self.take(on.needed_behind(depth + spare))?;
         let name = self.name(alloc)?;
         let on_line = self.line;
         let line = self.next_line();
@@ -203,7 +203,7 @@ impl Cursor<'_> {
         let spare = role.call_spare();
         let on_line = self.line;
         let line = self.next_line();
-        let args = self.arguments(alloc, depth + spare + 1, depth + spare + 1 + on.height)?;
+        let args = self.arguments(alloc, depth + spare + 1, on.needed_behind(depth + spare))?;
         Ok(Tall {
             height: on.height.max(args.height) + 1,
             part: call(alloc, line, on.part, args.part, on_line)?,

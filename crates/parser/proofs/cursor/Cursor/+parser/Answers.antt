@@ -6,25 +6,25 @@ use Rattle.parser.specs.Program.{call, give, branches}
 use Rattle.parser.specs.Loops.{expressions_with, fields_with, if_with}
 use Rattle.parser.specs.Finds.{Leads, found}
 use Rattle.parser.proofs.Steps.{finds, refuses, lead_give, lead_answer, lead_stop, lead_look, lead_skip, lead_skip_not, lead_want, lead_want_not, lead_yes, lead_no, lead_call, lead_call_not, lead_then, lead_else, lead_become, lead_open, lead_names_not}
-use Rattle.parser.proofs.Looks.{lead_statement, lead_whole, lead_climb, lead_simple, lead_prefix, lead_suffix, lead_field, lead_text, lines_differ, lines_agree, power_above, power_below}
+use Rattle.parser.proofs.Looks.{lead_statement, lead_whole, lead_climb, lead_simple, lead_prefix, lead_suffix, lead_field, lead_text, power_above, power_below}
 use Rattle.parser.proofs.LoopSteps.{expression_turn, expressions_end, expressions_depth, statement_turn, statement_last, block_done, statements_depth, field_turn, field_last, fields_end, fields_depth, view_add, target_turn, target_last, target_halts, no_target, branch_turn, lead_path, lead_locals, lead_generic, infix_height, arm_view, branches_end, branches_depth}
 use Rattle.parser.proofs.Passing.{handed_on, body_made, cond_made, inside_made}
 use Rattle.parser.proofs.cursor.Cursor.+parser.Goals as goal
 
-pub arguments-returns-then-self-next_line-clause-refused : goal.arguments-returns-then-self-next_line-clause-refused
-arguments-returns-then-self-next_line-clause-refused t c = refuses (lead_yes c.is.ensures c.if-is.true (lead_look (lead_else _ _ _ (lines_differ c.if-self-next_line.true c.next_line.ensures) lead_stop)))
+pub arguments-returns-then-not-is_on_line-clause-refused : goal.arguments-returns-then-not-is_on_line-clause-refused
+arguments-returns-then-not-is_on_line-clause-refused t c = refuses (lead_yes c.is.ensures c.if-is.true (lead_look (lead_else _ _ _ (sym c.is_on_line.ensures ∙ c.if-not-is_on_line.true) lead_stop)))
 
 pub arguments-returns-in_err-take-clause-refused : goal.arguments-returns-in_err-take-clause-refused
-arguments-returns-in_err-take-clause-refused t c = handed_on _ _ _ c.from_residual.ensures.1 (refuses (lead_yes c.is.ensures c.if-is.true (lead_look (lead_then _ _ _ (lines_agree c.if-self-next_line.false c.next_line.ensures) (lead_skip_not c.in_err-take.ensures.not_taken refl)))))
+arguments-returns-in_err-take-clause-refused t c = handed_on _ _ _ c.from_residual.ensures.1 (refuses (lead_yes c.is.ensures c.if-is.true (lead_look (lead_then _ _ _ (sym c.is_on_line.ensures ∙ c.if-not-is_on_line.false) (lead_skip_not c.in_err-take.ensures.not_taken refl)))))
 
 pub arguments-returns-in_err-list-clause-refused : goal.arguments-returns-in_err-list-clause-refused
-arguments-returns-in_err-list-clause-refused t c = handed_on _ _ _ c.from_residual-in_err-list.ensures.1 (refuses (lead_yes c.is.ensures c.if-is.true (lead_look (lead_then _ _ _ (lines_agree c.if-self-next_line.false c.next_line.ensures) (lead_skip c.in_ok-take.ensures.taken refl (lead_call_not c.in_err-list.ensures.refused))))))
+arguments-returns-in_err-list-clause-refused t c = handed_on _ _ _ c.from_residual-in_err-list.ensures.1 (refuses (lead_yes c.is.ensures c.if-is.true (lead_look (lead_then _ _ _ (sym c.is_on_line.ensures ∙ c.if-not-is_on_line.false) (lead_skip c.in_ok-take.ensures.taken refl (lead_call_not c.in_err-list.ensures.refused))))))
 
 pub arguments-returns-in_err-want-clause-refused : goal.arguments-returns-in_err-want-clause-refused
-arguments-returns-in_err-want-clause-refused t c = handed_on _ _ _ c.from_residual-in_err-want.ensures.1 (refuses (lead_yes c.is.ensures c.if-is.true (lead_look (lead_then _ _ _ (lines_agree c.if-self-next_line.false c.next_line.ensures) (lead_skip c.in_ok-take.ensures.taken refl (lead_call c.in_ok-list.ensures.found (lead_want_not c.in_err-want.ensures.not_taken)))))))
+arguments-returns-in_err-want-clause-refused t c = handed_on _ _ _ c.from_residual-in_err-want.ensures.1 (refuses (lead_yes c.is.ensures c.if-is.true (lead_look (lead_then _ _ _ (sym c.is_on_line.ensures ∙ c.if-not-is_on_line.false) (lead_skip c.in_ok-take.ensures.taken refl (lead_call c.in_ok-list.ensures.found (lead_want_not c.in_err-want.ensures.not_taken)))))))
 
 pub arguments-returns-then-is-clause-found : goal.arguments-returns-then-is-clause-found
-arguments-returns-then-is-clause-found t c = finds (lead_yes c.is.ensures c.if-is.true (lead_look (lead_then _ _ _ (lines_agree c.if-self-next_line.false c.next_line.ensures) (lead_skip c.in_ok-take.ensures.taken refl (lead_call c.in_ok-list.ensures.found (lead_want c.in_ok-want.ensures.taken lead_give))))))
+arguments-returns-then-is-clause-found t c = finds (lead_yes c.is.ensures c.if-is.true (lead_look (lead_then _ _ _ (sym c.is_on_line.ensures ∙ c.if-not-is_on_line.false) (lead_skip c.in_ok-take.ensures.taken refl (lead_call c.in_ok-list.ensures.found (lead_want c.in_ok-want.ensures.taken lead_give))))))
 
 pub arguments-returns-in_err-take-2-clause-refused : goal.arguments-returns-in_err-take-2-clause-refused
 arguments-returns-in_err-take-2-clause-refused t c = handed_on _ _ _ c.from_residual-in_err-take-2.ensures.1 (refuses (lead_no c.is.ensures c.if-is.false (lead_yes c.is-2.ensures c.if-is-2.true (lead_skip_not c.in_err-take-2.ensures.not_taken refl))))
@@ -93,19 +93,19 @@ pub body-returns-clause-found : goal.body-returns-clause-found
 body-returns-clause-found t c = rw body_made (finds (lead_want c.in_ok-want.ensures.taken (lead_call c.in_ok-params.ensures.found (lead_want c.in_ok-want-2.ensures.taken (lead_call c.in_ok-block.ensures.found (lead_want c.in_ok-want-3.ensures.taken (lead_look lead_give)))))))
 
 pub call_of-returns-in_err-args-clause-refused : goal.call_of-returns-in_err-args-clause-refused
-call_of-returns-in_err-args-clause-refused t c = handed_on _ _ _ c.from_residual.ensures.1 (refuses (lead_look (lead_call_not (rw (c.call_spare-spare.ensures, c.requires.height) at c.in_err-args.ensures.refused))))
+call_of-returns-in_err-args-clause-refused t c = handed_on _ _ _ c.from_residual.ensures.1 (refuses (lead_look (lead_call_not (rw (c.needed_behind.ensures, c.call_spare-spare.ensures, c.requires.height) at c.in_err-args.ensures.refused))))
 
 pub call_of-returns-clause-found : goal.call_of-returns-clause-found
-call_of-returns-clause-found t c = rw (c.in_ok-call.ensures, c.next_line-line.ensures) (finds (lead_look (lead_call (rw (c.call_spare-spare.ensures, c.requires.height) at c.in_ok-args.ensures.found) lead_give)))
+call_of-returns-clause-found t c = rw (c.in_ok-call.ensures, c.next_line-line.ensures) (finds (lead_look (lead_call (rw (c.needed_behind.ensures, c.call_spare-spare.ensures, c.requires.height) at c.in_ok-args.ensures.found) lead_give)))
 
 pub climb-returns-in_err-take-clause-refused : goal.climb-returns-in_err-take-clause-refused
-climb-returns-in_err-take-clause-refused t c = handed_on _ _ _ c.from_residual.ensures.1 (refuses (c.loop-op.invariant.leads _ (lead_climb c.args.depth c.args.limit c.args.start _ (Some c.in-Some.op) c.in-Some.ensures (lead_then _ _ _ (power_above c.if-left_power-limit.false c.left_power.ensures) (lead_skip_not c.in_err-take.ensures.not_taken (rw c.loop-op.invariant.height refl))))))
+climb-returns-in_err-take-clause-refused t c = handed_on _ _ _ c.from_residual.ensures.1 (refuses (c.loop-op.invariant.leads _ (lead_climb c.args.depth c.args.limit c.args.start _ (Some c.in-Some.op) c.in-Some.ensures (lead_then _ _ _ (power_above c.if-left_power-limit.false c.left_power.ensures) (lead_skip_not c.in_err-take.ensures.not_taken (rw (c.needed_behind.ensures, c.loop-op.invariant.height) refl))))))
 
 pub climb-returns-in_err-right-clause-refused : goal.climb-returns-in_err-right-clause-refused
-climb-returns-in_err-right-clause-refused t c = handed_on _ _ _ c.from_residual-in_err-right.ensures.1 (refuses (c.loop-op.invariant.leads _ (lead_climb c.args.depth c.args.limit c.args.start _ (Some c.in-Some.op) c.in-Some.ensures (lead_then _ _ _ (power_above c.if-left_power-limit.false c.left_power.ensures) (lead_skip c.in_ok-take.ensures.taken (rw c.loop-op.invariant.height refl) (lead_call_not (rw c.right_power.ensures at c.in_err-right.ensures.refused)))))))
+climb-returns-in_err-right-clause-refused t c = handed_on _ _ _ c.from_residual-in_err-right.ensures.1 (refuses (c.loop-op.invariant.leads _ (lead_climb c.args.depth c.args.limit c.args.start _ (Some c.in-Some.op) c.in-Some.ensures (lead_then _ _ _ (power_above c.if-left_power-limit.false c.left_power.ensures) (lead_skip c.in_ok-take.ensures.taken (rw (c.needed_behind.ensures, c.loop-op.invariant.height) refl) (lead_call_not (rw c.right_power.ensures at c.in_err-right.ensures.refused)))))))
 
 pub climb-loop-op-preserved : goal.climb-loop-op-preserved
-climb-loop-op-preserved t c = record { leads = λ outcome l. c.loop-op.invariant.leads outcome (lead_climb c.args.depth c.args.limit c.args.start _ (Some c.in-Some.op) c.in-Some.ensures (lead_then _ _ _ (power_above c.if-left_power-limit.false c.left_power.ensures) (lead_skip c.in_ok-take.ensures.taken (rw c.loop-op.invariant.height refl) (lead_call (rw c.right_power.ensures at c.in_ok-right.ensures.found) (lead_become (rw (c.in_ok-operation.ensures, c.next_line-line.ensures) at l)))))); height = rw c.in_ok-operation.ensures (infix_height _ _ c.in-Some.op _ _ _ _ _ c.loop-op.invariant.height c.in_ok-right.ensures.height c.max.ensures); low = search rules; shorter = search rules }
+climb-loop-op-preserved t c = record { leads = λ outcome l. c.loop-op.invariant.leads outcome (lead_climb c.args.depth c.args.limit c.args.start _ (Some c.in-Some.op) c.in-Some.ensures (lead_then _ _ _ (power_above c.if-left_power-limit.false c.left_power.ensures) (lead_skip c.in_ok-take.ensures.taken (rw (c.needed_behind.ensures, c.loop-op.invariant.height) refl) (lead_call (rw c.right_power.ensures at c.in_ok-right.ensures.found) (lead_become (rw (c.in_ok-operation.ensures, c.next_line-line.ensures) at l)))))); height = rw c.in_ok-operation.ensures (infix_height _ _ c.in-Some.op _ _ _ _ _ c.loop-op.invariant.height c.in_ok-right.ensures.height c.max.ensures); low = search rules; shorter = search rules }
 
 pub climb-returns-clause-found : goal.climb-returns-clause-found
 climb-returns-clause-found t c = finds (c.loop-op.invariant.leads _ (lead_climb c.args.depth c.args.limit c.args.start _ None c.in_default.ensures lead_give))
@@ -243,16 +243,16 @@ pub generic_for-returns-clause-found : goal.generic_for-returns-clause-found
 generic_for-returns-clause-found t c = finds (lead_generic c.in_ok-names.ensures.found (lead_yes c.is.ensures c.if-not-is.false (lead_skip c.in_ok-take.ensures.taken refl (lead_call c.in_ok-exps.ensures.found (lead_want c.in_ok-want.ensures.taken (lead_call c.in_ok-body.ensures.found (lead_want c.in_ok-want-2.ensures.taken lead_give)))))))
 
 pub index_of-returns-in_err-take-clause-refused : goal.index_of-returns-in_err-take-clause-refused
-index_of-returns-in_err-take-clause-refused t c = handed_on _ _ _ c.from_residual.ensures.1 (refuses (lead_look (lead_skip_not c.in_err-take.ensures.not_taken (rw c.requires.height refl))))
+index_of-returns-in_err-take-clause-refused t c = handed_on _ _ _ c.from_residual.ensures.1 (refuses (lead_look (lead_skip_not c.in_err-take.ensures.not_taken (rw (c.needed_behind.ensures, c.requires.height) refl))))
 
 pub index_of-returns-in_err-key-clause-refused : goal.index_of-returns-in_err-key-clause-refused
-index_of-returns-in_err-key-clause-refused t c = handed_on _ _ _ c.from_residual-in_err-key.ensures.1 (refuses (lead_look (lead_skip c.in_ok-take.ensures.taken (rw c.requires.height refl) (lead_call_not c.in_err-key.ensures.refused))))
+index_of-returns-in_err-key-clause-refused t c = handed_on _ _ _ c.from_residual-in_err-key.ensures.1 (refuses (lead_look (lead_skip c.in_ok-take.ensures.taken (rw (c.needed_behind.ensures, c.requires.height) refl) (lead_call_not c.in_err-key.ensures.refused))))
 
 pub index_of-returns-in_err-want-clause-refused : goal.index_of-returns-in_err-want-clause-refused
-index_of-returns-in_err-want-clause-refused t c = handed_on _ _ _ c.from_residual-in_err-want.ensures.1 (refuses (lead_look (lead_skip c.in_ok-take.ensures.taken (rw c.requires.height refl) (lead_call c.in_ok-key.ensures.found (lead_want_not c.in_err-want.ensures.not_taken)))))
+index_of-returns-in_err-want-clause-refused t c = handed_on _ _ _ c.from_residual-in_err-want.ensures.1 (refuses (lead_look (lead_skip c.in_ok-take.ensures.taken (rw (c.needed_behind.ensures, c.requires.height) refl) (lead_call c.in_ok-key.ensures.found (lead_want_not c.in_err-want.ensures.not_taken)))))
 
 pub index_of-returns-clause-found : goal.index_of-returns-clause-found
-index_of-returns-clause-found t c = rw (c.in_ok-index.ensures, c.next_line-line.ensures) (finds (lead_look (lead_skip c.in_ok-take.ensures.taken (rw c.requires.height refl) (lead_call c.in_ok-key.ensures.found (lead_want c.in_ok-want.ensures.taken lead_give)))))
+index_of-returns-clause-found t c = rw (c.in_ok-index.ensures, c.next_line-line.ensures) (finds (lead_look (lead_skip c.in_ok-take.ensures.taken (rw (c.needed_behind.ensures, c.requires.height) refl) (lead_call c.in_ok-key.ensures.found (lead_want c.in_ok-want.ensures.taken lead_give)))))
 
 pub keyed-returns-in_err-take-clause-refused : goal.keyed-returns-in_err-take-clause-refused
 keyed-returns-in_err-take-clause-refused t c = handed_on _ _ _ c.from_residual.ensures.1 (refuses (lead_skip_not c.in_err-take.ensures.not_taken refl))
@@ -306,16 +306,16 @@ pub local_statement-returns-in_err-take-clause-refused : goal.local_statement-re
 local_statement-returns-in_err-take-clause-refused t c = handed_on _ _ _ c.from_residual.ensures.1 (refuses (lead_skip_not c.in_err-take.ensures.not_taken refl))
 
 pub method_of-returns-in_err-take-clause-refused : goal.method_of-returns-in_err-take-clause-refused
-method_of-returns-in_err-take-clause-refused t c = handed_on _ _ _ c.from_residual.ensures.1 (refuses (lead_skip_not c.in_err-take.ensures.not_taken (rw (c.call_spare-spare.ensures, c.requires.height) refl)))
+method_of-returns-in_err-take-clause-refused t c = handed_on _ _ _ c.from_residual.ensures.1 (refuses (lead_skip_not c.in_err-take.ensures.not_taken (rw (c.needed_behind.ensures, c.call_spare-spare.ensures, c.requires.height) refl)))
 
 pub method_of-returns-in_err-name-clause-refused : goal.method_of-returns-in_err-name-clause-refused
-method_of-returns-in_err-name-clause-refused t c = handed_on _ _ _ c.from_residual-in_err-name.ensures.1 (refuses (lead_skip c.in_ok-take.ensures.taken (rw (c.call_spare-spare.ensures, c.requires.height) refl) (lead_call_not c.in_err-name.ensures.refused)))
+method_of-returns-in_err-name-clause-refused t c = handed_on _ _ _ c.from_residual-in_err-name.ensures.1 (refuses (lead_skip c.in_ok-take.ensures.taken (rw (c.needed_behind.ensures, c.call_spare-spare.ensures, c.requires.height) refl) (lead_call_not c.in_err-name.ensures.refused)))
 
 pub method_of-returns-in_err-args-clause-refused : goal.method_of-returns-in_err-args-clause-refused
-method_of-returns-in_err-args-clause-refused t c = handed_on _ _ _ c.from_residual-in_err-args.ensures.1 (refuses (lead_skip c.in_ok-take.ensures.taken (rw (c.call_spare-spare.ensures, c.requires.height) refl) (lead_call c.in_ok-name.ensures.found (lead_look (lead_call_not (rw c.call_spare-spare.ensures at c.in_err-args.ensures.refused))))))
+method_of-returns-in_err-args-clause-refused t c = handed_on _ _ _ c.from_residual-in_err-args.ensures.1 (refuses (lead_skip c.in_ok-take.ensures.taken (rw (c.needed_behind.ensures, c.call_spare-spare.ensures, c.requires.height) refl) (lead_call c.in_ok-name.ensures.found (lead_look (lead_call_not (rw c.call_spare-spare.ensures at c.in_err-args.ensures.refused))))))
 
 pub method_of-returns-clause-found : goal.method_of-returns-clause-found
-method_of-returns-clause-found t c = rw (c.in_ok-method.ensures, c.next_line-line.ensures) (finds (lead_skip c.in_ok-take.ensures.taken (rw (c.call_spare-spare.ensures, c.requires.height) refl) (lead_call c.in_ok-name.ensures.found (lead_look (lead_call (rw c.call_spare-spare.ensures at c.in_ok-args.ensures.found) lead_give)))))
+method_of-returns-clause-found t c = rw (c.in_ok-method.ensures, c.next_line-line.ensures) (finds (lead_skip c.in_ok-take.ensures.taken (rw (c.needed_behind.ensures, c.call_spare-spare.ensures, c.requires.height) refl) (lead_call c.in_ok-name.ensures.found (lead_look (lead_call (rw c.call_spare-spare.ensures at c.in_ok-args.ensures.found) lead_give)))))
 
 pub named-returns-in_err-value-clause-refused : goal.named-returns-in_err-value-clause-refused
 named-returns-in_err-value-clause-refused t c = handed_on _ _ _ c.from_residual-in_err-value.ensures.1 (refuses (lead_yes c.is.ensures c.if-is.true (lead_skip c.in_ok-take.ensures.taken refl (lead_call_not c.in_err-value.ensures.refused))))
