@@ -1,0 +1,17 @@
+pub mod AnswerSteps
+pub mod Beginnings
+pub mod Declaring
+pub mod Entrances
+pub mod Goings
+pub mod KindParts
+pub mod Known
+pub mod LoopSteps
+pub mod Marks
+pub mod MentionSteps
+pub mod Mentions
+pub mod Overfull
+pub mod Quiet
+pub mod Reaching
+pub mod States
+pub mod Turns
+pub mod Views

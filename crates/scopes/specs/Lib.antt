@@ -1,0 +1,4 @@
+pub mod Resolved
+pub mod Faults
+pub mod Standing
+pub mod Capturing
