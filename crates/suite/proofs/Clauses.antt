@@ -9,6 +9,7 @@ use Rattle.suite_io.specs.Calls.{call_of, fault_count}
 use Rattle.suite_io.specs.Taken.{Takes, Rises}
 use Rattle.lua_tree.specs.declared.token.Token.{Token}
 use Rattle.lua_tree.specs.Syntax.{Source}
+use Rattle.lua_tree.specs.Scoping.{Scoped, no_loop, no_vararg, too_many_locals, too_many_upvalues, breach_of}
 use Rattle.lua_tree.specs.Tiling.{Cause, Lexes, Stops}
 use Rattle.lua_tree.specs.Trees.{IsTreeOf}
 use Rattle.lexer.specs.declared.fault.LexFault.{LexFault}
@@ -16,6 +17,8 @@ use Rattle.lexer.specs.Faults as lexical
 use Rattle.parser.specs.declared.fault.SyntaxFault.{SyntaxFault}
 use Rattle.parser.specs.Places as syntax
 use Rattle.parser.specs.Laws.{TreesAreOne, NeverBoth}
+use Rattle.scopes.specs.declared.fault.ScopeFault.{ScopeFault}
+use Rattle.scopes.specs.Faults as scoping
 use Rattle.agrees.specs.declared.tree.Statement.{Statement}
 use Rattle.agrees.specs.Source.{is_chunk, IsFirstForm}
 use Rattle.suite.specs.declared.fault.Fault.{Fault}
@@ -27,7 +30,7 @@ use Rattle.suite.specs.Lines.{status_of, line_of, Refused, IsPut, Reported}
 use Rattle.suite.specs.Outcome.{IsBadSource, IsNotBuilt, IsFaultIn}
 use Rattle.suite.specs.Work.{FileRuns, FetchedRuns, IsFetched, HasOutput, Prints, PrintsPart}
 use Rattle.suite.specs.Causes.{Becomes, NoFault, HasNoSource}
-use Rattle.suite.proofs.SourceLemmas.{TokensAreOne, form_listed}
+use Rattle.suite.proofs.SourceLemmas.{TokensAreOne, form_listed, list_scoped}
 
 abbrev pub TokensOrFault : Type 0
 TokensOrFault = (bytes : List ℕ) (tokens : List Token) (cause : Cause) (at : ℕ) → Lexes bytes tokens → Stops bytes cause at → ⊥
@@ -94,19 +97,30 @@ no_syntax_fault : Laws → (bytes : List ℕ) (tokens others : List Token) (whol
 no_syntax_fault laws bytes tokens others whole fault lexed parsed lexed_too is =
     laws.tree_or_fault others whole fault (subst (λ t. IsTreeOf t whole) (laws.tokens_are_one bytes tokens others lexed lexed_too) parsed) is
 
--- nor do a tree and a fault
-no_fault : Laws → (bytes : List ℕ) (tokens : List Token) (whole : Source) (fault : Fault) → Lexes bytes tokens → IsTreeOf tokens whole → IsFaultIn bytes fault → ⊥
-no_fault laws bytes tokens whole (Fault.Lexical fault) lexed parsed is =
+no_scope_fault : (whole : Source) (fault : ScopeFault) → Scoped whole → scoping.IsFaultOf whole fault → ⊥
+no_scope_fault whole (ScopeFault.NoLoop line) keeps is = let some : breach_of whole ≡ Some (no_loop line) = is in cc
+no_scope_fault whole (ScopeFault.NoVararg line) keeps is = let some : breach_of whole ≡ Some (no_vararg line) = is in cc
+no_scope_fault whole (ScopeFault.TooManyLocals line reached) keeps is = let some : breach_of whole ≡ Some (too_many_locals line reached) = is in cc
+no_scope_fault whole (ScopeFault.TooManyUpvalues line reached) keeps is = let some : breach_of whole ≡ Some (too_many_upvalues line reached) = is in cc
+no_scope_fault whole ScopeFault.OutOfMemory keeps is = is
+
+-- nor do a tree that keeps the rules of scoping and a fault
+no_fault : Laws → (bytes : List ℕ) (tokens : List Token) (whole : Source) (fault : Fault) → Lexes bytes tokens → IsTreeOf tokens whole → Scoped whole → IsFaultIn bytes fault → ⊥
+no_fault laws bytes tokens whole (Fault.Scoping fault) lexed parsed keeps is =
+    let same_tokens : is.tokens ≡ tokens = laws.tokens_are_one bytes is.tokens tokens is.lexed lexed in
+    let same : whole ≡ is.whole = laws.trees_are_one tokens whole is.whole parsed (subst (λ t. IsTreeOf t is.whole) same_tokens is.parsed) in
+    no_scope_fault is.whole fault (subst Scoped same keeps) is.fault_is
+no_fault laws bytes tokens whole (Fault.Lexical fault) lexed parsed keeps is =
     no_lexical_fault laws.tokens_or_fault bytes tokens fault lexed is
-no_fault laws bytes tokens whole (Fault.Unexpected offset) lexed parsed is =
+no_fault laws bytes tokens whole (Fault.Unexpected offset) lexed parsed keeps is =
     no_syntax_fault laws bytes tokens is.tokens whole (SyntaxFault.Unexpected is.at) lexed parsed is.lexed is.fault
-no_fault laws bytes tokens whole (Fault.TooDeep offset) lexed parsed is =
+no_fault laws bytes tokens whole (Fault.TooDeep offset) lexed parsed keeps is =
     no_syntax_fault laws bytes tokens is.tokens whole (SyntaxFault.TooDeep is.at) lexed parsed is.lexed is.fault
 
 -- source of the first form, source with a fault and what is not built are three
 form_not_bad : Laws → (bytes : List ℕ) (tree : List Statement) (fault : Fault) → IsFirstForm bytes tree → IsBadSource bytes fault → ⊥
 form_not_bad laws bytes tree fault form bad =
-    no_fault laws bytes form.tokens form.whole fault form.lexed form.parsed bad.fault_is
+    no_fault laws bytes form.tokens form.whole fault form.lexed form.parsed (list_scoped form.whole tree form.listed) bad.fault_is
 
 form_not_unbuilt : Laws → (bytes : List ℕ) (tree : List Statement) → IsFirstForm bytes tree → IsNotBuilt bytes → ⊥
 form_not_unbuilt laws bytes tree form (inl chunk) = let source : is_chunk bytes ≡ false = form.source in cc
@@ -116,7 +130,7 @@ form_not_unbuilt laws bytes tree form (inr other) =
 bad_not_unbuilt : Laws → (bytes : List ℕ) (fault : Fault) → IsBadSource bytes fault → IsNotBuilt bytes → ⊥
 bad_not_unbuilt laws bytes fault bad (inl chunk) = let source : is_chunk bytes ≡ false = bad.source in cc
 bad_not_unbuilt laws bytes fault bad (inr other) =
-    no_fault laws bytes other.tokens other.whole fault other.lexed other.parsed bad.fault_is
+    no_fault laws bytes other.tokens other.whole fault other.lexed other.parsed other.scoped bad.fault_is
 
 -- a status whose line was refused is then one of two
 refused_is : (status result : Status) (old new : ℕ) → Refused status result old new → (result ≡ Status.WriteFault) ⊎ (result ≡ Status.OutOfMemory)

@@ -1,8 +1,11 @@
--- Statements have one list of printed numbers at most.
-use Rattle.std.proofs.Common.{◌≡◌, ◌≢◌, ℕ, ◌+◌, ◌<◌, ◌≤◌, ℤ, Bool, List, [], ◌∷◌, ◌++◌, length, get_or, drop, IfNone, Option, Some, None, sym, ap, subst, ◌∙◌, append_assoc, append-nil, arith, length-append}
+-- Statements have one list of printed numbers at most, and then they keep the rules of scoping.
+use Rattle.std.specs.Prelude.{codes}
+use Rattle.std.proofs.Common.{◌≡◌, ◌≢◌, ℕ, ◌+◌, ◌<◌, ◌≤◌, ℤ, Bool, false, List, [], ◌∷◌, ◌++◌, length, get_or, drop, IfNone, Option, Some, None, refl, sym, ap, subst, ◌∙◌, append_assoc, append-nil, arith, length-append}
 use Rattle.std.proofs.lemmas.List.{at_drop_more, at_drop_all}
 use Rattle.lua_tree.specs.Syntax as syntax
-use Rattle.lua_tree.specs.Syntax.{Statements, no_statements, call_statement, Expressions, Expression, call_expression, argument_list, Source}
+use Rattle.lua_tree.specs.Syntax.{Text, Statements, no_statements, call_statement, Expressions, Expression, call_expression, argument_list, Source}
+use Rattle.lua_tree.specs.Outline.{Place, Mark, mention, statement_part, statements_part, beginning}
+use Rattle.lua_tree.specs.Scoping.{first_breach, Scoped}
 use Rattle.lua_tree.specs.Tiling.{Lexes}
 use Rattle.lua_tree.specs.Trees.{IsTreeOf}
 use Rattle.lua_tree.specs.View.{view_exp}
@@ -11,10 +14,12 @@ use Rattle.lua_tree.specs.declared.tree.Exp.{Exp}
 use Rattle.lua_tree.specs.declared.tree.Stat.{Stat}
 use Rattle.lua_tree.specs.declared.token.Token.{Token}
 use Rattle.parser.specs.Laws.{TreesAreOne}
-use Rattle.agrees.specs.Source.{PrintsNumber, ArePrinted, IsPrintList, IsFirstForm}
+use Rattle.agrees.specs.Source.{is_chunk, PrintsNumber, ArePrinted, IsPrintList, IsFirstForm}
 use Rattle.agrees.specs.declared.tree.Statement.{Statement}
 use Rattle.agrees.specs.declared.tree.Statement.TheVariants.{Print}
-use Rattle.suite.specs.Reading.{IsNoPrintList, IsNumber, IsNumberList}
+use Rattle.suite.specs.declared.fault.Fault.{Fault}
+use Rattle.suite.specs.Outcome.{IsBadSource}
+use Rattle.suite.specs.Reading.{IsScopingFault, IsNoPrintList, IsNumber, IsNumberList}
 
 pub none_weaker : {A P Q : Type 0} (o : Option A) → (P → Q) → IfNone o P → IfNone o Q
 none_weaker (Some x) f h = tt
@@ -100,3 +105,26 @@ form_listed tokens_one trees_one bytes tokens whole tree lexed parsed form =
     let tokens_same : form.tokens ≡ tokens = tokens_one bytes form.tokens tokens form.lexed lexed in
     let form_parsed : IsTreeOf tokens form.whole = subst (λ t. IsTreeOf t form.whole) tokens_same form.parsed in
     subst (λ (w : Source). IsPrintList w.body tree) (trees_one tokens form.whole whole form_parsed parsed) form.listed
+
+-- a printed number mentions `print` alone
+one_mark : (line : ℕ) (s : syntax.Statement) (n : ℤ) (number : PrintsNumber s n) (place : Place) → statement_part line s place ≡ record { marks = mention number.name_line (codes "print") (place.scope (codes "print")) place.around ∷ []; next = place }
+one_mark line s n number place = rw number.is refl
+
+-- where no local is in scope, printed numbers break no rule
+no_breach : (body : Statements) (prints : List Statement) → ArePrinted body prints → (place : Place) → ((name : Text) → place.scope name ≡ None) → (before : List Mark) → first_breach before (statements_part body place).marks ≡ None
+no_breach no_statements [] printed place globals before = refl
+no_breach no_statements (Print n ∷ prints) printed place globals before = absurd printed
+no_breach (syntax.statement line semi s rest) [] printed place globals before = absurd printed
+no_breach (syntax.statement line semi s rest) (Print n ∷ prints) printed place globals before =
+    rw (one_mark line s n printed.0 place, globals (codes "print")) (no_breach rest prints printed.1 place globals (before ++ mention printed.0.name_line (codes "print") None place.around ∷ []))
+
+pub list_scoped : (whole : Source) (tree : List Statement) → IsPrintList whole.body tree → Scoped whole
+list_scoped whole tree listed = no_breach whole.body tree listed.printed beginning (λ name. refl) []
+
+-- a fault of scoping in the tree is one of the bytes
+pub scoping_bad : (bytes : List ℕ) (tokens : List Token) (whole : Source) (fault : Fault) → is_chunk bytes ≡ false → Lexes bytes tokens → IsTreeOf tokens whole → IsScopingFault whole fault → IsBadSource bytes fault
+scoping_bad bytes tokens whole (Fault.Scoping fault) source lexed parsed is =
+    record { source = source; fault_is = record { tokens = tokens; lexed = lexed; whole = whole; parsed = parsed; fault_is = is } }
+scoping_bad bytes tokens whole (Fault.Lexical fault) source lexed parsed is = absurd is
+scoping_bad bytes tokens whole (Fault.Unexpected offset) source lexed parsed is = absurd is
+scoping_bad bytes tokens whole (Fault.TooDeep offset) source lexed parsed is = absurd is

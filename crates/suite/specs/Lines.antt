@@ -2,6 +2,7 @@
 use Rattle.std.specs.Prelude.{◌≡◌, ℕ, List, [], ◌∷◌, ◌++◌, ◌⊎◌, Option, codes}
 use Rattle.std.specs.Fmt.{decimal}
 use Rattle.lexer.specs.declared.fault.LexFault.{LexFault}
+use Rattle.scopes.specs.declared.fault.ScopeFault.{ScopeFault}
 use Rattle.suite_io.specs.Taken.{Takes, Rises}
 use Rattle.suite.specs.declared.fault.Fault.{Fault}
 use Rattle.suite.specs.declared.status.Status.{Status}
@@ -37,11 +38,20 @@ lexical_text (LexFault.EscapeTooLarge at) = codes ": EscapeTooLarge at offset " 
 lexical_text (LexFault.BadNumber at) = codes ": BadNumber at offset " ++ decimal at
 lexical_text LexFault.OutOfMemory = codes ": OutOfMemory"
 
--- the name of a fault of a source, and its offset
+-- the name of a fault of scoping, and its line; want of memory is no such fault
+abbrev pub scope_text : ScopeFault → List ℕ
+scope_text (ScopeFault.NoLoop line) = codes ": NoLoop at line " ++ decimal line
+scope_text (ScopeFault.NoVararg line) = codes ": NoVararg at line " ++ decimal line
+scope_text (ScopeFault.TooManyLocals line reached) = codes ": TooManyLocals at line " ++ decimal line
+scope_text (ScopeFault.TooManyUpvalues line reached) = codes ": TooManyUpvalues at line " ++ decimal line
+scope_text ScopeFault.OutOfMemory = codes ": OutOfMemory"
+
+-- the name of a fault of a source, and its offset or its line
 abbrev pub fault_text : Fault → List ℕ
 fault_text (Fault.Lexical fault) = lexical_text fault
 fault_text (Fault.Unexpected offset) = codes ": Unexpected at offset " ++ decimal offset
 fault_text (Fault.TooDeep offset) = codes ": TooDeep at offset " ++ decimal offset
+fault_text (Fault.Scoping fault) = scope_text fault
 
 -- a line that speaks of a file of this name: `luasuite: `, the name, the text, and a line end
 abbrev pub line_with : List ℕ → List ℕ → List ℕ

@@ -2,13 +2,16 @@
 use Rattle.std.specs.Prelude.{◌≡◌, ◌⊎◌, ℕ, true, false, List, length, slice_get, Option, Some, None}
 use Rattle.lua_tree.specs.Syntax.{Source}
 use Rattle.lua_tree.specs.Trees.{IsTreeOf}
+use Rattle.lua_tree.specs.Scoping.{Scoped}
 use Rattle.lua_tree.specs.declared.token.Token.{Token}
 use Rattle.lua_tree.specs.Tiling.{Lexes}
 use Rattle.lexer.specs.Faults.{IsFaultOf}
 use Rattle.parser.specs.Places.{IsUnexpectedAt, IsTooDeepAt}
-use Rattle.agrees.specs.declared.tree.Statement.{Statement}
-use Rattle.agrees.specs.Source.{is_chunk, IsPrintList}
+use Rattle.scopes.specs.declared.fault.ScopeFault.{ScopeFault}
+use Rattle.scopes.specs.Faults as scoping
+use Rattle.agrees.specs.Source.{is_chunk}
 use Rattle.suite.specs.declared.fault.Fault.{Fault}
+use Rattle.suite.specs.Reading.{IsNoPrintList}
 
 -- the offset of a token, or the length of the bytes, where there is none
 abbrev pub offset_of : ℕ → Option Token → ℕ
@@ -23,25 +26,35 @@ pub record HasNoTree (IsFault : List Token → ℕ → Type 0) (bytes : List ℕ
   pub fault : IsFault tokens at
   pub offset_is : offset ≡ offset_of (length bytes) (slice_get tokens at)
 
--- a fault of the bytes of a source: one of lexing, else one of syntax
+-- the bytes have a tree that breaks a rule of scoping, first by this fault
+pub record HasNoScopes (bytes : List ℕ) (fault : ScopeFault) : Type 0 where
+  pub tokens : List Token
+  pub lexed : Lexes bytes tokens
+  pub whole : Source
+  pub parsed : IsTreeOf tokens whole
+  pub fault_is : scoping.IsFaultOf whole fault
+
+-- a fault of the bytes of a source: one of lexing, else one of syntax, else one of scoping
 abbrev pub IsFaultIn : List ℕ → Fault → Type 0
 IsFaultIn bytes (Fault.Lexical fault) = IsFaultOf bytes fault
 IsFaultIn bytes (Fault.Unexpected offset) = HasNoTree IsUnexpectedAt bytes offset
 IsFaultIn bytes (Fault.TooDeep offset) = HasNoTree IsTooDeepAt bytes offset
+IsFaultIn bytes (Fault.Scoping fault) = HasNoScopes bytes fault
 
 -- the bytes are source, and this is their fault
 pub record IsBadSource (bytes : List ℕ) (fault : Fault) : Type 0 where
   pub source : is_chunk bytes ≡ false
   pub fault_is : IsFaultIn bytes fault
 
--- the bytes are source with a tree, and its statements are not at most 200 printed numbers
+-- the bytes are source with a tree that keeps the rules of scoping, and its statements are not at most 200 printed numbers
 pub record IsOtherSource (bytes : List ℕ) : Type 0 where
   pub source : is_chunk bytes ≡ false
   pub tokens : List Token
   pub lexed : Lexes bytes tokens
   pub whole : Source
   pub parsed : IsTreeOf tokens whole
-  pub no_list : (tree : List Statement) → IsPrintList whole.body tree → ⊥
+  pub scoped : Scoped whole
+  pub no_list : IsNoPrintList whole.body
 
 -- a chunk, or source that is not built
 abbrev pub IsNotBuilt : List ℕ → Type 0

@@ -1,7 +1,9 @@
 -- What reading a source comes to.
 use Rattle.std.specs.Prelude.{◌≡◌, ℕ, ℤ, List, codes}
-use Rattle.lua_tree.specs.Syntax.{Statements, Expressions, expression, no_expressions, Expression, name_expression, number_literal}
+use Rattle.lua_tree.specs.Syntax.{Source, Statements, Expressions, expression, no_expressions, Expression, name_expression, number_literal}
 use Rattle.lexer.specs.declared.fault.LexFault.{LexFault}
+use Rattle.scopes.specs.declared.fault.ScopeFault.{ScopeFault}
+use Rattle.scopes.specs.Faults as scoping
 use Rattle.agrees.specs.declared.tree.Statement.{Statement}
 use Rattle.agrees.specs.Source.{IsPrintList}
 use Rattle.suite.specs.declared.fault.Fault.{Fault}
@@ -12,6 +14,16 @@ use Rattle.suite.specs.declared.source.SourceFault.{SourceFault}
 abbrev pub source_fault_of : LexFault → SourceFault
 source_fault_of LexFault.OutOfMemory = SourceFault.OutOfMemory
 source_fault_of fault = SourceFault.Bad (Fault.Lexical fault)
+
+-- what a fault of scoping is for the reader
+abbrev pub scope_fault_of : ScopeFault → SourceFault
+scope_fault_of ScopeFault.OutOfMemory = SourceFault.OutOfMemory
+scope_fault_of fault = SourceFault.Bad (Fault.Scoping fault)
+
+-- the fault is one of scoping, in this source
+abbrev pub IsScopingFault : Source → Fault → Type 0
+IsScopingFault source (Fault.Scoping fault) = scoping.IsFaultOf source fault
+IsScopingFault source fault = ⊥
 
 -- what a fault of reading comes to
 abbrev pub outcome_of : SourceFault → Outcome

@@ -4,14 +4,16 @@ ghost use Rattle.suite.specs.Outcome.{offset_of as the_offset};
 
 use lexer::LexFault;
 use lua_tree::Token;
+use scopes::ScopeFault;
 
-/// What is wrong with a source, and the offset at which it stands.
+/// What is wrong with a source, and the offset or the line at which it stands.
 #[derive(Clone, Copy, Debug, PartialEq, Eq)]
 pub enum Fault {
     Lexical(LexFault),
     /// The offset is that of a token, or the source's length, where more tokens are wanted.
     Unexpected { offset: usize },
     TooDeep { offset: usize },
+    Scoping(ScopeFault),
 }
 
 /// The offset of the token at an index, or the length of the source at the end of the tokens.

@@ -509,3 +509,16 @@ fn expressions_group_by_precedence(rt: HostRuntime) -> Result<(), Fail> {
     }
     Ok(())
 }
+
+#[test]
+fn a_fault_is_displayed_with_its_token(rt: HostRuntime) -> Result<(), Fail> {
+    for (fault, want) in [
+        (SyntaxFault::Unexpected { at: 7 }, "Unexpected at token 7"),
+        (SyntaxFault::TooDeep { at: 200 }, "TooDeep at token 200"),
+        (SyntaxFault::OutOfMemory, "out of memory"),
+    ] {
+        let text = format!(in rt.alloc(); "{fault}")?;
+        assert_eq!(rt; text.as_str(), want);
+    }
+    Ok(())
+}

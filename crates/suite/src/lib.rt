@@ -22,4 +22,6 @@ pub use top::suite;
 #[cfg(test)]
 mod grammar_tests;
 #[cfg(test)]
+mod scope_tests;
+#[cfg(test)]
 mod tests;

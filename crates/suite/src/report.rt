@@ -2,7 +2,7 @@
 ghost use Rattle.std.specs.Prelude.{◌≡◌, ◌≤◌, ℕ, IfOk, OnOk, OnErr, IsErrOf};
 ghost use Rattle.std.specs.String.{string_bytes};
 ghost use Rattle.suite_io.specs.Taken.{Takes, Rises};
-ghost use Rattle.suite.specs.Lines.{Reported, IsPut, Refused, line_with, fault_text as the_text, lexical_text as the_lexical_text};
+ghost use Rattle.suite.specs.Lines.{Reported, IsPut, Refused, line_with, fault_text as the_text, lexical_text as the_lexical_text, scope_text as the_scope_text};
 ghost use Rattle.suite.specs.Output.{TakesPart};
 
 use crate::fault::Fault;
@@ -10,6 +10,7 @@ use crate::outcome::Outcome;
 use crate::output::put_all;
 use crate::status::Status;
 use lexer::LexFault;
+use scopes::ScopeFault;
 use std::alloc::{AllocError, Global};
 use suite_io::{Sink, SinkFault};
 
@@ -43,7 +44,7 @@ fn report_fault<E: Sink>(alloc: Global, err: &mut E, fault: Fault, name: &str) -
     }
 }
 
-// The name of a fault of a source, and its offset.
+// The name of a fault of a source, and its offset or its line.
 fn fault_text(alloc: Global, fault: Fault) -> Result<String, AllocError>
     ensures { IfOk result (λ text. string_bytes text ≡ the_text fault) }
 {
@@ -51,6 +52,7 @@ fn fault_text(alloc: Global, fault: Fault) -> Result<String, AllocError>
         Fault::Lexical(fault) => lexical_text(alloc, fault),
         Fault::Unexpected { offset } => format!(in alloc; ": Unexpected at offset {offset}"),
         Fault::TooDeep { offset } => format!(in alloc; ": TooDeep at offset {offset}"),
+        Fault::Scoping(fault) => scope_text(alloc, fault),
     }
 }
 
@@ -68,6 +70,23 @@ fn lexical_text(alloc: Global, fault: LexFault) -> Result<String, AllocError>
         LexFault::EscapeTooLarge { at } => format!(in alloc; ": EscapeTooLarge at offset {at}"),
         LexFault::BadNumber { at } => format!(in alloc; ": BadNumber at offset {at}"),
         LexFault::OutOfMemory => String::from_str(alloc, ": OutOfMemory"),
+    }
+}
+
+// The name of a fault of scoping, and its line.
+fn scope_text(alloc: Global, fault: ScopeFault) -> Result<String, AllocError>
+    ensures { IfOk result (λ text. string_bytes text ≡ the_scope_text fault) }
+{
+    match fault {
+        ScopeFault::NoLoop { line } => format!(in alloc; ": NoLoop at line {line}"),
+        ScopeFault::NoVararg { line } => format!(in alloc; ": NoVararg at line {line}"),
+        ScopeFault::TooManyLocals { line, .. } => {
+            format!(in alloc; ": TooManyLocals at line {line}")
+        }
+        ScopeFault::TooManyUpvalues { line, .. } => {
+            format!(in alloc; ": TooManyUpvalues at line {line}")
+        }
+        ScopeFault::OutOfMemory => String::from_str(alloc, ": OutOfMemory"),
     }
 }
 

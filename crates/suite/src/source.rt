@@ -1,27 +1,29 @@
 // Reading a source of the first form.
 ghost use Rattle.std.specs.Prelude.{◌≡◌, ℤ, List, IfOk, IsErrOf, IfSome, IfNone, IsTrue, ◌↔◌};
-ghost use Rattle.lua_tree.specs.View.{view_block, view_statement, view_exp};
+ghost use Rattle.lua_tree.specs.View.{view_block, view_tree, view_statement, view_exp};
 ghost use Rattle.lua_tree.specs.TreeLists.{expressions_of};
+ghost use Rattle.lua_tree.specs.Scoping.{Scoped};
 ghost use Rattle.lua_tree.specs.Tiling.{Lexes};
 ghost use Rattle.parser.specs.Places.{StopsBy};
 ghost use Rattle.agrees.specs.Source.{IsFirstForm, IsPrintList, PrintsNumber, is_chunk as the_is_chunk};
 ghost use Rattle.agrees.specs.declared.tree.Statement.{Statement};
 ghost use Rattle.suite.specs.declared.fault.Fault.{Fault as OneFault};
 ghost use Rattle.suite.specs.Outcome.{IsBadSource, IsNotBuilt, IsFaultIn};
-ghost use Rattle.suite.specs.Reading.{outcome_of, IsNoPrintList, IsPrintName, IsNumber, IsNumberList};
+ghost use Rattle.suite.specs.Reading.{outcome_of, IsScopingFault, IsNoPrintList, IsPrintName, IsNumber, IsNumberList};
 
 use crate::fault::{Fault, offset_of};
 use crate::outcome::Outcome;
 use agrees::tree::Statement;
 use lexer::{LexFault, lex};
-use lua_tree::{Args, Block, Exp, ExpKind, StatKind, Token, tokens_are_one};
+use lua_tree::{Args, Block, Exp, ExpKind, StatKind, Token, Tree, tokens_are_one};
 use parser::{SyntaxFault, parse, trees_are_one};
+use scopes::{ScopeFault, resolve};
 use std::alloc::Global;
 
 /// Why a source was not read.
 #[derive(Clone, Copy, Debug, PartialEq, Eq)]
 pub enum SourceFault {
-    /// The source has a lexical or a syntax fault.
+    /// The source has a lexical, a syntax or a scope fault.
     Bad(Fault),
     /// The file is a chunk, or source of another form.
     Unbuilt,
@@ -55,6 +57,20 @@ impl From<LexFault> for SourceFault {
     }
 }
 
+impl From<ScopeFault> for SourceFault {
+    ghost use Rattle.std.specs.Prelude.{◌≡◌};
+    ghost use Rattle.suite.specs.Reading.{scope_fault_of};
+
+    ghost from_gives = { λ fault given. given ≡ scope_fault_of fault };
+
+    fn from(fault: ScopeFault) -> Self {
+        match fault {
+            ScopeFault::OutOfMemory => SourceFault::OutOfMemory,
+            _ => SourceFault::Bad(Fault::Scoping(fault)),
+        }
+    }
+}
+
 /// A file whose first byte is this one is a chunk.
 const CHUNK_MARK: u8 = 0x1b;
 
@@ -77,7 +93,7 @@ pub fn read_source(alloc: Global, bytes: &[u8]) -> Result<Vec<Statement>, Source
     tokens_are_one();
     trees_are_one();
     match parse(alloc, &tokens) {
-        Ok(tree) => read_block(alloc, &tree.body),
+        Ok(tree) => read_tree(alloc, &tree),
         Err(fault) => Err(syntax_fault(fault, tokens.items(), bytes)),
     }
 }
@@ -107,6 +123,18 @@ fn syntax_fault(fault: SyntaxFault, tokens: &[Token], bytes: &[u8]) -> SourceFau
         }),
         SyntaxFault::OutOfMemory => SourceFault::OutOfMemory,
     }
+}
+
+// The numbers that the statements of a tree print, where it keeps the rules of scoping.
+fn read_tree(alloc: Global, tree: &Tree) -> Result<Vec<Statement>, SourceFault>
+    ensures tree { IfOk result (λ prints. IsPrintList (view_block tree.now.body) prints.items) }
+    ensures only_tree { IfOk result (λ prints. (other : List Statement) → IsPrintList (view_block tree.now.body) other → other ≡ prints.items) }
+    ensures bad { (fault : OneFault) → result ≡ Err (SourceFault.Bad fault) → IsScopingFault (view_tree tree.now) fault }
+    ensures scoped { IsErrOf result SourceFault.Unbuilt → Scoped (view_tree tree.now) }
+    ensures unbuilt { IsErrOf result SourceFault.Unbuilt → IsNoPrintList (view_block tree.now.body) }
+{
+    resolve(alloc, tree)?;
+    read_block(alloc, &tree.body)
 }
 
 // The numbers that these statements print.

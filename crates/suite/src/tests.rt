@@ -120,6 +120,8 @@ fn a_source_with_a_fault_is_bad_and_prints_nothing(rt: HostRuntime) -> Result<()
         ("f() = @", "BadByte at offset 6"),
         ("print(3", "Unexpected at offset 7"),
         ("print(1) print\n(3)", "Unexpected at offset 15"),
+        ("print(1)\nbreak", "NoLoop at line 2"),
+        ("function f()\n\nreturn ... end", "NoVararg at line 3"),
     ] {
         let outcome = run(rt.alloc(), source.as_bytes())?;
         assert_eq!(rt; outcome.status.number(), 4, "{source:?}");

@@ -22,7 +22,7 @@ use suite_io::{Files, Sink, Word};
 
 /// Carries out the command that the words say: `run FILE` reads the file to a tree and runs a list of
 /// printed numbers. Every other list of words is refused. The work goes in the order words, fetch,
-/// tokens, tree, statements, run, and the line for `err` that every status but `Done` has; the first refusal gives
+/// tokens, tree, scopes, statements, run, and the line for `err` that every status but `Done` has; the first refusal gives
 /// the status. What a run had put to `out` before a refusal stays. Want of memory is a free answer.
 pub fn suite<F: Files, O: Sink, E: Sink>(
     alloc: Global,

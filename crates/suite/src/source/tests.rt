@@ -109,3 +109,21 @@ fn a_lexical_fault_is_told_before_a_syntax_fault(rt: HostRuntime) {
         );
     }
 }
+
+#[test]
+fn a_scope_fault_is_told_after_a_syntax_fault(rt: HostRuntime) {
+    let no_loop = Fault::Scoping(ScopeFault::NoLoop { line: 1 });
+    let no_vararg = Fault::Scoping(ScopeFault::NoVararg { line: 2 });
+    for (text, fault) in [
+        ("break", no_loop),
+        ("do break end print(x)", no_loop),
+        ("print(1)\nfunction f() return ... end", no_vararg),
+        ("do break end f() = 1", Fault::Unexpected { offset: 17 }),
+    ] {
+        let read = read_source(rt.alloc(), text.as_bytes());
+        assert!(rt;
+            matches!(read, Err(SourceFault::Bad(why)) if why == fault),
+            "{text:?}"
+        );
+    }
+}
