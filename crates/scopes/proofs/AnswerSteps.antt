@@ -4,19 +4,10 @@ use Rattle.std.proofs.lemmas.List.{length-replicate}
 use Rattle.lua_tree.specs.Outline.{Mark, local_name, hidden_local, dots, leave, opened, reaching}
 use Rattle.lua_tree.specs.Scoping.{first_of, first_breach, outer_functions, outer_of, upvalues_of, uses_of, uses_by}
 use Rattle.scopes.specs.Resolved.{functions_in, uses_of_names, uses_of_functions, captured_below, upvalues_below, declarations_in}
-use Rattle.scopes.specs.Standing.{AreNested, AreWellMade, Answers, HaveUpvalues, Declared, Opened}
+use Rattle.scopes.specs.Standing.{AreWellMade, Answers, HaveUpvalues, Declared, Opened}
 use Rattle.scopes.specs.declared.resolver.Resolver.{Resolver}
-use Rattle.scopes.proofs.Marks.{breach_of_both, nested_stays, outer_of_last, functions_are, outer_both, declarations_both}
-use Rattle.scopes.proofs.Quiet.{Quiet, quiet_made, quiet_both, hidden_quiet, names_quiet, hidden_outer, names_outer, hidden_declarations, names_declarations, hidden_fit, names_fit, made_more, made_both, upvalues_kept, sources_kept, no_upvalues, captured_more, captured_kept, upvalues_quiet, uses_quiet, upvalues_opened, sources_opened}
-
-pub breach_both : (before one other : List Mark) → first_breach before (one ++ other) ≡ first_of (first_breach before one) (first_breach (before ++ one) other)
-breach_both before one other = breach_of_both before one other
-
-pub nested_more : (around : List ℕ) (marks more : List Mark) → AreNested around marks → AreNested around (marks ++ more)
-nested_more around marks more nested = nested_stays around marks more nested
-
-pub outer_opened : (marks : List Mark) (outer : ℕ) → outer_of (functions_in marks) (marks ++ opened outer ∷ []) ≡ outer
-outer_opened marks outer = outer_of_last marks outer
+use Rattle.scopes.proofs.Marks.{breach_of_both, functions_are, outer_both, declarations_both}
+use Rattle.scopes.proofs.Quiet.{Quiet, quiet_made, quiet_both, hidden_quiet, names_quiet, hidden_outer, names_outer, hidden_declarations, names_declarations, reach_few, made_more, made_both, upvalues_kept, sources_kept, no_upvalues, captured_more, captured_kept, upvalues_quiet, uses_quiet, upvalues_opened, sources_opened}
 
 -- the answers are those of the lists that hold them
 pub answers_same : (old new : Resolver) (marks : List Mark) → Answers old marks → new.names ≡ old.names → new.captured ≡ old.captured → new.functions ≡ old.functions → Answers new marks
@@ -33,7 +24,7 @@ answers_same old new marks answers names captured functions = record {
 
 -- marks that keep the rules come behind
 keeps_both : (marks more : List Mark) → first_breach [] marks ≡ None → first_breach marks more ≡ None → first_breach [] (marks ++ more) ≡ None
-keeps_both marks more keeps fits = breach_both [] marks more ∙ ap (λ x. first_of x (first_breach marks more)) keeps ∙ fits
+keeps_both marks more keeps fits = breach_of_both [] marks more ∙ ap (λ x. first_of x (first_breach marks more)) keeps ∙ fits
 
 made_quiet : (marks more : List Mark) → Quiet more → AreWellMade marks marks → AreWellMade (marks ++ more) (marks ++ more)
 made_quiet marks more quiet made = made_both (marks ++ more) marks more (made_more marks more marks made) (quiet_made (marks ++ more) more quiet)
@@ -73,8 +64,8 @@ answers_declared old new marks line hidden count answers declared within =
     answers_quiet old new marks (first ++ second) count answers
     (quiet_both first second (hidden_quiet line old.here.active hidden) (names_quiet line (old.here.active + hidden) count))
     (outer_both first second ∙ ap (λ x. x ++ outer_functions second) (hidden_outer line old.here.active hidden) ∙ names_outer line (old.here.active + hidden) count)
-    (breach_both marks first second ∙ ap (λ x. first_of x (first_breach (marks ++ first) second)) (hidden_fit marks line old.here.active hidden (omega arith)) ∙
-    names_fit (marks ++ first) line (old.here.active + hidden) count within)
+    (breach_of_both marks first second ∙ ap (λ x. first_of x (first_breach (marks ++ first) second)) (reach_few (hidden_local line) line (λ before n. refl) hidden old.here.active marks (omega arith)) ∙
+    reach_few (local_name line) line (λ before n. refl) count (old.here.active + hidden) (marks ++ first) within)
     (declarations_both first second ∙ ap (λ x. x + declarations_in second) (hidden_declarations line old.here.active hidden) ∙ omega (arith, names_declarations line (old.here.active + hidden) count))
     declared.captured declared.names declared.functions
 

@@ -1,6 +1,5 @@
 -- A whole tree: where its walk begins, and what its answers are.
-use Rattle.std.proofs.Common.{◌≡◌, refl, sym, ap, subst, ◌∙◌, true, List, [], ◌∷◌, ◌++◌, Some, None, Result, Ok, Err, IfErr, arith}
-use Rattle.std.specs.Result.{IsErrAnd}
+use Rattle.std.proofs.Common.{◌≡◌, refl, sym, ap, subst, ◌∙◌, true, List, [], ◌∷◌, ◌++◌, Some, None, Ok, Err, arith}
 use Rattle.scopes.specs.declared.fault.ScopeFault.{ScopeFault}
 use Rattle.lua_tree.specs.Syntax.{Source}
 use Rattle.lua_tree.specs.Outline.{Binding, Mark, beginning, statements_part, outline}
@@ -66,11 +65,6 @@ answers_resolved r marks a =
     let captured : r.captured.items ≡ captured_below (declarations_in marks) marks = a.captured ∙ ap (λ n. captured_below n marks) (sym a.declarations) in
     let upvalues : uses_of_functions r.functions.items ≡ upvalues_below (functions_in marks) marks = a.sources ∙ ap (λ n. upvalues_below n marks) (sym a.functions) in
     rw (a.names, captured, upvalues) refl
-
--- a fault that is handed on
-pub fault_handed : {A : Type 0} (Q : ScopeFault → Type 0) (result : Result A ScopeFault) (fault : ScopeFault) → IsErrAnd result (λ other. other ≡ fault) → Q fault → IfErr result Q
-fault_handed Q (Ok a) fault e q = tt
-fault_handed Q (Err other) fault e q = subst Q (sym e) q
 
 -- a whole tree that is walked
 pub answers_whole : {old new end : Resolver} (source : Source) → Begins old → Opened old new true → Sound new → Goes (statements_part source.body) new end (Ok tt) → Answers end (outline source)

@@ -3,19 +3,21 @@ use Rattle.std.proofs.Common.{◌≡◌, refl, sym, ap, subst, ◌∙◌, cond, 
 use Rattle.std.proofs.Math.Seq.{take-suc}
 use Rattle.std.proofs.lemmas.List.{length-append, length-replicate, length-take, reverse-append}
 use Rattle.std.proofs.lemmas.Bool.{cases_lt}
-use Rattle.std.proofs.lemmas.Bool.Decides.{nat_tests}
 use Rattle.std.specs.Str.{bytes_eq}
 use Rattle.lua_tree.specs.Syntax.{Text}
 use Rattle.lua_tree.specs.Outline.{Binding, Scope, Place, Walk, Part, Mark, local_name, hidden_local, dots, leave, opened, mention, both, within, innermost, with_name, with_names, with_locals, come, in_loop, in_function, reaching, declares, marked}
-use Rattle.lua_tree.specs.Scoping.{Breach, too_many_locals, above, first_of, breach_at, first_breach, is_one_of}
+use Rattle.lua_tree.specs.Scoping.{Breach, too_many_locals, first_of, first_breach, is_one_of}
 use Rattle.scopes.specs.declared.fault.ScopeFault.{ScopeFault}
 use Rattle.scopes.specs.declared.resolver.Around.{Around}
 use Rattle.scopes.specs.declared.resolver.Local.{Local}
 use Rattle.scopes.specs.declared.resolver.Resolver.{Resolver}
 use Rattle.scopes.specs.Standing.{binding_of, later, lookup, AreNested, Sound, Answers, Surrounds, Stands, Comes, Goes, Keeps, Left, Declared, AreNamed, Brought, Opened}
-use Rattle.scopes.proofs.AnswerSteps.{answers_declared, answers_opened, answers_dots, answers_leave, answers_same, nested_more, breach_both, outer_opened}
+use Rattle.scopes.proofs.AnswerSteps.{answers_declared, answers_opened, answers_dots, answers_leave, answers_same}
+use Rattle.scopes.proofs.Marks.{nested_stays, breach_of_both, outer_of_last}
+use Rattle.scopes.proofs.Quiet.{none_above, Reaches, reach_few}
+use Rattle.scopes.proofs.MentionSteps.{lookup_last}
 use Rattle.scopes.specs.Resolved.{functions_in}
-use Rattle.scopes.proofs.Known.{same_number}
+use Rattle.scopes.proofs.Known.{same_number, or_second}
 use Rattle.scopes.proofs.Goings.{Enters, leaves}
 
 -- what stands behind further marks
@@ -23,7 +25,7 @@ more_marks : (r : Resolver) (marks more : List Mark) (place : Place) → Surroun
 more_marks r marks more place s = record {
   scope = s.scope;
   around = s.around;
-  nested = nested_more place.around marks more s.nested;
+  nested = nested_stays place.around marks more s.nested;
   homes = s.homes;
   vararg = s.vararg;
   looped = s.looped;
@@ -59,7 +61,7 @@ goes_declared {old} {new} line hidden names count counted d few = record {
     surrounds = record {
       scope = λ name. rw d.locals (s.surrounds.scope name);
       around = rw d.stack s.surrounds.around;
-      nested = nested_more place.around marks _ s.surrounds.nested;
+      nested = nested_stays place.around marks _ s.surrounds.nested;
       homes = s.surrounds.homes;
       vararg = rw d.here s.surrounds.vararg;
       looped = rw d.here s.surrounds.looped;
@@ -71,25 +73,13 @@ goes_declared {old} {new} line hidden names count counted d few = record {
 }
 
 -- declarations by which locals reach too many
-above_few : (n : ℕ) (breach : Breach) → n ≤ 200 → above 200 n breach ≡ None
-above_few n breach few = grind (arith, nat_tests)
-
-abbrev Reaches : (ℕ → Mark) → ℕ → Type 0
-Reaches mark line = (before : List Mark) (n : ℕ) → breach_at before (mark n) ≡ above 200 n (too_many_locals line n)
-
-reach_few : (mark : ℕ → Mark) (line : ℕ) → Reaches mark line → (count active : ℕ) (before : List Mark) → active + count ≤ 200 → first_breach before (reaching mark active count) ≡ None
-reach_few mark line h zero active before few = refl
-reach_few mark line h (suc count) active before few =
-    ap (λ breach. first_of breach (first_breach (before ++ mark (suc active) ∷ []) (reaching mark (suc active) count))) (h before (suc active) ∙ above_few (suc active) _ (omega arith))
-    ∙ reach_few mark line h count (suc active) _ (omega arith)
-
 reach_many : (mark : ℕ → Mark) (line : ℕ) → Reaches mark line → (left count active : ℕ) (before : List Mark) → active + left ≡ 200 → left < count → first_breach before (reaching mark active count) ≡ Some (too_many_locals line 201)
 reach_many mark line h left zero active before all many = absurd (omega arith)
 reach_many mark line h zero (suc count) active before all many =
     let e : active ≡ 200 = omega arith in
     rw e (ap (λ breach. first_of breach (first_breach (before ++ mark 201 ∷ []) (reaching mark 201 count))) (h before 201))
 reach_many mark line h (suc left) (suc count) active before all many =
-    ap (λ breach. first_of breach (first_breach (before ++ mark (suc active) ∷ []) (reaching mark (suc active) count))) (h before (suc active) ∙ above_few (suc active) _ (omega arith))
+    ap (λ breach. first_of breach (first_breach (before ++ mark (suc active) ∷ []) (reaching mark (suc active) count))) (h before (suc active) ∙ none_above 200 (suc active) _ (omega arith))
     ∙ reach_many mark line h left count (suc active) _ (omega arith) (omega arith)
 
 first_some : (one other : Option Breach) (breach : Breach) → one ≡ Some breach → first_of one other ≡ Some breach
@@ -97,7 +87,7 @@ first_some one other breach e = ap (λ x. first_of x other) e
 
 declared_many : (line hidden active count : ℕ) (marks : List Mark) → active ≤ 200 → 200 < active + hidden + count →
     first_breach marks (reaching (hidden_local line) active hidden ++ reaching (local_name line) (active + hidden) count) ≡ Some (too_many_locals line 201)
-declared_many line hidden active count marks low many = breach_both marks (reaching (hidden_local line) active hidden) (reaching (local_name line) (active + hidden) count) ∙ go (cases_lt 200 (active + hidden))
+declared_many line hidden active count marks low many = breach_of_both marks (reaching (hidden_local line) active hidden) (reaching (local_name line) (active + hidden) count) ∙ go (cases_lt 200 (active + hidden))
   where
     go : ((200 < active + hidden) ⊎ (active + hidden ≤ 200)) → first_of (first_breach marks (reaching (hidden_local line) active hidden)) (first_breach (marks ++ reaching (hidden_local line) active hidden) (reaching (local_name line) (active + hidden) count)) ≡ Some (too_many_locals line 201)
     go (inr e) = ap (λ breach. first_of breach (first_breach (marks ++ reaching (hidden_local line) active hidden) (reaching (local_name line) (active + hidden) count))) (reach_few (hidden_local line) line (λ before n. refl) hidden active marks e)
@@ -117,20 +107,6 @@ goes_many {old} {c} line hidden names count fault counted (inr e) = record {
 }
 
 -- names that come into scope
-later_all : (a b c : Option Binding) → later (later a b) c ≡ later a (later b c)
-later_all (Some x) b c = refl
-later_all None b c = refl
-
-lookup_push : (locals : List Local) (one : Local) (name : Text) → lookup (locals ++ one ∷ []) name ≡ later (cond (bytes_eq one.name.now name) (Some (binding_of one.binding)) None) (lookup locals name)
-lookup_push [] one name = refl_later (cond (bytes_eq one.name.now name) (Some (binding_of one.binding)) None)
-  where
-    refl_later : (a : Option Binding) → a ≡ later a None
-    refl_later (Some x) = refl
-    refl_later None = refl
-lookup_push (first ∷ locals) one name =
-    ap (λ x. later x (cond (bytes_eq first.name.now name) (Some (binding_of first.binding)) None)) (lookup_push locals one name)
-    ∙ later_all (cond (bytes_eq one.name.now name) (Some (binding_of one.binding)) None) (lookup locals name) _
-
 with_name_later : (same : Bool) (binding : Binding) (other : Option Binding) → cond same (Some binding) other ≡ later (cond same (Some binding) None) other
 with_name_later true binding other = refl
 with_name_later false binding other = refl
@@ -138,7 +114,7 @@ with_name_later false binding other = refl
 named_one : (locals : List Local) (one : Local) (name : Text) (binding : Binding) (scope : Scope) → ((n : Text) → scope n ≡ lookup locals n) → one.name.now ≡ name → binding_of one.binding ≡ binding →
     (n : Text) → with_name name binding scope n ≡ lookup (locals ++ one ∷ []) n
 named_one locals one name binding scope same e f n =
-    rw (lookup_push locals one n, e, f, ← same n) (with_name_later (bytes_eq name n) binding (scope n))
+    rw (lookup_last locals one n, e, f, ← same n) (with_name_later (bytes_eq name n) binding (scope n))
 
 lookup_named : (names : List Text) (first home : ℕ) (more locals : List Local) (scope : Scope) → AreNamed names first home more → ((n : Text) → scope n ≡ lookup locals n) →
     (n : Text) → with_names names first home scope n ≡ lookup (locals ++ more) n
@@ -167,11 +143,7 @@ is_innermost [] marks n = absurd n
 is_innermost (f ∷ around) marks n = ap (λ same. same || is_one_of f around) (same_number f)
 
 outside : (home f : ℕ) (around : List ℕ) → is_one_of home around ≡ true → (home == f) || is_one_of home around ≡ true
-outside home f around e = or_true (home == f) (is_one_of home around) e
-  where
-    or_true : (one other : Bool) → other ≡ true → one || other ≡ true
-    or_true true other h = refl
-    or_true false other h = h
+outside home f around e = or_second (home == f) (is_one_of home around) e
 
 -- what is in scope behind names that came into it
 scope_brought : (old new : Resolver) (around : List ℕ) (scope : Scope) (names : List Text) (first : ℕ) → around ≡ reverse old.stack.items → ((name : Text) → scope name ≡ lookup old.locals.items name) → Brought old new names first →
@@ -220,10 +192,9 @@ brought_push {a} {b} {c} names name first second e one other = record {
 }
 
 next_names : (names : List Text) (i : ℕ) (name : Text) → i < length names → name ≡ get_or names i name → take i names ++ name ∷ [] ≡ take (i + 1) names
-next_names names i name below is = ap (λ x. take i names ++ x ∷ []) is ∙ sym (take-suc names i name below) ∙ ap (λ n. take n names) (one_more i)
-  where
-    one_more : (n : ℕ) → suc n ≡ n + 1
-    one_more n = omega arith
+next_names names i name below is =
+    let next : suc i ≡ i + 1 = omega arith in
+    ap (λ x. take i names ++ x ∷ []) is ∙ sym (take-suc names i name below) ∙ ap (λ n. take n names) next
 
 -- a turn of a loop that brings names
 pub brought_turn : {a b c : Resolver} (names : List Text) (i : ℕ) (name text : Text) (first : ℕ) → i < length names → name ≡ get_or names i name → text ≡ name → Brought a b (take i names) first → Brought b c (text ∷ []) (first + i) → Brought a c (take (i + 1) names) first
@@ -319,7 +290,7 @@ innermost_below f (g ∷ around) marks n = n.1
 nested_opened : (around : List ℕ) (marks : List Mark) → AreNested around marks → AreNested (functions_in marks ∷ around) (marks ++ opened (innermost around) ∷ [])
 nested_opened [] marks n = absurd n
 nested_opened (f ∷ around) marks n =
-    (innermost_below f around marks n, subst (λ (x : ℕ). functions_in marks < x) (sym (functions_opened marks f)) (omega arith), outer_opened marks f, nested_more (f ∷ around) marks (opened f ∷ []) n)
+    (innermost_below f around marks n, subst (λ (x : ℕ). functions_in marks < x) (sym (functions_opened marks f)) (omega arith), outer_of_last marks f, nested_stays (f ∷ around) marks (opened f ∷ []) n)
 
 stands_opened : (a b : Resolver) (extra : Bool) (marks : List Mark) (place : Place) → Opened a b extra → Stands a marks place → Stands b (marks ++ opened (innermost place.around) ∷ []) (in_function extra place)
 stands_opened a b extra marks place o s = record {

@@ -8,7 +8,8 @@ use Rattle.scopes.specs.declared.resolver.Around.{Around}
 use Rattle.scopes.specs.declared.resolver.Resolver.{Resolver}
 use Rattle.scopes.specs.Faults.{IsBreach}
 use Rattle.scopes.specs.Standing.{Sound, Surrounds, Stands, Comes, Goes, Keeps, Left}
-use Rattle.scopes.proofs.AnswerSteps.{answers_same, nested_more, breach_both}
+use Rattle.scopes.proofs.AnswerSteps.{answers_same}
+use Rattle.scopes.proofs.Marks.{nested_stays, breach_of_both}
 
 -- what a breach of two parts is
 other_none : (one other : Option Breach) → first_of one other ≡ None → other ≡ None
@@ -27,13 +28,13 @@ breach_second one other fault none e = subst (λ (breach : Option Breach). IsBre
 
 -- the marks behind a part break no rule where it stands
 no_breach : (r : Resolver) (marks more : List Mark) (place : Place) → Stands r (marks ++ more) place → first_breach marks more ≡ None
-no_breach r marks more place s = other_none (first_breach [] marks) (first_breach marks more) (sym (breach_both [] marks more) ∙ s.answers.keeps)
+no_breach r marks more place s = other_none (first_breach [] marks) (first_breach marks more) (sym (breach_of_both [] marks more) ∙ s.answers.keeps)
 
 comes_both : (marks : List Mark) (one other : Walk) (c : Resolver) (result : Result (Unit {0}) ScopeFault) → first_breach marks one.marks ≡ None →
     Comes c (marks ++ one.marks) other result → Comes c marks (record { marks = one.marks ++ other.marks; next = other.next }) result
 comes_both marks one other c (Ok unit) none s = subst (λ (all : List Mark). Stands c all other.next) (append_assoc marks one.marks other.marks) s
 comes_both marks one other c (Err fault) none e =
-    subst (λ (breach : Option Breach). IsBreach breach fault) (sym (breach_both marks one.marks other.marks)) (breach_second _ _ fault none e)
+    subst (λ (breach : Option Breach). IsBreach breach fault) (sym (breach_of_both marks one.marks other.marks)) (breach_second _ _ fault none e)
 
 -- a part that is done
 pub goes_nothing : {r : Resolver} → Goes nothing r r (Ok tt)
@@ -51,7 +52,7 @@ goes_both {one} {other} {a} {b} {c} {result} g sound h = record {
 pub goes_first : {one : Part} (other : Part) {a c : Resolver} {fault : ScopeFault} → Goes one a c (Err fault) → Goes (both one other) a c (Err fault)
 goes_first {one} other {a} {c} {fault} g = record {
   goes = λ marks place sound s.
-      subst (λ (breach : Option Breach). IsBreach breach fault) (sym (breach_both marks (one place).marks (other (one place).next).marks))
+      subst (λ (breach : Option Breach). IsBreach breach fault) (sym (breach_of_both marks (one place).marks (other (one place).next).marks))
       (breach_first (first_breach marks (one place).marks) (first_breach (marks ++ (one place).marks) (other (one place).next).marks) fault (g.goes marks place sound s));
 }
 
@@ -80,7 +81,7 @@ pub leaves : (marks more : List Mark) (place end : Place) (a c d : Resolver) (ar
 leaves marks more place end a c d around s t left keeps = record {
   scope = λ name. rw keeps.locals (s.scope name);
   around = rw keeps.stack s.around;
-  nested = nested_more place.around marks more s.nested;
+  nested = nested_stays place.around marks more s.nested;
   homes = s.homes;
   vararg = rw keeps.here s.vararg;
   looped = rw keeps.here s.looped;

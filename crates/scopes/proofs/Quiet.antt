@@ -2,12 +2,12 @@
 use Rattle.std.proofs.Common.{◌≡◌, ◌==◌, ◌&&◌, ◌||◌, ℕ, zero, suc, ◌+◌, ◌<◌, ◌≤◌, Bool, true, false, List, [], ◌∷◌, ◌++◌, length, replicate, Some, None, if◌then◌else◌, nat_lt, refl, sym, ap, ◌∙◌, subst, append_assoc, append-nil, add-suc, arith}
 use Rattle.std.proofs.lemmas.Bool.Decides.{nat_tests}
 use Rattle.lua_tree.specs.Outline.{Binding, Mark, mention, local_name, hidden_local, reaching}
-use Rattle.lua_tree.specs.Scoping.{inside_of, is_one_of, upvalues_behind, upvalues_of, outer_functions, uses_among, uses_of, is_captured, sources_of, Breach, too_many_locals, above, first_of, first_breach}
+use Rattle.lua_tree.specs.Scoping.{inside_of, is_one_of, upvalues_behind, upvalues_of, outer_functions, uses_among, uses_of, is_captured, sources_of, Breach, too_many_locals, above, first_of, breach_at, first_breach}
 use Rattle.scopes.specs.Resolved.{declarations_in, functions_in, captured_below, upvalues_below, uses_of_functions, source_uses}
 use Rattle.scopes.specs.Standing.{AreNested, AreWellMade, HaveUpvalues, numbers_of}
 use Rattle.scopes.specs.declared.uses.Captures.{Captures}
 use Rattle.scopes.proofs.Marks.{upvalues_both, declarations_both, captured_both, uses_both, functions_are, nested_stays, outer_stays}
-use Rattle.scopes.proofs.Known.{equal_numbers, upvalues_grown, are_known, uses_stay, sources_stay}
+use Rattle.scopes.proofs.Known.{equal_numbers, and_first, upvalues_grown, are_known, uses_stay, sources_stay}
 
 abbrev pub Quiet : List Mark → Type 0
 Quiet [] = Unit {0}
@@ -69,17 +69,15 @@ none_above most reached breach within =
     let e : nat_lt most reached ≡ false = grind (arith, nat_tests) in
     ap (λ t. if t then Some breach else None) e
 
-pub hidden_fit : (before : List Mark) (line active count : ℕ) → active + count ≤ 200 → first_breach before (reaching (hidden_local line) active count) ≡ None
-hidden_fit before line active zero within = refl
-hidden_fit before line active (suc count) within =
-    ap (λ x. first_of x (first_breach (before ++ hidden_local line (suc active) ∷ []) (reaching (hidden_local line) (suc active) count))) (none_above 200 (suc active) (too_many_locals line (suc active)) (omega arith)) ∙
-    hidden_fit (before ++ hidden_local line (suc active) ∷ []) line (suc active) count (omega arith)
+-- marks of locals, as many as a function may have
+abbrev pub Reaches : (ℕ → Mark) → ℕ → Type 0
+Reaches mark line = (before : List Mark) (n : ℕ) → breach_at before (mark n) ≡ above 200 n (too_many_locals line n)
 
-pub names_fit : (before : List Mark) (line active count : ℕ) → active + count ≤ 200 → first_breach before (reaching (local_name line) active count) ≡ None
-names_fit before line active zero within = refl
-names_fit before line active (suc count) within =
-    ap (λ x. first_of x (first_breach (before ++ local_name line (suc active) ∷ []) (reaching (local_name line) (suc active) count))) (none_above 200 (suc active) (too_many_locals line (suc active)) (omega arith)) ∙
-    names_fit (before ++ local_name line (suc active) ∷ []) line (suc active) count (omega arith)
+pub reach_few : (mark : ℕ → Mark) (line : ℕ) → Reaches mark line → (count active : ℕ) (before : List Mark) → active + count ≤ 200 → first_breach before (reaching mark active count) ≡ None
+reach_few mark line h zero active before few = refl
+reach_few mark line h (suc count) active before few =
+    ap (λ breach. first_of breach (first_breach (before ++ mark (suc active) ∷ []) (reaching mark (suc active) count))) (h before (suc active) ∙ none_above 200 (suc active) _ (omega arith))
+    ∙ reach_few mark line h count (suc active) _ (omega arith)
 
 -- what marks mention is well made behind others too
 pub made_more : (all more marks : List Mark) → AreWellMade all marks → AreWellMade (all ++ more) marks
@@ -129,15 +127,11 @@ uncaptured : (t c : Bool) → (t ≡ true → ⊥) → c ≡ false → (t || c) 
 uncaptured true c differ none = absurd (differ refl)
 uncaptured false c differ none = none
 
-and_one : (one other : Bool) → one && other ≡ true → one ≡ true
-and_one true other h = refl
-and_one false other h = cc
-
 pub not_captured : (declaration : ℕ) (all marks : List Mark) → AreWellMade all marks → declarations_in all ≤ declaration → is_captured declaration marks ≡ false
 not_captured declaration all [] made within = refl
 not_captured declaration all (mention line name (Some binding) around ∷ marks) made within =
     uncaptured _ (is_captured declaration marks)
-    (λ h. let e : binding.declaration ≡ declaration = equal_numbers binding.declaration declaration (and_one (binding.declaration == declaration) _ h) in omega (arith, made.0))
+    (λ h. let e : binding.declaration ≡ declaration = equal_numbers binding.declaration declaration (and_first (binding.declaration == declaration) _ h) in omega (arith, made.0))
     (not_captured declaration all marks made.2 within)
 not_captured declaration all (mark ∷ marks) made within = not_captured declaration all marks made within
 

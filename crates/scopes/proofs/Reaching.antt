@@ -12,7 +12,7 @@ use Rattle.scopes.specs.declared.uses.Captures.{Captures}
 use Rattle.scopes.specs.declared.uses.Source.{Source}
 use Rattle.scopes.proofs.Marks.{upvalues_both, outer_both, declarations_both, nested_stays}
 use Rattle.scopes.proofs.Quiet.{made_more, made_both}
-use Rattle.scopes.proofs.Known.{same_number, turned, equal_numbers, or_other, or_second, Grows, upvalues_grown, if_grown, have_all, sources_stay, sources_stay_by, HaveSources}
+use Rattle.scopes.proofs.Known.{same_number, turned, equal_numbers, or_more, or_other, or_second, Grows, upvalues_grown, if_grown, have_all, sources_stay, sources_stay_by, HaveSources}
 use Rattle.scopes.proofs.States.{IsAt, AreAt, one_at, SameAt, at_others, are_others, set_at, slot_found, slot_missed, slot_last, numbers_last, source_uses_last, uses_by_last, numbers_length}
 
 -- tests
@@ -24,13 +24,9 @@ differ_test : (n m : ℕ) → (n ≡ m → ⊥) → (n == m) ≡ false
 differ_test n m differ = not_true (n == m) (λ h. differ (equal_numbers n m h))
 
 -- functions around a place
-around_step : (s one other : Bool) → (one ≡ true → other ≡ true) → s || one ≡ true → s || other ≡ true
-around_step true one other go i = refl
-around_step false one other go i = go i
-
 inside_step : (t : Bool) (f g : ℕ) (inside around : List ℕ) → (is_one_of f inside ≡ true → is_one_of f around ≡ true) → is_one_of f (if t then [] else g ∷ inside) ≡ true → (f == g) || is_one_of f around ≡ true
 inside_step true f g inside around go h = cc
-inside_step false f g inside around go h = around_step (f == g) (is_one_of f inside) (is_one_of f around) go h
+inside_step false f g inside around go h = or_more (f == g) (is_one_of f inside) (is_one_of f around) go h
 
 pub inside_around : (f home : ℕ) (around : List ℕ) → is_one_of f (inside_of home around) ≡ true → is_one_of f around ≡ true
 inside_around f home [] h = h

@@ -18,11 +18,10 @@ use Rattle.scopes.specs.Standing.{Sound, Goes, Extends, Keeps, item_part}
 use Rattle.scopes.proofs.Goings.{Passes, goes_as, goes_both, goes_first, goes_nothing}
 
 -- what is left of a list, by its first item
-add_one : (i : ℕ) → suc i ≡ i + 1
-add_one i = omega arith
-
 left_of : {A : Type 0} (items : List A) (i : ℕ) (item : A) → i < length items → item ≡ get_or items i item → drop i items ≡ item ∷ drop (i + 1) items
-left_of items i item below is = drop-cons items i item below ∙ ap (λ first. first ∷ drop (suc i) items) (sym is) ∙ ap (λ n. item ∷ drop n items) (add_one i)
+left_of items i item below is =
+    let next : suc i ≡ i + 1 = omega arith in
+    drop-cons items i item below ∙ ap (λ first. first ∷ drop (suc i) items) (sym is) ∙ ap (λ n. item ∷ drop n items) next
 
 -- statements
 statements_left : (items : List Stat) (i : ℕ) (item : Stat) → i < length items → item ≡ get_or items i item →

@@ -4,13 +4,14 @@ use Rattle.lua_tree.specs.View.{view_tree}
 use Rattle.lua_tree.specs.Outline.{outline}
 use Rattle.scopes.specs.Faults.{StopsBy}
 use Rattle.scopes.specs.Standing.{Sound}
-use Rattle.scopes.proofs.Beginnings.{answers_whole, breach_whole, answers_resolved, fault_handed}
+use Rattle.scopes.proofs.Beginnings.{answers_whole, breach_whole, answers_resolved}
+use Rattle.scopes.proofs.LoopSteps.{fault_on}
 use Rattle.scopes.proofs.resolving.resolve.Goals as goal
 
 pub returns-in_err-statements-clause-fault : goal.returns-in_err-statements-clause-fault
 returns-in_err-statements-clause-fault c =
     let sound : Sound c.open.new.self = first_of (search rules, grind (arith, common_steps)) in
-    fault_handed (StopsBy (view_tree c.args.tree.now)) _ _ c.from_residual-in_err-statements.ensures.1
+    fault_on (StopsBy (view_tree c.args.tree.now)) _ _ c.from_residual-in_err-statements.ensures.1
     (breach_whole (view_tree c.args.tree.now) (record { locals = c.new.ensures.items; stack = c.new-2.ensures.items; names = c.new-3.ensures.items; captured = c.new-4.ensures.items; functions = c.new-5.ensures.items }) c.in_ok-open.ensures sound c.in_err-statements.ensures.goes)
 
 pub returns-clause-scoped : goal.returns-clause-scoped
