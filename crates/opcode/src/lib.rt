@@ -7,4 +7,4 @@ mod tests;
 mod word;
 
 pub use op::{Format, Op};
-pub use word::{Instr, decode, encode, words_are_one};
+pub use word::{Instr, decode, encode, words_are_one, words_are_read};

@@ -3,7 +3,6 @@ ghost use Rattle.opcode.specs.Word.{InRange};
 
 use crate::{Instr, Op, decode, encode};
 use std::process::Abort;
-use std::test::Fail;
 
 fn abc(op: Op, a: u32, b: u32, c: u32) -> Instr
     ensures { result ≡ record { op = op; a = a; b = b; c = c; bx = 0; sbx = pos 0 } }
@@ -76,14 +75,4 @@ fn opcodes_from_38_on_are_refused(rt: HostRuntime) {
     for word in [38, 0xffff_ffff] {
         assert_eq!(rt; decode(word), None, "at {word}");
     }
-}
-
-#[test]
-fn words_come_back(rt: HostRuntime) -> Result<(), Fail> {
-    for k in 0..152u32 {
-        let word = (k.wrapping_mul(0x9e37_79b1) & !0x3f) + k % 38;
-        let instr = decode(word).ok_or("an opcode below 38")?;
-        assert_eq!(rt; encode(instr), word);
-    }
-    Ok(())
 }

@@ -1,6 +1,7 @@
 // Words and their fields.
-ghost use Rattle.std.specs.Prelude.{◌≡◌, ◌<◌, ◌≤◌, ◌/◌, ◌%◌, ◌^◌, IfSome, IfNone};
+ghost use Rattle.std.specs.Prelude.{◌≡◌, ℕ, ◌<◌, ◌≤◌, ◌/◌, ◌%◌, ◌^◌, IfSome, None, Some};
 ghost use Rattle.opcode.specs.declared.word.Instr.{Instr as Fields};
+ghost use Rattle.opcode.specs.Reading.{instr_of};
 ghost use Rattle.opcode.specs.Word.{InRange, word_of};
 
 use crate::op::{Format, Op};
@@ -51,10 +52,8 @@ fn bits(word: u32, low: u32, width: u32) -> u32
 
 /// The instruction of a word; `None` exactly where its low six bits, the opcode, are 38 or more.
 pub fn decode(word: u32) -> Option<Instr>
-    ensures fields { IfSome result InRange }
-    ensures word { IfSome result (λ i. word_of i ≡ word) }
-    ensures none { IfNone result (38 ≤ word % 64) }
-    ensures some { 38 ≤ word % 64 → result ≡ None }
+    ensures reading { result ≡ instr_of word }
+    ensures read_back { (i : Fields) → InRange i → word ≡ word_of i → result ≡ Some i }
 {
     let op = Op::from_number(bits(word, 0, OP_WIDTH))?;
     let with_a = Instr {
@@ -96,8 +95,17 @@ pub fn encode(instr: Instr) -> u32
     instr.op.number() + (instr.a << A_LOW) + operands
 }
 
-/// Two instructions with fields in range that have one word are one. A law, with nothing to run: with
-/// the clauses of `decode` and `encode` each undoes the other.
+/// Two instructions with fields in range that have one word are one. A law, with nothing to run.
 pub fn words_are_one()
     ensures { (i j : Fields) → InRange i → InRange j → word_of i ≡ word_of j → i ≡ j }
+{}
+
+/// The word of an instruction whose fields are in range is read as that instruction, and what a word
+/// of 32 bits is read as has its fields in range and that word; a word is read as none exactly where
+/// its low six bits are 38 or more. A law, with nothing to run.
+pub fn words_are_read()
+    ensures some { (i : Fields) → InRange i → instr_of (word_of i) ≡ Some i }
+    ensures none { (w : ℕ) → 38 ≤ w % 64 → instr_of w ≡ None }
+    ensures back { (w : ℕ) → w < 2 ^ 32 → IfSome (instr_of w) (λ i. InRange i × (word_of i ≡ w)) }
+    ensures refused { (w : ℕ) → instr_of w ≡ None → 38 ≤ w % 64 }
 {}
