@@ -17,3 +17,4 @@ pub mod TreeLists
 pub mod SpelledLaws
 pub mod Outline
 pub mod Scoping
+pub mod Resolved

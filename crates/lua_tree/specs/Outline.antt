@@ -59,18 +59,7 @@ abbrev pub within : (Place → Place) → Part → Part
 within enter part place =
     let inside = part (enter place) in
     let end = inside.next in
-    record {
-      marks = inside.marks;
-      next = record {
-        scope = place.scope;
-        around = place.around;
-        vararg = place.vararg;
-        looped = place.looped;
-        active = place.active;
-        declarations = end.declarations;
-        functions = end.functions;
-      };
-    }
+    record { marks = inside.marks; next = record place { declarations = end.declarations; functions = end.functions } }
 
 -- the scope of a block begins as it is around
 abbrev pub stay : Place → Place
@@ -92,14 +81,9 @@ with_names (name ∷ names) number home scope = with_names names (suc number) ho
 
 -- locals come into scope: hidden ones, and names by the number of the first
 abbrev pub with_locals : (hidden : ℕ) → List Text → (number : ℕ) → Place → Place
-with_locals hidden names number place = record {
+with_locals hidden names number place = record place {
   scope = with_names names number (innermost place.around) place.scope;
-  around = place.around;
-  vararg = place.vararg;
-  looped = place.looped;
   active = place.active + hidden + length names;
-  declarations = place.declarations;
-  functions = place.functions;
 }
 
 abbrev pub come : (hidden : ℕ) → List Text → (number : ℕ) → Part
@@ -107,25 +91,15 @@ come hidden names number place = nothing (with_locals hidden names number place)
 
 -- a loop is around
 abbrev pub in_loop : Place → Place
-in_loop place = record {
-  scope = place.scope;
-  around = place.around;
-  vararg = place.vararg;
-  looped = true;
-  active = place.active;
-  declarations = place.declarations;
-  functions = place.functions;
-}
+in_loop place = record place { looped = true }
 
 -- inside a function that is opened
 abbrev pub in_function : Bool → Place → Place
-in_function vararg place = record {
-  scope = place.scope;
+in_function vararg place = record place {
   around = place.functions ∷ place.around;
   vararg = vararg;
   looped = false;
   active = 0;
-  declarations = place.declarations;
   functions = suc place.functions;
 }
 
@@ -138,15 +112,7 @@ reaching mark active (suc count) = mark (suc active) ∷ reaching mark (suc acti
 abbrev pub declares : (line hidden : ℕ) → List Text → Part
 declares line hidden names place = record {
   marks = reaching (hidden_local line) place.active hidden ++ reaching (local_name line) (place.active + hidden) (length names);
-  next = record {
-    scope = place.scope;
-    around = place.around;
-    vararg = place.vararg;
-    looped = place.looped;
-    active = place.active;
-    declarations = place.declarations + length names;
-    functions = place.functions;
-  };
+  next = record place { declarations = place.declarations + length names };
 }
 
 abbrev pub mentions : (line : ℕ) → Text → Part

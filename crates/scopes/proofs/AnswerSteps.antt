@@ -3,7 +3,8 @@ use Rattle.std.proofs.Common.{◌≡◌, ℕ, suc, ◌+◌, ◌≤◌, Bool, tru
 use Rattle.std.proofs.lemmas.List.{length-replicate}
 use Rattle.lua_tree.specs.Outline.{Mark, local_name, hidden_local, dots, leave, opened, reaching}
 use Rattle.lua_tree.specs.Scoping.{first_of, first_breach, outer_functions, outer_of, upvalues_of, uses_of, uses_by}
-use Rattle.scopes.specs.Resolved.{functions_in, uses_of_names, uses_of_functions, captured_below, upvalues_below, declarations_in}
+use Rattle.lua_tree.specs.Resolved.{functions_in, captured_below, upvalues_below, declarations_in}
+use Rattle.scopes.specs.Uses.{uses_of_names, uses_of_functions}
 use Rattle.scopes.specs.Standing.{AreWellMade, Answers, HaveUpvalues, Declared, Opened}
 use Rattle.scopes.specs.declared.resolver.Resolver.{Resolver}
 use Rattle.scopes.proofs.Marks.{breach_of_both, functions_are, outer_both, declarations_both}

@@ -5,7 +5,8 @@ use Rattle.lua_tree.specs.Syntax.{Source}
 use Rattle.lua_tree.specs.Outline.{Binding, Mark, beginning, statements_part, outline}
 use Rattle.scopes.specs.declared.resolver.Resolver.{Resolver}
 use Rattle.scopes.specs.declared.uses.Captures.{Captures}
-use Rattle.scopes.specs.Resolved.{resolved_by, uses_of_names, uses_of_functions, declarations_in, functions_in, captured_below, upvalues_below}
+use Rattle.lua_tree.specs.Resolved.{resolved_by, declarations_in, functions_in, captured_below, upvalues_below}
+use Rattle.scopes.specs.Uses.{uses_of_names, uses_of_functions}
 use Rattle.scopes.specs.Faults.{StopsBy}
 use Rattle.scopes.specs.Standing.{HaveUpvalues, Sound, Answers, Stands, Goes, Opened}
 

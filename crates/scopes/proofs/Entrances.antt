@@ -16,7 +16,7 @@ use Rattle.scopes.proofs.AnswerSteps.{answers_declared, answers_opened, answers_
 use Rattle.scopes.proofs.Marks.{nested_stays, breach_of_both, outer_of_last}
 use Rattle.scopes.proofs.Quiet.{none_above, Reaches, reach_few}
 use Rattle.scopes.proofs.MentionSteps.{lookup_last}
-use Rattle.scopes.specs.Resolved.{functions_in}
+use Rattle.lua_tree.specs.Resolved.{functions_in}
 use Rattle.scopes.proofs.Known.{same_number, or_second}
 use Rattle.scopes.proofs.Goings.{Enters, leaves}
 

@@ -77,7 +77,7 @@ pub record Enters (enter : Place → Place) (a b : Resolver) : Type 0 where
 
 -- what a block leaves in scope
 pub leaves : (marks more : List Mark) (place end : Place) (a c d : Resolver) (around : Around) → Surrounds a marks place → Surrounds c (marks ++ more) end → Left c around d → Keeps a d →
-    Surrounds d (marks ++ more) (record { scope = place.scope; around = place.around; vararg = place.vararg; looped = place.looped; active = place.active; declarations = end.declarations; functions = end.functions })
+    Surrounds d (marks ++ more) (record place { declarations = end.declarations; functions = end.functions })
 leaves marks more place end a c d around s t left keeps = record {
   scope = λ name. rw keeps.locals (s.scope name);
   around = rw keeps.stack s.around;

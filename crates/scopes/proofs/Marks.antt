@@ -4,7 +4,7 @@ use Rattle.std.proofs.Math.ListN.{get_or-append}
 use Rattle.std.proofs.Math.Seq.{get_or-append_seam}
 use Rattle.lua_tree.specs.Outline.{Binding, Mark, mention, local_name, opened, innermost}
 use Rattle.lua_tree.specs.Scoping.{Breach, first_of, breach_at, first_breach, with_mention, upvalues_behind, outer_functions, outer_of, use_in, uses_among, is_captured}
-use Rattle.scopes.specs.Resolved.{declarations_in, functions_in}
+use Rattle.lua_tree.specs.Resolved.{declarations_in, functions_in}
 use Rattle.scopes.specs.Standing.{AreNested}
 
 -- the parts of two lists of marks

@@ -5,7 +5,8 @@ use Rattle.std.proofs.lemmas.Bool.Decides.{nat_tests}
 use Rattle.lua_tree.specs.Syntax.{Text}
 use Rattle.lua_tree.specs.Outline.{Binding, Mark, mention, innermost}
 use Rattle.lua_tree.specs.Scoping.{inside_of, is_one_of, upvalues_of, slot_of, outer_functions, local_use, upvalue_use, global_use, uses_among, is_captured, first_of, first_breach}
-use Rattle.scopes.specs.Resolved.{declarations_in, functions_in, captured_below, upvalues_below, use_of, source_use, uses_of_names, uses_of_functions}
+use Rattle.lua_tree.specs.Resolved.{declarations_in, functions_in, captured_below, upvalues_below}
+use Rattle.scopes.specs.Uses.{use_of, source_use, uses_of_names, uses_of_functions}
 use Rattle.scopes.specs.Standing.{binding_of, AreNested, AreWellMade, HaveUpvalues, Answers}
 use Rattle.scopes.specs.Capturing.{Reached, name_use, captured_by, Used}
 use Rattle.scopes.specs.declared.resolver.Resolver.{Resolver}

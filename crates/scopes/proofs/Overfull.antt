@@ -4,7 +4,7 @@ use Rattle.std.proofs.lemmas.Bool.Decides.{nat_tests}
 use Rattle.lua_tree.specs.Syntax.{Text}
 use Rattle.lua_tree.specs.Outline.{Binding, Mark}
 use Rattle.lua_tree.specs.Scoping.{inside_of, is_one_of, is_known, upvalues_of, Breach, too_many_upvalues, first_of, upvalue_breach}
-use Rattle.scopes.specs.Resolved.{declarations_in, functions_in}
+use Rattle.lua_tree.specs.Resolved.{declarations_in, functions_in}
 use Rattle.scopes.specs.Standing.{binding_of, AreNested, AreWellMade}
 use Rattle.scopes.specs.Capturing.{slot_from, Full, Stuck}
 use Rattle.scopes.specs.declared.fault.ScopeFault.{ScopeFault}

@@ -3,7 +3,8 @@ use Rattle.std.proofs.Common.{◌≡◌, ◌==◌, ◌&&◌, ◌||◌, ℕ, zero
 use Rattle.std.proofs.lemmas.Bool.Decides.{nat_tests}
 use Rattle.lua_tree.specs.Outline.{Binding, Mark, mention, local_name, hidden_local, reaching}
 use Rattle.lua_tree.specs.Scoping.{inside_of, is_one_of, upvalues_behind, upvalues_of, outer_functions, uses_among, uses_of, is_captured, sources_of, Breach, too_many_locals, above, first_of, breach_at, first_breach}
-use Rattle.scopes.specs.Resolved.{declarations_in, functions_in, captured_below, upvalues_below, uses_of_functions, source_uses}
+use Rattle.lua_tree.specs.Resolved.{declarations_in, functions_in, captured_below, upvalues_below}
+use Rattle.scopes.specs.Uses.{uses_of_functions, source_uses}
 use Rattle.scopes.specs.Standing.{AreNested, AreWellMade, HaveUpvalues, numbers_of}
 use Rattle.scopes.specs.declared.uses.Captures.{Captures}
 use Rattle.scopes.proofs.Marks.{upvalues_both, declarations_both, captured_both, uses_both, functions_are, nested_stays, outer_stays}

@@ -4,7 +4,8 @@ use Rattle.std.proofs.Math.ListN.{length-set}
 use Rattle.lua_tree.specs.Syntax.{Text}
 use Rattle.lua_tree.specs.Outline.{Binding, Mark, mention, innermost}
 use Rattle.lua_tree.specs.Scoping.{inside_of, is_one_of, is_known, with_mention, upvalues_of, slot_of, outer_functions, outer_of, local_use, upvalue_use, use_in, uses_by}
-use Rattle.scopes.specs.Resolved.{declarations_in, functions_in, source_use, source_uses}
+use Rattle.lua_tree.specs.Resolved.{declarations_in, functions_in}
+use Rattle.scopes.specs.Uses.{source_use, source_uses}
 use Rattle.scopes.specs.Standing.{binding_of, AreNested, AreWellMade, numbers_of}
 use Rattle.scopes.specs.Capturing.{slot_from, IsKnown, IsAdded, Captured, Passes, Reached}
 use Rattle.scopes.specs.declared.uses.Binding.{Binding as Bound}

@@ -3,7 +3,8 @@ use Rattle.std.proofs.Common.{◌≡◌, ◌==◌, ◌||◌, ℕ, zero, suc, ◌
 use Rattle.std.proofs.Math.ListN.{set}
 use Rattle.lua_tree.specs.Outline.{Binding, Mark}
 use Rattle.lua_tree.specs.Scoping.{is_known, slot_of, upvalues_of, Use, use_in, uses_by, sources_of}
-use Rattle.scopes.specs.Resolved.{source_use, source_uses, uses_of_functions, upvalues_below}
+use Rattle.lua_tree.specs.Resolved.{upvalues_below}
+use Rattle.scopes.specs.Uses.{source_use, source_uses, uses_of_functions}
 use Rattle.scopes.specs.Standing.{HaveUpvalues, numbers_of}
 use Rattle.scopes.specs.Capturing.{slot_from}
 use Rattle.scopes.specs.declared.uses.Captures.{Captures}

@@ -1,7 +1,7 @@
 -- The answers as the program has them, one by one.
 use Rattle.std.proofs.Common.{◌≡◌, ℕ, zero, suc, ◌<◌, List, [], ◌∷◌, length, get_or, refl, ap, arith}
 use Rattle.lua_tree.specs.Scoping.{Use}
-use Rattle.scopes.specs.Resolved.{use_of, source_uses, uses_of_names, uses_of_functions}
+use Rattle.scopes.specs.Uses.{use_of, source_uses, uses_of_names, uses_of_functions}
 use Rattle.scopes.specs.declared.uses.NameUse.{NameUse}
 use Rattle.scopes.specs.declared.uses.Captures.{Captures}
 

@@ -1,4 +1,4 @@
-pub mod Resolved
+pub mod Uses
 pub mod Faults
 pub mod Standing
 pub mod Capturing

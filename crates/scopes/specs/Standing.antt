@@ -16,7 +16,8 @@ use Rattle.scopes.specs.declared.resolver.Resolver.{Resolver}
 use Rattle.scopes.specs.declared.uses.Binding.{Binding as Bound}
 use Rattle.scopes.specs.declared.uses.Captures.{Captures}
 use Rattle.scopes.specs.Faults.{IsBreach}
-use Rattle.scopes.specs.Resolved.{declarations_in, functions_in, captured_below, upvalues_below, uses_of_names, uses_of_functions}
+use Rattle.lua_tree.specs.Resolved.{declarations_in, functions_in, captured_below, upvalues_below}
+use Rattle.scopes.specs.Uses.{uses_of_names, uses_of_functions}
 
 -- a declaration of the program as one of the definitions
 abbrev pub binding_of : Bound → Binding

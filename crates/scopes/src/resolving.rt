@@ -2,7 +2,7 @@
 ghost use Rattle.std.specs.Prelude.{◌≡◌, IfOk, IfErr};
 ghost use Rattle.lua_tree.specs.View.{view_tree};
 ghost use Rattle.lua_tree.specs.Scoping.{Scoped};
-ghost use Rattle.scopes.specs.Resolved.{resolved};
+ghost use Rattle.lua_tree.specs.Resolved.{resolved};
 ghost use Rattle.scopes.specs.Faults.{StopsBy};
 
 use crate::fault::ScopeFault;

@@ -2,7 +2,7 @@
 ghost use Rattle.std.specs.Prelude.{◌≡◌, ◌<◌, length, get_or, false, [], ◌∷◌, ◌++◌, OnOk};
 ghost use Rattle.lua_tree.specs.Scoping.{global_use};
 ghost use Rattle.scopes.specs.Capturing.{slot_from};
-ghost use Rattle.scopes.specs.Resolved.{use_of, source_uses, uses_of_names, uses_of_functions};
+ghost use Rattle.scopes.specs.Uses.{use_of, source_uses, uses_of_names, uses_of_functions};
 
 use std::alloc::{AllocError, Global};
 use std::marker::Model;
@@ -86,7 +86,8 @@ pub struct Scopes {
 }
 
 impl Model for Scopes {
-    ghost use Rattle.scopes.specs.Resolved.{Resolved, uses_of_names, uses_of_functions};
+    ghost use Rattle.lua_tree.specs.Resolved.{Resolved};
+    ghost use Rattle.scopes.specs.Uses.{uses_of_names, uses_of_functions};
 
     ghost Value = { Resolved };
 

@@ -1,6 +1,7 @@
 use Rattle.std.proofs.Common.{◌≡◌, length, get_or, sym, ◌<◌, subst, arith}
 use Rattle.lua_tree.specs.Scoping.{global_use}
-use Rattle.scopes.specs.Resolved.{Resolved, use_of, uses_of_names}
+use Rattle.lua_tree.specs.Resolved.{Resolved}
+use Rattle.scopes.specs.Uses.{use_of, uses_of_names}
 use Rattle.scopes.proofs.Views.{names_length, name_at}
 use Rattle.scopes.proofs.uses.Scopes.name.Goals as goal
 

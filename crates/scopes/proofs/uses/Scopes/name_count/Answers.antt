@@ -1,5 +1,5 @@
 use Rattle.std.proofs.Common.{◌≡◌, length, rules, sym, ◌∙◌, subst}
-use Rattle.scopes.specs.Resolved.{Resolved}
+use Rattle.lua_tree.specs.Resolved.{Resolved}
 use Rattle.scopes.proofs.Views.{names_length}
 use Rattle.scopes.proofs.uses.Scopes.name_count.Goals as goal
 

@@ -1,5 +1,6 @@
 use Rattle.std.proofs.Common.{◌≡◌, length, get_or, [], sym, ap, ◌∙◌, ◌<◌, subst, arith}
-use Rattle.scopes.specs.Resolved.{Resolved, source_uses, uses_of_functions}
+use Rattle.lua_tree.specs.Resolved.{Resolved}
+use Rattle.scopes.specs.Uses.{source_uses, uses_of_functions}
 use Rattle.scopes.proofs.Views.{functions_length, sources_at}
 use Rattle.scopes.proofs.uses.Scopes.upvalues.Goals as goal
 

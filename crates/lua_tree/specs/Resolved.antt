@@ -1,11 +1,8 @@
--- What the scopes of a source are.
+-- To be believed. What the scopes of a source are.
 use Rattle.std.specs.Prelude.{ℕ, zero, suc, Bool, List, [], ◌∷◌, ◌++◌}
-use Rattle.lua_tree.specs.Syntax as syntax
+use Rattle.lua_tree.specs.Syntax.{Source}
 use Rattle.lua_tree.specs.Outline.{Mark, local_name, opened, outline}
-use Rattle.lua_tree.specs.Scoping.{Use, local_use, upvalue_use, global_use, uses_of, is_captured, sources_of}
-use Rattle.scopes.specs.declared.uses.NameUse.{NameUse}
-use Rattle.scopes.specs.declared.uses.Source.{Source}
-use Rattle.scopes.specs.declared.uses.Captures.{Captures}
+use Rattle.lua_tree.specs.Scoping.{Use, uses_of, is_captured, sources_of}
 
 -- what each name means, whether each declaration is captured, and where each function's upvalues come from
 pub record Resolved : Type 0 where
@@ -40,27 +37,5 @@ resolved_by marks = record {
   upvalues = upvalues_below (functions_in marks) marks;
 }
 
-abbrev pub resolved : syntax.Source → Resolved
+abbrev pub resolved : Source → Resolved
 resolved source = resolved_by (outline source)
-
--- the program's answers as uses
-abbrev pub use_of : NameUse → Use
-use_of (NameUse.Local declaration) = local_use declaration
-use_of (NameUse.Upvalue slot) = upvalue_use slot
-use_of NameUse.Global = global_use
-
-abbrev pub source_use : Source → Use
-source_use (Source.Local declaration) = local_use declaration
-source_use (Source.Upvalue slot) = upvalue_use slot
-
-abbrev pub uses_of_names : List NameUse → List Use
-uses_of_names [] = []
-uses_of_names (name ∷ names) = use_of name ∷ uses_of_names names
-
-abbrev pub source_uses : List Source → List Use
-source_uses [] = []
-source_uses (source ∷ sources) = source_use source ∷ source_uses sources
-
-abbrev pub uses_of_functions : List Captures → List (List Use)
-uses_of_functions [] = []
-uses_of_functions (captures ∷ functions) = source_uses captures.sources.items ∷ uses_of_functions functions
