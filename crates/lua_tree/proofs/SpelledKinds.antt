@@ -20,7 +20,7 @@ spell_field (named_field name e) = TokenKind.Name name ∷ TokenKind.Equal ∷ s
 spell_field (keyed_field key e) = TokenKind.OpenBracket ∷ spell_expression key ++ TokenKind.CloseBracket ∷ TokenKind.Equal ∷ spell_expression e
 
 -- the kinds of a phrase
-abbrev spell_phrase : (phrase : Phrase) → Meant phrase → Kinds
+abbrev pub spell_phrase : (phrase : Phrase) → Meant phrase → Kinds
 spell_phrase block_phrase block = spell_statements block
 spell_phrase statement_phrase s = spell_statement s
 spell_phrase branches_phrase left = spell_arms left.branches TokenKind.Elseif ++ spell_else left.last
@@ -44,7 +44,7 @@ spell_phrase (more_names_phrase mark) names = more_names mark names
 spell_phrase (mark_phrase mark) unit = mark ∷ []
 
 -- the kinds of parts
-abbrev spell_parts : List Part → Kinds
+abbrev pub spell_parts : List Part → Kinds
 spell_parts [] = []
 spell_parts (word kind ∷ others) = kind ∷ spell_parts others
 spell_parts (word_on line kind ∷ others) = kind ∷ spell_parts others
@@ -105,7 +105,7 @@ more_parameters_fit [] true = refl
 more_parameters_fit (name ∷ names) vararg = simp append-nil
 
 -- the parts of a phrase have its kinds
-fits : (phrase : Phrase) (meant : Meant phrase) → spell_parts (parts phrase meant) ≡ spell_phrase phrase meant
+pub fits : (phrase : Phrase) (meant : Meant phrase) → spell_parts (parts phrase meant) ≡ spell_phrase phrase meant
 fits block_phrase no_statements = refl
 fits block_phrase (statement line semi s rest) = simp append-nil
 fits statement_phrase s = statement_fits s

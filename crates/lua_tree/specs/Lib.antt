@@ -14,6 +14,7 @@ pub mod Spelled
 pub mod Trees
 pub mod Joins
 pub mod TreeLists
+pub mod OneLine
 pub mod SpelledLaws
 pub mod Outline
 pub mod Scoping

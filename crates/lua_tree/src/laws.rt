@@ -1,7 +1,7 @@
 // Laws of the definitions, with nothing to run.
 ghost use Rattle.std.specs.Prelude.{◌≡◌, ℕ, List};
 ghost use Rattle.lua_tree.specs.Lines.{IsLineOf};
-ghost use Rattle.lua_tree.specs.SpelledLaws.{SpelledAsSpelling};
+ghost use Rattle.lua_tree.specs.SpelledLaws.{SpelledAsSpelling, SpellingIsSpelled};
 ghost use Rattle.lua_tree.specs.Tiling.{Cause, Lexes, Stops};
 ghost use Rattle.lua_tree.specs.declared.token.Token.{Token as OneToken};
 
@@ -28,4 +28,9 @@ pub fn never_both()
 /// Law: tokens that spell a source, with their lines, have the kinds of its spelling.
 pub fn spelled_as_spelling()
     ensures { SpelledAsSpelling }
+{}
+
+/// Law: tokens that have the kinds of a source's spelling spell the source, with all on one line.
+pub fn spelling_is_spelled()
+    ensures { SpellingIsSpelled }
 {}
