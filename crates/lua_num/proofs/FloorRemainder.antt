@@ -4,7 +4,7 @@ use Rattle.std.specs.Int.{cast_signed, cast_unsigned}
 use Rattle.std.proofs.Math.IntN.{pred_ℤ, pred_ℤ-*ℤ, *ℤ_comm}
 use Rattle.std.proofs.lemmas.Int.{ints, quot-rem, rem_below, to_z-of_z}
 use mathlib.Core.Bool.{beq}
-use Rattle.lua_num.specs.Arith.{IsFloorRemainder, IsBelow}
+use Rattle.lua_num.specs.Meets.{IsFloorRemainder, IsBelow}
 
 pub zero_from_bits : (z : ℤ) → FitsSigned w64 z → cast_unsigned w64 z ≡ 0 → z ≡ pos 0
 zero_from_bits (pos n) f e = ap pos e

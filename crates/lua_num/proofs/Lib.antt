@@ -1,6 +1,11 @@
+pub mod Bytes
+pub mod Wraps
+pub mod Written
+pub mod TextNumbers
 pub mod Numerals
 pub mod NumberTexts
 pub mod Examples
 pub mod ArithExamples
 pub mod Wrapping
 pub mod FloorRemainder
+pub mod Outcomes

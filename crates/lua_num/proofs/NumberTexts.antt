@@ -1,162 +1,98 @@
--- A string is taken as one number at most.
-use Rattle.std.proofs.Common.{◌≡◌, ◌≢◌, ℕ, zero, suc, ◌<◌, ◌+◌, ◌^◌, Bool, true, false, cond, not, ◌&&◌, List, [], ◌∷◌, ◌++◌, take, drop, Option, None, Some, SomeIff, IfSome, IfNone, ℤ, pos, neg_ℤ, ◌-ℤ◌, FitsSigned, w64, refl, sym, ap, subst, ◌∙◌, inl, inr, one-add, arith}
-use Rattle.std.specs.Prelude.{codes, ◌⊎◌}
-use Rattle.std.specs.Char.{IsAsciiDigit, IsAsciiHexdigit}
-use Rattle.std.specs.List.{AllByRecursion, list_all, prefix_len}
-use Rattle.std.proofs.lemmas.Bool.Decides.{nat_tests}
+-- What the code reads from a string with white space and a sign.
+use Rattle.std.proofs.Common.{◌≡◌, ◌≢◌, ℕ, zero, suc, ◌<◌, ◌+◌, ◌^◌, Bool, true, false, cond, List, [], ◌∷◌, ◌++◌, take, drop, Option, None, Some, SomeIff, IfSome, IfNone, ℤ, pos, neg_ℤ, ◌-ℤ◌, FitsSigned, w64, refl, sym, ap, subst, ◌∙◌, inl, inr, one-add, arith, true≢false}
+use Rattle.std.specs.Prelude.{codes}
+use Rattle.std.specs.List.{list_all, prefix_len}
 use Rattle.std.proofs.lemmas.Int.{ints}
-use Rattle.lua_num.specs.Numeral.{Writes, IsSpace, Signs, IsNumberText}
-use Rattle.lua_num.specs.Reading.{is_space_byte, IsNoSpace, BeginsWithout, SplitsRun, DropsPlus, WritesWord, WritesSigned}
-use Rattle.lua_num.proofs.Numerals.{one_value}
+use Rattle.lua_num.specs.Bytes.{is_space, is_digit, Each, BeginsWithout, IsRun}
+use Rattle.lua_num.specs.Numeral.{text_number}
+use Rattle.lua_num.specs.Meets.{Writes, Signs, IsNumberText}
+use Rattle.lua_num.specs.Reading.{is_no_space, SplitsRun, DropsPlus, WritesWord, WritesSigned}
+use Rattle.lua_num.proofs.Bytes.{each_passed, each_passing, digit_no_space, not_space, space_not}
+use Rattle.lua_num.proofs.Written.{one_value}
+use Rattle.lua_num.proofs.TextNumbers.{text_sound, text_complete, numeral_no_space, BeginsWithDigit, numeral_begins}
+use Rattle.lua_num.proofs.Numerals.{found_is}
 
 -- one more byte of a run
-run_longer : {P : ℕ → Type 0} (byte : ℕ) (text : List ℕ) (n : ℕ) → P byte → SplitsRun P text (take n text) (drop n text) → SplitsRun P (byte ∷ text) (take (1 + n) (byte ∷ text)) (drop (1 + n) (byte ∷ text))
-run_longer byte text n here more = rw one-add (record {
+run_longer : (test : ℕ → Bool) (byte : ℕ) (text : List ℕ) (n : ℕ) → test byte ≡ true → SplitsRun test text (take n text) (drop n text) → SplitsRun test (byte ∷ text) (take (1 + n) (byte ∷ text)) (drop (1 + n) (byte ∷ text))
+run_longer test byte text n here more = rw one-add (record {
   whole = ap (λ l. byte ∷ l) more.whole;
-  within = (here, more.within);
-  ends = more.ends;
+  is_run = record { each = (here, more.is_run.each); longest = more.is_run.longest };
 })
 
-run_from : {P : ℕ → Type 0} (byte : ℕ) (text : List ℕ) (n : ℕ) (passes : Bool) → (passes ≡ true → P byte) → (P byte → passes ≡ true) → SplitsRun P text (take n text) (drop n text) → SplitsRun P (byte ∷ text) (take (cond passes (1 + n) 0) (byte ∷ text)) (drop (cond passes (1 + n) 0) (byte ∷ text))
-run_from byte text n true passed passing more = run_longer byte text n (passed refl) more
-run_from byte text n false passed passing more = record { whole = refl; within = tt; ends = λ h. let e : false ≡ true = passing h in cc }
+run_from : (test : ℕ → Bool) (byte : ℕ) (text : List ℕ) (n : ℕ) (passes : Bool) → test byte ≡ passes → SplitsRun test text (take n text) (drop n text) → SplitsRun test (byte ∷ text) (take (cond passes (1 + n) 0) (byte ∷ text)) (drop (cond passes (1 + n) 0) (byte ∷ text))
+run_from test byte text n true e more = run_longer test byte text n e more
+run_from test byte text n false e more = record { whole = refl; is_run = record { each = tt; longest = e } }
 
 -- a run ends where the test first fails
-prefix_run : {P : ℕ → Type 0} (p : ℕ → Bool) → ((byte : ℕ) → p byte ≡ true → P byte) → ((byte : ℕ) → P byte → p byte ≡ true) → (text : List ℕ) → SplitsRun P text (take (prefix_len p text) text) (drop (prefix_len p text) text)
-prefix_run p passed passing [] = record { whole = refl; within = tt; ends = tt }
-prefix_run p passed passing (byte ∷ text) = run_from byte text (prefix_len p text) (p byte) (passed byte) (passing byte) (prefix_run p passed passing text)
-
-space_passed : (byte : ℕ) → is_space_byte byte ≡ true → IsSpace byte
-space_passed byte h = grind (arith, nat_tests)
-
-space_passing : (byte : ℕ) → IsSpace byte → is_space_byte byte ≡ true
-space_passing byte h = grind (arith, nat_tests)
-
-other_passed : (byte : ℕ) → not (is_space_byte byte) ≡ true → IsNoSpace byte
-other_passed byte h space = let e : not true ≡ true = subst (λ (t : Bool). not t ≡ true) (space_passing byte space) h in cc
-
-not_true : (t : Bool) → (t ≡ true → ⊥) → not t ≡ true
-not_true true h = absurd (h refl)
-not_true false h = refl
-
-other_passing : (byte : ℕ) → IsNoSpace byte → not (is_space_byte byte) ≡ true
-other_passing byte h = not_true (is_space_byte byte) (λ e. h (space_passed byte e))
-
-pub space_run : (text : List ℕ) → SplitsRun IsSpace text (take (prefix_len is_space_byte text) text) (drop (prefix_len is_space_byte text) text)
-space_run text = prefix_run is_space_byte space_passed space_passing text
-
-pub word_run : (text : List ℕ) → SplitsRun IsNoSpace text (take (prefix_len (λ byte. not (is_space_byte byte)) text) text) (drop (prefix_len (λ byte. not (is_space_byte byte)) text) text)
-word_run text = prefix_run (λ byte. not (is_space_byte byte)) other_passed other_passing text
-
--- the test of all bytes
-both_true : (a b : Bool) → (a && b) ≡ true → (a ≡ true) × (b ≡ true)
-both_true true b h = (refl, h)
-both_true false b h = absurd (cc)
-
-white_passed : (text : List ℕ) → list_all is_space_byte text ≡ true → AllByRecursion IsSpace text
-white_passed [] h = tt
-white_passed (byte ∷ text) h = let both = both_true (is_space_byte byte) (list_all is_space_byte text) h in (space_passed byte both.0, white_passed text both.1)
-
-white_passing : (text : List ℕ) → AllByRecursion IsSpace text → list_all is_space_byte text ≡ true
-white_passing [] h = refl
-white_passing (byte ∷ text) h = ap (λ t. t && list_all is_space_byte text) (space_passing byte h.0) ∙ white_passing text h.1
+pub prefix_run : (test : ℕ → Bool) (text : List ℕ) → SplitsRun test text (take (prefix_len test text) text) (drop (prefix_len test text) text)
+prefix_run test [] = record { whole = refl; is_run = record { each = tt; longest = tt } }
+prefix_run test (byte ∷ text) = run_from test byte text (prefix_len test text) (test byte) refl (prefix_run test text)
 
 -- what two splits of one text share
 record SameSplit (a x b y : List ℕ) : Type 0 where
   runs : a ≡ b
   rests : x ≡ y
 
+not_both : (t : Bool) → t ≡ true → t ≡ false → ⊥
+not_both t p q = true≢false (sym p ∙ q)
+
 -- a text has one longest run
-one_run : (P : ℕ → Type 0) (a x b y : List ℕ) → a ++ x ≡ b ++ y → AllByRecursion P a → BeginsWithout P x → AllByRecursion P b → BeginsWithout P y → SameSplit a x b y
-one_run P [] x [] y e _ _ _ _ = record { runs = refl; rests = e }
-one_run P [] x (d ∷ b) y e _ out h _ = absurd ((subst (BeginsWithout P) e out) h.0)
-one_run P (c ∷ a) x [] y e h _ _ out = absurd ((subst (BeginsWithout P) (sym e) out) h.0)
-one_run P (c ∷ a) x (d ∷ b) y e h out h' out' =
+one_run : (test : ℕ → Bool) (a x b y : List ℕ) → a ++ x ≡ b ++ y → IsRun test a x → IsRun test b y → SameSplit a x b y
+one_run test [] x [] y e _ _ = record { runs = refl; rests = e }
+one_run test [] x (d ∷ b) y e p q = absurd (not_both (test d) q.each.0 (subst (BeginsWithout test) e p.longest))
+one_run test (c ∷ a) x [] y e p q = absurd (not_both (test c) p.each.0 (subst (BeginsWithout test) (sym e) q.longest))
+one_run test (c ∷ a) x (d ∷ b) y e p q =
     let tails : a ++ x ≡ b ++ y = cc in
-    let same : SameSplit a x b y = one_run P a x b y tails h.1 out h'.1 out' in
+    let same : SameSplit a x b y = one_run test a x b y tails (record { each = p.each.1; longest = p.longest }) (record { each = q.each.1; longest = q.longest }) in
     let heads : c ≡ d = cc in
     record { runs = cc; rests = same.rests }
 
--- the bytes of a numeral are no white space
-digit_no_space : (byte : ℕ) → IsAsciiDigit byte → IsNoSpace byte
-digit_no_space byte h space = grind arith
-
-hexdigit_no_space : (byte : ℕ) → IsAsciiHexdigit byte → IsNoSpace byte
-hexdigit_no_space byte h space = grind arith
-
-mark_no_space : (byte : ℕ) → (byte ≡ 120) ⊎ (byte ≡ 88) → IsNoSpace byte
-mark_no_space byte h space = grind arith
-
-digits_no_space : (digits : List ℕ) → AllByRecursion IsAsciiDigit digits → AllByRecursion IsNoSpace digits
-digits_no_space [] h = tt
-digits_no_space (digit ∷ digits) h = (digit_no_space digit h.0, digits_no_space digits h.1)
-
-hexdigits_no_space : (digits : List ℕ) → AllByRecursion IsAsciiHexdigit digits → AllByRecursion IsNoSpace digits
-hexdigits_no_space [] h = tt
-hexdigits_no_space (digit ∷ digits) h = (hexdigit_no_space digit h.0, hexdigits_no_space digits h.1)
-
-numeral_no_space : (text : List ℕ) (value : ℕ) → Writes text value → AllByRecursion IsNoSpace text
-numeral_no_space text value (inl is) = digits_no_space text is.digits
-numeral_no_space text value (inr is) =
-    let zero_digit : IsAsciiDigit 48 = (omega arith, omega arith) in
-    subst (AllByRecursion IsNoSpace) (sym is.whole) (digit_no_space 48 zero_digit, (mark_no_space is.mark is.marked, hexdigits_no_space is.digits is.digits_are))
-
-white_begins : (back : List ℕ) → AllByRecursion IsSpace back → BeginsWithout IsNoSpace back
+white_begins : (back : List ℕ) → Each is_space back → BeginsWithout is_no_space back
 white_begins [] h = tt
-white_begins (byte ∷ back) h = λ other. other h.0
+white_begins (byte ∷ back) h = space_not byte h.0
 
 -- a word is split in one way, and has one value
-word_split : (text word back : List ℕ) (value : ℕ) → SplitsRun IsNoSpace text word back → (is : WritesWord text value) → SameSplit word back is.numeral is.back
-word_split text word back value split is =
-    one_run IsNoSpace word back is.numeral is.back (sym split.whole ∙ is.whole) split.within split.ends (numeral_no_space is.numeral value is.writes) (white_begins is.back is.back_white)
+word_run : (text : List ℕ) (value : ℕ) (is : WritesWord text value) → IsRun is_no_space is.numeral is.back
+word_run text value is = record { each = numeral_no_space is.numeral value is.writes; longest = white_begins is.back is.back_white }
+
+word_split : (text word back : List ℕ) (value : ℕ) → SplitsRun is_no_space text word back → (is : WritesWord text value) → SameSplit word back is.numeral is.back
+word_split text word back value split is = one_run is_no_space word back is.numeral is.back (sym split.whole ∙ is.whole) split.is_run (word_run text value is)
 
 one_word_value : (text : List ℕ) (v w : ℕ) → WritesWord text v → WritesWord text w → v ≡ w
 one_word_value text v w a b =
-    let split : SplitsRun IsNoSpace text a.numeral a.back = record { whole = a.whole; within = numeral_no_space a.numeral v a.writes; ends = white_begins a.back a.back_white } in
+    let split : SplitsRun is_no_space text a.numeral a.back = record { whole = a.whole; is_run = word_run text v a } in
     let same : SameSplit a.numeral a.back b.numeral b.back = word_split text a.numeral a.back w split b in
     one_value b.numeral v w (subst (λ (l : List ℕ). Writes l v) same.runs a.writes) b.writes
 
 -- what reading a word gives
-pub word_value : (text word back : List ℕ) (o : Option ℕ) → SplitsRun IsNoSpace text word back → list_all is_space_byte back ≡ true → IfSome o (Writes word) → IfSome o (WritesWord text)
+pub word_value : (text word back : List ℕ) (o : Option ℕ) → SplitsRun is_no_space text word back → list_all is_space back ≡ true → IfSome o (Writes word) → IfSome o (WritesWord text)
 word_value text word back None split white h = tt
-word_value text word back (Some value) split white h = record { numeral = word; back = back; whole = split.whole; back_white = white_passed back white; writes = h }
+word_value text word back (Some value) split white h = record { numeral = word; back = back; whole = split.whole; back_white = each_passed is_space back white; writes = h }
 
-pub word_none : (text word back : List ℕ) (o : Option ℕ) → SplitsRun IsNoSpace text word back → IfNone o ((value : ℕ) → value < 2 ^ 64 → Writes word value → ⊥) → IfNone o ((value : ℕ) → value < 2 ^ 64 → WritesWord text value → ⊥)
+pub word_none : (text word back : List ℕ) (o : Option ℕ) → SplitsRun is_no_space text word back → IfNone o ((value : ℕ) → value < 2 ^ 64 → Writes word value → ⊥) → IfNone o ((value : ℕ) → value < 2 ^ 64 → WritesWord text value → ⊥)
 word_none text word back (Some value) split h = tt
 word_none text word back None split h = λ value below is.
     let same : SameSplit word back is.numeral is.back = word_split text word back value split is in
     h value below (subst (λ (l : List ℕ). Writes l value) (sym same.runs) is.writes)
 
-pub word_back : (text word back : List ℕ) (value : ℕ) → SplitsRun IsNoSpace text word back → list_all is_space_byte back ≡ false → WritesWord text value → ⊥
+pub word_back : (text word back : List ℕ) (value : ℕ) → SplitsRun is_no_space text word back → list_all is_space back ≡ false → WritesWord text value → ⊥
 word_back text word back value split other is =
     let same : SameSplit word back is.numeral is.back = word_split text word back value split is in
-    let white : list_all is_space_byte back ≡ true = white_passing back (subst (AllByRecursion IsSpace) (sym same.rests) is.back_white) in
+    let white : list_all is_space back ≡ true = each_passing is_space back (subst (Each is_space) (sym same.rests) is.back_white) in
     cc
 
--- a numeral begins with a digit
-record BeginsWithDigit (text : List ℕ) : Type 0 where
-  digit : ℕ
-  others : List ℕ
-  whole : text ≡ digit ∷ others
-  is_digit : IsAsciiDigit digit
-
-numeral_begins : (text : List ℕ) (value : ℕ) → Writes text value → (back : List ℕ) → BeginsWithDigit (text ++ back)
-numeral_begins [] value (inl is) back = absurd (is.some refl)
-numeral_begins (digit ∷ digits) value (inl is) back = record { digit = digit; others = digits ++ back; whole = refl; is_digit = is.digits.0 }
-numeral_begins text value (inr is) back = record { digit = 48; others = (is.mark ∷ is.digits) ++ back; whole = ap (λ l. l ++ back) is.whole; is_digit = (omega arith, omega arith) }
-
-word_begins : (text rest : List ℕ) (value byte : ℕ) → WritesWord text value → text ≡ byte ∷ rest → IsAsciiDigit byte
+word_begins : (text rest : List ℕ) (value byte : ℕ) → WritesWord text value → text ≡ byte ∷ rest → is_digit byte ≡ true
 word_begins text rest value byte is e =
     let begins : BeginsWithDigit (is.numeral ++ is.back) = numeral_begins is.numeral value is.writes is.back in
     let both : byte ∷ rest ≡ begins.digit ∷ begins.others = sym e ∙ (is.whole ∙ begins.whole) in
     let same : begins.digit ≡ byte = cc in
-    subst IsAsciiDigit same begins.is_digit
+    subst (λ (b : ℕ). is_digit b ≡ true) same begins.is_one
 
-no_minus : IsAsciiDigit 45 → ⊥
-no_minus h = omega arith
+no_minus : is_digit 45 ≡ true → ⊥
+no_minus h = true≢false (sym h)
 
-no_plus : IsAsciiDigit 43 → ⊥
-no_plus h = omega arith
+no_plus : is_digit 43 ≡ true → ⊥
+no_plus h = true≢false (sym h)
 
 same_heads : (x y : ℕ) (a b : List ℕ) → x ∷ a ≡ y ∷ b → x ≡ y
 same_heads x y a b e = cc
@@ -263,7 +199,7 @@ plain_none text rest n other drops none is =
     none is.value (omega (arith, fits.sfits)) (subst (λ (l : List ℕ). WritesWord l is.value) known.rests is.word)
 
 -- white space in front of it
-pub number_text : (text space rest : List ℕ) (n : ℤ) → SplitsRun IsSpace text space rest → WritesSigned rest n → IsNumberText text n
+number_text : (text space rest : List ℕ) (n : ℤ) → SplitsRun is_space text space rest → WritesSigned rest n → IsNumberText text n
 number_text text space rest n split is = record {
   front = space;
   sign = is.sign;
@@ -271,34 +207,29 @@ number_text text space rest n split is = record {
   back = is.word.back;
   value = is.value;
   whole = split.whole ∙ ap (λ l. space ++ l) (is.whole ∙ ap (λ l. is.sign ++ l) is.word.whole);
-  front_white = split.within;
+  front_white = split.is_run.each;
   back_white = is.word.back_white;
   writes = is.word.writes;
   signed = is.signed;
   fits = is.fits;
 }
 
-numeral_without : (text : List ℕ) → BeginsWithDigit text → BeginsWithout IsSpace text
-numeral_without text begins = subst (BeginsWithout IsSpace) (sym begins.whole) (digit_no_space begins.digit begins.is_digit)
+-- what may follow white space: a digit or a sign
+begins_no_space : (text : List ℕ) → BeginsWithDigit text → BeginsWithout is_space text
+begins_no_space text begins = subst (BeginsWithout is_space) (sym begins.whole) (not_space begins.digit (digit_no_space begins.digit begins.is_one))
 
-plus_no_space : IsSpace 43 → ⊥
-plus_no_space h = grind arith
-
-minus_no_space : IsSpace 45 → ⊥
-minus_no_space h = grind arith
-
-signed_without : (sign rest : List ℕ) (value : ℕ) (n : ℤ) → Signs sign value n → BeginsWithout IsSpace rest → BeginsWithout IsSpace (sign ++ rest)
-signed_without sign rest value n (inl p) h = elim p.0 [
-  | inl none ↦ subst (λ (l : List ℕ). BeginsWithout IsSpace (l ++ rest)) (sym none) h
-  | inr plus ↦ subst (λ (l : List ℕ). BeginsWithout IsSpace (l ++ rest)) (sym plus) plus_no_space
+signed_no_space : (sign rest : List ℕ) (value : ℕ) (n : ℤ) → Signs sign value n → BeginsWithout is_space rest → BeginsWithout is_space (sign ++ rest)
+signed_no_space sign rest value n (inl p) h = elim p.0 [
+  | inl none ↦ subst (λ (l : List ℕ). BeginsWithout is_space (l ++ rest)) (sym none) h
+  | inr plus ↦ subst (λ (l : List ℕ). BeginsWithout is_space (l ++ rest)) (sym plus) refl
 ]
-signed_without sign rest value n (inr p) h = subst (λ (l : List ℕ). BeginsWithout IsSpace (l ++ rest)) (sym p.0) minus_no_space
+signed_no_space sign rest value n (inr p) h = subst (λ (l : List ℕ). BeginsWithout is_space (l ++ rest)) (sym p.0) refl
 
-pub signed_text : (text space rest : List ℕ) (n : ℤ) → SplitsRun IsSpace text space rest → IsNumberText text n → WritesSigned rest n
+signed_text : (text space rest : List ℕ) (n : ℤ) → SplitsRun is_space text space rest → IsNumberText text n → WritesSigned rest n
 signed_text text space rest n split is =
     let left : List ℕ = is.numeral ++ is.back in
-    let begins : BeginsWithout IsSpace (is.sign ++ left) = signed_without is.sign left is.value n is.signed (numeral_without left (numeral_begins is.numeral is.value is.writes is.back)) in
-    let same : SameSplit space rest is.front (is.sign ++ left) = one_run IsSpace space rest is.front (is.sign ++ left) (sym split.whole ∙ is.whole) split.within split.ends is.front_white begins in
+    let begins : BeginsWithout is_space (is.sign ++ left) = signed_no_space is.sign left is.value n is.signed (begins_no_space left (numeral_begins is.numeral is.value is.writes is.back)) in
+    let same : SameSplit space rest is.front (is.sign ++ left) = one_run is_space space rest is.front (is.sign ++ left) (sym split.whole ∙ is.whole) split.is_run (record { each = is.front_white; longest = begins }) in
     record {
       sign = is.sign;
       rest = left;
@@ -309,10 +240,6 @@ signed_text text space rest n split is =
       fits = is.fits;
     }
 
-pub texts_read : (text space rest : List ℕ) (o : Option ℤ) → SplitsRun IsSpace text space rest → IfSome o (WritesSigned rest) → IfSome o (IsNumberText text)
-texts_read text space rest None split h = tt
-texts_read text space rest (Some n) split h = number_text text space rest n split h
-
-pub texts_none : (text space rest : List ℕ) (o : Option ℤ) → SplitsRun IsSpace text space rest → IfNone o ((n : ℤ) → WritesSigned rest n → ⊥) → IfNone o ((n : ℤ) → IsNumberText text n → ⊥)
-texts_none text space rest (Some n) split h = tt
-texts_none text space rest None split h = λ n is. h n (signed_text text space rest n split is)
+pub text_read : (text space rest : List ℕ) (o : Option ℤ) → SplitsRun is_space text space rest → IfSome o (WritesSigned rest) → IfNone o ((n : ℤ) → WritesSigned rest n → ⊥) → o ≡ text_number text
+text_read text space rest (Some n) split h none = sym (text_complete text n (number_text text space rest n split h))
+text_read text space rest None split h none = found_is (text_number text) (λ n e. none n (signed_text text space rest n split (text_sound text n e)))

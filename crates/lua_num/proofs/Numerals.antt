@@ -10,11 +10,21 @@ use Rattle.std.proofs.lemmas.Bool.Decides.{nat_tests}
 use Rattle.std.proofs.lemmas.Str.Parse.{IsNumeralModel, numerals_by_weight, without_leading_plus_none}
 use Rattle.std.proofs.lemmas.Str.{IsUtf8-from_ascii}
 use Rattle.std.proofs.Math.Nat.{pow-zero, pow-succ'}
-use Rattle.lua_num.specs.Numeral.{digits_value, hex_value, IsDecimal, IsHexadecimal, Writes, IsNumeral}
+use Rattle.lua_num.specs.Bytes.{is_digit, is_hex_digit, Each}
+use Rattle.lua_num.specs.Numeral.{digits_value, hex_value, numeral_number}
+use Rattle.lua_num.specs.Meets.{IsDecimal, IsHexadecimal, Writes, IsNumeral}
 use Rattle.lua_num.specs.Reading.{HasMark, GivesValue}
+use Rattle.lua_num.proofs.Bytes.{each_to, each_from, digit_passed, digit_passing, hex_passed, hex_passing, mark_no_digit}
+use Rattle.lua_num.proofs.Written.{one_value, numeral_sound, numeral_complete}
 
 pub own : IsNumeralModel (AllByRecursion IsAsciiDigit) digits_value
 own = numerals_by_weight _ (search rules) digits_value (search rules)
+
+digits_to : (digits : List ℕ) → Each is_digit digits → AllDigits 10 digits
+digits_to digits h = own.to digits (each_to is_digit digit_passed digits h)
+
+digits_from : (digits : List ℕ) → AllDigits 10 digits → Each is_digit digits
+digits_from digits h = each_from is_digit digit_passing digits (own.from digits h)
 
 pub some_nonempty : (text : List ℕ) → 0 < length text → text ≢ []
 some_nonempty [] h = absurd (omega arith)
@@ -31,13 +41,13 @@ hex_below byte h = grind (arith, nat_tests)
 below_hex : (byte : ℕ) → digit_value byte < 16 → IsAsciiHexdigit byte
 below_hex byte h = grind (arith, nat_tests)
 
-hex_to : (digits : List ℕ) → AllByRecursion IsAsciiHexdigit digits → AllDigits 16 digits
+hex_to : (digits : List ℕ) → Each is_hex_digit digits → AllDigits 16 digits
 hex_to [] h = tt
-hex_to (digit ∷ digits) h = (hex_below digit h.0, hex_to digits h.1)
+hex_to (digit ∷ digits) h = (hex_below digit (hex_passed digit h.0), hex_to digits h.1)
 
-hex_from : (digits : List ℕ) → AllDigits 16 digits → AllByRecursion IsAsciiHexdigit digits
+hex_from : (digits : List ℕ) → AllDigits 16 digits → Each is_hex_digit digits
 hex_from [] h = tt
-hex_from (digit ∷ digits) h = (below_hex digit h.0, hex_from digits h.1)
+hex_from (digit ∷ digits) h = (hex_passing digit (below_hex digit h.0), hex_from digits h.1)
 
 hex_after : (n : ℕ) (digits : List ℕ) → n * 16 ^ length digits + hex_value digits ≡ digits_value_after 16 n digits
 hex_after n [] = omega (arith, ap (λ x. n * x) (pow-zero 16))
@@ -82,13 +92,13 @@ marked_has text value is = elim is.marked [ inl e ↦ inl (rw (← e) is.whole) 
 
 pub wrote_decimal : (text : List ℕ) (o : Option ℕ) → ((digits : List ℕ) → HasMark text digits → ⊥) → GivesValue 10 text o → Wrote text o
 wrote_decimal text (Some n) plain h = record {
-  value = inl (record { some = some_nonempty text h.0.0.0; digits = own.from text h.0.0.1; value_is = h.1 ∙ sym (own.same text h.0.0.1) });
+  value = inl (record { some = some_nonempty text h.0.0.0; digits = digits_from text h.0.0.1; value_is = h.1 ∙ sym (own.same text h.0.0.1) });
   none = tt;
 }
 wrote_decimal text None plain h = record {
   value = tt;
   none = λ value below writes. elim writes [
-    | inl is ↦ let all = own.to text is.digits in h ((nonempty_some text is.some, all), omega (arith, own.same text all, is.value_is))
+    | inl is ↦ let all = digits_to text is.digits in h ((nonempty_some text is.some, all), omega (arith, own.same text all, is.value_is))
     | inr is ↦ plain is.digits (marked_has text value is)
   ];
 }
@@ -97,15 +107,12 @@ wrote_decimal text None plain h = record {
 marked_split : (text digits : List ℕ) → HasMark text digits → (mark : ℕ) × ((mark ≡ 120) ⊎ (mark ≡ 88)) × (text ≡ codes "0" ++ mark ∷ digits)
 marked_split text digits has = elim has [ inl e ↦ (120, inl refl, e) | inr e ↦ (88, inr refl, e) ]
 
-mark_no_digit : (mark : ℕ) → (mark ≡ 120) ⊎ (mark ≡ 88) → IsAsciiDigit mark → ⊥
-mark_no_digit mark h d = grind arith
-
-pub marked_no_decimal : (text digits : List ℕ) (value : ℕ) → HasMark text digits → IsDecimal text value → ⊥
+marked_no_decimal : (text digits : List ℕ) (value : ℕ) → HasMark text digits → IsDecimal text value → ⊥
 marked_no_decimal text digits value has is =
     let split = marked_split text digits has in
-    mark_no_digit split.0 split.1 (subst (AllByRecursion IsAsciiDigit) split.2 is.digits).1.0
+    mark_no_digit split.0 split.1 (subst (Each is_digit) split.2 is.digits).1.0
 
-pub marked_digits : (text digits : List ℕ) (value : ℕ) → HasMark text digits → (is : IsHexadecimal text value) → is.digits ≡ digits
+marked_digits : (text digits : List ℕ) (value : ℕ) → HasMark text digits → (is : IsHexadecimal text value) → is.digits ≡ digits
 marked_digits text digits value has is =
     let split = marked_split text digits has in
     let both : 48 ∷ is.mark ∷ is.digits ≡ 48 ∷ split.0 ∷ digits = sym is.whole ∙ split.2 in
@@ -130,26 +137,17 @@ wrote_hexadecimal text digits None has h = record {
   ];
 }
 
--- a text writes one value
-pub one_value : (text : List ℕ) (v w : ℕ) → Writes text v → Writes text w → v ≡ w
-one_value text v w (inl a) (inl b) = a.value_is ∙ sym b.value_is
-one_value text v w (inl a) (inr b) = absurd (marked_no_decimal text b.digits v (marked_has text w b) a)
-one_value text v w (inr a) (inl b) = absurd (marked_no_decimal text a.digits w (marked_has text v a) b)
-one_value text v w (inr a) (inr b) =
-    let same : a.digits ≡ b.digits = marked_digits text b.digits v (marked_has text w b) a in
-    a.value_is ∙ (ap hex_value same ∙ sym b.value_is)
+-- what has no number is None
+pub found_is : (found : Option ℤ) → ((n : ℤ) → found ≡ Some n → ⊥) → None ≡ found
+found_is None h = refl
+found_is (Some n) h = absurd (h n refl)
 
 -- what reading a numeral gives
-pub record ReadsNumeral (text : List ℕ) (o : Option ℤ) : Type 0 where
-  pub value : IfSome o (IsNumeral text)
-  pub none : IfNone o ((n : ℤ) → IsNumeral text n → ⊥)
+pub numeral_read : (text : List ℕ) (value : ℕ) (o : Option ℤ) → Writes text value → SomeIff o (FitsSigned w64 (pos value)) (pos value) → o ≡ numeral_number text
+numeral_read text value (Some n) writes h = sym (numeral_complete text n (record { value = value; writes = writes; small = h.0.sfits; number_is = h.1 }))
+numeral_read text value None writes h = found_is (numeral_number text) (λ n e.
+    let is : IsNumeral text n = numeral_sound text n e in
+    h (record { sfits = omega (arith, one_value text is.value value is.writes writes, is.small) }))
 
-pub numeral_read : (text : List ℕ) (value : ℕ) (o : Option ℤ) → Writes text value → SomeIff o (FitsSigned w64 (pos value)) (pos value) → ReadsNumeral text o
-numeral_read text value (Some n) writes h = record {
-  value = record { value = value; writes = writes; small = h.0.sfits; number_is = h.1 };
-  none = tt;
-}
-numeral_read text value None writes h = record {
-  value = tt;
-  none = λ n is. h (record { sfits = omega (arith, one_value text is.value value is.writes writes, is.small) });
-}
+pub numeral_none : (text : List ℕ) → ((value : ℕ) → value < 2 ^ 64 → Writes text value → ⊥) → None ≡ numeral_number text
+numeral_none text h = found_is (numeral_number text) (λ n e. let is : IsNumeral text n = numeral_sound text n e in h is.value (omega (arith, is.small)) is.writes)

@@ -1,9 +1,11 @@
 -- What std's wrapping calls leave is the number, wrapped.
 use Rattle.std.proofs.Common.{◌≡◌, ℕ, zero, suc, ◌+◌, ◌-◌, ◌*◌, ◌/◌, ◌%◌, ◌^◌, ◌<◌, ◌≤◌, ℤ, pos, negsuc, neg_ℤ, ◌+ℤ◌, ◌-ℤ◌, ◌*ℤ◌, unsigned_abs, int_div, FitsSigned, w64, refl, sym, ap, subst, ◌∙◌, arith, ◌≢◌, mod-lt, div-add-mod', pow_pos, div-le_self}
 use Rattle.std.specs.Int.{cast_signed, cast_unsigned, int_wrap, int_wrapping_add, int_wrapping_sub, int_wrapping_mul, int_wrapping_neg, int_wrapping_div}
-use Rattle.std.proofs.lemmas.Int.{ints, int_wrap_fits, to_z-of_z, of_z-to_z, wrapping_mul-bits, wrapping_add_is, wrapping_sub_is, wrapping_mul_is, wrapping_neg_is, int_wrap-add_left, int_wrap-add_right, int_wrap-mul_left, int_wrap-mul_right}
+use Rattle.std.proofs.lemmas.Int.{ints, int_wrap_fits, to_z-of_z, of_z-to_z, wrapping_mul-bits, wrapping_add_is, wrapping_sub_is, wrapping_mul_is, wrapping_neg_is, int_wrap-mul_left, int_wrap-mul_right}
 use borrow.Author.Differences.{up, down, same_in, product_is}
-use Rattle.lua_num.specs.Arith.{IsWrapped, power}
+use Rattle.lua_num.specs.Arith.{wrap, power, negation}
+use Rattle.lua_num.specs.Meets.{IsWrapped}
+use Rattle.lua_num.proofs.Wraps.{wrap_is, wrapped}
 
 -- how many times 2 ^ 64 a number lies below its bits
 above : (z : ℤ) (n : ℕ) → FitsSigned w64 z → cast_unsigned w64 z ≡ n → (j : ℕ) × (z +ℤ pos (j * 2 ^ 64) ≡ pos n)
@@ -27,7 +29,7 @@ wrapped_bits z n k m h e =
     }
 
 -- std's word for what a wrapping call leaves
-pub is_wrapped : (z : ℤ) → IsWrapped z (int_wrap w64 z)
+is_wrapped : (z : ℤ) → IsWrapped z (int_wrap w64 z)
 unfolding int_wrap
 is_wrapped (pos a) =
     let small = mod-lt a (pow_pos 64) in
@@ -36,44 +38,28 @@ is_wrapped (negsuc a) =
     let small = mod-lt a (pow_pos 64) in
     wrapped_bits (negsuc a) (2 ^ 64 - 1 - a % 2 ^ 64) 0 (a / 2 ^ 64 + 1) (omega arith) (omega (arith, ints, div-add-mod' a (2 ^ 64)))
 
-pub wrapped_from : {z r : ℤ} → r ≡ int_wrap w64 z → IsWrapped z r
-wrapped_from {z} e = subst (IsWrapped z) (sym e) (is_wrapped z)
-
--- what wraps to one number is one number, wrapped
-pub wrapped_is_one : (z a b : ℤ) → IsWrapped z a → IsWrapped z b → a ≡ b
-wrapped_is_one z a b p q = let e = p.same in let f = q.same in omega (arith, ints)
-
-left_over : {z r : ℤ} → IsWrapped z r → r ≡ int_wrap w64 z
-left_over {z} {r} h = wrapped_is_one z r (int_wrap w64 z) h (is_wrapped z)
-
--- so numbers may be wrapped before they are added or multiplied
-pub sums_compose : (x y a b r : ℤ) → IsWrapped x a → IsWrapped y b → IsWrapped (a +ℤ b) r → IsWrapped (x +ℤ y) r
-sums_compose x y a b r f g h =
-    wrapped_from (left_over h ∙ (λ i. int_wrap w64 (left_over f i +ℤ left_over g i)) ∙ int_wrap-add_left w64 x (int_wrap w64 y) ∙ int_wrap-add_right w64 x y)
-
-pub products_compose : (x y a b r : ℤ) → IsWrapped x a → IsWrapped y b → IsWrapped (a *ℤ b) r → IsWrapped (x *ℤ y) r
-products_compose x y a b r f g h =
-    wrapped_from (left_over h ∙ (λ i. int_wrap w64 (left_over f i *ℤ left_over g i)) ∙ int_wrap-mul_left w64 x (int_wrap w64 y) ∙ int_wrap-mul_right w64 x y)
+wrapped_from : (z : ℤ) {r : ℤ} → r ≡ int_wrap w64 z → r ≡ wrap z
+wrapped_from z e = e ∙ wrapped (is_wrapped z)
 
 -- ---- the calls
 
-pub sum_wraps : (a b : ℤ) → FitsSigned w64 a → FitsSigned w64 b → IsWrapped (a +ℤ b) (int_wrapping_add w64 a b)
-sum_wraps a b f g = wrapped_from (wrapping_add_is w64 a b f g)
+pub sum_wraps : (a b : ℤ) → FitsSigned w64 a → FitsSigned w64 b → int_wrapping_add w64 a b ≡ wrap (a +ℤ b)
+sum_wraps a b f g = wrapped_from _ (wrapping_add_is w64 a b f g)
 
-pub difference_wraps : (a b : ℤ) → FitsSigned w64 a → FitsSigned w64 b → IsWrapped (a -ℤ b) (int_wrapping_sub w64 a b)
-difference_wraps a b f g = wrapped_from (wrapping_sub_is w64 a b f g)
+pub difference_wraps : (a b : ℤ) → FitsSigned w64 a → FitsSigned w64 b → int_wrapping_sub w64 a b ≡ wrap (a -ℤ b)
+difference_wraps a b f g = wrapped_from _ (wrapping_sub_is w64 a b f g)
 
-pub product_wraps : (a b : ℤ) → FitsSigned w64 a → FitsSigned w64 b → IsWrapped (a *ℤ b) (int_wrapping_mul w64 a b)
-product_wraps a b f g = wrapped_from (wrapping_mul_is w64 a b f g)
+pub product_wraps : (a b : ℤ) → FitsSigned w64 a → FitsSigned w64 b → int_wrapping_mul w64 a b ≡ wrap (a *ℤ b)
+product_wraps a b f g = wrapped_from _ (wrapping_mul_is w64 a b f g)
 
 -- a result passes through its bits
-pub recast : {z r : ℤ} → IsWrapped z r → IsWrapped z (cast_signed w64 (cast_unsigned w64 r))
-recast {z} {r} h = subst (IsWrapped z) (sym (to_z-of_z w64 r h.fits)) h
+recast : (z r : ℤ) → r ≡ wrap z → cast_signed w64 (cast_unsigned w64 r) ≡ wrap z
+recast z r e = let is : IsWrapped z r = subst (IsWrapped z) (sym e) (wrap_is z) in to_z-of_z w64 r is.fits ∙ e
 
-pub negation_wraps : (a r : ℤ) → FitsSigned w64 a → r ≡ int_wrapping_neg w64 a → IsWrapped (pos 0 -ℤ a) r
+pub negation_wraps : (a r : ℤ) → FitsSigned w64 a → r ≡ int_wrapping_neg w64 a → cast_signed w64 (cast_unsigned w64 r) ≡ negation a
 negation_wraps a r f e =
     let turned : neg_ℤ a ≡ pos 0 -ℤ a = omega (arith, ints) in
-    wrapped_from (e ∙ wrapping_neg_is w64 a f ∙ ap (int_wrap w64) turned)
+    recast (pos 0 -ℤ a) r (wrapped_from (pos 0 -ℤ a) (e ∙ wrapping_neg_is w64 a f ∙ ap (int_wrap w64) turned))
 
 abs_neg : (n : ℕ) → unsigned_abs (neg_ℤ (pos n)) ≡ n
 abs_neg zero = refl
@@ -91,8 +77,8 @@ cast_wraps : (z r : ℤ) → unsigned_abs z ≤ 2 ^ 63 → r ≡ cast_signed w64
 cast_wraps (pos n) r h e = rw e (wrapped_bits (pos n) n 0 0 (omega arith) refl)
 cast_wraps (negsuc n) r h e = rw e (wrapped_bits (negsuc n) (2 ^ 64 - suc n) 0 1 (omega arith) (omega (arith, ints)))
 
-pub quotient_wraps : (a b r : ℤ) → FitsSigned w64 a → r ≡ int_wrapping_div w64 a b → IsWrapped (int_div a b) r
-quotient_wraps a b r f e = cast_wraps (int_div a b) r (omega (arith, ints, quotient_size a b)) e
+pub quotient_wraps : (a b r : ℤ) → FitsSigned w64 a → r ≡ int_wrapping_div w64 a b → cast_signed w64 (cast_unsigned w64 r) ≡ wrap (int_div a b)
+quotient_wraps a b r f e = recast (int_div a b) r (wrapped (cast_wraps (int_div a b) r (omega (arith, ints, quotient_size a b)) e))
 
 -- ---- powers
 
@@ -161,10 +147,10 @@ times_one z = omega (arith, ints)
 
 pub end_bits : (p s d n : ℕ) (base : ℤ) → FitsSigned w64 base → d ≤ 0
     → int_wrap w64 (cast_signed w64 p *ℤ power (cast_signed w64 s) d) ≡ int_wrap w64 (power (cast_signed w64 (cast_unsigned w64 base)) n)
-    → IsWrapped (power base n) (cast_signed w64 p)
+    → cast_signed w64 p ≡ wrap (power base n)
 end_bits p s d n base f none h =
     let product = cast_signed w64 p in
     let zero_left : 0 ≡ d = omega arith in
     let fits : FitsSigned w64 product = omega (arith, ints) in
-    wrapped_from (sym (int_wrap_fits w64 product fits) ∙ ap (int_wrap w64) (sym (times_one product)) ∙ ap (λ k. int_wrap w64 (product *ℤ power (cast_signed w64 s) k)) zero_left
+    wrapped_from _ (sym (int_wrap_fits w64 product fits) ∙ ap (int_wrap w64) (sym (times_one product)) ∙ ap (λ k. int_wrap w64 (product *ℤ power (cast_signed w64 s) k)) zero_left
     ∙ h ∙ ap (λ b. int_wrap w64 (power b n)) (to_z-of_z w64 base f))

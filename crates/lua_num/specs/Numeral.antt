@@ -1,9 +1,11 @@
--- Numerals of the source and the texts of numbers (manual 2.1 and 2.2.1, with whole numbers of 64 bits).
-use Rattle.std.specs.Prelude.{◌≡◌, ◌≢◌, ◌⊎◌, ℕ, suc, ◌+◌, ◌-◌, ◌*◌, ◌^◌, ◌<◌, ◌≤◌, List, [], ◌∷◌, ◌++◌, length, ℤ, pos, negsuc, neg_ℤ, codes, FitsSigned}
-use Rattle.std.specs.Char.{IsAsciiDigit, IsAsciiHexdigit, digit_value}
-use Rattle.std.specs.List.{AllByRecursion}
+-- To be believed. Numerals of the source, the numbers of texts and the texts of numbers (manual 2.1 and 2.2.1, with whole
+-- numbers of 64 bits).
+use Rattle.std.specs.Prelude.{ℕ, suc, ◌+◌, ◌-◌, ◌*◌, ◌^◌, ◌&&◌, ◌||◌, ◌==◌, Bool, List, [], ◌∷◌, length, ℤ, pos, negsuc, neg_ℤ, Option, Some, None, if◌then◌else◌}
+use Rattle.std.specs.Char.{digit_value}
+use Rattle.std.specs.List.{list_all}
 use Rattle.std.specs.Fmt.{decimal}
-use Rattle.std.specs.Int.{w64}
+use Rattle.lua_num.specs.Bytes.{is_space, is_digit, is_hex_digit}
+use Rattle.lua_num.specs.Arith.{fits}
 
 -- what decimal digits are worth: each counts ten to the power of the number of digits after it
 abbrev pub digits_value : List ℕ → ℕ
@@ -15,53 +17,55 @@ abbrev pub hex_value : List ℕ → ℕ
 hex_value [] = 0
 hex_value (digit ∷ digits) = digit_value digit * 16 ^ length digits + hex_value digits
 
--- one or more decimal digits write their value
-pub record IsDecimal (text : List ℕ) (value : ℕ) : Type 0 where
-  pub some : text ≢ []
-  pub digits : AllByRecursion IsAsciiDigit text
-  pub value_is : value ≡ digits_value text
+-- what one or more digits are worth
+abbrev pub worth_of : (is_one : ℕ → Bool) → (worth : List ℕ → ℕ) → List ℕ → Option ℕ
+worth_of is_one worth [] = None
+worth_of is_one worth (digit ∷ digits) = if list_all is_one (digit ∷ digits) then Some (worth (digit ∷ digits)) else None
 
--- `0x` or `0X` and one or more hexadecimal digits write their value
-pub record IsHexadecimal (text : List ℕ) (value : ℕ) : Type 0 where
-  pub mark : ℕ
-  pub digits : List ℕ
-  pub marked : (mark ≡ 120) ⊎ (mark ≡ 88)
-  pub whole : text ≡ codes "0" ++ mark ∷ digits
-  pub some : digits ≢ []
-  pub digits_are : AllByRecursion IsAsciiHexdigit digits
-  pub value_is : value ≡ hex_value digits
+-- what a text writes: decimal digits, or `0x` or `0X` and hexadecimal digits
+abbrev pub written : List ℕ → Option ℕ
+written (zero ∷ mark ∷ digits) =
+    if (zero == 48) && ((mark == 120) || (mark == 88)) then worth_of is_hex_digit hex_value digits else worth_of is_digit digits_value (zero ∷ mark ∷ digits)
+written digits = worth_of is_digit digits_value digits
 
-abbrev pub Writes : List ℕ → ℕ → Type 0
-Writes text value = IsDecimal text value ⊎ IsHexadecimal text value
+abbrev pub kept_if_fits : ℤ → Option ℤ
+kept_if_fits n = if fits n then Some n else None
 
--- a good numeral writes a value below 2^63
-pub record IsNumeral (text : List ℕ) (n : ℤ) : Type 0 where
-  pub value : ℕ
-  pub writes : Writes text value
-  pub small : value < 2 ^ 63
-  pub number_is : n ≡ pos value
+-- the value, or its negation, where it has 64 bits
+abbrev pub as_positive : Option ℕ → Option ℤ
+as_positive None = None
+as_positive (Some n) = kept_if_fits (pos n)
 
--- white space is the bytes 9 to 13 and 32
-abbrev pub IsSpace : ℕ → Type 0
-IsSpace byte = ((9 ≤ byte) × (byte ≤ 13)) ⊎ (byte ≡ 32)
+abbrev pub as_negative : Option ℕ → Option ℤ
+as_negative None = None
+as_negative (Some n) = kept_if_fits (neg_ℤ (pos n))
 
--- the number of a sign and a value
-abbrev pub Signs : List ℕ → ℕ → ℤ → Type 0
-Signs sign value n = (((sign ≡ []) ⊎ (sign ≡ codes "+")) × (n ≡ pos value)) ⊎ ((sign ≡ codes "-") × (n ≡ neg_ℤ (pos value)))
+-- the number of a numeral: its value is at most 2^63 - 1
+abbrev pub numeral_number : List ℕ → Option ℤ
+numeral_number text = as_positive (written text)
 
--- a string that is taken as a number: white space, a sign or none, a numeral, white space, and a signed value of 64 bits
-pub record IsNumberText (text : List ℕ) (n : ℤ) : Type 0 where
-  pub front : List ℕ
-  pub sign : List ℕ
-  pub numeral : List ℕ
-  pub back : List ℕ
-  pub value : ℕ
-  pub whole : text ≡ front ++ (sign ++ (numeral ++ back))
-  pub front_white : AllByRecursion IsSpace front
-  pub back_white : AllByRecursion IsSpace back
-  pub writes : Writes numeral value
-  pub signed : Signs sign value n
-  pub fits : FitsSigned w64 n
+-- ---- strings that are taken as numbers
+
+-- white space in front is left out, and white space behind
+abbrev pub without_space : List ℕ → List ℕ
+without_space [] = []
+without_space (byte ∷ text) = if is_space byte then without_space text else byte ∷ text
+
+abbrev pub without_space_behind : List ℕ → List ℕ
+without_space_behind [] = []
+without_space_behind (byte ∷ text) = if list_all is_space (byte ∷ text) then [] else byte ∷ without_space_behind text
+
+-- a sign or none, and a numeral
+abbrev pub signed_number : List ℕ → Option ℤ
+signed_number [] = None
+signed_number (byte ∷ text) =
+    if byte == 45 then as_negative (written text) else (if byte == 43 then as_positive (written text) else as_positive (written (byte ∷ text)))
+
+-- the number that a string is taken as: white space, a sign or none, a numeral, white space, and a number of 64 bits
+abbrev pub text_number : List ℕ → Option ℤ
+text_number text = signed_number (without_space_behind (without_space text))
+
+-- ---- texts of numbers
 
 -- the decimal text of a number, with `-` before one below 0
 abbrev pub decimal_text : ℤ → List ℕ

@@ -1,27 +1,18 @@
--- What reading a number takes from a text.
-use Rattle.std.specs.Prelude.{◌≡◌, ◌⊎◌, ℕ, Bool, nat_le, ◌==◌, ◌&&◌, ◌||◌, ◌<◌, ◌^◌, Option, SomeIff, List, [], ◌∷◌, ◌++◌, codes, ℤ, FitsSigned}
-use Rattle.std.specs.List.{AllByRecursion}
+-- Serves the bodies: what reading a number takes from a text.
+use Rattle.std.specs.Prelude.{◌≡◌, ◌⊎◌, ℕ, Bool, not, ◌<◌, ◌^◌, Option, SomeIff, List, ◌++◌, codes, ℤ, FitsSigned}
 use Rattle.std.specs.Int.{w64}
 use Rattle.std.specs.Str.Parse.{IsNumeral as IsRadixNumeral, digits_value as radix_digits_value}
-use Rattle.lua_num.specs.Numeral.{Writes, IsSpace, Signs}
+use Rattle.lua_num.specs.Bytes.{is_space, Each, IsRun}
+use Rattle.lua_num.specs.Meets.{Writes, Signs}
 
--- white space, as a test
-abbrev pub is_space_byte : ℕ → Bool
-is_space_byte byte = (nat_le 9 byte && nat_le byte 13) || (byte == 32)
+-- a byte that is no white space
+abbrev pub is_no_space : ℕ → Bool
+is_no_space byte = not (is_space byte)
 
-abbrev pub IsNoSpace : ℕ → Type 0
-IsNoSpace byte = IsSpace byte → ⊥
-
--- the empty text, or one whose first byte does not have P
-abbrev pub BeginsWithout : (ℕ → Type 0) → List ℕ → Type 0
-BeginsWithout P [] = Unit {0}
-BeginsWithout P (byte ∷ text) = P byte → ⊥
-
--- the longest front whose bytes have P, and what is left
-pub record SplitsRun (P : ℕ → Type 0) (text run rest : List ℕ) : Type 0 where
+-- the longest run at the front of a text, and what is left
+pub record SplitsRun (test : ℕ → Bool) (text run rest : List ℕ) : Type 0 where
   pub whole : text ≡ run ++ rest
-  pub within : AllByRecursion P run
-  pub ends : BeginsWithout P rest
+  pub is_run : IsRun test run rest
 
 -- `0x` or `0X`, and these bytes
 abbrev pub HasMark : List ℕ → List ℕ → Type 0
@@ -40,7 +31,7 @@ pub record WritesWord (text : List ℕ) (value : ℕ) : Type 0 where
   pub numeral : List ℕ
   pub back : List ℕ
   pub whole : text ≡ numeral ++ back
-  pub back_white : AllByRecursion IsSpace back
+  pub back_white : Each is_space back
   pub writes : Writes numeral value
 
 -- a sign or none, a numeral, and white space, with a signed value of 64 bits

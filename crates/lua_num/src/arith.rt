@@ -1,6 +1,6 @@
 // Arithmetic on whole numbers of 64 bits.
-ghost use Rattle.std.specs.Prelude.{◌≡◌, ◌↔◌, ℕ, ℤ, pos, ◌+ℤ◌, ◌-ℤ◌, ◌*ℤ◌, ◌<ℤ◌, int_div, IfOk, IsErrOf};
-ghost use Rattle.lua_num.specs.Arith.{IsWrapped, IsFloorRemainder, power};
+ghost use Rattle.std.specs.Prelude.{◌≡◌, ◌+ℤ◌, ◌-ℤ◌, ◌*ℤ◌};
+ghost use Rattle.lua_num.specs.Arith.{wrap, power, negation, outcome};
 
 #[cfg(test)]
 mod tests;
@@ -33,37 +33,35 @@ pub enum NumFault {
 
 /// The sum, wrapped.
 pub fn add(a: i64, b: i64) -> i64
-    ensures { IsWrapped (a +ℤ b) result }
+    ensures { result ≡ wrap (a +ℤ b) }
 {
     a.wrapping_add(b)
 }
 
 /// The difference, wrapped.
 pub fn sub(a: i64, b: i64) -> i64
-    ensures { IsWrapped (a -ℤ b) result }
+    ensures { result ≡ wrap (a -ℤ b) }
 {
     a.wrapping_sub(b)
 }
 
 /// The product, wrapped.
 pub fn mul(a: i64, b: i64) -> i64
-    ensures { IsWrapped (a *ℤ b) result }
+    ensures { result ≡ wrap (a *ℤ b) }
 {
     a.wrapping_mul(b)
 }
 
 /// The number with the other sign, wrapped: the least number is its own.
 pub fn neg(a: i64) -> i64
-    ensures { IsWrapped (pos 0 -ℤ a) result }
+    ensures { result ≡ negation a }
 {
     a.wrapping_neg()
 }
 
 /// The quotient, truncated toward zero and wrapped: the least number divided by -1 is itself.
 pub fn div(a: i64, b: i64) -> Result<i64, NumFault>
-    ensures quotient { IfOk result (IsWrapped (int_div a b)) }
-    ensures by_zero { IsErrOf result NumFault.DivideByZero ↔ (b ≡ pos 0) }
-    ensures positive { IsErrOf result NumFault.NegativeExponent → ⊥ }
+    ensures { result ≡ outcome ArithOp.Div a b }
 {
     if b == 0 {
         return Err(NumFault::DivideByZero);
@@ -73,9 +71,7 @@ pub fn div(a: i64, b: i64) -> Result<i64, NumFault>
 
 /// The remainder by the floor of the exact quotient, which has the sign of the divisor.
 pub fn rem(a: i64, b: i64) -> Result<i64, NumFault>
-    ensures remainder { IfOk result (IsFloorRemainder a b) }
-    ensures by_zero { IsErrOf result NumFault.DivideByZero ↔ (b ≡ pos 0) }
-    ensures positive { IsErrOf result NumFault.NegativeExponent → ⊥ }
+    ensures { result ≡ outcome ArithOp.Rem a b }
 {
     if b == 0 {
         return Err(NumFault::DivideByZero);
@@ -92,9 +88,7 @@ pub fn rem(a: i64, b: i64) -> Result<i64, NumFault>
 /// The product of b factors a, wrapped; 1 where b is 0. It takes at most two products for each binary
 /// digit of b.
 pub fn pow(a: i64, b: i64) -> Result<i64, NumFault>
-    ensures product { IfOk result (λ r. (n : ℕ) → b ≡ pos n → IsWrapped (power a n) r) }
-    ensures negative { IsErrOf result NumFault.NegativeExponent ↔ (b <ℤ pos 0) }
-    ensures not_by_zero { IsErrOf result NumFault.DivideByZero → ⊥ }
+    ensures { result ≡ outcome ArithOp.Pow a b }
 {
     if b < 0 {
         return Err(NumFault::NegativeExponent);
@@ -104,7 +98,7 @@ pub fn pow(a: i64, b: i64) -> Result<i64, NumFault>
 
 // Squares and multiplies, a binary digit of the exponent at a time, the lowest first.
 fn wrapped_power(base: i64, exponent: u64) -> i64
-    ensures { IsWrapped (power base exponent) result }
+    ensures { result ≡ wrap (power base exponent) }
 {
     let mut product: i64 = 1;
     let mut square = base;

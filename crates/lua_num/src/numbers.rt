@@ -1,8 +1,10 @@
 // Numerals, strings that are taken as numbers, and the texts of numbers.
-ghost use Rattle.std.specs.Prelude.{◌≡◌, ◌↔◌, ℕ, ℤ, pos, ◌<◌, ◌≤◌, ◌^◌, List, length, not, All, MatchOption, IfSome, IfNone, IfOk, IsTrue};
+ghost use Rattle.std.specs.Prelude.{◌≡◌, ℕ, ℤ, pos, ◌<◌, ◌≤◌, ◌^◌, List, length, Some, MatchOption, IfSome, IfNone, IfOk};
 ghost use Rattle.std.specs.List.{list_all, prefix_len};
-ghost use Rattle.lua_num.specs.Numeral.{Writes, IsNumeral, IsSpace, IsNumberText, decimal_text};
-ghost use Rattle.lua_num.specs.Reading.{HasMark, GivesValue, is_space_byte, IsNoSpace, SplitsRun, WritesWord, DropsPlus, WritesSigned};
+ghost use Rattle.lua_num.specs.Bytes.{is_space as is_a_space};
+ghost use Rattle.lua_num.specs.Numeral.{numeral_number, text_number, decimal_text};
+ghost use Rattle.lua_num.specs.Meets.{Writes};
+ghost use Rattle.lua_num.specs.Reading.{is_no_space, HasMark, GivesValue, SplitsRun, WritesWord, DropsPlus, WritesSigned};
 
 use crate::byte_text::ByteText;
 use std::alloc::{AllocError, Global};
@@ -12,8 +14,7 @@ use std::str;
 /// hexadecimal digits, of value at most 2^63 - 1. `None` for every other text. (Manual 2.1, with
 /// whole numbers of 64 bits.)
 pub fn numeral(text: &[u8]) -> Option<i64>
-    ensures value { IfSome result (IsNumeral text.now) }
-    ensures none { IfNone result ((n : ℤ) → IsNumeral text.now n → ⊥) }
+    ensures { result ≡ numeral_number text.now }
 {
     i64::try_from(written_value(text)?).ok()
 }
@@ -59,8 +60,7 @@ fn radix_value(digits: &[u8], radix: u32) -> Option<u64>
 /// where the signed value fits 64 bits. `None` for every other string. (Manual 2.2.1, with whole
 /// numbers of 64 bits.)
 pub fn to_number(text: &[u8]) -> Option<i64>
-    ensures value { IfSome result (IsNumberText text.now) }
-    ensures none { IfNone result ((n : ℤ) → IsNumberText text.now n → ⊥) }
+    ensures { result ≡ text_number text.now }
 {
     let (_, rest) = text.split_at(count_space(text));
     signed_value(rest)
@@ -102,26 +102,26 @@ fn word_value(text: &[u8]) -> Option<u64>
 
 /// The bytes up to the first white space, and what is left.
 fn split_word(text: &[u8]) -> (&[u8], &[u8])
-    ensures { SplitsRun IsNoSpace text.now result.0.now result.1.now }
+    ensures { SplitsRun is_no_space text.now result.0.now result.1.now }
 {
     text.split_at(count_word(text))
 }
 
 fn count_word(text: &[u8]) -> usize
-    ensures count { result ≡ prefix_len (λ byte. not (is_space_byte byte)) text.now }
+    ensures count { result ≡ prefix_len is_no_space text.now }
     ensures within { result ≤ length text.now }
 {
     text.iter().take_while(|byte| !is_space(**byte)).count()
 }
 
 fn is_all_space(text: &[u8]) -> bool
-    ensures { result ≡ list_all is_space_byte text.now }
+    ensures { result ≡ list_all is_a_space text.now }
 {
     text.iter().all(|byte| is_space(*byte))
 }
 
 fn count_space(text: &[u8]) -> usize
-    ensures count { result ≡ prefix_len is_space_byte text.now }
+    ensures count { result ≡ prefix_len is_a_space text.now }
     ensures within { result ≤ length text.now }
 {
     text.iter().take_while(|byte| is_space(**byte)).count()
@@ -129,7 +129,7 @@ fn count_space(text: &[u8]) -> usize
 
 // `is_ascii_whitespace` leaves out the vertical tab.
 fn is_space(byte: u8) -> bool
-    ensures { result ≡ is_space_byte byte }
+    ensures { result ≡ is_a_space byte }
 {
     matches!(byte, b'\t'..=b'\r' | b' ')
 }
@@ -143,5 +143,5 @@ pub fn decimal(alloc: Global, n: i64) -> Result<ByteText, AllocError>
 
 /// The decimal text of a number that is not below 0 is a numeral that writes it. A law, with nothing to run.
 pub fn decimal_reads_back()
-    ensures { (n : ℕ) → n < 2 ^ 63 → IsNumeral (decimal_text (pos n)) (pos n) }
+    ensures { (n : ℕ) → n < 2 ^ 63 → numeral_number (decimal_text (pos n)) ≡ Some (pos n) }
 {}
