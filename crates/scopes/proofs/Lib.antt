@@ -9,6 +9,7 @@ pub mod LoopSteps
 pub mod Marks
 pub mod MentionSteps
 pub mod Mentions
+pub mod OneAnswer
 pub mod Overfull
 pub mod Quiet
 pub mod Reaching
