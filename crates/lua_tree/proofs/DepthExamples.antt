@@ -210,7 +210,7 @@ functions (suc k) = alone (function_statement (codes "f" ∷ []) None (body_of (
 functions_last : IsLast functions 100 202
 functions_last = (record { formed = refl; shallow = omega arith }, refl, refl)
 
--- what stands in a row is not deeper: k statements, and k arms of an `if`
+-- 300 statements one behind another, and 300 arms of an `if`, are no deeper than one
 abbrev rows : ℕ → Statements
 rows zero = no_statements
 rows (suc k) = statement 1 false (local_statement (codes "a" ∷ []) no_expressions) (rows k)

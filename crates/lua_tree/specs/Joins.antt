@@ -1,4 +1,4 @@
--- Lists of a source, one behind the other.
+-- Serves the bodies. Lists of a source, one behind the other.
 use Rattle.lua_tree.specs.Syntax.{Statements, no_statements, statement, Branches, no_branches, branch, Expressions, no_expressions, expression, Fields, no_fields, positional, named, keyed}
 
 abbrev pub join_statements : Statements → Statements → Statements

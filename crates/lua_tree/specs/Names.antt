@@ -1,4 +1,4 @@
--- Names (manual 2.1).
+-- To be believed. Names (manual 2.1).
 use Rattle.std.specs.Prelude.{◌&&◌, ℕ, Bool, true, false, not, List, [], ◌∷◌}
 use Rattle.lua_tree.specs.Bytes.{is_letter, is_word, is_among}
 use Rattle.lua_tree.specs.Tokens.{keywords}

@@ -1,4 +1,5 @@
--- What a source declares and mentions, in the order of its spelling, and what is in scope at each place (manual 2.3, 2.4.7, 2.5.9 and 2.6).
+-- To be believed. What a source declares and mentions, in the order of its spelling, and what is in scope at each place
+-- (manual 2.3, 2.4.7, 2.5.9 and 2.6).
 use Rattle.std.specs.Prelude.{ℕ, zero, suc, ◌+◌, Bool, true, false, List, [], ◌∷◌, ◌++◌, length, Option, Some, None, codes, is_some, if◌then◌else◌}
 use Rattle.std.specs.Str.{bytes_eq}
 use Rattle.lua_tree.specs.Syntax as syntax

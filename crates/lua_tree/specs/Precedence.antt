@@ -1,4 +1,4 @@
--- How tightly expressions bind (manual 2.5.6).
+-- To be believed. How tightly expressions bind (manual 2.5.6).
 use Rattle.std.specs.Prelude.{◌||◌, ℕ, ◌+◌, Bool, true, false, not, nat_le}
 use Rattle.lua_tree.specs.Syntax.{Expression, and_expression, or_expression, binary_expression, unary_expression}
 use Rattle.lua_tree.specs.declared.tree.BinaryOp.{BinaryOp}

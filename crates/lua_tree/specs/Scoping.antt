@@ -1,5 +1,5 @@
--- Scoping: what each name means, what is captured, the upvalues of each function, and the first place where a source
--- breaks a rule (manual 2.6, 2.4.4 and 2.5.9; at most 200 active locals and 60 upvalues a function).
+-- To be believed. Scoping: what each name means, what is captured, the upvalues of each function, and the first place
+-- where a source breaks a rule (manual 2.6, 2.4.4 and 2.5.9; at most 200 active locals and 60 upvalues a function).
 use Rattle.std.specs.Prelude.{◌≡◌, ◌==◌, ◌&&◌, ◌||◌, ℕ, zero, suc, nat_lt, Bool, false, not, List, [], ◌∷◌, ◌++◌, length, get_or, Option, Some, None, if◌then◌else◌}
 use Rattle.lua_tree.specs.Syntax.{Source}
 use Rattle.lua_tree.specs.Outline.{Binding, Mark, mention, local_name, hidden_local, dots, leave, opened, innermost, outline}

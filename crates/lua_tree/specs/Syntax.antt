@@ -1,4 +1,4 @@
--- The tree of a source, without pointers: what all definitions speak of.
+-- To be believed. The tree of a source, without pointers: what all definitions speak of.
 use Rattle.std.specs.Prelude.{ℕ, ℤ, Bool, List, Option}
 use Rattle.lua_tree.specs.declared.tree.BinaryOp.{BinaryOp}
 use Rattle.lua_tree.specs.declared.tree.UnaryOp.{UnaryOp}

@@ -1,4 +1,4 @@
--- Lists of the program's parts as parts of a source, and tokens with no place.
+-- Serves the bodies. Lists of the program's parts as parts of a source, and tokens with no place.
 use Rattle.std.specs.Prelude.{List, [], ◌∷◌, Option, Some, None}
 use Rattle.lua_tree.specs.Syntax.{Statements, no_statements, statement, Branches, no_branches, Expressions, no_expressions, expression, Fields, no_fields}
 use Rattle.lua_tree.specs.View.{view_exp, view_statement, view_arm, view_item, view_block}

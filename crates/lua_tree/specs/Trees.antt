@@ -1,4 +1,4 @@
--- The tree of tokens.
+-- To be believed. The tree of tokens.
 use Rattle.std.specs.Prelude.{List}
 use Rattle.lua_tree.specs.Syntax.{Source}
 use Rattle.lua_tree.specs.WellFormed.{WellFormed}

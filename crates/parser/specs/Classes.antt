@@ -1,4 +1,4 @@
--- What the next token begins.
+-- Serves the bodies. What the next token begins.
 use Rattle.std.specs.Prelude.{pos, ℕ, Bool, true, false, Option, Some, None, if◌then◌else◌}
 use Rattle.lua_tree.specs.Syntax.{Text, Expression, nil_literal, true_literal, false_literal, vararg_expression, number_literal, text_literal}
 use Rattle.lua_tree.specs.Names.{is_name}

@@ -1,4 +1,4 @@
--- Parts of the program's trees as the definitions have them.
+-- Serves the bodies. Parts of the program's trees as the definitions have them.
 use Rattle.std.specs.Prelude.{ℕ, max, Option, Some, None}
 use Rattle.lua_tree.specs.Syntax.{Expression, Statements, ForStep, no_step, by_step}
 use Rattle.lua_tree.specs.View.{view_exp, view_block}

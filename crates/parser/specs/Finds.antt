@@ -1,4 +1,4 @@
--- What the parser's functions answer, by the programs.
+-- Serves the bodies. What the parser's functions answer, by the programs.
 use Rattle.std.specs.Prelude.{◌≡◌, ◌≤◌, ◌<◌, ℕ, Bool, true, false, List, [], ◌∷◌, Some}
 use Rattle.lua_tree.specs.Syntax.{Text, Expression, Statements}
 use Rattle.lua_tree.specs.Spelled.{Phrase, Meant, Parameters}

@@ -1,4 +1,4 @@
--- What the grammar says of all tokens.
+-- Serves the laws. What the grammar says of all tokens.
 use Rattle.std.specs.Prelude.{◌≡◌, List}
 use Rattle.lua_tree.specs.Syntax.{Source}
 use Rattle.lua_tree.specs.Trees.{IsTreeOf}

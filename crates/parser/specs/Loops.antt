@@ -1,4 +1,4 @@
--- Programs that go on with a list of which a part is read.
+-- Serves the bodies. Programs that go on with a list of which a part is read.
 use Rattle.std.specs.Prelude.{ℕ, List, ◌++◌}
 use Rattle.lua_tree.specs.Syntax.{Text, Statements, if_statement, Branches, Expressions, Expression, Fields}
 use Rattle.lua_tree.specs.Joins.{join_statements, join_branches, join_expressions, join_fields}

@@ -1,4 +1,4 @@
--- Marks and keywords that a phrase has at a fixed place.
+-- Serves the bodies. Marks and keywords that a phrase has at a fixed place.
 use Rattle.std.specs.Prelude.{Option, Some, None}
 use Rattle.lua_tree.specs.declared.token.TokenKind.{TokenKind}
 pub use Rattle.parser.specs.declared.mark.Mark.{Mark}

@@ -1,4 +1,4 @@
--- Operators, and how strongly they bind their operands: a number for each side (manual 2.5.6).
+-- Serves the bodies. Operators, and how strongly they bind their operands: a number for each side (manual 2.5.6).
 use Rattle.std.specs.Prelude.{ℕ, Option, Some, None}
 use Rattle.lua_tree.specs.Syntax.{Expression, and_expression, or_expression, binary_expression}
 use Rattle.lua_tree.specs.declared.token.TokenKind.{TokenKind}

@@ -1,4 +1,4 @@
--- The place where tokens are no tree.
+-- To be believed. The place where tokens are no tree.
 use Rattle.std.specs.Prelude.{◌≡◌, true, ℕ, ◌+◌, ◌<◌, ◌≤◌, List, ◌++◌, length, take}
 use Rattle.lua_tree.specs.Syntax.{Source}
 use Rattle.lua_tree.specs.WellFormed.{WellFormed, is_formed}

@@ -1,4 +1,4 @@
--- How a program runs, within a depth.
+-- Serves the bodies. How a program runs, within a depth.
 use Rattle.std.specs.Prelude.{◌≡◌, ℕ, ◌<◌, ◌≤◌, List, [], ◌∷◌, Option, Some, None}
 use Rattle.lua_tree.specs.Spelled.{Phrase, Meant}
 use Rattle.lua_tree.specs.declared.token.Token.{Token}

@@ -6,7 +6,9 @@ use thiserror::Error;
 /// most 200.)
 #[derive(Clone, Copy, Debug, PartialEq, Eq, Error)]
 pub enum SyntaxFault {
-    /// No tree's tokens begin so, however deep.
+    /// At the number of tokens, more of them are wanted: no tree's tokens are exactly these, and they
+    /// begin a well-formed tree's. Elsewhere, no tree's tokens begin with those before it and this one,
+    /// however deep.
     #[error("Unexpected at token {at}")]
     Unexpected { at: usize },
     /// Only trees of a greater depth have tokens that begin so.

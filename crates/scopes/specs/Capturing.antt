@@ -1,4 +1,4 @@
--- What a mention of a declaration makes of the upvalues of the functions around it.
+-- Serves the bodies. What a mention of a declaration makes of the upvalues of the functions around it.
 use Rattle.std.specs.Prelude.{◌≡◌, ◌⊎◌, ℕ, suc, ◌+◌, ◌<◌, ◌≤◌, ◌==◌, true, Bool, List, [], ◌∷◌, ◌++◌, length, get_or, Option, Some, None, reverse, if◌then◌else◌}
 use Rattle.std.proofs.Math.ListN.{set}
 use Rattle.scopes.specs.declared.fault.ScopeFault.{ScopeFault}

@@ -1,4 +1,4 @@
--- What a fault says of a source.
+-- To be believed. What a fault says of a source.
 use Rattle.std.specs.Prelude.{◌≡◌, Option, Some}
 use Rattle.lua_tree.specs.Syntax.{Source}
 use Rattle.lua_tree.specs.Scoping.{Breach, no_loop, no_vararg, too_many_locals, too_many_upvalues, breach_of}

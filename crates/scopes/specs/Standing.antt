@@ -1,4 +1,4 @@
--- What a walk over a tree knows, by what stands in the part behind it.
+-- Serves the bodies. What a walk over a tree knows, by what stands in the part behind it.
 use Rattle.std.specs.Prelude.{◌≡◌, ℕ, suc, ◌+◌, ◌<◌, ◌≤◌, Bool, true, false, List, [], ◌∷◌, ◌++◌, length, take, replicate, reverse, Option, Some, None, Result, Ok, Err, if◌then◌else◌}
 use Rattle.std.specs.Str.{bytes_eq}
 use Rattle.std.specs.List.{All}
