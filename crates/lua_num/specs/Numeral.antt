@@ -24,8 +24,8 @@ worth_of is_one worth (digit ∷ digits) = if list_all is_one (digit ∷ digits)
 
 -- what a text writes: decimal digits, or `0x` or `0X` and hexadecimal digits
 abbrev pub written : List ℕ → Option ℕ
-written (zero ∷ mark ∷ digits) =
-    if (zero == 48) && ((mark == 120) || (mark == 88)) then worth_of is_hex_digit hex_value digits else worth_of is_digit digits_value (zero ∷ mark ∷ digits)
+written (first ∷ mark ∷ digits) =
+    if (first == 48) && ((mark == 120) || (mark == 88)) then worth_of is_hex_digit hex_value digits else worth_of is_digit digits_value (first ∷ mark ∷ digits)
 written digits = worth_of is_digit digits_value digits
 
 abbrev pub kept_if_fits : ℤ → Option ℤ
