@@ -1,13 +1,12 @@
 -- The definitions of tokens, computed on small texts: each kind, and each fault.
-use Rattle.std.proofs.Common.{◌≡◌, ℕ, ℤ, pos, List, [], ◌∷◌, ◌++◌, ◌+◌, min, refl, sym, ap, inl, inr, rules, arith}
+use Rattle.std.proofs.Common.{◌≡◌, ℕ, pos, List, [], ◌∷◌, ◌++◌, ◌+◌, min, refl, sym, ap, inl, inr, rules, arith}
 use Rattle.std.specs.Prelude.{codes, true, false}
-use Rattle.lua_num.specs.Numeral.{IsDecimal, IsHexadecimal, IsNumeral}
 use Rattle.lua_tree.specs.declared.token.TokenKind.{TokenKind}
 use Rattle.lua_tree.specs.Lines.{Part, End, Other, IsCut, text_of, end_count, IsLineOf}
 use Rattle.lua_tree.specs.Strings.{Item, Plain, Escaped, EscapedEnd, Decimal, IsCode}
 use Rattle.lua_tree.specs.Tokens.{IsToken, IsMarkPlace}
 use Rattle.lua_tree.specs.Tiling.{IsPiece, Comment, Tok, IsFault, Lexes, Stops, BadByte, UnfinishedString, UnfinishedLong, BadLongOpen, EscapeTooLarge, BadNumber}
-use Rattle.lua_tree.proofs.Tilings.{first_of}
+use Rattle.lua_tree.proofs.BadBytes.{passes_not}
 
 -- a name goes to its longest run
 print_is_a_name : IsToken (TokenKind.Name (codes "print")) 0 (codes "print") (codes "(3)")
@@ -20,9 +19,7 @@ end_is_a_keyword : IsToken TokenKind.End 4 (codes "end") (codes " x")
 end_is_a_keyword = record { text_is = refl; is_word = record { begins = refl; run = record { each = search rules; longest = refl } } }
 
 three_is_a_number : IsToken (TokenKind.Number (pos 3)) 6 (codes "3") (codes ")")
-three_is_a_number =
-    let numeral : IsNumeral (codes "3") (pos 3) = record { value = 3; writes = inl (record { some = λ e. cc; digits = search (rules, arith); value_is = refl }); small = omega arith; number_is = refl } in
-    record { begins = inl refl; run = record { each = search rules; longest = refl }; numeral = numeral }
+three_is_a_number = record { begins = inl refl; run = record { each = search rules; longest = refl }; numeral = refl }
 
 -- the longest mark
 three_dots : IsToken TokenKind.DotDotDot 3 (codes "...") (codes ".")
@@ -72,21 +69,13 @@ long_comment = inr (inl (record { level = 0; inside = codes "x"; body = codes "[
 
 -- each fault, with its distance from where the text begins
 bad_byte : IsFault BadByte (codes "@") 0
-bad_byte = (refl, inl refl)
+bad_byte = (refl, inl (passes_not 64 refl))
 
 lone_tilde : IsFault BadByte (codes "~1") 0
 lone_tilde = (refl, inr (refl, refl))
 
-no_decimal_x : (value : ℕ) → IsDecimal (codes "3x") value → ⊥
-no_decimal_x value is = omega (arith, is.digits.1.0)
-
-no_hexadecimal_x : (value : ℕ) → IsHexadecimal (codes "3x") value → ⊥
-no_hexadecimal_x value is = let same = first_of 51 48 (codes "x") (is.mark ∷ is.digits) is.whole in omega (arith, same)
-
 bad_number : IsFault BadNumber (codes "3x)") 0
-bad_number =
-    let none : (n : ℤ) → IsNumeral (codes "3x") n → ⊥ = λ n is. elim is.writes [ inl decimal ↦ no_decimal_x is.value decimal | inr hexadecimal ↦ no_hexadecimal_x is.value hexadecimal ] in
-    (refl, record { run = codes "3x"; after = codes ")"; whole = refl; begins = inl refl; is_run = record { each = search rules; longest = refl }; no_numeral = none })
+bad_number = (refl, record { run = codes "3x"; after = codes ")"; whole = refl; begins = inl refl; is_run = record { each = search rules; longest = refl }; no_numeral = refl })
 
 bad_opening : IsFault BadLongOpen (codes "[=a") 0
 bad_opening = (refl, record { front = refl; no_bracket = refl })

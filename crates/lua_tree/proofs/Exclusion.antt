@@ -1,9 +1,10 @@
 -- No piece begins where a fault stands, one fault stands there, and so a text has tokens or a fault, and never both.
-use Rattle.std.proofs.Common.{◌≡◌, ◌<◌, ◌⊎◌, ℕ, ◌+◌, Bool, true, false, not, List, [], ◌∷◌, ◌++◌, length, refl, sym, ap, subst, ◌∙◌, append_assoc, inl, inr, arith}
+use Rattle.std.proofs.Common.{◌≡◌, ◌<◌, ◌⊎◌, ℕ, ◌+◌, Some, None, Bool, true, false, not, List, [], ◌∷◌, ◌++◌, length, refl, sym, ap, subst, ◌∙◌, append_assoc, inl, inr, arith}
 use Rattle.std.specs.Prelude.{codes}
-use Rattle.lua_num.specs.Numeral.{IsNumeral}
+use Rattle.lua_num.specs.Numeral.{numeral_number}
+use Rattle.lua_num.specs.Bytes.{BeginsWithout}
 use Rattle.lua_tree.specs.declared.token.Token.{Token}
-use Rattle.lua_tree.specs.Bytes.{is_numeral, ends_line, holds, longest, BeginsWithout}
+use Rattle.lua_tree.specs.Bytes.{is_numeral, ends_line, holds, longest}
 use Rattle.lua_tree.specs.Brackets.{opening, closing, opens_long, IsLong}
 use Rattle.lua_tree.specs.Strings.{Item, ItemsFit, IsQuote, IsShort, IsCode, items_text}
 use Rattle.lua_tree.specs.Tokens.{marks}
@@ -118,7 +119,8 @@ stuck_in White piece cause at text after whole distance x y e = y
 stuck_in Word piece cause at text after whole distance x y e = y
 stuck_in Numeral piece cause at text after whole distance x y e =
     let same : y.0.run ≡ text = (one_run is_numeral y.0.run y.0.after text after y.0.is_run.each x.1.each y.0.is_run.longest x.1.longest (sym y.0.whole ∙ e)).fronts in
-    y.0.no_numeral x.0 (subst (λ t. IsNumeral t x.0) (sym same) x.2)
+    let both : None ≡ Some x.0 = sym y.0.no_numeral ∙ (ap numeral_number same ∙ x.2) in
+    cc
 stuck_in Quoted piece cause at text after whole distance x (inl y) e = short_no_unfinished text after x.0 whole x.1 y.0 e
 stuck_in Quoted piece cause at text after whole distance x (inr y) e = short_no_large text after x.0 whole distance x.1 y.0 e
 stuck_in Bracketed piece cause at text after whole distance x (inl y) e = true_false (sym (ap opens_long e ∙ long_opens x.1 x.2 text after x.3) ∙ y.0.no_bracket)

@@ -1,40 +1,14 @@
 -- Where a fault stands no piece begins, and one fault stands there.
-use Rattle.std.proofs.Common.{◌≡◌, ◌||◌, ◌&&◌, ◌⊎◌, ℕ, Bool, true, false, List, [], ◌∷◌, ◌++◌, refl, sym, ap, subst, ◌∙◌, ◌==◌, inl, inr, arith, rules}
+use Rattle.std.proofs.Common.{◌≡◌, ◌&&◌, ◌⊎◌, ℕ, Bool, true, false, List, [], ◌∷◌, ◌++◌, refl, sym, ap, subst, ◌∙◌, ◌==◌, inl, inr, arith}
 use Rattle.std.specs.Prelude.{codes}
 use Rattle.std.proofs.lemmas.Bool.Decides.{nat_tests}
-use Rattle.lua_tree.specs.Bytes.{is_space, is_digit, is_letter, is_word, is_within, has_front, longest, BeginsWithout}
+use Rattle.lua_tree.specs.Bytes.{has_front, longest}
 use Rattle.lua_tree.specs.Strings.{items_text}
 use Rattle.lua_tree.specs.Tokens.{marks}
 use Rattle.lua_tree.specs.Tiling.{Cause, BadByte, UnfinishedString, UnfinishedLong, BadLongOpen, EscapeTooLarge, BadNumber, IsBadByte, IsBadNumber, IsBadOpening, IsUnclosed, IsUnfinished, IsTooLarge, IsFault}
 use Rattle.lua_tree.proofs.LongBrackets.{true_false}
+use Rattle.lua_tree.proofs.BadBytes.{may_begin, bad_class, no_mark, tilde_longest, nothing_passes}
 use Rattle.lua_tree.proofs.Pieces.{Class, White, Word, Numeral, Quoted, Bracketed, Commented, Marked, class_of, numeral_class, long_class, short_class}
-
--- what a piece may begin with
-abbrev may_begin : ℕ → Bool
-may_begin byte = is_space byte || is_word byte || is_within 34 35 byte || (byte == 37) || is_within 39 47 byte || is_within 58 62 byte || (byte == 91) || is_within 93 94 byte || (byte == 123) || is_within 125 126 byte
-
-abbrev AllBegin : List (List ℕ) → Type 0
-AllBegin [] = Unit {0}
-AllBegin ([] ∷ words) = ⊥
-AllBegin ((byte ∷ word) ∷ words) = (may_begin byte ≡ true) × AllBegin words
-
-differs : (a b : ℕ) → may_begin a ≡ true → may_begin b ≡ false → (a == b) ≡ false
-differs a b x y = by (a == b) refl
-  where
-    by : (t : Bool) → (a == b) ≡ t → (a == b) ≡ false
-    by false e = e
-    by true e = absurd (let same : a ≡ b = grind (arith, nat_tests) in true_false (sym x ∙ (ap may_begin same ∙ y)))
-
-none_longest : (words : List (List ℕ)) (byte : ℕ) (text : List ℕ) → AllBegin words → may_begin byte ≡ false → longest words (byte ∷ text) ≡ 0
-none_longest [] byte text all h = refl
-none_longest ([] ∷ words) byte text all h = absurd all
-none_longest ((first ∷ word) ∷ words) byte text all h =
-    let no : (first == byte) ≡ false = differs first byte all.0 h in
-    let rest : longest words (byte ∷ text) ≡ 0 = none_longest words byte text all.1 h in
-    rw (no, rest)
-
-marks_begin : AllBegin marks
-marks_begin = search (rules, arith)
 
 -- a fault of a class
 abbrev pub FaultIn : Class → Cause → List ℕ → ℕ → Type 0
@@ -51,26 +25,11 @@ pub record SeenFault (cause : Cause) (at : ℕ) (text : List ℕ) (distance : �
   pub class_is : class_of at text ≡ class
   pub seen : FaultIn class cause text distance
 
-bad_class : (at byte : ℕ) (text : List ℕ) → may_begin byte ≡ false → class_of at (byte ∷ text) ≡ Marked
-bad_class at byte text h =
-    let space : is_space byte ≡ false = grind (arith, nat_tests) in
-    let letter : is_letter byte ≡ false = grind (arith, nat_tests) in
-    let digit : is_digit byte ≡ false = grind (arith, nat_tests) in
-    let point : (byte == 46) ≡ false = grind (arith, nat_tests) in
-    let double : (byte == 34) ≡ false = grind (arith, nat_tests) in
-    let single : (byte == 39) ≡ false = grind (arith, nat_tests) in
-    let bracket : (byte == 91) ≡ false = grind (arith, nat_tests) in
-    let minus : (byte == 45) ≡ false = grind (arith, nat_tests) in
-    let hash : (byte == 35) ≡ false = grind (arith, nat_tests) in
-    rw (space, letter, digit, point, double, single, bracket, minus, hash)
-
-tilde_longest : (text : List ℕ) → BeginsWithout (λ next. next == 61) text → longest marks (126 ∷ text) ≡ 0
-tilde_longest [] h = refl
-tilde_longest (next ∷ text) h = let other : (61 == next) ≡ false = grind (arith, nat_tests) in rw other
-
 bad_byte_seen : (at : ℕ) (text : List ℕ) (distance : ℕ) → distance ≡ 0 → IsBadByte text → SeenFault BadByte at text distance
 bad_byte_seen at [] distance d h = absurd h
-bad_byte_seen at (byte ∷ text) distance d (inl h) = record { class = Marked; class_is = bad_class at byte text h; seen = (none_longest marks byte text marks_begin h, refl, d) }
+bad_byte_seen at (byte ∷ text) distance d (inl h) =
+    let none : may_begin byte ≡ false = nothing_passes byte h in
+    record { class = Marked; class_is = bad_class at byte text none; seen = (no_mark byte text none, refl, d) }
 bad_byte_seen at (byte ∷ text) distance d (inr h) =
     record {
       class = Marked;

@@ -1,7 +1,8 @@
 -- A text begins with one long bracket at most, and with one longest run.
 use Rattle.std.proofs.Common.{◌≡◌, ◌||◌, ℕ, zero, suc, ◌+◌, ◌≤◌, Bool, true, false, List, [], ◌∷◌, ◌++◌, length, replicate, refl, sym, ap, subst, ◌∙◌, append_assoc, length-append, arith}
 use Rattle.std.proofs.lemmas.Bool.Decides.{nat_tests}
-use Rattle.lua_tree.specs.Bytes.{Each, BeginsWithout, has_front, holds}
+use Rattle.lua_num.specs.Bytes.{Each, BeginsWithout}
+use Rattle.lua_tree.specs.Bytes.{has_front, holds}
 use Rattle.lua_tree.specs.Brackets.{opening, closing, almost_closing, IsLong}
 use Rattle.lua_tree.proofs.Cuts.{SameFronts}
 

@@ -1,10 +1,11 @@
 -- A text begins with one piece at most: the first bytes say of which class it is, and within a class it is one.
-use Rattle.std.proofs.Common.{◌≡◌, ◌<◌, ◌||◌, ◌&&◌, ◌⊎◌, ℕ, zero, suc, ◌≤◌, ℤ, Bool, true, false, List, [], ◌∷◌, ◌++◌, length, refl, sym, ap, subst, ◌∙◌, ◌==◌, append_assoc, inl, inr, arith}
+use Rattle.std.proofs.Common.{◌≡◌, ◌<◌, ◌||◌, ◌&&◌, ◌⊎◌, ℕ, zero, suc, ◌≤◌, ℤ, Bool, true, false, Some, List, [], ◌∷◌, ◌++◌, length, refl, sym, ap, subst, ◌∙◌, ◌==◌, append_assoc, inl, inr, arith}
 use Rattle.std.specs.Prelude.{codes, if◌then◌else◌}
 use Rattle.std.proofs.lemmas.Bool.Decides.{nat_tests}
-use Rattle.lua_num.specs.Numeral.{IsNumeral}
+use Rattle.lua_num.specs.Numeral.{numeral_number}
+use Rattle.lua_num.specs.Bytes.{is_space, is_digit, BeginsWith, BeginsWithout, IsRun}
 use Rattle.lua_tree.specs.declared.token.TokenKind.{TokenKind}
-use Rattle.lua_tree.specs.Bytes.{is_space, is_digit, is_letter, is_numeral, has_front, is_among, longest, BeginsWith, BeginsWithout, IsRun}
+use Rattle.lua_tree.specs.Bytes.{is_letter, is_numeral, has_front, is_among, longest}
 use Rattle.lua_tree.specs.Brackets.{opening, closing, IsLong, LongMeans}
 use Rattle.lua_tree.specs.Strings.{IsQuote, IsShort, items_text}
 use Rattle.lua_tree.specs.Tokens.{IsWord, keywords, marks, IsToken, IsKeyword, IsName, IsNumber, IsString, IsMark, BeginsNumeral}
@@ -63,7 +64,7 @@ mark_kind text = find mark_kinds TokenKind.Dot text
 abbrev pub SeenIn : Class → Piece → ℕ → List ℕ → List ℕ → Type 0
 SeenIn White piece at text after = (byte : ℕ) × (text ≡ byte ∷ []) × (piece ≡ Space)
 SeenIn Word piece at text after = IsWord text after × (piece ≡ Tok (word_kind text))
-SeenIn Numeral piece at text after = (n : ℤ) × IsRun is_numeral text after × IsNumeral text n × (piece ≡ Tok (TokenKind.Number n))
+SeenIn Numeral piece at text after = (n : ℤ) × IsRun is_numeral text after × (numeral_number text ≡ Some n) × (piece ≡ Tok (TokenKind.Number n))
 SeenIn Quoted piece at text after = (bytes : List ℕ) × IsShort text after bytes × (piece ≡ Tok (TokenKind.Text bytes))
 SeenIn Bracketed piece at text after = (bytes : List ℕ) × (level : ℕ) × (inside : List ℕ) × IsLong level inside text × LongMeans inside bytes × (piece ≡ Tok (TokenKind.Text bytes))
 SeenIn Commented piece at text after = (IsShortComment text after ⊎ (IsLongComment text ⊎ IsFirstLine at text after)) × (piece ≡ Comment)

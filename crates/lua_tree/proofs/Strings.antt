@@ -2,7 +2,8 @@
 use Rattle.std.proofs.Common.{◌≡◌, ◌||◌, ℕ, zero, suc, ◌<◌, ◌≤◌, true, false, List, [], ◌∷◌, ◌++◌, length, refl, sym, ap, subst, ◌∙◌, ◌==◌, append_assoc, arith}
 use Rattle.std.proofs.lemmas.Bool.Decides.{nat_tests}
 use Rattle.lua_num.specs.Numeral.{digits_value}
-use Rattle.lua_tree.specs.Bytes.{is_digit, ends_line, Each, BeginsWithout}
+use Rattle.lua_num.specs.Bytes.{is_digit, Each, BeginsWithout}
+use Rattle.lua_tree.specs.Bytes.{ends_line}
 use Rattle.lua_tree.specs.Lines.{line_end}
 use Rattle.lua_tree.specs.Strings.{Item, Plain, Escaped, EscapedEnd, Decimal, item_text, IsCode, ItemFits, ItemsFit, items_text, items_value, IsQuote, IsShort}
 use Rattle.lua_tree.proofs.Cuts.{SameFronts, same_fronts, no_end_here}

@@ -1,9 +1,7 @@
 -- A text is tiled in one way.
-use Rattle.std.proofs.Common.{◌≡◌, ◌⊎◌, ℕ, zero, suc, ℤ, pos, Bool, true, false, not, List, [], ◌∷◌, ◌++◌, length, refl, sym, ap, subst, ◌∙◌, append_assoc, replicate, inl, inr, arith, take, ◌+◌}
+use Rattle.std.proofs.Common.{◌≡◌, ℕ, zero, suc, ℤ, Bool, Some, None, true, false, not, List, [], ◌∷◌, ◌++◌, length, refl, sym, ap, subst, ◌∙◌, append_assoc, replicate, inl, inr, arith, take, ◌+◌}
 use Rattle.std.specs.Prelude.{codes}
-use Rattle.std.specs.Char.{IsAsciiDigit}
-use Rattle.std.specs.List.{AllByRecursion}
-use Rattle.lua_num.specs.Numeral.{IsDecimal, IsHexadecimal, Writes, IsNumeral, hex_value}
+use Rattle.lua_num.specs.Numeral.{numeral_number}
 use Rattle.lua_tree.specs.declared.token.TokenKind.{TokenKind}
 use Rattle.lua_tree.specs.declared.token.Token.{Token}
 use Rattle.lua_tree.specs.Bytes.{is_word, is_numeral, ends_line, longest}
@@ -20,24 +18,9 @@ pub record SamePiece (piece other : Piece) (text texts : List ℕ) : Type 0 wher
   pub pieces : piece ≡ other
   pub texts_are : text ≡ texts
 
--- a numeral writes one number
-no_mark_digit : (mark : ℕ) → (mark ≡ 120) ⊎ (mark ≡ 88) → IsAsciiDigit mark → ⊥
-no_mark_digit mark h digit = grind arith
-
-no_both : (text : List ℕ) (v w : ℕ) → IsDecimal text v → IsHexadecimal text w → ⊥
-no_both text v w x y = no_mark_digit y.mark y.marked (subst (AllByRecursion IsAsciiDigit) y.whole x.digits).1.0
-
-one_value : (text : List ℕ) (v w : ℕ) → Writes text v → Writes text w → v ≡ w
-one_value text v w (inl x) (inl y) = x.value_is ∙ sym y.value_is
-one_value text v w (inl x) (inr y) = absurd (no_both text v w x y)
-one_value text v w (inr x) (inl y) = absurd (no_both text w v y x)
-one_value text v w (inr x) (inr y) =
-    let whole : 48 ∷ x.mark ∷ x.digits ≡ 48 ∷ y.mark ∷ y.digits = sym x.whole ∙ y.whole in
-    let digits : x.digits ≡ y.digits = cc in
-    x.value_is ∙ (ap hex_value digits ∙ sym y.value_is)
-
-one_number : (text : List ℕ) (n m : ℤ) → IsNumeral text n → IsNumeral text m → n ≡ m
-one_number text n m x y = x.number_is ∙ (ap pos (one_value text x.value y.value x.writes y.writes) ∙ sym y.number_is)
+-- a numeral has one number
+one_number : (text : List ℕ) (n m : ℤ) → numeral_number text ≡ Some n → numeral_number text ≡ Some m → n ≡ m
+one_number text n m x y = let same : Some n ≡ Some m = sym x ∙ y in cc
 
 -- a long string has one meaning
 one_meaning : (inside bytes others : List ℕ) → LongMeans inside bytes → LongMeans inside others → bytes ≡ others
@@ -119,7 +102,7 @@ same_in Word p q at text after texts follows x y e =
     record { pieces = x.1 ∙ (ap (λ t. Tok (word_kind t)) same ∙ sym y.1); texts_are = same }
 same_in Numeral p q at text after texts follows x y e =
     let same : text ≡ texts = (one_run is_numeral text after texts follows x.1.each y.1.each x.1.longest y.1.longest e).fronts in
-    let numbers : x.0 ≡ y.0 = one_number texts x.0 y.0 (subst (λ t. IsNumeral t x.0) same x.2) y.2 in
+    let numbers : x.0 ≡ y.0 = one_number texts x.0 y.0 (subst (λ t. numeral_number t ≡ Some x.0) same x.2) y.2 in
     record { pieces = x.3 ∙ (ap (λ n. Tok (TokenKind.Number n)) numbers ∙ sym y.3); texts_are = same }
 same_in Quoted p q at text after texts follows x y e =
     let same : SameString text texts x.0 y.0 = shorts_are_one text after x.0 texts follows y.0 x.1 y.1 e in
@@ -145,8 +128,8 @@ same_piece p q at text after texts follows x y e =
 pub empty_no_cons : (byte : ℕ) (text : List ℕ) → [] ≡ byte ∷ text → ⊥
 empty_no_cons byte text e = cc
 
-empty_no_numeral : (n : ℤ) → IsNumeral [] n → ⊥
-empty_no_numeral n is = elim is.writes [ inl decimal ↦ decimal.some refl | inr hexadecimal ↦ empty_no_cons _ _ hexadecimal.whole ]
+empty_no_numeral : (n : ℤ) → None ≡ Some n → ⊥
+empty_no_numeral n is = cc
 
 empty_no_comment : (at : ℕ) (after : List ℕ) → IsPiece Comment at [] after → ⊥
 empty_no_comment at after (inl is) = empty_no_cons _ _ is.whole

@@ -1,4 +1,4 @@
--- Long brackets (manual 2.1).
+-- To be believed. Long brackets (manual 2.1).
 use Rattle.std.specs.Prelude.{◌≡◌, ◌&&◌, ◌||◌, ℕ, Bool, false, List, [], ◌∷◌, ◌++◌, replicate, codes, ◌==◌}
 use Rattle.lua_tree.specs.Bytes.{holds}
 use Rattle.lua_tree.specs.Lines.{Part, IsCutOf, plain, without_first_end}

@@ -1,4 +1,4 @@
--- Line ends (manual 2.1): byte 10, byte 13, and the pairs of the two, which end one line.
+-- To be believed. Line ends (manual 2.1): byte 10, byte 13, and the pairs of the two, which end one line.
 use Rattle.std.specs.Prelude.{◌≡◌, ℕ, ◌+◌, ◌<◌, ◌&&◌, not, false, List, [], ◌∷◌, ◌++◌, length, min, ◌==◌, if◌then◌else◌}
 use Rattle.lua_tree.specs.Bytes.{ends_line}
 

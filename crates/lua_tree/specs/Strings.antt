@@ -1,7 +1,8 @@
--- Short strings and their escapes (manual 2.1).
+-- To be believed. Short strings and their escapes (manual 2.1).
 use Rattle.std.specs.Prelude.{◌≡◌, ◌||◌, ◌⊎◌, ℕ, ◌<◌, ◌≤◌, false, List, [], ◌∷◌, ◌++◌, length, ◌==◌, if◌then◌else◌}
 use Rattle.lua_num.specs.Numeral.{digits_value}
-use Rattle.lua_tree.specs.Bytes.{is_digit, ends_line, Each, BeginsWithout}
+use Rattle.lua_num.specs.Bytes.{is_digit, Each, BeginsWithout}
+use Rattle.lua_tree.specs.Bytes.{ends_line}
 use Rattle.lua_tree.specs.Lines.{line_end}
 
 -- an item between quotes: a byte, an escaped byte, an escaped line end, or a backslash and decimal digits

@@ -1,9 +1,11 @@
--- The tiling of a text by tokens and gaps, and its faults (manual 2.1). It speaks of a finished tiling.
-use Rattle.std.specs.Prelude.{◌≡◌, ◌⊎◌, ◌||◌, ℕ, ◌+◌, ◌<◌, true, false, not, ℤ, List, [], ◌∷◌, ◌++◌, length, take, codes, ◌==◌}
-use Rattle.lua_num.specs.Numeral.{digits_value, IsNumeral}
+-- To be believed. The tiling of a text by tokens and gaps, and its faults (manual 2.1). It speaks of a finished
+-- tiling.
+use Rattle.std.specs.Prelude.{◌≡◌, ◌⊎◌, ℕ, ◌+◌, ◌<◌, true, false, not, None, List, [], ◌∷◌, ◌++◌, length, take, codes, ◌==◌}
+use Rattle.lua_num.specs.Numeral.{digits_value, numeral_number}
+use Rattle.lua_num.specs.Bytes.{is_space, BeginsWithout, IsRun}
 use Rattle.lua_tree.specs.declared.token.TokenKind.{TokenKind}
 use Rattle.lua_tree.specs.declared.token.Token.{Token}
-use Rattle.lua_tree.specs.Bytes.{is_space, is_word, is_within, is_numeral, ends_line, has_front, holds, BeginsWithout, IsRun}
+use Rattle.lua_tree.specs.Bytes.{is_numeral, ends_line, has_front, holds}
 use Rattle.lua_tree.specs.Lines.{IsLineOf}
 use Rattle.lua_tree.specs.Brackets.{opening, closing, opens_long, IsLong}
 use Rattle.lua_tree.specs.Strings.{Item, ItemsFit, items_text, IsCode, IsQuote}
@@ -90,12 +92,14 @@ pub data Cause : Type 0 where
   EscapeTooLarge : Cause
   BadNumber : Cause
 
--- a byte that begins no token, white space or comment: `~` does before `=` alone
+-- no token, white space or comment begins with this byte, wherever it stands and whatever follows
+abbrev pub BeginsNothing : ℕ → Type 0
+BeginsNothing byte = (piece : Piece) (at : ℕ) (text after : List ℕ) → IsPiece piece at (byte ∷ text) after → ⊥
+
+-- a byte that begins no token, white space or comment: `~` begins `~=` alone
 abbrev pub IsBadByte : List ℕ → Type 0
 IsBadByte [] = ⊥
-IsBadByte (byte ∷ after) =
-    ((is_space byte || is_word byte || is_within 34 35 byte || (byte == 37) || is_within 39 47 byte || is_within 58 62 byte || (byte == 91) || is_within 93 94 byte || (byte == 123) || is_within 125 126 byte) ≡ false)
-    ⊎ ((byte ≡ 126) × BeginsWithout (λ next. next == 61) after)
+IsBadByte (byte ∷ after) = BeginsNothing byte ⊎ ((byte ≡ 126) × BeginsWithout (λ next. next == 61) after)
 
 -- a run that begins like a numeral and is none
 pub record IsBadNumber (text : List ℕ) : Type 0 where
@@ -104,7 +108,7 @@ pub record IsBadNumber (text : List ℕ) : Type 0 where
   pub whole : text ≡ run ++ after
   pub begins : BeginsNumeral text
   pub is_run : IsRun is_numeral run after
-  pub no_numeral : (n : ℤ) → IsNumeral run n → ⊥
+  pub no_numeral : numeral_number run ≡ None
 
 -- `[` and one or more `=` that open nothing
 pub record IsBadOpening (text : List ℕ) : Type 0 where

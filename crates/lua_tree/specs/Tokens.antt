@@ -1,8 +1,9 @@
--- The texts of tokens (manual 2.1). A token is judged by its text and by what follows it.
-use Rattle.std.specs.Prelude.{◌≡◌, ◌⊎◌, ◌||◌, ℕ, ◌≤◌, ℤ, true, false, List, [], ◌∷◌, ◌++◌, length, codes, ◌==◌}
-use Rattle.lua_num.specs.Numeral.{IsNumeral}
+-- To be believed. The texts of tokens (manual 2.1). A token is judged by its text and by what follows it.
+use Rattle.std.specs.Prelude.{◌≡◌, ◌⊎◌, ◌||◌, ℕ, ◌≤◌, ℤ, true, false, Some, List, [], ◌∷◌, ◌++◌, length, codes, ◌==◌}
+use Rattle.lua_num.specs.Numeral.{numeral_number}
+use Rattle.lua_num.specs.Bytes.{is_digit, BeginsWith, BeginsWithout, IsRun}
 use Rattle.lua_tree.specs.declared.token.TokenKind.{TokenKind}
-use Rattle.lua_tree.specs.Bytes.{is_digit, is_letter, is_word, is_numeral, longest, is_among, BeginsWith, BeginsWithout, IsRun}
+use Rattle.lua_tree.specs.Bytes.{is_letter, is_word, is_numeral, longest, is_among}
 use Rattle.lua_tree.specs.Brackets.{IsLong, LongMeans}
 use Rattle.lua_tree.specs.Strings.{IsShort}
 
@@ -40,7 +41,7 @@ BeginsNumeral (byte ∷ text) = (is_digit byte ≡ true) ⊎ ((byte ≡ 46) × B
 pub record IsNumber (n : ℤ) (text after : List ℕ) : Type 0 where
   pub begins : BeginsNumeral (text ++ after)
   pub run : IsRun is_numeral text after
-  pub numeral : IsNumeral text n
+  pub numeral : numeral_number text ≡ Some n
 
 -- a string: a short one, or a long one of some level
 abbrev pub IsString : List ℕ → List ℕ → List ℕ → Type 0
