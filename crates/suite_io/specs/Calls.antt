@@ -1,4 +1,4 @@
--- The list of the calls of files, and the count of their faults.
+-- To be believed. The list of the calls of files, and the count of their faults.
 use Rattle.std.specs.Prelude.{ℕ, Bool, true, false, List, [], ◌∷◌, ◌++◌, Result, Ok, Err, count_by}
 use Rattle.suite_io.specs.declared.calls.FileCall.{FileCall}
 use Rattle.suite_io.specs.declared.files.FileFault.{FileFault}

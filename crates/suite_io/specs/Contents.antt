@@ -1,4 +1,4 @@
--- What files hold: the bytes of each name.
+-- To be believed. What files hold: the bytes of each name.
 use Rattle.std.specs.Prelude.{◌≡◌, ◌≢◌, ℕ, List, Option, Some, None}
 use Rattle.std.specs.Ordering.{nat_cmp}
 use Rattle.std.specs.Cmp.Lexicographic.{slice_cmp}

@@ -1,4 +1,4 @@
--- What the forms in memory hold.
+-- Serves the bodies. What the forms in memory hold.
 use Rattle.std.specs.Prelude.{ℕ, ◌+◌, ◌-◌, ◌^◌, ◌≤◌, List, [], ◌∷◌, refl, Bool, length, Contains, MatchOption, min, String}
 use Rattle.std.specs.FinMap.{get, insert, empty, code}
 use Rattle.std.specs.String.{string_bytes}

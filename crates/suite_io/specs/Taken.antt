@@ -1,4 +1,4 @@
--- The bytes that a sink took, and its count of faults.
+-- To be believed. The bytes that a sink took, and its count of faults.
 use Rattle.std.specs.Prelude.{◌≡◌, ℕ, ◌<◌, ◌-◌, ◌^◌, ◌⊎◌, List, ◌++◌, Option, Some, None}
 
 -- where they are told, the bytes taken grow by these

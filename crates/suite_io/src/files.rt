@@ -45,8 +45,8 @@ pub trait Files {
         ensures unchanged { contents self.new ≡ contents self.old }
         ensures listed { calls self.new ≡ calls_after (calls self.old) false (string_bytes name.now) result };
 
-    /// Gives a name these bytes. At `Failed` the name may have any bytes, or none, and at
-    /// `OutOfMemory` it has those that it had. Other names stay as they were.
+    /// Gives a name these bytes. At `Failed` the name may have any bytes, or none; at `OutOfMemory`
+    /// nothing was begun, and the name has what it had. Other names stay as they were.
     fn store(&mut self, alloc: Global, name: &Word, bytes: &[u8]) -> Result<(), FileFault>
         ensures stored { IfOk result (λ _. Stores (contents self.old) (contents self.new) (string_bytes name.now) bytes.now) }
         ensures others { OthersStay (contents self.old) (contents self.new) (string_bytes name.now) }

@@ -89,16 +89,13 @@ impl MemoryFiles {
         self.fails.contains(&(self.calls.items().len() as u64 + 1))
     }
 
-    // A copy of what the next call is to fetch, or `None` where it is to fail.
+    // A copy of what a name has, or `None` where there is nothing to fetch.
     fn copy_to_fetch(&self, alloc: Global, name: &Word) -> Result<Option<ByteText>, AllocError>
         ensures there { IfOk result (λ copy. IfSome copy (λ bytes. map.get self.now.contents (string_bytes name.now) ≡ Some bytes)) }
         ensures short { IfOk result (λ copy. IfSome copy (λ bytes. length bytes < 2 ^ 28)) }
-        ensures none { IfOk result (λ copy. IfNone copy (NextFails self.now ⊎ NothingToFetch self.now (string_bytes name.now))) }
-        ensures some { IfOk result (λ copy. OnSome copy (¬ (NextFails self.now ⊎ NothingToFetch self.now (string_bytes name.now)))) }
+        ensures none { IfOk result (λ copy. IfNone copy (NothingToFetch self.now (string_bytes name.now))) }
+        ensures some { IfOk result (λ copy. OnSome copy (¬ (NothingToFetch self.now (string_bytes name.now)))) }
     {
-        if self.is_next_failing() {
-            return Ok(None);
-        }
         match self.get(name) {
             Some(bytes) if bytes.len() < FETCH_LIMIT => {
                 let copy = ByteText::from_slice(alloc, bytes)?;
@@ -124,9 +121,22 @@ impl Files for MemoryFiles {
         ensures failed { IsErrOf result FileFault.Failed → NextFails self.old ⊎ NothingToFetch self.old (string_bytes name.now) }
         ensures ok { OnOk result (¬ (NextFails self.old ⊎ NothingToFetch self.old (string_bytes name.now))) }
     {
-        let copy = self.copy_to_fetch(alloc, name)?;
-        self.calls.push_call(alloc, false, name, copy.is_none())?;
-        copy.ok_or(FileFault::Failed)
+        let fails = self.is_next_failing();
+        self.calls.push_call(alloc, false, name, fails)?;
+        if fails {
+            return Err(FileFault::Failed);
+        }
+        match self.copy_to_fetch(alloc, name) {
+            Ok(Some(copy)) => Ok(copy),
+            Ok(None) => {
+                self.calls.settle(true);
+                Err(FileFault::Failed)
+            }
+            Err(_) => {
+                self.calls.take_back();
+                Err(FileFault::OutOfMemory)
+            }
+        }
     }
 
     /// Fails exactly where this call's number is one of those that fail. An error changes no bytes.

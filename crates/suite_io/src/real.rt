@@ -1,9 +1,9 @@
 // The files and the output of the system, which tell nothing of their content.
-ghost use Rattle.std.specs.Prelude.{◌≡◌, false, ◌<◌, ◌≤◌, ◌^◌, [], List, Option, Some, None, ◌↔◌, length, IfOk, IfSome, OnOk, OnErr, IsErrOf};
+ghost use Rattle.std.specs.Prelude.{◌≡◌, true, false, ◌<◌, ◌≤◌, ◌^◌, [], List, Option, Some, None, ◌↔◌, length, IfOk, IfSome, OnOk, OnErr, IsErrOf};
 ghost use Rattle.std.specs.String.{string_bytes};
 ghost use Rattle.std.specs.FinMap as map;
 ghost use Rattle.std.specs.IoError.{error_kind};
-ghost use Rattle.suite_io.specs.Contents.{Contents};
+ghost use Rattle.suite_io.specs.Contents.{Contents, Stores, OthersStay};
 ghost use Rattle.suite_io.specs.Calls.{calls_after};
 ghost use Rattle.suite_io.specs.Held.{one_more};
 ghost use Rattle.suite_io.specs.Taken.{Rises};
@@ -68,6 +68,14 @@ fn read_file<R: rt::Files>(alloc: Global, system: &R, name: &str) -> Result<Byte
     Ok(ByteText::from_vec(bytes))
 }
 
+// Writes the file of a name. Each error is `Failed`, also want of memory, since something may have
+// been written.
+fn write_file<R: rt::Files>(system: &R, name: &str, bytes: &[u8]) -> Result<(), FileFault>
+    ensures { OnErr result (IsErrOf result FileFault.Failed) }
+{
+    fs::write(system, name, bytes).map_err(|_| FileFault::Failed)
+}
+
 impl From<io::Error> for FileFault {
     ghost use Rattle.suite_io.specs.declared.files.FileFault.{FileFault};
     ghost use Rattle.std.specs.declared.io.ErrorKind.{ErrorKind};
@@ -95,21 +103,27 @@ impl<R: rt::Files> Files for RealFiles<'_, R> {
         ensures listed { self.new ≡ calls_after self.old false (string_bytes name.now) result }
         ensures within { IfOk result (λ bytes. length bytes ≤ 67108864) }
     {
+        self.calls.push_call(alloc, false, name, false)?;
         let answer = read_file(alloc, self.system, name.as_str());
-        if answer == Err(FileFault::OutOfMemory) {
-            return answer;
+        match answer {
+            Ok(_) => {}
+            Err(FileFault::Failed) => self.calls.settle(true),
+            Err(FileFault::OutOfMemory) => self.calls.take_back(),
         }
-        self.calls.push_call(alloc, false, name, answer.is_err())?;
         answer
     }
 
-    fn store(&mut self, alloc: Global, name: &Word, bytes: &[u8]) -> Result<(), FileFault> {
+    /// Finds no memory only before the system is asked to write.
+    fn store(&mut self, alloc: Global, name: &Word, bytes: &[u8]) -> Result<(), FileFault>
+        ensures stored { IfOk result (λ _. Stores None None (string_bytes name.now) bytes.now) }
+        ensures others { OthersStay None None (string_bytes name.now) }
+        ensures listed { self.new ≡ calls_after self.old true (string_bytes name.now) result }
+        ensures not_begun { IsErrOf result FileFault.OutOfMemory → self.new ≡ self.old }
+    {
         self.calls.push_call(alloc, true, name, false)?;
-        let answer = fs::write(self.system, name.as_str(), bytes).map_err(FileFault::from);
-        match answer {
-            Ok(()) => {}
-            Err(FileFault::Failed) => self.calls.settle(true),
-            Err(FileFault::OutOfMemory) => self.calls.take_back(),
+        let answer = write_file(self.system, name.as_str(), bytes);
+        if answer.is_err() {
+            self.calls.settle(true);
         }
         answer
     }

@@ -133,19 +133,17 @@ fn a_file_that_never_ends_or_is_a_folder_is_failed(rt: HostRuntime) -> Result<()
 }
 
 #[test]
-fn real_files_list_a_fault_in_mid_stream_and_no_want_of_memory(
-    rt: HostRuntime,
-) -> Result<(), Fail> {
+fn real_files_list_each_fault_but_want_of_memory_in_a_fetch(rt: HostRuntime) -> Result<(), Fail> {
     let alloc = rt.alloc();
     let name = word(alloc, "a")?;
     for (kind, fault, listed) in [
-        (ErrorKind::OutOfMemory, FileFault::OutOfMemory, 0),
+        (ErrorKind::OutOfMemory, FileFault::OutOfMemory, 1),
         (ErrorKind::TimedOut, FileFault::Failed, 2),
     ] {
         let system = FaultySystem { kind };
         let mut files = RealFiles::new(alloc, &system);
         assert_eq!(rt; files.fetch(alloc, &name), Err(fault));
-        assert_eq!(rt; files.store(alloc, &name, b"two"), Err(fault));
+        assert_eq!(rt; files.store(alloc, &name, b"two"), Err(FileFault::Failed));
         assert_eq!(rt; files.calls().len(), listed);
         assert!(rt; files.calls().iter().all(|call| call.failed));
     }
