@@ -1,4 +1,4 @@
--- What it means that a chunk does what a source means.
+-- Serves the bodies. What it means that a chunk does what a source means.
 use Rattle.std.specs.Prelude.{◌≡◌, ℕ, suc, ◌*◌, ◌≤◌, List, length, Some}
 use Rattle.agrees.specs.declared.tree.Statement.{Statement}
 use Rattle.agrees.specs.Progress.{End, Done, IsPrefix}

@@ -1,4 +1,4 @@
--- A chunk of the first form: code, constants and the count of registers.
+-- Serves the bodies. A chunk of the first form: code, constants and the count of registers.
 use Rattle.std.specs.Prelude.{ℕ, List}
 use Rattle.agrees.specs.declared.chunk.Instruction.{Instruction}
 use Rattle.agrees.specs.declared.chunk.Constant.{Constant}

@@ -1,6 +1,6 @@
--- What a source of the first form means (manual 2.4.4, 2.5.8 and 5.1, `print`), with a bound on ticks:
--- each block, statement, expression, list item and call spends a tick as it begins. It speaks of statements and
--- printed pieces, and of no register or instruction.
+-- To be believed. What a source of the first form means (manual 2.4.4, 2.5.8 and 5.1, `print`), with a bound on ticks:
+-- each block, statement, expression, list item and call spends a tick as it begins. It speaks of statements and printed
+-- pieces, and of no register or instruction.
 use Rattle.std.specs.Prelude.{ℕ, zero, suc, ℤ, List, [], ◌∷◌, ◌++◌, Some, None}
 use Rattle.lua_num.specs.Numeral.{decimal_text}
 use Rattle.agrees.specs.declared.tree.Statement.{Statement}

@@ -1,4 +1,4 @@
--- How far a meaning or a run has come.
+-- To be believed. How far a meaning or a run has come.
 use Rattle.std.specs.Prelude.{◌≡◌, List, ◌++◌, ℕ, Option}
 use Rattle.std.specs.List.{concat}
 

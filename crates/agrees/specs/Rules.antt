@@ -1,6 +1,6 @@
--- What four instructions do, GETGLOBAL, LOADK, CALL and RETURN, over the registers of one frame (A No-Frills
--- Introduction to Lua 5.1 VM Instructions; manual 2.5.8 and 5.1, `print`). Fixed counts alone: a word with an open
--- count (B or C of 0) is stuck, and so is one that names a register, a constant or a place that is not there.
+-- Serves the bodies. What four instructions do, GETGLOBAL, LOADK, CALL and RETURN, over the registers of one frame (A
+-- No-Frills Introduction to Lua 5.1 VM Instructions; manual 2.5.8 and 5.1, `print`). Fixed counts alone: a word with an
+-- open count (B or C of 0) is stuck, and so is one that names a register, a constant or a place that is not there.
 use Rattle.std.specs.Prelude.{ℕ, zero, suc, ◌+◌, nat_le, List, [], ◌∷◌, ◌++◌, length, map, take, drop, replicate, slice_get, Option, Some, None, codes, if◌then◌else◌}
 use Rattle.std.specs.List.{join_with_byte}
 use Rattle.std.specs.Str.{bytes_eq}

@@ -1,4 +1,4 @@
--- The code of a source of the first form.
+-- Serves the bodies. The code of a source of the first form.
 use Rattle.std.specs.Prelude.{ℕ, suc, Bool, false, not, List, [], ◌∷◌, filter, codes, if◌then◌else◌}
 use Rattle.std.specs.Ordering.{int_eq}
 use Rattle.std.specs.Str.{bytes_eq}

@@ -1,4 +1,5 @@
--- Source of the first form: its statements are 0 to 200 calls of the name `print`, each with a list of one number.
+-- To be believed. Source of the first form: its statements are 0 to 200 calls of the name `print`, each with a list of
+-- one number.
 use Rattle.std.specs.Prelude.{◌≡◌, ℕ, ◌≤◌, ◌==◌, Bool, false, List, [], ◌∷◌, length, codes, ℤ}
 use Rattle.lua_tree.specs.declared.token.Token.{Token}
 use Rattle.lua_tree.specs.Tiling.{Lexes}
