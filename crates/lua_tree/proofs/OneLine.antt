@@ -1,6 +1,7 @@
 -- Tokens of the kinds of a source's spelling spell it, where all stands on one line.
 use Rattle.std.proofs.Common.{◌≡◌, Bool, true, false, List, [], ◌∷◌, ◌++◌, Some, None, Option, refl, sym, subst, ◌∙◌, append_assoc, append-nil}
-use Rattle.lua_tree.specs.Syntax.{Text, Statements, no_statements, statement, Statement, assignment, call_statement, do_block, while_loop, repeat_loop, if_statement, numeric_for, generic_for, function_statement, local_function, local_statement, return_statement, break_statement, Branches, no_branches, branch, Otherwise, no_otherwise, otherwise, ForStep, no_step, by_step, FunctionBody, function_body, Expressions, no_expressions, expression, Expression, nil_literal, true_literal, false_literal, vararg_expression, number_literal, text_literal, name_expression, function_expression, index_expression, field_expression, call_expression, method_call, and_expression, or_expression, binary_expression, unary_expression, constructor, parenthesized, Arguments, argument_list, text_argument, table_argument, Fields, no_fields, positional, named, keyed}
+use Rattle.lua_tree.specs.Syntax.{Statements, no_statements, statement, Statement, assignment, call_statement, do_block, while_loop, repeat_loop, if_statement, numeric_for, generic_for, function_statement, local_function, local_statement, return_statement, break_statement, Branches, no_branches, branch, Otherwise, no_otherwise, otherwise, ForStep, no_step, by_step, FunctionBody, function_body, Expressions, no_expressions, expression, Expression, nil_literal, true_literal, false_literal, vararg_expression, number_literal, text_literal, name_expression, function_expression, index_expression, field_expression, call_expression, method_call, and_expression, or_expression, binary_expression, unary_expression, constructor, parenthesized, Arguments, argument_list, text_argument, table_argument, Fields, no_fields, positional, named, keyed}
+use Rattle.lua_num.specs.Bytes.{Text}
 use Rattle.lua_tree.specs.Spelling.{Kinds, spell_statements, spell_statement, spell_arms, spell_else, spell_expressions, spell_expression, spell_arguments}
 use Rattle.lua_tree.specs.Spelled.{Phrase, block_phrase, statement_phrase, branches_phrase, step_phrase, body_phrase, parameters_phrase, more_parameters_phrase, method_phrase, values_phrase, expressions_phrase, more_expressions_phrase, expression_phrase, arguments_phrase, fields_phrase, field_phrase, semicolon_phrase, separator_phrase, name_phrase, names_phrase, more_names_phrase, mark_phrase, Field, positional_field, named_field, keyed_field, Meant, Part, word, word_on, from_line, to_line, of, block_parts, statement_parts, expression_parts, branches_parts, parameters_parts, more_parameters_parts, parts, Spelled, no_part, by_word, by_word_on, by_next, by_last, by_phrase}
 use Rattle.lua_tree.specs.OneLine.{tokens_on_one_line, one_line_statements, one_line_statement, one_line_branches, one_line_otherwise, one_line_step, one_line_body, one_line_expressions, one_line_expression, one_line_arguments, one_line_fields}

@@ -2,7 +2,8 @@
 use Rattle.std.proofs.Common.{◌≡◌, ℕ, zero, suc, Bool, true, false, List, [], ◌∷◌, Option, Some, None, refl}
 use Rattle.std.specs.Prelude.{codes}
 use Prim.Native.String.{String}
-use Rattle.lua_tree.specs.Syntax.{Text, Statements, no_statements, statement, Statement, call_statement, do_block, while_loop, repeat_loop, numeric_for, generic_for, function_statement, local_function, local_statement, return_statement, break_statement, no_step, FunctionBody, function_body, Expressions, no_expressions, expression, Expression, vararg_expression, name_expression, function_expression, call_expression, argument_list, Source}
+use Rattle.lua_tree.specs.Syntax.{Statements, no_statements, statement, Statement, call_statement, do_block, while_loop, repeat_loop, numeric_for, generic_for, function_statement, local_function, local_statement, return_statement, break_statement, no_step, FunctionBody, function_body, Expressions, no_expressions, expression, Expression, vararg_expression, name_expression, function_expression, call_expression, argument_list, Source}
+use Rattle.lua_num.specs.Bytes.{Text}
 use Rattle.lua_tree.specs.Outline.{outline}
 use Rattle.lua_tree.specs.Scoping.{Use, local_use, upvalue_use, global_use, uses_of, is_captured, sources_of, Breach, no_loop, no_vararg, too_many_locals, too_many_upvalues, breach_of}
 

@@ -1,6 +1,7 @@
 -- Tokens that spell a source, with their lines, have the kinds of its spelling.
 use Rattle.std.proofs.Common.{◌≡◌, ℕ, Bool, true, false, List, [], ◌∷◌, ◌++◌, Some, None, refl, sym, ap, ◌∙◌, append_assoc, append-nil}
-use Rattle.lua_tree.specs.Syntax.{Text, no_statements, statement, Statement, assignment, call_statement, do_block, while_loop, repeat_loop, if_statement, numeric_for, generic_for, function_statement, local_function, local_statement, return_statement, break_statement, Branches, no_branches, branch, Otherwise, no_otherwise, otherwise, no_step, by_step, function_body, no_expressions, expression, Expression, nil_literal, true_literal, false_literal, vararg_expression, number_literal, text_literal, name_expression, function_expression, index_expression, field_expression, call_expression, method_call, and_expression, or_expression, binary_expression, unary_expression, constructor, parenthesized, argument_list, text_argument, table_argument, no_fields, positional, named, keyed}
+use Rattle.lua_tree.specs.Syntax.{no_statements, statement, Statement, assignment, call_statement, do_block, while_loop, repeat_loop, if_statement, numeric_for, generic_for, function_statement, local_function, local_statement, return_statement, break_statement, Branches, no_branches, branch, Otherwise, no_otherwise, otherwise, no_step, by_step, function_body, no_expressions, expression, Expression, nil_literal, true_literal, false_literal, vararg_expression, number_literal, text_literal, name_expression, function_expression, index_expression, field_expression, call_expression, method_call, and_expression, or_expression, binary_expression, unary_expression, constructor, parenthesized, argument_list, text_argument, table_argument, no_fields, positional, named, keyed}
+use Rattle.lua_num.specs.Bytes.{Text}
 use Rattle.lua_tree.specs.Spelling.{Kinds, spell_separator, spell_semi, more_names, spell_names, spell_method, spell_params, spell_statements, spell_statement, spell_arms, spell_else, spell_step, spell_body, spell_values, spell_expressions, more_expressions, spell_expression, spell_arguments, spell_fields}
 use Rattle.lua_tree.specs.Spelled.{Phrase, block_phrase, statement_phrase, branches_phrase, step_phrase, body_phrase, parameters_phrase, more_parameters_phrase, method_phrase, values_phrase, expressions_phrase, more_expressions_phrase, expression_phrase, arguments_phrase, fields_phrase, field_phrase, semicolon_phrase, separator_phrase, name_phrase, names_phrase, more_names_phrase, mark_phrase, Field, positional_field, named_field, keyed_field, Meant, Part, word, word_on, from_line, to_line, of, statement_parts, expression_parts, branches_parts, parameters_parts, more_parameters_parts, parts, Spelled, no_part, by_word, by_word_on, by_next, by_last, by_phrase}
 use Rattle.lua_tree.specs.SpelledLaws.{SpelledAsSpelling}

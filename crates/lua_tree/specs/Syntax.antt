@@ -1,11 +1,9 @@
 -- To be believed. The tree of a source, without pointers: what all definitions speak of.
 use Rattle.std.specs.Prelude.{ℕ, ℤ, Bool, List, Option}
+use Rattle.lua_num.specs.Bytes.{Text}
 use Rattle.lua_tree.specs.declared.tree.BinaryOp.{BinaryOp}
 use Rattle.lua_tree.specs.declared.tree.UnaryOp.{UnaryOp}
 use Rattle.lua_tree.specs.declared.tree.Separator.{Separator}
-
-abbrev pub Text : Type 0
-Text = List ℕ
 
 mutual
   pub data Statements : Type 0 where

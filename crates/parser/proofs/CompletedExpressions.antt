@@ -1,6 +1,7 @@
 -- Expressions, and what stands in them, can be completed behind each of their tokens.
 use Rattle.std.proofs.Common.{◌≡◌, ℕ, ◌+◌, ◌≤◌, ◌==◌, nat_lt, Bool, true, false, List, [], ◌∷◌, Option, Some, None, if◌then◌else◌, refl, sym, subst, arith}
-use Rattle.lua_tree.specs.Syntax.{Text, no_statements, function_body, no_expressions, expression, Expression, nil_literal, name_expression, field_expression, method_call, unary_expression, text_argument, no_fields}
+use Rattle.lua_tree.specs.Syntax.{no_statements, function_body, no_expressions, expression, Expression, nil_literal, name_expression, field_expression, method_call, unary_expression, text_argument, no_fields}
+use Rattle.lua_num.specs.Bytes.{Text}
 use Rattle.lua_tree.specs.WellFormed.{is_target, is_call, depth_of_expression}
 use Rattle.lua_tree.specs.Spelled.{Phrase, Meant, Field, positional_field, expressions_phrase, expression_phrase}
 use Rattle.lua_tree.specs.declared.token.Token.{Token}

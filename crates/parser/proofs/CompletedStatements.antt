@@ -1,6 +1,7 @@
 -- Statements and blocks can be completed behind each of their tokens.
 use Rattle.std.proofs.Common.{◌≡◌, ℕ, ◌+◌, ◌≤◌, ◌||◌, Bool, true, false, List, [], ◌∷◌, Option, Some, None, if◌then◌else◌, refl, sym, ◌∙◌, ap, subst}
-use Rattle.lua_tree.specs.Syntax.{Text, assignment, call_statement, no_branches, no_otherwise, no_step, generic_for, local_statement, Expressions, no_expressions, expression, Expression}
+use Rattle.lua_tree.specs.Syntax.{assignment, call_statement, no_branches, no_otherwise, no_step, generic_for, local_statement, Expressions, no_expressions, expression, Expression}
+use Rattle.lua_num.specs.Bytes.{Text}
 use Rattle.lua_tree.specs.WellFormed.{is_target, is_call, ends_block}
 use Rattle.lua_tree.specs.Spelled.{Phrase, Meant, block_phrase, statement_phrase, expressions_phrase}
 use Rattle.lua_tree.specs.declared.token.TokenKind.{TokenKind}

@@ -1,6 +1,7 @@
 -- What a run finds lies within the depth.
 use Rattle.std.proofs.Common.{◌≡◌, ℕ, ◌+◌, ◌≤◌, max, Bool, true, false, List, Option, Some, None, pos, if◌then◌else◌, ◌==◌, nat_lt, refl, sym, ◌∙◌, ap, subst, arith}
-use Rattle.lua_tree.specs.Syntax.{Text, Statements, Expression, Fields, no_fields}
+use Rattle.lua_tree.specs.Syntax.{Statements, Expression, Fields, no_fields}
+use Rattle.lua_num.specs.Bytes.{Text}
 use Rattle.lua_tree.specs.WellFormed.{is_target, is_call, ends_block, depth_of_statements, depth_of_statement, depth_of_branches, depth_of_otherwise, depth_of_step, depth_of_body, depth_of_expressions, depth_of_expression, depth_of_arguments, depth_of_fields}
 use Rattle.lua_tree.specs.Spelled.{Phrase, Meant, Field, positional_field, named_field, keyed_field}
 use Rattle.lua_tree.specs.declared.token.Token.{Token}

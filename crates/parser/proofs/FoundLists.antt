@@ -1,7 +1,8 @@
 -- Each list of names, parameters, expressions, targets, arguments and items is read where it is spelled, if its parts are.
 use Rattle.std.proofs.Common.{◌≡◌, ◌==◌, ℕ, ◌+◌, ◌≤◌, max, Bool, true, false, List, [], ◌∷◌, Option, Some, None, refl, sym, ◌∙◌, ap, subst, arith}
 use Rattle.std.proofs.lemmas.Bool.Decides.{nat_tests}
-use Rattle.lua_tree.specs.Syntax.{Text, Statements, function_body, Expressions, no_expressions, expression, Expression, name_expression, call_expression, method_call, parenthesized, argument_list, text_argument, table_argument, Fields, no_fields, positional, named, keyed}
+use Rattle.lua_tree.specs.Syntax.{Statements, function_body, Expressions, no_expressions, expression, Expression, name_expression, call_expression, method_call, parenthesized, argument_list, text_argument, table_argument, Fields, no_fields, positional, named, keyed}
+use Rattle.lua_num.specs.Bytes.{Text}
 use Rattle.lua_tree.specs.Names.{is_name, are_names}
 use Rattle.lua_tree.specs.WellFormed.{is_target, are_targets, has_expressions, takes_arguments, last_takes_arguments, ends_item, depth_of_expressions, depth_of_expression, depth_of_fields}
 use Rattle.lua_tree.specs.Spelled.{Phrase, Meant, more_names_phrase, parameters_phrase, more_parameters_phrase, field_phrase, fields_phrase, expression_phrase, body_phrase, Field, positional_field, named_field, keyed_field, Spelled, more_names_parts, parameters_parts, more_parameters_parts, more_expressions_parts, expression_parts, field_parts, fields_parts, separator_parts, by_word, by_word_on, by_phrase, no_part}

@@ -1,6 +1,7 @@
 -- Each statement and each block is read where it is spelled, if its parts are.
 use Rattle.std.proofs.Common.{◌≡◌, ◌&&◌, not, if◌then◌else◌, ◌⊎◌, inl, inr, ℕ, ◌+◌, ◌≤◌, max, Bool, true, false, List, [], ◌∷◌, Option, Some, None, refl, sym, ◌∙◌, ap, subst, arith}
-use Rattle.lua_tree.specs.Syntax.{Text, Statements, no_statements, statement, Statement, assignment, call_statement, do_block, while_loop, repeat_loop, if_statement, numeric_for, generic_for, function_statement, local_function, local_statement, return_statement, break_statement, Branches, no_branches, branch, Otherwise, no_otherwise, otherwise, ForStep, no_step, by_step, FunctionBody, function_body, Expressions, no_expressions, expression, Expression, call_expression, method_call}
+use Rattle.lua_tree.specs.Syntax.{Statements, no_statements, statement, Statement, assignment, call_statement, do_block, while_loop, repeat_loop, if_statement, numeric_for, generic_for, function_statement, local_function, local_statement, return_statement, break_statement, Branches, no_branches, branch, Otherwise, no_otherwise, otherwise, ForStep, no_step, by_step, FunctionBody, function_body, Expressions, no_expressions, expression, Expression, call_expression, method_call}
+use Rattle.lua_num.specs.Bytes.{Text}
 use Rattle.lua_tree.specs.Names.{is_name, are_names}
 use Rattle.lua_tree.specs.WellFormed.{is_target, is_call, is_optional_name, last_takes_arguments, statement_begins_with_paren, statement_takes_arguments, ends_block, may_follow, formed_expression, formed_statement, formed_statements, depth_of_statements, depth_of_statement, depth_of_branches, depth_of_otherwise, depth_of_step, depth_of_expressions, depth_of_expression}
 use Rattle.lua_tree.specs.Spelled.{block_phrase, statement_phrase, body_phrase, method_phrase, values_phrase, expressions_phrase, semicolon_phrase, Spelled, block_parts, body_parts, method_parts, more_names_parts, semicolon_parts, step_parts, values_parts, expressions_parts, by_word, by_word_on, by_next, by_phrase, no_part}

@@ -1,7 +1,8 @@
 -- Steps of a run that look at what the next token begins.
 use Rattle.std.proofs.Common.{◌≡◌, ℕ, true, false, List, Option, Some, None, is_some, sym, subst, nat_lt, arith, ap, ◌<◌, ◌≤◌, pos}
 use Rattle.std.proofs.lemmas.Bool.Decides.{nat_tests}
-use Rattle.lua_tree.specs.Syntax.{Text, Statements, Expression, nil_literal, true_literal, false_literal, vararg_expression, number_literal, text_literal}
+use Rattle.lua_tree.specs.Syntax.{Statements, Expression, nil_literal, true_literal, false_literal, vararg_expression, number_literal, text_literal}
+use Rattle.lua_num.specs.Bytes.{Text}
 use Rattle.lua_tree.specs.WellFormed.{depth_of_expression}
 use Rattle.lua_tree.specs.Spelled.{Phrase, block_phrase}
 use Rattle.lua_tree.specs.declared.token.Token.{Token}

@@ -1,6 +1,7 @@
 -- One turn of each of the parser's loops: what the rest answers, with one part more before it, the whole answers.
 use Rattle.std.proofs.Common.{if◌then◌else◌, ◌≡◌, ℕ, ◌+◌, max, Bool, true, false, List, [], ◌∷◌, ◌++◌, refl, sym, ◌∙◌, ap, subst, arith, append_assoc}
-use Rattle.lua_tree.specs.Syntax.{Text, Statements, no_statements, statement, Statement, Branches, no_branches, branch, Expressions, no_expressions, expression, Expression, Fields, no_fields, positional, named, keyed, if_statement, function_statement, local_statement, generic_for}
+use Rattle.lua_tree.specs.Syntax.{Statements, no_statements, statement, Statement, Branches, no_branches, branch, Expressions, no_expressions, expression, Expression, Fields, no_fields, positional, named, keyed, if_statement, function_statement, local_statement, generic_for}
+use Rattle.lua_num.specs.Bytes.{Text}
 use Rattle.lua_tree.specs.Joins.{join_statements, join_branches, join_expressions, join_fields}
 use Rattle.lua_tree.specs.Spelled.{statement_phrase, block_phrase, expressions_phrase, branches_phrase, Field, positional_field, named_field, keyed_field}
 use Rattle.lua_tree.specs.WellFormed.{depth_of_statements, depth_of_statement, depth_of_branches, depth_of_expressions, depth_of_expression, depth_of_fields, is_target, ends_block}

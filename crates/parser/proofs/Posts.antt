@@ -2,7 +2,8 @@
 use Rattle.std.proofs.Common.{◌≡◌, ◌&&◌, ℕ, ◌+◌, ◌<◌, ◌≤◌, Bool, true, false, List, [], ◌∷◌, Option, Some, refl}
 use Rattle.lua_tree.specs.Spelled.{Phrase, Meant, Field, positional_field, named_field, keyed_field, Parameters, BranchesLeft, Part, word, Spelled, no_part, by_word, first_line_of}
 use Rattle.lua_tree.specs.Spelled.{expression_parts, statement_parts, arguments_parts, field_parts, fields_parts, branches_parts, parameters_parts, more_parameters_parts, more_names_parts, expressions_parts, more_expressions_parts, values_parts, semicolon_parts, separator_parts, method_parts, step_parts, body_parts, block_parts}
-use Rattle.lua_tree.specs.Syntax.{Text, Statements, Statement, ForStep, FunctionBody, Expressions, Expression, Arguments, Fields}
+use Rattle.lua_tree.specs.Syntax.{Statements, Statement, ForStep, FunctionBody, Expressions, Expression, Arguments, Fields}
+use Rattle.lua_num.specs.Bytes.{Text}
 use Rattle.lua_tree.specs.WellFormed.{is_prefix, are_targets, has_expressions, is_optional_name, on_its_line, takes_arguments, last_takes_arguments, statement_takes_arguments, formed_statements, formed_statement, formed_branches, formed_otherwise, formed_step, formed_body, formed_expressions, formed_expression, formed_arguments, formed_fields, depth_of_statements, depth_of_statement, depth_of_branches, depth_of_otherwise, depth_of_step, depth_of_body, depth_of_expressions, depth_of_expression, depth_of_arguments, depth_of_fields}
 use Rattle.lua_tree.specs.Names.{is_name, are_names}
 use Rattle.lua_tree.specs.Precedence.{level_of_op, is_right_associative, level_of, is_unary, left_binds}

@@ -1,6 +1,7 @@
 -- The answers of the goals of names, bodies, lists of expressions and fields.
 use Rattle.std.proofs.Common.{◌≡◌, ℕ, ◌+◌, ◌≤◌, Bool, true, false, List, [], ◌∷◌, Option, Some, None, refl, sym, subst, max, arith, if◌then◌else◌}
-use Rattle.lua_tree.specs.Syntax.{Text, Expressions, no_expressions, expression, Expression, Fields, no_fields}
+use Rattle.lua_tree.specs.Syntax.{Expressions, no_expressions, expression, Expression, Fields, no_fields}
+use Rattle.lua_num.specs.Bytes.{Text}
 use Rattle.lua_tree.specs.Spelled.{word, of, Spelled, no_part, by_phrase, Field, positional_field, named_field, keyed_field, expressions_phrase, more_expressions_parts, values_parts, fields_parts, fields_phrase, field_phrase, separator_phrase, separator_parts}
 use Rattle.lua_tree.specs.Names.{is_name}
 use Rattle.lua_tree.specs.WellFormed.{formed_expression, has_expressions, ends_item, takes_arguments, last_takes_arguments, formed_fields, depth_of_expression, depth_of_expressions, depth_of_fields}

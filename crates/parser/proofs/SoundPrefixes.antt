@@ -1,6 +1,7 @@
 -- The answers of the goals of expressions that may be indexed or called, and of arguments.
 use Rattle.std.proofs.Common.{◌≡◌, ℕ, ◌+◌, ◌≤◌, ◌==◌, Bool, true, false, List, [], ◌∷◌, Option, Some, None, refl, ap, arith, if◌then◌else◌}
-use Rattle.lua_tree.specs.Syntax.{Text, Expression, Arguments, argument_list, text_argument, table_argument}
+use Rattle.lua_tree.specs.Syntax.{Expression, Arguments, argument_list, text_argument, table_argument}
+use Rattle.lua_num.specs.Bytes.{Text}
 use Rattle.lua_tree.specs.Spelled.{Spelled, no_part, by_last, by_phrase, arguments_parts, arguments_phrase}
 use Rattle.lua_tree.specs.WellFormed.{depth_of_expression, depth_of_arguments}
 use Rattle.lua_tree.specs.declared.token.Token.{Token}

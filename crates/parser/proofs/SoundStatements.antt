@@ -1,6 +1,7 @@
 -- The answers of the goals of statements.
 use Rattle.std.proofs.Common.{◌≡◌, ℕ, ◌+◌, Bool, true, false, List, [], ◌∷◌, Option, Some, refl, sym, subst, arith, if◌then◌else◌}
-use Rattle.lua_tree.specs.Syntax.{Text, assignment, call_statement, FunctionBody, Expressions, no_expressions, expression, Expression}
+use Rattle.lua_tree.specs.Syntax.{assignment, call_statement, FunctionBody, Expressions, no_expressions, expression, Expression}
+use Rattle.lua_num.specs.Bytes.{Text}
 use Rattle.lua_tree.specs.Spelled.{statement_phrase, expressions_phrase, names_phrase, Part, word, word_on, of, Spelled, no_part, by_word, by_phrase, more_expressions_parts, expressions_parts, more_names_parts, first_line_of}
 use Rattle.lua_tree.specs.WellFormed.{is_call, is_target, has_expressions, depth_of_expression}
 use Rattle.lua_tree.specs.declared.token.Token.{Token}

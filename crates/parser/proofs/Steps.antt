@@ -1,6 +1,6 @@
 -- Steps of a run, from what the parser's functions answer.
 use Rattle.std.proofs.Common.{cond, ◌≡◌, ℕ, ◌≤◌, Bool, true, false, List, [], ◌∷◌, Option, refl, sym, subst}
-use Rattle.lua_tree.specs.Syntax.{Text}
+use Rattle.lua_num.specs.Bytes.{Text}
 use Rattle.lua_tree.specs.Spelled.{Phrase, names_phrase, more_names_phrase, Meant}
 use Rattle.lua_tree.specs.declared.token.Token.{Token}
 use Rattle.lua_tree.specs.declared.token.TokenKind.{TokenKind}

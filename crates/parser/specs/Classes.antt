@@ -1,6 +1,7 @@
 -- Serves the bodies. What the next token begins.
 use Rattle.std.specs.Prelude.{pos, ℕ, Bool, true, false, Option, Some, None, if◌then◌else◌}
-use Rattle.lua_tree.specs.Syntax.{Text, Expression, nil_literal, true_literal, false_literal, vararg_expression, number_literal, text_literal}
+use Rattle.lua_tree.specs.Syntax.{Expression, nil_literal, true_literal, false_literal, vararg_expression, number_literal, text_literal}
+use Rattle.lua_num.specs.Bytes.{Text}
 use Rattle.lua_tree.specs.Names.{is_name}
 use Rattle.lua_tree.specs.declared.token.TokenKind.{TokenKind}
 pub use Rattle.parser.specs.declared.classes.Role.{Role}

@@ -1,6 +1,7 @@
 -- Serves the bodies. What the parser's functions answer, by the programs.
 use Rattle.std.specs.Prelude.{◌≡◌, ◌≤◌, ◌<◌, ℕ, Bool, true, false, List, [], ◌∷◌, Some}
-use Rattle.lua_tree.specs.Syntax.{Text, Expression, Statements}
+use Rattle.lua_tree.specs.Syntax.{Expression, Statements}
+use Rattle.lua_num.specs.Bytes.{Text}
 use Rattle.lua_tree.specs.Spelled.{Phrase, Meant, Parameters}
 use Rattle.lua_tree.specs.declared.token.Token.{Token}
 use Rattle.lua_tree.specs.declared.token.TokenKind.{TokenKind}

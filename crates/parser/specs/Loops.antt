@@ -1,6 +1,7 @@
 -- Serves the bodies. Programs that go on with a list of which a part is read.
 use Rattle.std.specs.Prelude.{ℕ, List, ◌++◌}
-use Rattle.lua_tree.specs.Syntax.{Text, Statements, if_statement, Branches, Expressions, Expression, Fields}
+use Rattle.lua_tree.specs.Syntax.{Statements, if_statement, Branches, Expressions, Expression, Fields}
+use Rattle.lua_num.specs.Bytes.{Text}
 use Rattle.lua_tree.specs.Joins.{join_statements, join_branches, join_expressions, join_fields}
 use Rattle.lua_tree.specs.Spelled.{block_phrase, statement_phrase, parameters_phrase, expressions_phrase, fields_phrase, names_phrase}
 use Rattle.lua_tree.specs.declared.token.TokenKind.{TokenKind}

@@ -1,6 +1,7 @@
 -- Serves the bodies. The parser as programs that read tokens from the left, with a look at the next one.
 use Rattle.std.specs.Prelude.{◌==◌, ℕ, ◌+◌, nat_lt, true, false, [], ◌∷◌, Option, Some, None, if◌then◌else◌}
-use Rattle.lua_tree.specs.Syntax.{Text, Statements, no_statements, statement, assignment, call_statement, do_block, while_loop, repeat_loop, if_statement, numeric_for, generic_for, function_statement, local_function, local_statement, return_statement, break_statement, no_branches, branch, no_otherwise, otherwise, no_step, by_step, function_body, no_expressions, expression, Expression, name_expression, function_expression, index_expression, field_expression, call_expression, method_call, unary_expression, constructor, parenthesized, argument_list, text_argument, table_argument, Fields, no_fields, positional, named, keyed}
+use Rattle.lua_tree.specs.Syntax.{Statements, no_statements, statement, assignment, call_statement, do_block, while_loop, repeat_loop, if_statement, numeric_for, generic_for, function_statement, local_function, local_statement, return_statement, break_statement, no_branches, branch, no_otherwise, otherwise, no_step, by_step, function_body, no_expressions, expression, Expression, name_expression, function_expression, index_expression, field_expression, call_expression, method_call, unary_expression, constructor, parenthesized, argument_list, text_argument, table_argument, Fields, no_fields, positional, named, keyed}
+use Rattle.lua_num.specs.Bytes.{Text}
 use Rattle.lua_tree.specs.Spelled.{Phrase, block_phrase, statement_phrase, branches_phrase, step_phrase, body_phrase, parameters_phrase, more_parameters_phrase, method_phrase, values_phrase, expressions_phrase, more_expressions_phrase, expression_phrase, arguments_phrase, fields_phrase, field_phrase, semicolon_phrase, separator_phrase, name_phrase, more_names_phrase, Meant, Field, positional_field, named_field, keyed_field}
 use Rattle.lua_tree.specs.WellFormed.{is_target, is_call, ends_block, depth_of_expression}
 use Rattle.lua_tree.specs.declared.token.TokenKind.{TokenKind}

@@ -1,6 +1,6 @@
 -- Parts that begin with declarations.
 use Rattle.std.proofs.Common.{◌≡◌, subst, ℕ, ◌+◌, ◌<◌, ◌≤◌, List, length, Result, Ok, Err, ◌⊎◌}
-use Rattle.lua_tree.specs.Syntax.{Text}
+use Rattle.lua_num.specs.Bytes.{Text}
 use Rattle.lua_tree.specs.Outline.{Place, Part, both, within, with_locals, come, in_loop, declares}
 use Rattle.scopes.specs.declared.fault.ScopeFault.{ScopeFault}
 use Rattle.scopes.specs.declared.resolver.Resolver.{Resolver}

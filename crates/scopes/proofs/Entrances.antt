@@ -4,7 +4,7 @@ use Rattle.std.proofs.Math.Seq.{take-suc}
 use Rattle.std.proofs.lemmas.List.{length-append, length-replicate, length-take, reverse-append}
 use Rattle.std.proofs.lemmas.Bool.{cases_lt}
 use Rattle.std.specs.Str.{bytes_eq}
-use Rattle.lua_tree.specs.Syntax.{Text}
+use Rattle.lua_num.specs.Bytes.{Text}
 use Rattle.lua_tree.specs.Outline.{Binding, Scope, Place, Walk, Part, Mark, local_name, hidden_local, dots, leave, opened, mention, both, within, innermost, with_name, with_names, with_locals, come, in_loop, in_function, reaching, declares, marked}
 use Rattle.lua_tree.specs.Scoping.{Breach, too_many_locals, first_of, first_breach, is_one_of}
 use Rattle.scopes.specs.declared.fault.ScopeFault.{ScopeFault}

@@ -3,7 +3,8 @@ use Rattle.std.proofs.Common.{◌≡◌, refl, sym, ℕ, ◌+◌, ◌<◌, Bool,
 use Rattle.std.specs.Int.{from_bool}
 use Rattle.std.proofs.lemmas.List.{length-append}
 use Rattle.std.proofs.lemmas.List.Elements.{All-take, All-push}
-use Rattle.lua_tree.specs.Syntax.{Text, function_body}
+use Rattle.lua_tree.specs.Syntax.{function_body}
+use Rattle.lua_num.specs.Bytes.{Text}
 use Rattle.lua_tree.specs.Outline.{Place, both, within, in_loop, with_locals, declares, all_params, statements_part, statement_part, branches_part, expression_part}
 use Rattle.lua_tree.specs.View.{view_block, view_statement, view_arms, view_exp, view_body}
 use Rattle.lua_tree.specs.declared.tree.Exp.{Exp}

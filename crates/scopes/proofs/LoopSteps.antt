@@ -5,7 +5,7 @@ use Rattle.std.proofs.Math.ListN.{take-append-drop}
 use Rattle.std.proofs.lemmas.Bool.Decides.{nat_tests}
 use Rattle.std.specs.Str.{bytes_eq}
 use Rattle.std.specs.Result.{IsErrAnd}
-use Rattle.lua_tree.specs.Syntax.{Text}
+use Rattle.lua_num.specs.Bytes.{Text}
 use Rattle.lua_tree.specs.Outline.{Binding}
 use Rattle.scopes.specs.Standing.{binding_of_option, lookup}
 use Rattle.scopes.specs.Capturing.{slot_from, Full, Passes, Reached, Stuck, OnlyFunctions}

@@ -4,7 +4,7 @@ use Rattle.std.specs.Result.{IsErrAnd}
 use Rattle.std.specs.Str.{bytes_eq}
 use Rattle.std.specs.List.{All}
 use Rattle.std.proofs.lemmas.List.Elements.{All-head, All-tail}
-use Rattle.lua_tree.specs.Syntax.{Text}
+use Rattle.lua_num.specs.Bytes.{Text}
 use Rattle.lua_tree.specs.Outline.{Binding, Place, Mark, mention, mentions}
 use Rattle.lua_tree.specs.Scoping.{Breach, too_many_upvalues, first_of, first_breach}
 use Rattle.scopes.specs.Faults.{IsBreach}

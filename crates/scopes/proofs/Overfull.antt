@@ -1,7 +1,7 @@
 -- A mention that breaks the rule on upvalues, and one that keeps it.
 use Rattle.std.proofs.Common.{◌≡◌, ◌==◌, ◌&&◌, ◌||◌, inl, inr, ℕ, ◌+◌, ◌<◌, ◌≤◌, Bool, true, false, not, List, [], ◌∷◌, ◌++◌, length, Option, Some, None, if◌then◌else◌, nat_lt, refl, sym, ap, ◌∙◌, subst, length-append, arith}
 use Rattle.std.proofs.lemmas.Bool.Decides.{nat_tests}
-use Rattle.lua_tree.specs.Syntax.{Text}
+use Rattle.lua_num.specs.Bytes.{Text}
 use Rattle.lua_tree.specs.Outline.{Binding, Mark}
 use Rattle.lua_tree.specs.Scoping.{inside_of, is_one_of, is_known, upvalues_of, Breach, too_many_upvalues, first_of, upvalue_breach}
 use Rattle.lua_tree.specs.Resolved.{declarations_in, functions_in}

@@ -1,7 +1,7 @@
 -- What a walk over the functions around a mention makes of their upvalues is what the marks give them.
 use Rattle.std.proofs.Common.{◌≡◌, ◌==◌, ◌&&◌, ◌||◌, ◌⊎◌, inl, inr, ℕ, zero, suc, ◌+◌, ◌<◌, ◌≤◌, Bool, true, false, not, List, [], ◌∷◌, ◌++◌, length, get_or, Some, None, if◌then◌else◌, refl, sym, ap, ◌∙◌, subst, length-append, append-nil, arith}
 use Rattle.std.proofs.Math.ListN.{length-set}
-use Rattle.lua_tree.specs.Syntax.{Text}
+use Rattle.lua_num.specs.Bytes.{Text}
 use Rattle.lua_tree.specs.Outline.{Binding, Mark, mention, innermost}
 use Rattle.lua_tree.specs.Scoping.{inside_of, is_one_of, is_known, with_mention, upvalues_of, slot_of, outer_functions, outer_of, local_use, upvalue_use, use_in, uses_by}
 use Rattle.lua_tree.specs.Resolved.{declarations_in, functions_in}

@@ -2,7 +2,7 @@
 use Rattle.std.specs.Prelude.{◌≡◌, ℕ, suc, ◌+◌, ◌<◌, ◌≤◌, Bool, true, false, List, [], ◌∷◌, ◌++◌, length, take, replicate, reverse, Option, Some, None, Result, Ok, Err, if◌then◌else◌}
 use Rattle.std.specs.Str.{bytes_eq}
 use Rattle.std.specs.List.{All}
-use Rattle.lua_tree.specs.Syntax.{Text}
+use Rattle.lua_num.specs.Bytes.{Text}
 use Rattle.lua_tree.specs.Outline.{Binding, Place, Mark, mention, Walk, Part, nothing, both, within, stay, innermost, statements_part, expression_part}
 use Rattle.lua_tree.specs.Scoping.{is_one_of, upvalues_of, uses_of, outer_of, first_breach}
 use Rattle.lua_tree.specs.View.{view_block, view_exp, view_kind}

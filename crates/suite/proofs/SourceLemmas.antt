@@ -3,7 +3,8 @@ use Rattle.std.specs.Prelude.{codes}
 use Rattle.std.proofs.Common.{◌≡◌, ◌≢◌, ℕ, ◌+◌, ◌<◌, ◌≤◌, ℤ, Bool, false, List, [], ◌∷◌, ◌++◌, length, get_or, drop, IfNone, Option, Some, None, refl, sym, ap, subst, ◌∙◌, append_assoc, append-nil, arith, length-append}
 use Rattle.std.proofs.lemmas.List.{at_drop_more, at_drop_all}
 use Rattle.lua_tree.specs.Syntax as syntax
-use Rattle.lua_tree.specs.Syntax.{Text, Statements, no_statements, call_statement, Expressions, Expression, call_expression, argument_list, Source}
+use Rattle.lua_tree.specs.Syntax.{Statements, no_statements, call_statement, Expressions, Expression, call_expression, argument_list, Source}
+use Rattle.lua_num.specs.Bytes.{Text}
 use Rattle.lua_tree.specs.Outline.{Place, Mark, mention, statement_part, statements_part, beginning}
 use Rattle.lua_tree.specs.Scoping.{first_breach, Scoped}
 use Rattle.lua_tree.specs.Tiling.{Lexes}
