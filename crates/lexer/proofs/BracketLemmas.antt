@@ -7,7 +7,8 @@ use Rattle.std.proofs.Math.Dec.{eqb-zero-suc, eqb-suc-zero, eqb-suc-suc}
 use Rattle.std.proofs.Math.Seq.{drop-append_seam}
 use Rattle.std.proofs.lemmas.List.{length-replicate, length-take-le, take-append-drop, take_rest}
 use Rattle.std.proofs.lemmas.Bool.Decides.{nat_tests}
-use Rattle.lua_tree.specs.Bytes.{Each, BeginsWithout, ends_line, has_front, holds}
+use Rattle.lua_num.specs.Bytes.{Each, BeginsWithout}
+use Rattle.lua_tree.specs.Bytes.{ends_line, has_front, holds}
 use Rattle.lua_tree.specs.Brackets.{opening, closing, almost_closing, ends_opening, opens_long}
 use Rattle.lexer.specs.Fronts.{RunFront, LongFront, CommentFront}
 use Rattle.lexer.specs.Openings.{is_equals, FirstClosing}

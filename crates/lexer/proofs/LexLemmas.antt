@@ -2,9 +2,9 @@
 use Rattle.std.proofs.Math.Seq.{take-add}
 use Rattle.std.proofs.lemmas.List.{drop-drop, drop_all, length-drop}
 use Rattle.std.proofs.Common.{◌≤◌, Result, Ok, Err, IfOk, IfErr, ◌≡◌, ◌⊎◌, ℕ, ◌+◌, Option, Some, None, List, [], ◌∷◌, ◌++◌, length, take, drop, refl, sym, ap, subst, ◌∙◌, inl, inr, append_assoc, append-nil, arith}
+use Rattle.lua_num.specs.Bytes.{is_space, Each}
 use Rattle.lua_tree.specs.declared.token.TokenKind.{TokenKind}
 use Rattle.lua_tree.specs.declared.token.Token.{Token}
-use Rattle.lua_tree.specs.Bytes.{is_space, Each}
 use Rattle.lua_tree.specs.Lines.{IsLineOf}
 use Rattle.lua_tree.specs.Tiling.{Piece, Space, Comment, Tok, IsPiece, Tile, Tiles, AreTokens, Lexes, Cause, IsFault, Stops}
 use Rattle.lexer.specs.Lines.{IsCounted}

@@ -1,12 +1,14 @@
 -- Faults at the front of a text, and its first line.
-use Rattle.std.proofs.Common.{◌≡◌, ◌&&◌, ◌||◌, ℕ, ℤ, suc, ◌+◌, ◌<◌, ◌≤◌, Bool, true, false, not, List, [], ◌∷◌, ◌++◌, length, drop, refl, sym, ap, subst, ◌∙◌, ◌==◌, max, inl, inr, length-append, arith}
+use Rattle.std.proofs.Common.{◌≡◌, ◌&&◌, ◌||◌, ℕ, suc, ◌+◌, ◌<◌, ◌≤◌, Bool, true, false, not, None, List, [], ◌∷◌, ◌++◌, length, drop, refl, sym, ap, subst, ◌∙◌, ◌==◌, max, inl, inr, length-append, arith}
 use Rattle.std.specs.Prelude.{codes, if◌then◌else◌}
 use Rattle.std.proofs.lemmas.Bool.Decides.{nat_tests}
-use Rattle.lua_num.specs.Numeral.{IsNumeral}
-use Rattle.lua_tree.specs.Bytes.{is_space, is_digit, is_letter, is_word, is_numeral, ends_line, is_within, has_front, longest, BeginsWith, BeginsWithout}
+use Rattle.lua_num.specs.Numeral.{numeral_number}
+use Rattle.lua_num.specs.Bytes.{is_digit, BeginsWith, BeginsWithout}
+use Rattle.lua_tree.specs.Bytes.{is_numeral, ends_line, has_front, longest}
 use Rattle.lua_tree.specs.Strings.{Item, item_text, items_text}
 use Rattle.lua_tree.specs.Tokens.{marks, BeginsNumeral}
 use Rattle.lua_tree.specs.Tiling.{IsBadNumber, IsBadByte, IsTooLarge}
+use Rattle.lua_tree.proofs.BadBytes.{first_bytes, IsNone, none_passes, passes_not}
 use Rattle.lexer.specs.declared.piece.PieceKind.{PieceKind}
 use Rattle.lexer.specs.Fronts.{IsFront, RunFront}
 use Rattle.lexer.specs.Classes.{begins, begins_numeral, begins_first_line, IsLeft}
@@ -29,14 +31,14 @@ numeral_begins (byte ∷ text) h = by (is_digit byte) refl
     by true e = inl e
     by false e = let both = point e in inr (both.0, after_point text both.1)
 
-pub bad_number : (n : ℕ) (text taken : List ℕ) → begins_numeral text ≡ true → RunFront is_numeral n text → ((value : ℤ) → IsNumeral taken value → ⊥) → ((front : List ℕ) → (after : List ℕ) → IsFront n text front after → taken ≡ front) → IsBadNumber text
+pub bad_number : (n : ℕ) (text taken : List ℕ) → begins_numeral text ≡ true → RunFront is_numeral n text → None ≡ numeral_number taken → ((front : List ℕ) → (after : List ℕ) → IsFront n text front after → taken ≡ front) → IsBadNumber text
 bad_number n text taken first run none same = record {
   run = run.front;
   after = run.after;
   whole = run.is_front.whole;
   begins = numeral_begins text first;
   is_run = run.run;
-  no_numeral = λ value numeral. none value (subst (λ t. IsNumeral t value) (sym (same run.front run.after run.is_front)) numeral);
+  no_numeral = ap numeral_number (sym (same run.front run.after run.is_front)) ∙ sym none;
 }
 
 items_size : (items : List Item) (rest : List ℕ) → length (items_text items rest) ≡ length (items_text items []) + length rest
@@ -89,11 +91,8 @@ avoids (word ∷ words) text none = (no_front (has_front word text) (length word
 differs : (c byte : ℕ) → ((c == byte) && true) ≡ false → byte ≡ c → ⊥
 differs c byte h e = grind (arith, nat_tests)
 
-not_within : (low high byte : ℕ) → (low ≤ byte → byte ≤ high → ⊥) → is_within low high byte ≡ false
-not_within low high byte h = grind (arith, nat_tests)
-
-no_word_byte : (byte : ℕ) (others : Bool) → is_letter byte ≡ false → (is_digit byte || others) ≡ false → is_word byte ≡ false
-no_word_byte byte others x y = grind (arith, nat_tests)
+digit_none : (byte : ℕ) (others : Bool) → (is_digit byte || others) ≡ false → is_digit byte ≡ false
+digit_none byte others h = grind (arith, nat_tests)
 
 no_equals : (after : List ℕ) → has_front (codes "=") after ≡ false → BeginsWithout (λ next. next == 61) after
 no_equals [] h = tt
@@ -101,9 +100,6 @@ no_equals (next ∷ after) h = grind (arith, nat_tests)
 
 no_quote_byte : (byte : ℕ) → ((byte == 34) || (byte == 39)) ≡ false → (byte ≡ 34 → ⊥) × (byte ≡ 39 → ⊥)
 no_quote_byte byte h = (λ e. grind (arith, nat_tests), λ e. grind (arith, nat_tests))
-
-is_not : (c byte : ℕ) → (byte ≡ c → ⊥) → (byte == c) ≡ false
-is_not c byte h = grind (arith, nat_tests)
 
 no_tilde : (byte : ℕ) → (byte == 126) ≡ false → byte ≡ 126 → ⊥
 no_tilde byte h e = grind (arith, nat_tests)
@@ -133,17 +129,9 @@ other_byte at byte after left none tilde =
     let quotes = no_quote_byte byte left.no_quote in
     let double : byte ≡ 34 → ⊥ = quotes.0 in
     let single : byte ≡ 39 → ⊥ = quotes.1 in
-    let space : is_space byte ≡ false = left.no_space in
-    let word : is_word byte ≡ false = no_word_byte byte _ left.no_word left.no_numeral in
-    let first : is_within 34 35 byte ≡ false = not_within 34 35 byte (λ l h. omega (arith, double, hash)) in
-    let second : (byte == 37) ≡ false = is_not 37 byte percent in
-    let third : is_within 39 47 byte ≡ false = not_within 39 47 byte (λ l h. omega (arith, single, open_paren, close_paren, star, plus, comma, minus, dot, slash)) in
-    let fourth : is_within 58 62 byte ≡ false = not_within 58 62 byte (λ l h. omega (arith, colon, semicolon, less, equal, greater)) in
-    let fifth : (byte == 91) ≡ false = is_not 91 byte open_bracket in
-    let sixth : is_within 93 94 byte ≡ false = not_within 93 94 byte (λ l h. omega (arith, close_bracket, caret)) in
-    let seventh : (byte == 123) ≡ false = is_not 123 byte open_brace in
-    let last : is_within 125 126 byte ≡ false = not_within 125 126 byte (λ l h. omega (arith, close_brace, tilde)) in
-    inl (rw (space, word, first, second, third, fourth, fifth, sixth, seventh, last))
+    let digit : is_digit byte ≡ false = digit_none byte _ left.no_numeral in
+    let others : IsNone first_bytes byte = (double, (hash, (percent, (single, (open_paren, (close_paren, (star, (plus, (comma, (minus, (dot, (slash, (colon, (semicolon, (less, (equal, (greater, (open_bracket, (close_bracket, (caret, (open_brace, (close_brace, (tilde, tt))))))))))))))))))))))) in
+    inl (passes_not byte (none_passes byte left.no_space left.no_word digit others))
 
 tilde_front : (after : List ℕ) → has_front (codes "~=") (126 ∷ after) ≡ false → BeginsWithout (λ next. next == 61) after
 tilde_front after h = no_equals after h

@@ -3,7 +3,8 @@ use Rattle.std.proofs.Common.{◌≡◌, ℕ, ◌+◌, ◌-◌, ◌≤◌, Bool,
 use Rattle.std.proofs.Math.Seq.{drop-append_seam}
 use Rattle.std.proofs.lemmas.Bool.Decides.{nat_tests}
 use Rattle.std.proofs.lemmas.List.{append-nil, length-drop, drop-drop}
-use Rattle.lua_tree.specs.Bytes.{ends_line, BeginsWith}
+use Rattle.lua_num.specs.Bytes.{BeginsWith}
+use Rattle.lua_tree.specs.Bytes.{ends_line}
 use Rattle.lua_tree.specs.Strings.{Item, item_text, item_value, ItemFits, ItemsFit, items_text, items_value, IsQuote, IsShort}
 use Rattle.lua_tree.proofs.Strings.{IsStop, quote_stops, end_stops, line_end_stops, backslash_stops, large_stops, SameItems, same_items, short_opened}
 use Rattle.lexer.specs.declared.strings.StringPart.{StringPart}

@@ -4,7 +4,8 @@ use Rattle.std.specs.List.{prefix_len}
 use Rattle.std.proofs.Math.Seq.{take-length}
 use Rattle.std.proofs.lemmas.List.{length-take-le, take-append-drop}
 use Rattle.lua_num.specs.Numeral.{digits_value}
-use Rattle.lua_tree.specs.Bytes.{is_digit, ends_line, Each, BeginsWith, BeginsWithout}
+use Rattle.lua_num.specs.Bytes.{is_digit, Each, BeginsWith, BeginsWithout}
+use Rattle.lua_tree.specs.Bytes.{ends_line}
 use Rattle.lua_tree.specs.Lines.{line_end}
 use Rattle.lua_tree.specs.Strings.{Plain, Escaped, EscapedEnd, Decimal, IsCode, escape_of}
 use Rattle.lexer.specs.StringParts.{HasItem}

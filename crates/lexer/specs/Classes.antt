@@ -1,6 +1,7 @@
--- With what a text begins: the tests by which the code tells its pieces apart.
+-- Serves the bodies. With what a text begins: the tests by which the code tells its pieces apart.
 use Rattle.std.specs.Prelude.{◌≡◌, ◌&&◌, ◌||◌, ℕ, Bool, false, List, [], ◌∷◌, codes, ◌==◌}
-use Rattle.lua_tree.specs.Bytes.{is_space, is_digit, is_letter, has_front}
+use Rattle.lua_num.specs.Bytes.{is_space, is_digit}
+use Rattle.lua_tree.specs.Bytes.{is_letter, has_front}
 use Rattle.lexer.specs.StringParts.{is_quote}
 
 -- the first byte passes

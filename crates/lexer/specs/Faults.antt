@@ -1,4 +1,4 @@
--- What a fault says of the bytes of a source.
+-- To be believed. What a fault says of the bytes of a source.
 use Rattle.std.specs.Prelude.{ℕ, List}
 use Rattle.lua_tree.specs.Tiling as tiling
 use Rattle.lua_tree.specs.Tiling.{Stops}

@@ -1,6 +1,6 @@
--- What stands at the front of a text, told by how many bytes it takes.
+-- Serves the bodies. What stands at the front of a text, told by how many bytes it takes.
 use Rattle.std.specs.Prelude.{◌≡◌, ◌⊎◌, ℕ, Bool, List, ◌++◌, length}
-use Rattle.lua_tree.specs.Bytes.{IsRun}
+use Rattle.lua_num.specs.Bytes.{IsRun}
 use Rattle.lua_tree.specs.Brackets.{IsLong}
 use Rattle.lua_tree.specs.Strings.{IsShort}
 use Rattle.lua_tree.specs.Tiling.{IsShortComment, IsLongComment}

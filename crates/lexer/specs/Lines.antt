@@ -1,4 +1,4 @@
--- Lines, counted byte by byte, and texts with each line end as byte 10.
+-- Serves the bodies. Lines, counted byte by byte, and texts with each line end as byte 10.
 use Rattle.std.specs.Prelude.{◌≡◌, ℕ, ◌+◌, ◌&&◌, Bool, List, [], ◌∷◌, min, ◌==◌, Option, None, Some, if◌then◌else◌}
 use Rattle.lua_tree.specs.Bytes.{ends_line}
 use Rattle.lua_tree.specs.Lines.{Part, IsCutOf, plain}

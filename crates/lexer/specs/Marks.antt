@@ -1,4 +1,4 @@
--- What the code reads of marks.
+-- Serves the bodies. What the code reads of marks.
 use Rattle.std.specs.Prelude.{ℕ, ◌<◌, List, [], ◌∷◌, codes}
 use Rattle.lua_tree.specs.declared.token.TokenKind.{TokenKind}
 use Rattle.lua_tree.specs.Tokens.{IsMark, IsMarkPlace, IsToken}

@@ -1,4 +1,4 @@
--- What stands in and behind the opening of a long bracket.
+-- Serves the bodies. What stands in and behind the opening of a long bracket.
 use Rattle.std.specs.Prelude.{◌≡◌, ◌==◌, ℕ, Bool, false, List, ◌++◌, length}
 use Rattle.lua_tree.specs.Bytes.{holds}
 use Rattle.lua_tree.specs.Brackets.{closing, almost_closing}

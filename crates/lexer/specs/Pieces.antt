@@ -1,8 +1,8 @@
--- What the code reads at the front of a text.
+-- Serves the bodies. What the code reads at the front of a text.
 use Rattle.std.specs.Prelude.{◌≡◌, ◌⊎◌, ℕ, ◌+◌, ◌<◌, List, [], ◌∷◌, Option, Some, None}
+use Rattle.lua_num.specs.Bytes.{is_space, Each}
 use Rattle.lua_tree.specs.declared.token.TokenKind.{TokenKind}
 use Rattle.lua_tree.specs.declared.token.Token.{Token}
-use Rattle.lua_tree.specs.Bytes.{is_space, Each}
 use Rattle.lua_tree.specs.Brackets.{IsLong}
 use Rattle.lua_tree.specs.Strings.{IsShort}
 use Rattle.lua_tree.specs.Tokens.{IsWord, IsNumber, IsToken}

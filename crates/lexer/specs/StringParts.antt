@@ -1,7 +1,8 @@
--- What stands at a place between the quotes of a short string.
+-- Serves the bodies. What stands at a place between the quotes of a short string.
 use Rattle.std.specs.Prelude.{◌≡◌, ◌⊎◌, ◌||◌, ℕ, ◌<◌, Bool, not, List, ◌∷◌, ◌++◌, length, codes, ◌==◌}
 use Rattle.lua_num.specs.Numeral.{digits_value}
-use Rattle.lua_tree.specs.Bytes.{ends_line, BeginsWithout}
+use Rattle.lua_num.specs.Bytes.{BeginsWithout}
+use Rattle.lua_tree.specs.Bytes.{ends_line}
 use Rattle.lua_tree.specs.Strings.{Item, item_text, item_value, ItemFits, IsCode}
 use Rattle.lua_tree.specs.Tiling.{IsUnfinished, IsTooLarge}
 use Rattle.lexer.specs.declared.strings.StringFault.{StringFault}

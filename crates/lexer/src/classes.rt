@@ -1,6 +1,7 @@
 // With what a text begins.
 ghost use Rattle.std.specs.Prelude.{◌≡◌};
-ghost use Rattle.lua_tree.specs.Bytes.{is_space, is_letter, has_front as has_the_front};
+ghost use Rattle.lua_num.specs.Bytes.{is_space};
+ghost use Rattle.lua_tree.specs.Bytes.{is_letter, has_front as has_the_front};
 ghost use Rattle.lexer.specs.StringParts.{is_quote};
 ghost use Rattle.lexer.specs.Classes.{begins, begins_numeral as begins_a_numeral, begins_bracket as begins_a_bracket, begins_first_line as begins_a_first_line};
 

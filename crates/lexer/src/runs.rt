@@ -1,6 +1,7 @@
 // The longest runs of bytes that stand at the front of a text.
 ghost use Rattle.std.specs.Prelude.{◌≡◌, not};
-ghost use Rattle.lua_tree.specs.Bytes.{is_space, is_word, is_numeral, ends_line};
+ghost use Rattle.lua_num.specs.Bytes.{is_space};
+ghost use Rattle.lua_tree.specs.Bytes.{is_word, is_numeral, ends_line};
 ghost use Rattle.lexer.specs.Fronts.{RunFront};
 
 /// How many bytes of white space stand at the front.

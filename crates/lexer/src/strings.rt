@@ -2,7 +2,7 @@
 ghost use Rattle.std.specs.Prelude.{◌≡◌, ℕ, ◌+◌, ◌≤◌, List, ◌∷◌, ◌++◌, length, take, IfOk, IfErr};
 ghost use Rattle.std.specs.List.{prefix_len};
 ghost use Rattle.lua_num.specs.Numeral.{digits_value};
-ghost use Rattle.lua_tree.specs.Bytes.{is_digit, Each, BeginsWith};
+ghost use Rattle.lua_num.specs.Bytes.{is_digit, Each, BeginsWith};
 ghost use Rattle.lua_tree.specs.Strings.{IsShort, escape_of};
 ghost use Rattle.lexer.specs.Fronts.{ShortFront};
 ghost use Rattle.lexer.specs.StringParts.{is_quote, StringFails, PartIs};

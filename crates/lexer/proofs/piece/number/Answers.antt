@@ -7,4 +7,4 @@ use Rattle.lexer.proofs.piece.number.Goals as goal
 pub returns-in-None-clause-fault : goal.returns-in-None-clause-fault
 returns-in-None-clause-fault c =
     let same : (front after : List ℕ) → IsFront c.numeral_length-length.result c.args.text.now front after → take c.numeral_length-length.result c.args.text.now ≡ front = front_taken c.numeral_length-length.result c.args.text.now in
-    (0, (refl, bad_number c.numeral_length-length.result c.args.text.now (take c.numeral_length-length.result c.args.text.now) c.requires c.numeral_length-length.ensures c.in-None.ensures.none same), omega arith)
+    (0, (refl, bad_number c.numeral_length-length.result c.args.text.now (take c.numeral_length-length.result c.args.text.now) c.requires c.numeral_length-length.ensures c.in-None.ensures same), omega arith)

@@ -2,7 +2,7 @@ use Rattle.std.proofs.Common.{rules, tests}
 use Rattle.std.proofs.lemmas.Iterator.{YieldsList-from_slice}
 use Rattle.std.proofs.lemmas.Iterator.Consumers.{count_from_yields_List}
 use Rattle.std.proofs.lemmas.Iterator.Search.{YieldsList-from_take_while}
-use Rattle.lua_tree.specs.Bytes.{is_space}
+use Rattle.lua_num.specs.Bytes.{is_space}
 use Rattle.lexer.proofs.RunLemmas.{counted_run}
 use Rattle.lexer.proofs.runs.space_length.Goals as goal
 

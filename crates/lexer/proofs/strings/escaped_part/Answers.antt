@@ -1,6 +1,7 @@
 use Rattle.std.proofs.Common.{◌≡◌, ◌||◌, true, false, get_or, arith}
 use Rattle.std.proofs.lemmas.Bool.Decides.{nat_tests}
-use Rattle.lua_tree.specs.Bytes.{is_digit, ends_line}
+use Rattle.lua_num.specs.Bytes.{is_digit}
+use Rattle.lua_tree.specs.Bytes.{ends_line}
 use Rattle.lexer.proofs.StringLemmas.{first_and_rest, line_end_item, escaped_item}
 use Rattle.lexer.proofs.strings.escaped_part.Goals as goal
 
