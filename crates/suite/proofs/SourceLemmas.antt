@@ -19,8 +19,8 @@ use Rattle.agrees.specs.Source.{is_chunk, PrintsNumber, ArePrinted, IsPrintList,
 use Rattle.agrees.specs.declared.tree.Statement.{Statement}
 use Rattle.agrees.specs.declared.tree.Statement.TheVariants.{Print}
 use Rattle.suite.specs.declared.fault.Fault.{Fault}
-use Rattle.suite.specs.Outcome.{IsBadSource}
-use Rattle.suite.specs.Reading.{IsScopingFault, IsNoPrintList, IsNumber, IsNumberList}
+use Rattle.suite.specs.Outcome.{IsBadSource, IsNoPrintList}
+use Rattle.suite.specs.Reading.{IsScopingFault, IsNumber, IsNumberList}
 
 pub none_weaker : {A P Q : Type 0} (o : Option A) → (P → Q) → IfNone o P → IfNone o Q
 none_weaker (Some x) f h = tt

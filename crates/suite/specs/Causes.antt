@@ -1,4 +1,4 @@
--- What the clauses of the top call speak of.
+-- To be believed. What the clauses of the top call speak of.
 use Rattle.std.specs.Prelude.{◌≡◌, ℕ, Bool, List, ◌⊎◌, Option}
 use Rattle.suite_io.specs.declared.calls.FileCall.{FileCall}
 use Rattle.suite_io.specs.Contents.{Contents}

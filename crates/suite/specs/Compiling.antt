@@ -1,4 +1,4 @@
--- What a statement has the compiler take.
+-- Serves a body. What a statement has the compiler take.
 use Rattle.agrees.specs.declared.tree.Statement.{Statement}
 use Rattle.agrees.specs.declared.tree.Statement.TheVariants.{Print}
 use Rattle.agrees.specs.declared.chunk.Constant.{Constant}

@@ -1,4 +1,4 @@
--- What the code answers for the effect of an instruction.
+-- Serves the bodies. What the code answers for the effect of an instruction.
 use Rattle.std.specs.Prelude.{◌≡◌, ℕ, List, slice_get}
 use Rattle.agrees.specs.declared.chunk.Value.{Value}
 use Rattle.agrees.specs.Chunk.{Chunk}

@@ -1,4 +1,4 @@
--- Where a running chunk stands: the place of the next instruction, and the registers.
+-- Serves the bodies. Where a running chunk stands: the place of the next instruction, and the registers.
 use Rattle.std.specs.Prelude.{ℕ, List}
 use Rattle.agrees.specs.declared.chunk.Value.{Value}
 

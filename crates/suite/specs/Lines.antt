@@ -1,4 +1,4 @@
--- Statuses, what a call comes to, and the line that each puts to the sink of errors.
+-- To be believed. Statuses, what a call comes to, and the line that each puts to the sink of errors.
 use Rattle.std.specs.Prelude.{◌≡◌, ℕ, List, [], ◌∷◌, ◌++◌, ◌⊎◌, Option, codes}
 use Rattle.std.specs.Fmt.{decimal}
 use Rattle.lexer.specs.declared.fault.LexFault.{LexFault}

@@ -1,6 +1,6 @@
--- What is wrong with the bytes of a file that is not run.
+-- To be believed. What is wrong with the bytes of a file that is not run.
 use Rattle.std.specs.Prelude.{◌≡◌, ◌⊎◌, ℕ, true, false, List, length, slice_get, Option, Some, None}
-use Rattle.lua_tree.specs.Syntax.{Source}
+use Rattle.lua_tree.specs.Syntax.{Source, Statements}
 use Rattle.lua_tree.specs.Trees.{IsTreeOf}
 use Rattle.lua_tree.specs.Scoping.{Scoped}
 use Rattle.lua_tree.specs.declared.token.Token.{Token}
@@ -9,9 +9,9 @@ use Rattle.lexer.specs.Faults.{IsFaultOf}
 use Rattle.parser.specs.Places.{IsUnexpectedAt, IsTooDeepAt}
 use Rattle.scopes.specs.declared.fault.ScopeFault.{ScopeFault}
 use Rattle.scopes.specs.Faults as scoping
-use Rattle.agrees.specs.Source.{is_chunk}
+use Rattle.agrees.specs.declared.tree.Statement.{Statement}
+use Rattle.agrees.specs.Source.{IsPrintList, is_chunk}
 use Rattle.suite.specs.declared.fault.Fault.{Fault}
-use Rattle.suite.specs.Reading.{IsNoPrintList}
 
 -- the offset of a token, or the length of the bytes, where there is none
 abbrev pub offset_of : ℕ → Option Token → ℕ
@@ -45,6 +45,10 @@ IsFaultIn bytes (Fault.Scoping fault) = HasNoScopes bytes fault
 pub record IsBadSource (bytes : List ℕ) (fault : Fault) : Type 0 where
   pub source : is_chunk bytes ≡ false
   pub fault_is : IsFaultIn bytes fault
+
+-- the statements are no list of at most 200 printed numbers
+abbrev pub IsNoPrintList : Statements → Type 0
+IsNoPrintList body = (tree : List Statement) → IsPrintList body tree → ⊥
 
 -- the bytes are source with a tree that keeps the rules of scoping, and its statements are not at most 200 printed numbers
 pub record IsOtherSource (bytes : List ℕ) : Type 0 where

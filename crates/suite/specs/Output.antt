@@ -1,4 +1,4 @@
--- What a sink takes of a text that is put in pieces.
+-- To be believed. What a sink takes of a text that is put in pieces.
 use Rattle.std.specs.Prelude.{◌≡◌, ℕ, List, ◌++◌, Option}
 use Rattle.suite_io.specs.Taken.{Takes}
 

@@ -1,11 +1,9 @@
--- What reading a source comes to.
-use Rattle.std.specs.Prelude.{◌≡◌, ℕ, ℤ, List, codes}
-use Rattle.lua_tree.specs.Syntax.{Source, Statements, Expressions, expression, no_expressions, Expression, name_expression, number_literal}
+-- Serves the bodies. What reading a source comes to.
+use Rattle.std.specs.Prelude.{◌≡◌, ℕ, ℤ, codes}
+use Rattle.lua_tree.specs.Syntax.{Source, Expressions, expression, no_expressions, Expression, name_expression, number_literal}
 use Rattle.lexer.specs.declared.fault.LexFault.{LexFault}
 use Rattle.scopes.specs.declared.fault.ScopeFault.{ScopeFault}
 use Rattle.scopes.specs.Faults as scoping
-use Rattle.agrees.specs.declared.tree.Statement.{Statement}
-use Rattle.agrees.specs.Source.{IsPrintList}
 use Rattle.suite.specs.declared.fault.Fault.{Fault}
 use Rattle.suite.specs.declared.outcome.Outcome.{Outcome}
 use Rattle.suite.specs.declared.source.SourceFault.{SourceFault}
@@ -30,10 +28,6 @@ abbrev pub outcome_of : SourceFault → Outcome
 outcome_of (SourceFault.Bad fault) = Outcome.BadSource fault
 outcome_of SourceFault.Unbuilt = Outcome.Unbuilt
 outcome_of SourceFault.OutOfMemory = Outcome.OutOfMemory
-
--- the statements are no list of at most 200 printed numbers
-abbrev pub IsNoPrintList : Statements → Type 0
-IsNoPrintList body = (tree : List Statement) → IsPrintList body tree → ⊥
 
 -- the name `print`
 pub record IsPrintName (e : Expression) : Type 0 where

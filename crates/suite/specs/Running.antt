@@ -1,4 +1,4 @@
--- What a step and a run of the machine do, by the rules.
+-- Serves the bodies. What a step and a run of the machine do, by the rules.
 use Rattle.std.specs.Prelude.{◌≡◌, ℕ, List, [], ◌++◌, ◌⊎◌, Option, Some, None}
 use Rattle.std.specs.List.{concat}
 use Rattle.suite_io.specs.Taken.{Takes}

@@ -1,4 +1,5 @@
--- What a call of the suite does before the line for the sink of errors: its outcome, the calls of files, and the output.
+-- To be believed. What a call of the suite does before the line for the sink of errors: its outcome, the calls of
+-- files, and the output.
 use Rattle.std.specs.Prelude.{◌≡◌, ℕ, Bool, true, false, List, [], ◌∷◌, ◌++◌, ◌⊎◌, Option, Some, IfSome}
 use Rattle.std.specs.FinMap.{get}
 use Rattle.suite_io.specs.declared.calls.FileCall.{FileCall}

@@ -8,8 +8,8 @@ ghost use Rattle.parser.specs.Places.{StopsBy};
 ghost use Rattle.agrees.specs.Source.{IsFirstForm, IsPrintList, PrintsNumber, is_chunk as the_is_chunk};
 ghost use Rattle.agrees.specs.declared.tree.Statement.{Statement};
 ghost use Rattle.suite.specs.declared.fault.Fault.{Fault as OneFault};
-ghost use Rattle.suite.specs.Outcome.{IsBadSource, IsNotBuilt, IsFaultIn};
-ghost use Rattle.suite.specs.Reading.{outcome_of, IsScopingFault, IsNoPrintList, IsPrintName, IsNumber, IsNumberList};
+ghost use Rattle.suite.specs.Outcome.{IsBadSource, IsNotBuilt, IsFaultIn, IsNoPrintList};
+ghost use Rattle.suite.specs.Reading.{outcome_of, IsScopingFault, IsPrintName, IsNumber, IsNumberList};
 
 use crate::fault::{Fault, offset_of};
 use crate::outcome::Outcome;
