@@ -1,0 +1,9 @@
+pub mod Datum
+pub mod Pairs
+pub mod Store
+pub mod Acts
+pub mod Operators
+pub mod Builtins
+pub mod Endings
+pub mod Value
+pub mod Laws

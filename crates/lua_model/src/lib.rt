@@ -1,0 +1,89 @@
+//! The values of Lua, and the definitions of the store, the operators and the built-in functions.
+#![tactic(auto)]
+
+mod laws;
+mod plain;
+
+ghost use Rattle.std.specs.Prelude.{◌≡◌};
+ghost use Rattle.lua_model.specs.Value.{is_nil_value, is_true_value, kind_of, same_value};
+
+pub use laws::border_is_least;
+pub use plain::{Plain, PlainList, Reply, ReplyList};
+
+#[derive(Clone, Copy, PartialEq, Eq, Hash, Debug)]
+pub struct TextId {
+    pub index: usize,
+}
+
+#[derive(Clone, Copy, PartialEq, Eq, Hash, Debug)]
+pub struct TableId {
+    pub index: usize,
+}
+
+#[derive(Clone, Copy, PartialEq, Eq, Hash, Debug)]
+pub struct ClosureId {
+    pub index: usize,
+}
+
+#[derive(Clone, Copy, PartialEq, Eq, Hash, Debug)]
+pub enum Value {
+    Nil,
+    Bool(bool),
+    Number(i64),
+    Text(TextId),
+    Table(TableId),
+    Closure(ClosureId),
+    Native(u8),
+    Host(usize),
+}
+
+#[derive(Clone, Copy, PartialEq, Eq, Debug)]
+pub enum Kind {
+    Nil,
+    Bool,
+    Number,
+    Text,
+    Table,
+    Function,
+}
+
+impl Value {
+    /// Nil and false are the false values.
+    pub fn is_true(self) -> bool
+        ensures { result ≡ is_true_value self }
+    {
+        match self {
+            Value::Nil => false,
+            Value::Bool(b) => b,
+            _ => true,
+        }
+    }
+
+    pub fn is_nil(self) -> bool
+        ensures { result ≡ is_nil_value self }
+    {
+        match self {
+            Value::Nil => true,
+            _ => false,
+        }
+    }
+
+    pub fn kind(self) -> Kind
+        ensures { result ≡ kind_of self }
+    {
+        match self {
+            Value::Nil => Kind::Nil,
+            Value::Bool(_) => Kind::Bool,
+            Value::Number(_) => Kind::Number,
+            Value::Text(_) => Kind::Text,
+            Value::Table(_) => Kind::Table,
+            Value::Closure(_) | Value::Native(_) | Value::Host(_) => Kind::Function,
+        }
+    }
+
+    pub fn raw_equal(self, other: Value) -> bool
+        ensures { result ≡ same_value self other }
+    {
+        self == other
+    }
+}
