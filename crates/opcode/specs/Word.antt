@@ -82,3 +82,13 @@ FieldsFit Format.Asbx i = (i.b ≡ 0) × (i.c ≡ 0) × (i.bx ≡ 0) × (neg_ℤ
 pub record InRange (i : Instr) : Type 0 where
   pub a : i.a < 256
   pub others : FieldsFit (format_of i.op) i
+
+-- words by the fields of their format
+abbrev pub abc : Op → (a b c : ℕ) → ℕ
+abc op a b c = word_of (record { op = op; a = a; b = b; c = c; bx = 0; sbx = pos 0 })
+
+abbrev pub abx : Op → (a bx : ℕ) → ℕ
+abx op a bx = word_of (record { op = op; a = a; b = 0; c = 0; bx = bx; sbx = pos 0 })
+
+abbrev pub asbx : Op → (a : ℕ) → (sbx : ℤ) → ℕ
+asbx op a sbx = word_of (record { op = op; a = a; b = 0; c = 0; bx = 0; sbx = sbx })

@@ -4,7 +4,7 @@ use Rattle.lua_num.specs.Bytes.{Text}
 use Rattle.lua_tree.specs.Syntax.{function_expression, FunctionBody}
 use Rattle.lua_tree.specs.Scoping.{Use, local_use, upvalue_use, global_use}
 use Rattle.opcode.specs.declared.op.Op.{Op}
-use Rattle.opcode.specs.Word.{word_of}
+use Rattle.opcode.specs.Word.{abc, abx, asbx}
 use Rattle.proto.specs.Chunk.{Chunk, function, functions_of}
 use Rattle.scheme.specs.Making.{◌>>=◌, ◌>>◌, Misfit, too_many_registers, too_many_constants, jump_too_far, too_many_functions, Ahead, Maker, Part, head_or, put, take_registers, where_is, is_declaration, declare, activate, end_locals, Where, in_register, in_upvalue, in_globals}
 use Rattle.scheme.specs.Expressions.{Coded, single}
@@ -18,9 +18,9 @@ abbrev pub distance : (pc target : ℕ) → ℤ
 distance pc target = pos target -ℤ pos (suc pc)
 
 abbrev pub word_at : (labels : List ℕ) → (pc : ℕ) → Piece → ℕ
-word_at labels pc (Piece.Abc op a b c) = word_of (record { op = op; a = a; b = b; c = c; bx = 0; sbx = pos 0 })
-word_at labels pc (Piece.Abx op a bx) = word_of (record { op = op; a = a; b = 0; c = 0; bx = bx; sbx = pos 0 })
-word_at labels pc (Piece.Jump op a label) = word_of (record { op = op; a = a; b = 0; c = 0; bx = 0; sbx = distance pc (get_or labels label 0) })
+word_at labels pc (Piece.Abc op a b c) = abc op a b c
+word_at labels pc (Piece.Abx op a bx) = abx op a bx
+word_at labels pc (Piece.Jump op a label) = asbx op a (distance pc (get_or labels label 0))
 word_at labels pc (Piece.Bare n) = n
 
 abbrev pub words_from : (labels : List ℕ) → (pc : ℕ) → List Item → List ℕ

@@ -1,0 +1,4 @@
+pub mod Works
+pub mod Straight
+pub mod Functions
+pub mod Handlers
