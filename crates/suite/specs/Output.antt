@@ -3,9 +3,9 @@ use Rattle.std.specs.Prelude.{◌≡◌, ℕ, List, ◌++◌, Option}
 use Rattle.suite_io.specs.Taken.{Takes}
 
 -- one text begins with the other
-abbrev pub BeginsWith : List ℕ → List ℕ → Type 0
-BeginsWith whole part = (rest : List ℕ) × (part ++ rest ≡ whole)
+abbrev pub IsFront : List ℕ → List ℕ → Type 0
+IsFront whole part = (rest : List ℕ) × (part ++ rest ≡ whole)
 
 -- where they are told, the bytes taken grow by a first part of the text
 abbrev pub TakesPart : Option (List ℕ) → Option (List ℕ) → List ℕ → Type 0
-TakesPart old new whole = (part : List ℕ) × BeginsWith whole part × Takes old new part
+TakesPart old new whole = (part : List ℕ) × IsFront whole part × Takes old new part
