@@ -1,4 +1,4 @@
--- To be believed. What operators and built-in functions answer.
+-- To be believed. What operators and built-in functions answer (manual 2.8 and 5.1).
 use Rattle.std.specs.Prelude.{ℕ, not, List}
 use Rattle.lua_num.specs.Bytes.{Text}
 use Rattle.lua_model.specs.Datum.{Datum, nil, boolean, text, is_true}

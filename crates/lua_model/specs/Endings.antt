@@ -1,4 +1,4 @@
--- To be believed. How a run of Lua comes out.
+-- To be believed. How a run of Lua comes out (manual 2.7).
 use Rattle.std.specs.Prelude.{◌≡◌, List, ◌++◌}
 use Rattle.lua_num.specs.Bytes.{Text}
 use Rattle.lua_model.specs.Store.{Event}

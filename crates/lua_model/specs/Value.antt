@@ -1,4 +1,4 @@
--- Serves the bodies: the values of the program, by themselves.
+-- To be believed. The values of the program, by themselves (manual 2.2).
 use Rattle.std.specs.Prelude.{Bool, true, false, nat_eq}
 use Rattle.std.specs.Bool.{beq as bool_eq}
 use Rattle.std.specs.Ordering.{int_eq}

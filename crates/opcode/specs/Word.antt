@@ -1,5 +1,5 @@
--- To be believed. Instruction words: the opcode in bits 0 to 5, A in 6 to 13, C in 14 to 22 and B in 23 to 31; Bx in 14
--- to 31; and sBx is Bx - 131071.
+-- To be believed. Instruction words (A No-Frills Introduction to Lua 5.1 VM Instructions): the opcode in bits 0 to 5, A in 6 to
+-- 13, C in 14 to 22 and B in 23 to 31; Bx in 14 to 31; and sBx is Bx - 131071.
 use Rattle.std.specs.Prelude.{◌≡◌, ℕ, ◌+◌, ◌*◌, ◌<◌, ℤ, pos, negsuc, neg_ℤ, ◌+ℤ◌, ◌≤ℤ◌}
 use Rattle.opcode.specs.declared.op.Op.{Op}
 use Rattle.opcode.specs.declared.op.Format.{Format}

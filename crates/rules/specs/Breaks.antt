@@ -1,4 +1,5 @@
--- To be believed. The rules that a function may break, and where.
+-- To be believed, and this suite's own. The rules that a function may break, and where; the registers are those that the
+-- instructions read and write.
 use Rattle.std.specs.Prelude.{ℕ, zero, suc, pred, ◌+◌, ◌-◌, Bool, true, false, not, ◌&&◌, ◌||◌, ◌==◌, nat_lt, nat_le, List, [], ◌∷◌, ◌++◌, map, length, slice_get, filter, Option, Some, None, is_none, is_some, option_and_then, if◌then◌else◌}
 use Rattle.opcode.specs.declared.op.Op.{Op}
 use Rattle.opcode.specs.declared.word.Instr.{Instr}

@@ -1,4 +1,4 @@
--- To be believed. Calls, and where their results land.
+-- To be believed. Calls, and where their results land (manual 2.5.8, 2.8 and 5.1, `pcall`; CALL, TAILCALL, RETURN, TFORLOOP and CONCAT).
 use Rattle.std.specs.Prelude.{ℕ, zero, suc, ◌+◌, ℤ, pos, ◌+ℤ◌, Bool, true, false, not, nat_lt, nat_le, nat_eq, List, [], ◌∷◌, ◌++◌, map, length, take, drop, replicate, slice_get, slice_set, Option, Some, None, codes, if◌then◌else◌}
 use Rattle.proto.specs.Chunk.{own}
 use Rattle.lua_model.specs.Datum.{Datum, boolean, number, text, table, closure, native, host, is_nil, is_true, first_of, adjusted}

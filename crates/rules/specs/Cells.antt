@@ -1,4 +1,4 @@
--- To be believed. Cells: what closures share. An open cell is a register of a frame, a closed one has a value.
+-- To be believed. Cells: what closures share (manual 2.6; the instructions GETUPVAL, SETUPVAL, CLOSE and CLOSURE). An open cell is a register of a frame, a closed one has a value.
 use Rattle.std.specs.Prelude.{ℕ, suc, Bool, false, ◌&&◌, nat_le, nat_eq, List, [], ◌∷◌, ◌++◌, map, length, get_or, slice_get, slice_set, Option, Some, None, option_and_then, if◌then◌else◌}
 use Rattle.opcode.specs.declared.op.Op.{Op}
 use Rattle.opcode.specs.declared.word.Instr.{Instr}

@@ -1,4 +1,4 @@
--- To be believed. Notes on the registers at the pcs of a function, and which notes are consistent.
+-- To be believed, and this suite's own. Notes on the registers at the pcs of a function, and which notes are consistent.
 use Rattle.std.specs.Prelude.{◌≡◌, ℕ, suc, ◌+◌, Bool, true, false, not, ◌&&◌, ◌||◌, ◌==◌, nat_lt, nat_le, List, Option, Some, None}
 use Rattle.opcode.specs.declared.op.Op.{Op}
 use Rattle.opcode.specs.declared.word.Instr.{Instr}

@@ -1,4 +1,5 @@
--- To be believed. Which words of a function are further words, and which pcs can follow a word.
+-- To be believed. Which words of a function are further words, and which pcs can follow a word (the instructions that jump, skip
+-- and take words with them).
 use Rattle.std.specs.Prelude.{ℕ, zero, suc, ◌+◌, ℤ, pos, negsuc, ◌+ℤ◌, Bool, true, false, not, ◌&&◌, ◌==◌, nat_lt, List, [], ◌∷◌, length, take, drop, get_or, Option, Some, None, if◌then◌else◌}
 use Rattle.opcode.specs.declared.op.Op.{Op}
 use Rattle.opcode.specs.declared.word.Instr.{Instr}

@@ -1,4 +1,4 @@
--- To be believed. Runs of a chunk.
+-- To be believed. Runs of a chunk, step by step (manual 2.7 for failures).
 use Rattle.std.specs.Prelude.{ℕ, zero, suc, List, [], ◌∷◌, Option, Some, None, if◌then◌else◌}
 use Rattle.opcode.specs.declared.word.Instr.{Instr}
 use Rattle.proto.specs.Chunk.{Chunk}

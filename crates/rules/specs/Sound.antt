@@ -1,4 +1,4 @@
--- To be believed. Sound chunks, and where one that is not is rejected.
+-- To be believed, and this suite's own. Sound chunks, and where one that is not is rejected.
 use Rattle.std.specs.Prelude.{◌≡◌, ◌⊎◌, ℕ, zero, suc, ◌<◌, Bool, true, false, List, [], ◌∷◌}
 use Rattle.proto.specs.Chunk.{Chunk, function, Functions, no_functions, and_function}
 use Rattle.rules.specs.declared.rule.Rule.{Rule}

@@ -1,4 +1,5 @@
--- To be believed. The state of a running chunk: frames, cells, closures, the store, and what happened outside.
+-- To be believed. The state of a running chunk: frames, cells, closures, the store, and what happened outside (A No-Frills
+-- Introduction to Lua 5.1 VM Instructions, registers and frames).
 use Rattle.std.specs.Prelude.{ℕ, zero, suc, ◌+◌, ◌-◌, Bool, true, false, nat_lt, nat_le, List, [], ◌∷◌, length, take, drop, slice_get, slice_set, Option, Some, None, option_map, option_and_then, if◌then◌else◌}
 use Rattle.proto.specs.declared.parts.Constant.{Constant}
 use Rattle.proto.specs.Chunk.{Chunk, own}

@@ -1,4 +1,4 @@
--- To be believed. Accepted source: the bytes that are compiled.
+-- To be believed. Accepted source: the bytes that are compiled (manual 2.1 to 2.6 and 8).
 use Rattle.std.specs.Prelude.{ℕ, List}
 use Rattle.lua_tree.specs.declared.token.Token.{Token}
 use Rattle.lua_tree.specs.Tiling.{Lexes}

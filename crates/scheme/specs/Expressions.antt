@@ -1,4 +1,4 @@
--- To be believed. The parts of the scheme for expressions, each by the parts of the expressions in it.
+-- To be believed. The parts of the scheme for expressions (manual 2.5), each by the parts of the expressions in it.
 use Rattle.std.specs.Prelude.{ℕ, ◌+◌, ◌-◌, nat_le, ◌==◌, Bool, true, false, not, cond, ◌||◌, [], Option, Some, None, is_some, ℤ, Result, Ok, Err}
 use Rattle.lua_num.specs.declared.arith.ArithOp.{ArithOp}
 use Rattle.lua_num.specs.declared.arith.NumFault.{NumFault}

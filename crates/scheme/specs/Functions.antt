@@ -1,4 +1,4 @@
--- To be believed. The parts of the scheme for functions: closures, and what a function is when its words are made.
+-- To be believed. The parts of the scheme for functions (manual 2.5.9 and 2.6): closures, and what a function is when its words are made.
 use Rattle.std.specs.Prelude.{ℕ, suc, max, nat_lt, Bool, true, false, cond, List, [], ◌∷◌, ◌++◌, length, get_or, drop, Option, ℤ, pos, ◌-ℤ◌, unsigned_abs}
 use Rattle.lua_num.specs.Bytes.{Text}
 use Rattle.lua_tree.specs.Syntax.{function_expression, FunctionBody}

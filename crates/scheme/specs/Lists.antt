@@ -1,4 +1,4 @@
--- To be believed. The parts of the scheme for lists of expressions, calls and constructors.
+-- To be believed. The parts of the scheme for lists of expressions, calls and constructors (manual 2.5.7 and 2.5.8).
 use Rattle.std.specs.Prelude.{ℕ, zero, suc, ◌+◌, ◌-◌, ◌*◌, ◌/◌, nat_lt, nat_le, ◌==◌, Bool, true, false, not, cond, ◌&&◌, List, [], ◌∷◌, length, Some, None, if◌then◌else◌}
 use Rattle.lua_num.specs.Bytes.{Text}
 use Rattle.lua_tree.specs.Syntax.{Expression, vararg_expression, constructor, Fields}

@@ -1,4 +1,5 @@
--- To be believed. A function that is being made: what the parts of the scheme read and change.
+-- To be believed. A function that is being made: what the parts of the scheme read and change. The scheme is this suite's own, in
+-- the shape of luac's code (A No-Frills Introduction to Lua 5.1 VM Instructions).
 use Rattle.std.specs.Prelude.{ℕ, suc, ◌+◌, max, ◌==◌, Bool, true, false, cond, ◌||◌, List, [], ◌∷◌, ◌++◌, length, get_or, set, take, drop, Option, Some, None}
 use Rattle.lua_num.specs.Bytes.{Text}
 use Rattle.lua_tree.specs.Scoping.{Use, local_use, upvalue_use, global_use}

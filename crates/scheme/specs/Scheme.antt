@@ -1,4 +1,4 @@
--- To be believed. The code scheme: the chunk of a source under a name.
+-- To be believed. The code scheme: the chunk of a source under a name (manual 2.4 and 2.5, construct by construct).
 use Rattle.std.specs.Prelude.{◌≡◌, ℕ, Bool, true, false, ◌||◌, List, [], ◌∷◌, length, drop, Option, Some, None, is_some}
 use Rattle.lua_tree.specs.Syntax as syntax
 use Rattle.lua_num.specs.Bytes.{Text}

@@ -1,4 +1,4 @@
--- To be believed. Trees whose chunks are read back to source: flat ones, plain ones, and room for what is written longer.
+-- To be believed, and this suite's own. Trees whose chunks are read back to source: flat ones, plain ones, and room for what is written longer.
 use Rattle.std.specs.Prelude.{◌≡◌, ℕ, suc, ◌+◌, ◌*◌, ◌≤◌, max, Bool, true, false, ◌&&◌, is_some, if◌then◌else◌}
 use Rattle.lua_tree.specs.declared.tree.BinaryOp.{BinaryOp}
 use Rattle.lua_tree.specs.declared.tree.UnaryOp.{UnaryOp}

@@ -1,4 +1,4 @@
--- To be believed. The parts of the scheme for statements, each by the parts of the expressions and blocks in it.
+-- To be believed. The parts of the scheme for statements (manual 2.4), each by the parts of the expressions and blocks in it.
 use Rattle.std.specs.Prelude.{ℕ, zero, suc, ◌+◌, ◌==◌, Bool, false, cond, ◌&&◌, ◌||◌, List, [], ◌∷◌, length, Option, Some, None, codes, pos, if◌then◌else◌}
 use Rattle.lua_num.specs.Bytes.{Text}
 use Rattle.lua_tree.specs.Syntax.{field_expression}

@@ -1,4 +1,4 @@
--- Serves the bodies. What the answers of the program say, in the words of the definitions.
+-- To be believed. What the answers of the program say, in the words of the definitions.
 use Rattle.std.specs.Prelude.{List, [], ◌∷◌}
 use Rattle.lua_tree.specs.Scoping.{Use, local_use, upvalue_use, global_use}
 use Rattle.scopes.specs.declared.uses.NameUse.{NameUse}

@@ -1,4 +1,5 @@
--- To be believed. What a running source has beside the store: cells of locals, closures, and the place where a part runs.
+-- To be believed. What a running source has beside the store: cells of locals, closures, and the place where a part runs (manual
+-- 2.3, 2.5.9 and 2.6).
 use Rattle.std.specs.Prelude.{ℕ, Bool, false, List, [], ◌∷◌, ◌++◌, length, drop, Option, Some, None, get_or, slice_set, cond}
 use Rattle.std.specs.Str.{bytes_eq}
 use Rattle.lua_tree.specs.Syntax.{Statements, no_statements, FunctionBody, function_body}

@@ -1,4 +1,4 @@
--- To be believed. What can be evaluated. Each spends one tick as it begins.
+-- To be believed. What can be evaluated (manual 2.4 and 2.5). Each spends one tick as it begins.
 use Rattle.std.specs.Prelude.{ℕ, ℤ, Bool, List}
 use Rattle.lua_tree.specs.Syntax.{Statements, Statement, Expression, Fields}
 use Rattle.lua_num.specs.Bytes.{Text}
