@@ -1,4 +1,10 @@
-pub mod Examples
-pub mod Pool
-pub mod Run
+pub mod Said
+pub mod Globals
 pub mod Pace
+pub mod Names
+pub mod Pool
+pub mod Making
+pub mod Steps
+pub mod Ticks
+pub mod Early
+pub mod Agreeing

@@ -1,95 +1,100 @@
--- Source and code go through the same pieces, each at its own pace.
-use Rattle.std.proofs.Common.{◌≡◌, ℕ, zero, suc, ◌*◌, ◌<◌, ◌≤◌, List, [], ◌∷◌, ◌++◌, length, Some, refl, sym, ◌∙◌, append_assoc, append-nil, arith}
-use Rattle.agrees.specs.declared.tree.Statement.{Statement}
-use Rattle.agrees.specs.declared.tree.Statement.TheVariants.{Print}
-use Rattle.agrees.specs.Progress.{Piece, End, Progress, Done, IsPrefix}
-use Rattle.agrees.specs.Meaning.{piece_of, going, statements, meaning}
+-- Source and chunk go through the same calls, each at its own pace.
+use Rattle.std.proofs.Common.{◌≡◌, ◌≢◌, ℕ, zero, suc, ℤ, ◌*◌, ◌<◌, ◌≤◌, List, [], ◌∷◌, ◌++◌, refl, sym, ap, ◌∙◌, append_assoc, append-nil, arith}
+use Rattle.first_form.specs.declared.tree.Statement.{Statement}
+use Rattle.first_form.specs.declared.tree.Statement.TheVariants.{Print}
+use Rattle.lua_model.specs.Store.{Event, Outside}
+use Rattle.lua_model.specs.Builtins.{failure_text}
+use Rattle.lua_model.specs.Endings.{Ended, Failed, Waiting, Going, Course, IsPrefix}
+use Rattle.agrees.proofs.Said.{Said, goes_on, breaks_off, waits, SaidGrows}
 
--- how far the code of these statements has come after some steps: a statement takes three, and the end one
-abbrev pub paced : List Statement → ℕ → List Piece → Progress
-paced [] zero pieces = going pieces
-paced [] (suc n) pieces = record { pieces = pieces; end = Some Done }
-paced (Print k ∷ rest) (suc (suc (suc n))) pieces = paced rest n (pieces ++ piece_of k ∷ [])
-paced (Print k ∷ rest) _ pieces = going pieces
+abbrev pub is_going : Outside → Course
+is_going w = record { ending = Going; events = w.events }
 
--- what one has printed the other has printed, and where the one has ended the other has ended in the same way
-pub record IsFollowed (one other : Progress) : Type 0 where
-  pub ends : (end : End) → one.end ≡ Some end → other ≡ one
-  pub prints : IsPrefix one.pieces other.pieces
+-- a call, and what follows it
+abbrev pub told : Said → Outside → (Outside → Course) → Course
+told (goes_on v) w next = next v
+told (breaks_off d v) w next = record { ending = Failed (failure_text d); events = v.events }
+told waits w next = record { ending = Waiting; events = w.events }
 
-none_more : (pieces : List Piece) → IsPrefix pieces pieces
-none_more pieces = ([], append-nil pieces)
+-- what one has told the other has told, and where the one is not going the other is the same
+pub record IsFollowed (one other : Course) : Type 0 where
+  pub ends : one.ending ≢ Going → other ≡ one
+  pub tells : IsPrefix one.events other.events
 
-after_more : (pieces : List Piece) (piece : Piece) (whole : List Piece) → IsPrefix (pieces ++ piece ∷ []) whole → IsPrefix pieces whole
-after_more pieces piece whole (rest, e) = (piece ∷ rest, sym (append_assoc pieces (piece ∷ []) rest) ∙ e)
+none_more : (es : List Event) → IsPrefix es es
+none_more es = ([], sym (append-nil es))
 
--- one that has not ended is followed by what has printed the same or more
-going_followed : (pieces : List Piece) (other : Progress) → IsPrefix pieces other.pieces → IsFollowed (going pieces) other
-going_followed pieces other h = record { ends = λ end e. cc; prints = h }
+prefix_on : (xs ys zs : List Event) → IsPrefix xs ys → IsPrefix ys zs → IsPrefix xs zs
+prefix_on xs ys zs p q = (p.0 ++ q.0, q.1 ∙ ap (λ l. l ++ q.0) p.1 ∙ append_assoc xs p.0 q.0)
 
-same_followed : (both : Progress) → IsFollowed both both
-same_followed both = record { ends = λ end e. refl; prints = none_more both.pieces }
+going_followed : (w : Outside) (other : Course) → IsPrefix w.events other.events → IsFollowed (is_going w) other
+going_followed w other h = record { ends = λ e. absurd (e refl); tells = h }
 
--- what has been printed stays
-statements_keep : (tree : List Statement) (ticks : ℕ) (pieces : List Piece) → IsPrefix pieces (statements tree ticks pieces).pieces
-statements_keep [] ticks pieces = none_more pieces
-statements_keep (Print k ∷ rest) (suc (suc (suc (suc (suc (suc ticks)))))) pieces =
-    after_more pieces (piece_of k) _ (statements_keep rest ticks (pieces ++ piece_of k ∷ []))
-statements_keep (Print k ∷ rest) _ pieces = none_more pieces
+same_followed : (both : Course) → IsFollowed both both
+same_followed both = record { ends = λ e. refl; tells = none_more both.events }
 
-paced_keeps : (tree : List Statement) (n : ℕ) (pieces : List Piece) → IsPrefix pieces (paced tree n pieces).pieces
-paced_keeps [] zero pieces = none_more pieces
-paced_keeps [] (suc n) pieces = none_more pieces
-paced_keeps (Print k ∷ rest) (suc (suc (suc n))) pieces =
-    after_more pieces (piece_of k) _ (paced_keeps rest n (pieces ++ piece_of k ∷ []))
-paced_keeps (Print k ∷ rest) _ pieces = none_more pieces
+told_keeps : (s : Said) (w : Outside) (next : Outside → Course) → SaidGrows w s → ((v : Outside) → IsPrefix v.events (next v).events) → IsPrefix w.events (told s w next).events
+told_keeps (goes_on v) w next g h = prefix_on w.events v.events (next v).events g (h v)
+told_keeps (breaks_off d v) w next g h = g
+told_keeps waits w next g h = none_more w.events
 
--- the code has come at least as far as the source where its steps are more than the source's ticks
-code_follows : (tree : List Statement) (ticks n : ℕ) (pieces : List Piece) → ticks < n → IsFollowed (statements tree ticks pieces) (paced tree n pieces)
-code_follows [] ticks zero pieces h = absurd (omega arith)
-code_follows [] ticks (suc n) pieces h = same_followed _
-code_follows (Print k ∷ rest) (suc (suc (suc (suc (suc (suc ticks)))))) (suc (suc (suc n))) pieces h =
-    code_follows rest ticks n (pieces ++ piece_of k ∷ []) (omega arith)
-code_follows (Print k ∷ rest) (suc (suc (suc (suc (suc (suc ticks)))))) _ pieces h = absurd (omega arith)
-code_follows (Print k ∷ rest) _ n pieces h = going_followed pieces _ (paced_keeps (Print k ∷ rest) n pieces)
+told_followed : (s : Said) (w : Outside) (one other : Outside → Course) → ((v : Outside) → IsFollowed (one v) (other v)) → IsFollowed (told s w one) (told s w other)
+told_followed (goes_on v) w one other h = h v
+told_followed (breaks_off d v) w one other h = same_followed _
+told_followed waits w one other h = same_followed _
 
--- the source has come at least as far as the code where its ticks are twice the code's steps or more
-source_follows : (tree : List Statement) (n ticks : ℕ) (pieces : List Piece) → 2 * n ≤ ticks → IsFollowed (paced tree n pieces) (statements tree ticks pieces)
-source_follows [] zero ticks pieces h = going_followed pieces _ (none_more pieces)
-source_follows [] (suc n) ticks pieces h = same_followed _
-source_follows (Print k ∷ rest) (suc (suc (suc n))) (suc (suc (suc (suc (suc (suc ticks)))))) pieces h =
-    source_follows rest n ticks (pieces ++ piece_of k ∷ []) (omega arith)
-source_follows (Print k ∷ rest) (suc (suc (suc n))) _ pieces h = absurd (omega arith)
-source_follows (Print k ∷ rest) _ ticks pieces h = going_followed pieces _ (statements_keep (Print k ∷ rest) ticks pieces)
+module _ (say : ℤ → Outside → Said) where
+  -- how far the source has come with some ticks behind the one for its block: six for each statement
+  abbrev pub meant : List Statement → ℕ → Outside → Course
+  meant [] ticks w = record { ending = Ended; events = w.events }
+  meant (Print n ∷ rest) (suc (suc (suc (suc (suc (suc ticks)))))) w = told (say n w) w (λ v. meant rest ticks v)
+  meant (Print n ∷ rest) ticks w = is_going w
 
--- six ticks pay for three steps, and one more tick for the end
-pub meaning_followed : (tree : List Statement) (ticks : ℕ) → IsFollowed (meaning tree ticks) (paced tree (8 * ticks) [])
-meaning_followed tree zero = going_followed [] _ (paced_keeps tree (8 * 0) [])
-meaning_followed tree (suc left) = code_follows tree left (8 * suc left) [] (omega arith)
+  -- how far the chunk has come with some steps: three for each statement, and one for the end
+  abbrev pub paced : List Statement → ℕ → Outside → Course
+  paced [] zero w = is_going w
+  paced [] (suc n) w = record { ending = Ended; events = w.events }
+  paced (Print k ∷ rest) (suc (suc (suc n))) w = told (say k w) w (λ v. paced rest n v)
+  paced (Print k ∷ rest) n w = is_going w
 
-pub paced_followed : (tree : List Statement) (n : ℕ) → IsFollowed (paced tree n []) (meaning tree (suc (2 * n)))
-paced_followed tree n = source_follows tree n (2 * n) [] (omega arith)
+  -- the whole source, whose block spends a tick
+  abbrev pub meant_whole : List Statement → ℕ → Outside → Course
+  meant_whole tree zero w = is_going w
+  meant_whole tree (suc ticks) w = meant tree ticks w
 
--- more ticks
-later_follows : (tree : List Statement) (ticks later : ℕ) (pieces : List Piece) → ticks ≤ later → IsFollowed (statements tree ticks pieces) (statements tree later pieces)
-later_follows [] ticks later pieces h = same_followed _
-later_follows (Print k ∷ rest) (suc (suc (suc (suc (suc (suc ticks)))))) (suc (suc (suc (suc (suc (suc later)))))) pieces h =
-    later_follows rest ticks later (pieces ++ piece_of k ∷ []) (omega arith)
-later_follows (Print k ∷ rest) (suc (suc (suc (suc (suc (suc ticks)))))) _ pieces h = absurd (omega arith)
-later_follows (Print k ∷ rest) _ later pieces h = going_followed pieces _ (statements_keep (Print k ∷ rest) later pieces)
+module _ (say : ℤ → Outside → Said) (grows : (n : ℤ) (w : Outside) → SaidGrows w (say n w)) where
+  meant_keeps : (tree : List Statement) (ticks : ℕ) (w : Outside) → IsPrefix w.events (meant say tree ticks w).events
+  meant_keeps [] ticks w = none_more w.events
+  meant_keeps (Print n ∷ rest) (suc (suc (suc (suc (suc (suc ticks)))))) w = told_keeps (say n w) w _ (grows n w) (λ v. meant_keeps rest ticks v)
+  meant_keeps (Print n ∷ rest) _ w = none_more w.events
 
-pub meaning_later : (tree : List Statement) (ticks later : ℕ) → ticks ≤ later → IsFollowed (meaning tree ticks) (meaning tree later)
-meaning_later tree zero zero h = going_followed [] _ (none_more [])
-meaning_later tree zero (suc later) h = going_followed [] _ (statements_keep tree later [])
-meaning_later tree (suc ticks) zero h = absurd (omega arith)
-meaning_later tree (suc ticks) (suc later) h = later_follows tree ticks later [] (omega arith)
+  paced_keeps : (tree : List Statement) (n : ℕ) (w : Outside) → IsPrefix w.events (paced say tree n w).events
+  paced_keeps [] zero w = none_more w.events
+  paced_keeps [] (suc n) w = none_more w.events
+  paced_keeps (Print k ∷ rest) (suc (suc (suc n))) w = told_keeps (say k w) w _ (grows k w) (λ v. paced_keeps rest n v)
+  paced_keeps (Print k ∷ rest) _ w = none_more w.events
 
-statements_end : (tree : List Statement) (ticks : ℕ) (pieces : List Piece) → 6 * length tree ≤ ticks → (statements tree ticks pieces).end ≡ Some Done
-statements_end [] ticks pieces h = refl
-statements_end (Print k ∷ rest) (suc (suc (suc (suc (suc (suc ticks)))))) pieces h =
-    statements_end rest ticks (pieces ++ piece_of k ∷ []) (omega arith)
-statements_end (Print k ∷ rest) _ pieces h = absurd (omega arith)
+  -- the chunk has come at least as far where its steps are more than the source's ticks
+  chunk_follows : (tree : List Statement) (ticks n : ℕ) (w : Outside) → ticks < n → IsFollowed (meant say tree ticks w) (paced say tree n w)
+  chunk_follows [] ticks zero w h = absurd (omega arith)
+  chunk_follows [] ticks (suc n) w h = same_followed _
+  chunk_follows (Print k ∷ rest) (suc (suc (suc (suc (suc (suc ticks)))))) (suc (suc (suc n))) w h =
+      told_followed (say k w) w _ _ (λ v. chunk_follows rest ticks n v (omega arith))
+  chunk_follows (Print k ∷ rest) (suc (suc (suc (suc (suc (suc ticks)))))) _ w h = absurd (omega arith)
+  chunk_follows (Print k ∷ rest) _ n w h = going_followed w _ (paced_keeps (Print k ∷ rest) n w)
 
--- six ticks a statement
-pub meaning_ends : (tree : List Statement) → (meaning tree (suc (6 * length tree))).end ≡ Some Done
-meaning_ends tree = statements_end tree (6 * length tree) [] (omega arith)
+  -- the source has come at least as far where its ticks are twice the chunk's steps or more
+  source_follows : (tree : List Statement) (n ticks : ℕ) (w : Outside) → 2 * n ≤ ticks → IsFollowed (paced say tree n w) (meant say tree ticks w)
+  source_follows [] zero ticks w h = going_followed w _ (none_more w.events)
+  source_follows [] (suc n) ticks w h = same_followed _
+  source_follows (Print k ∷ rest) (suc (suc (suc n))) (suc (suc (suc (suc (suc (suc ticks)))))) w h =
+      told_followed (say k w) w _ _ (λ v. source_follows rest n ticks v (omega arith))
+  source_follows (Print k ∷ rest) (suc (suc (suc n))) _ w h = absurd (omega arith)
+  source_follows (Print k ∷ rest) _ ticks w h = going_followed w _ (meant_keeps (Print k ∷ rest) ticks w)
+
+  pub meaning_followed : (tree : List Statement) (ticks : ℕ) (w : Outside) → IsFollowed (meant_whole say tree ticks w) (paced say tree (8 * ticks) w)
+  meaning_followed tree zero w = going_followed w _ (paced_keeps tree (8 * 0) w)
+  meaning_followed tree (suc ticks) w = chunk_follows tree ticks (8 * suc ticks) w (omega arith)
+
+  pub run_followed : (tree : List Statement) (n : ℕ) (w : Outside) → IsFollowed (paced say tree n w) (meant_whole say tree (suc (2 * n)) w)
+  run_followed tree n w = source_follows tree n (2 * n) w (omega arith)

@@ -1,86 +1,110 @@
--- Each constant that is taken is found in the pool, at its number.
-use Rattle.std.proofs.Common.{◌≡◌, suc, List, [], ◌∷◌, Some, Bool, true, false, cond, not, refl, sym, ap, ◌∙◌}
-use Rattle.std.specs.Prelude.{slice_get, filter}
+-- Each constant that is taken stands at its number among all of them.
+use Rattle.std.proofs.Common.{◌≡◌, ℕ, zero, suc, ◌+◌, ◌*◌, ◌≤◌, ℤ, List, [], ◌∷◌, ◌++◌, length, Some, Bool, true, false, cond, not, ◌||◌, refl, sym, ap, subst, arith}
+use Rattle.std.specs.Prelude.{slice_get, codes}
+use Rattle.std.specs.List.{list_any}
 use Rattle.std.proofs.lemmas.Bool.Decides.{Decides-int_eq}
 use Rattle.std.proofs.lemmas.Slice.Eq.{bytes_eq-Decides}
-use Rattle.agrees.specs.declared.tree.Statement.{Statement}
-use Rattle.agrees.specs.declared.chunk.Constant.{Constant}
-use Rattle.agrees.specs.contracts.chunk.ConstantPartialEq.TheImpl.{ghosts}
-use Rattle.agrees.specs.Scheme.{taken, same, distinct, constants, number_of}
+use Rattle.lua_num.specs.Bytes.{Text}
+use Rattle.proto.specs.declared.parts.Constant.{Constant}
+use Rattle.proto.specs.Constants.{same_constant, constant_number, with_constant}
+use Rattle.first_form.specs.declared.tree.Statement.{Statement}
+use Rattle.first_form.specs.declared.tree.Statement.TheVariants.{Print}
 
--- the test decides equality
-pub same-eq : (j k : Constant) → same j k ≡ true → j ≡ k
-same-eq (Constant.Text a) (Constant.Text b) h = ap Constant.Text ((bytes_eq-Decides a b).0 h)
-same-eq (Constant.Text a) (Constant.Number n) h = cc
-same-eq (Constant.Number m) (Constant.Text b) h = cc
-same-eq (Constant.Number m) (Constant.Number n) h = ap Constant.Number ((Decides-int_eq m n).0 h)
+-- the test decides whether a constant is this one
+pub record IsTold (c : Constant) : Type 0 where
+  pub itself : same_constant c c ≡ true
+  pub alone : (k : Constant) → same_constant c k ≡ true → c ≡ k
 
-pub same_self : (k : Constant) → same k k ≡ true
-same_self (Constant.Text a) = (bytes_eq-Decides a a).1 refl
-same_self (Constant.Number n) = (Decides-int_eq n n).1 refl
+text_alone : (t : Text) (k : Constant) → same_constant (Constant.Text t) k ≡ true → Constant.Text t ≡ k
+text_alone t Constant.Nil h = cc
+text_alone t (Constant.Bool b) h = cc
+text_alone t (Constant.Number n) h = cc
+text_alone t (Constant.Text u) h = ap Constant.Text ((bytes_eq-Decides t u).0 h)
 
--- at its number stands the constant itself
-abbrev pub IsFound : List Constant → Constant → Type 0
-IsFound pool k = slice_get pool (number_of pool k) ≡ Some k
+number_alone : (n : ℤ) (k : Constant) → same_constant (Constant.Number n) k ≡ true → Constant.Number n ≡ k
+number_alone n Constant.Nil h = cc
+number_alone n (Constant.Bool b) h = cc
+number_alone n (Constant.Text t) h = cc
+number_alone n (Constant.Number m) h = ap Constant.Number ((Decides-int_eq n m).0 h)
 
-abbrev pub AreFound : List Constant → List Constant → Type 0
-AreFound pool [] = Unit {0}
-AreFound pool (k ∷ rest) = IsFound pool k × AreFound pool rest
+text_told : (t : Text) → IsTold (Constant.Text t)
+text_told t = record { itself = (bytes_eq-Decides t t).1 refl; alone = text_alone t }
 
--- a constant that is equal to the first
-found_here : (other : Constant) (rest : List Constant) (k : Constant) → same k other ≡ true → IsFound (other ∷ rest) k
-found_here other rest k h =
-    ap (λ t. slice_get (other ∷ rest) (cond t 0 (suc (number_of rest k)))) h ∙ ap Some (sym (same-eq k other h))
+number_told : (n : ℤ) → IsTold (Constant.Number n)
+number_told n = record { itself = (Decides-int_eq n n).1 refl; alone = number_alone n }
 
--- one that is not is found behind it
-found_behind : (other : Constant) (rest : List Constant) (k : Constant) → same k other ≡ false → IsFound rest k → IsFound (other ∷ rest) k
-found_behind other rest k h found =
-    ap (λ t. slice_get (other ∷ rest) (cond t 0 (suc (number_of rest k)))) h ∙ found
+abbrev IsAt : List Constant → ℕ → Constant → Type 0
+IsAt ks n c = slice_get ks n ≡ Some c
 
-found_in_rest : (other : Constant) (rest : List Constant) (k : Constant) → same k other ≡ false → IsFound (other ∷ rest) k → IsFound rest k
-found_in_rest other rest k h found =
-    sym (ap (λ t. slice_get (other ∷ rest) (cond t 0 (suc (number_of rest k)))) h) ∙ found
-
--- a constant that differs from k is found where those equal to k are left out
-found_filtered : (k : Constant) (pool : List Constant) (j : Constant) → same j k ≡ false → IsFound pool j → IsFound (filter (λ other. not (same k other)) pool) j
-found_filtered k [] j differs found = found
-found_filtered k (other ∷ rest) j differs found =
-    go (same k other) (same j other) refl refl (λ h. found_filtered k rest j differs (found_in_rest other rest j h found))
+-- a constant that is not the first is looked for behind it
+behind_first : (k : Constant) (ks : List Constant) (c : Constant) (n : ℕ) → IsAt (with_constant c ks) n c → IsAt (cond (list_any (same_constant c) ks) (k ∷ ks) ((k ∷ ks) ++ c ∷ [])) (suc n) c
+behind_first k ks c n = go (list_any (same_constant c) ks)
   where
-    later : List Constant
-    later = filter (λ x. not (same k x)) rest
+    go : (t : Bool) → IsAt (cond t ks (ks ++ c ∷ [])) n c → IsAt (cond t (k ∷ ks) ((k ∷ ks) ++ c ∷ [])) (suc n) c
+    go true h = h
+    go false h = h
 
-    go : (dropped equal : Bool) → same k other ≡ dropped → same j other ≡ equal → (same j other ≡ false → IsFound later j) → IsFound (cond (not dropped) (other ∷ later) later) j
-    go true true d e next =
-        let j_is_k : j ≡ k = same-eq j other e ∙ sym (same-eq k other d) in
-        let equal : same j k ≡ true = ap (same j) (sym j_is_k) ∙ same_self j in
-        absurd (cc (equal, differs))
-    go true false d e next = next e
-    go false true d e next = found_here other later j e
-    go false false d e next = found_behind other later j e (next e)
-
-found_in_more : (k : Constant) (pool : List Constant) (j : Constant) → IsFound pool j → IsFound (k ∷ filter (λ other. not (same k other)) pool) j
-found_in_more k pool j found = go (same j k) refl
+pub found : (c : Constant) → IsTold c → (ks : List Constant) → IsAt (with_constant c ks) (constant_number c ks) c
+found c told [] = refl
+found c told (k ∷ ks) = go (same_constant c k) refl (found c told ks)
   where
-    go : (equal : Bool) → same j k ≡ equal → IsFound (k ∷ filter (λ other. not (same k other)) pool) j
-    go true e = found_here k _ j e
-    go false e = found_behind k _ j e (found_filtered k pool j e found)
+    go : (t : Bool) → same_constant c k ≡ t → IsAt (with_constant c ks) (constant_number c ks) c → IsAt (cond (t || list_any (same_constant c) ks) (k ∷ ks) ((k ∷ ks) ++ c ∷ [])) (cond (not t) (1 + constant_number c ks) 0) c
+    go true e h = ap Some (sym (told.alone k e))
+    go false e h =
+        let place : suc (constant_number c ks) ≡ 1 + constant_number c ks = omega arith in
+        subst (λ n. IsAt (cond (list_any (same_constant c) ks) (k ∷ ks) ((k ∷ ks) ++ c ∷ [])) n c) place (behind_first k ks c (constant_number c ks) h)
 
-all_in_more : (k : Constant) (pool rest : List Constant) → AreFound pool rest → AreFound (k ∷ filter (λ other. not (same k other)) pool) rest
-all_in_more k pool [] found = tt
-all_in_more k pool (j ∷ rest) found = (found_in_more k pool j found.0, all_in_more k pool rest found.1)
+-- what stands at a number stays there
+kept_at_end : (ks : List Constant) (n : ℕ) (c x : Constant) → IsAt ks n x → IsAt (ks ++ c ∷ []) n x
+kept_at_end [] n c x h = cc
+kept_at_end (k ∷ ks) zero c x h = h
+kept_at_end (k ∷ ks) (suc n) c x h = kept_at_end ks n c x h
 
-all_in_distinct : (ks : List Constant) → AreFound (distinct ks) ks
-all_in_distinct [] = tt
-all_in_distinct (k ∷ rest) =
-    (found_here k _ k (same_self k), all_in_more k (distinct rest) rest (all_in_distinct rest))
+kept : (c : Constant) (ks : List Constant) (n : ℕ) (x : Constant) → IsAt ks n x → IsAt (with_constant c ks) n x
+kept c ks n x h = elim (list_any (same_constant c) ks) as (λ t. IsAt (cond t ks (ks ++ c ∷ [])) n x) [ true ↦ h | false ↦ kept_at_end ks n c x h ]
 
-pub taken_are_found : (tree : List Statement) → AreFound (constants tree) (taken tree)
-taken_are_found tree = all_in_distinct (taken tree)
+longer : (ks : List Constant) (c : Constant) → length (ks ++ c ∷ []) ≡ suc (length ks)
+longer [] c = refl
+longer (k ∷ ks) c = ap suc (longer ks c)
 
--- the derived `==` is the same test
-pub constant_eq-same : (j k : Constant) → ghosts.eq j k ≡ same j k
-constant_eq-same (Constant.Text a) (Constant.Text b) = refl
-constant_eq-same (Constant.Text a) (Constant.Number n) = refl
-constant_eq-same (Constant.Number m) (Constant.Text b) = refl
-constant_eq-same (Constant.Number m) (Constant.Number n) = refl
+with_length : (c : Constant) (ks : List Constant) → length (with_constant c ks) ≤ suc (length ks)
+with_length c ks = elim (list_any (same_constant c) ks) as (λ t. length (cond t ks (ks ++ c ∷ [])) ≤ suc (length ks)) [ true ↦ omega arith | false ↦ omega (arith, longer ks c) ]
+
+abbrev pub print_name : Constant
+print_name = Constant.Text (codes "print")
+
+-- the constants, when a statement has taken its own
+abbrev pub with_both : List Constant → ℤ → List Constant
+with_both ks n = with_constant (Constant.Number n) (with_constant print_name ks)
+
+abbrev pub name_number : List Constant → ℕ
+name_number ks = constant_number print_name ks
+
+abbrev pub value_number : List Constant → ℤ → ℕ
+value_number ks n = constant_number (Constant.Number n) (with_constant print_name ks)
+
+abbrev pub pool_of : List Constant → List Statement → List Constant
+pool_of ks [] = ks
+pool_of ks (Print n ∷ rest) = pool_of (with_both ks n) rest
+
+all_kept : (tree : List Statement) (ks : List Constant) (n : ℕ) (x : Constant) → IsAt ks n x → IsAt (pool_of ks tree) n x
+all_kept [] ks n x h = h
+all_kept (Print v ∷ rest) ks n x h = all_kept rest (with_both ks v) n x (kept (Constant.Number v) (with_constant print_name ks) n x (kept print_name ks n x h))
+
+-- all that statements take is found
+abbrev pub AreFound : List Constant → List Constant → List Statement → Type 0
+AreFound pool ks [] = Unit {0}
+AreFound pool ks (Print n ∷ rest) = IsAt pool (name_number ks) print_name × IsAt pool (value_number ks n) (Constant.Number n) × AreFound pool (with_both ks n) rest
+
+pub all_found : (tree : List Statement) (ks : List Constant) → AreFound (pool_of ks tree) ks tree
+all_found [] ks = tt
+all_found (Print n ∷ rest) ks = (
+  all_kept rest (with_both ks n) (name_number ks) print_name (kept (Constant.Number n) (with_constant print_name ks) (name_number ks) print_name (found print_name (text_told (codes "print")) ks)),
+  all_kept rest (with_both ks n) (value_number ks n) (Constant.Number n) (found (Constant.Number n) (number_told n) (with_constant print_name ks)),
+  all_found rest (with_both ks n),
+)
+
+pub pool_length : (tree : List Statement) (ks : List Constant) → length (pool_of ks tree) ≤ length ks + 2 * length tree
+pool_length [] ks = omega arith
+pool_length (Print n ∷ rest) ks =
+    omega (arith, pool_length rest (with_both ks n), with_length (Constant.Number n) (with_constant print_name ks), with_length print_name ks)

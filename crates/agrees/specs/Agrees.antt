@@ -1,28 +1,22 @@
--- Serves the bodies. What it means that a chunk does what a source means.
-use Rattle.std.specs.Prelude.{◌≡◌, ℕ, suc, ◌*◌, ◌≤◌, List, length, Some}
-use Rattle.agrees.specs.declared.tree.Statement.{Statement}
-use Rattle.agrees.specs.Progress.{End, Done, IsPrefix}
-use Rattle.agrees.specs.Meaning.{meaning}
-use Rattle.agrees.specs.Chunk.{Chunk}
-use Rattle.agrees.specs.Rules.{IsNotStuck, run, start, ran}
+-- To be believed. What it means that a chunk does what a source means.
+use Rattle.std.specs.Prelude.{◌≡◌, ◌≢◌, ℕ, ◌*◌, List, Some}
+use Rattle.lua_tree.specs.Syntax.{Source}
+use Rattle.lua_model.specs.Store.{Host, Reply}
+use Rattle.lua_model.specs.Endings.{Going, Course, IsPrefix}
+use Rattle.source_meaning.specs.Meaning.{meaning}
+use Rattle.proto.specs.Chunk.{Chunk}
+use Rattle.rules.specs.Run.{ran, course, events_of}
 
-pub record Agrees (tree : List Statement) (chunk : Chunk) : Type 0 where
-  -- where the source has ended after some ticks, the code has ended in the same way after eight times as many steps
-  pub ends : (ticks : ℕ) (end : End) → (meaning tree ticks).end ≡ Some end → ran chunk (8 * ticks) ≡ meaning tree ticks
-  -- where the code has ended after some steps, the source ends in the same way
-  pub ends_only : (steps : ℕ) (end : End) → (ran chunk steps).end ≡ Some end → (ticks : ℕ) × (meaning tree ticks ≡ ran chunk steps)
-  -- what the source has printed after some ticks, the code has printed after eight times as many steps
-  pub prints : (ticks : ℕ) → IsPrefix (meaning tree ticks).pieces (ran chunk (8 * ticks)).pieces
-  -- what the code has printed, the source prints
-  pub prints_only : (steps : ℕ) → (ticks : ℕ) × IsPrefix (ran chunk steps).pieces (meaning tree ticks).pieces
-  -- the code never leaves its registers, constants or code
-  pub never_stuck : (steps : ℕ) → IsNotStuck (run chunk steps (start chunk))
+-- with these hosts and replies
+pub record AgreesFor (source : Source) (chunk : Chunk) (hosts : List Host) (replies : List Reply) : Type 0 where
+  -- where the source has ended, failed or waits after some ticks, the chunk does so after eight times as many steps, with the same text and events
+  pub ends : (ticks : ℕ) → (meaning source hosts replies ticks).ending ≢ Going → course (ran chunk hosts replies (8 * ticks)) ≡ Some (meaning source hosts replies ticks)
+  -- where the chunk has ended, failed or waits after some steps, the source does so after some ticks
+  pub ends_only : (steps : ℕ) (c : Course) → course (ran chunk hosts replies steps) ≡ Some c → c.ending ≢ Going → (ticks : ℕ) × (meaning source hosts replies ticks ≡ c)
+  -- what has happened in the source after some ticks, has happened in the chunk after eight times as many steps
+  pub tells : (ticks : ℕ) → IsPrefix (meaning source hosts replies ticks).events (events_of (ran chunk hosts replies (8 * ticks)))
+  -- what has happened in the chunk happens in the source
+  pub tells_only : (steps : ℕ) → (ticks : ℕ) × IsPrefix (events_of (ran chunk hosts replies steps)) (meaning source hosts replies ticks).events
 
--- The laws of the meaning.
-pub record IsSteady (tree : List Statement) : Type 0 where
-  -- a tick for the block, and six for each statement
-  pub ends : (meaning tree (suc (6 * length tree))).end ≡ Some Done
-  -- an end is the end after every greater number of ticks
-  pub stays : (ticks later : ℕ) (end : End) → ticks ≤ later → (meaning tree ticks).end ≡ Some end → meaning tree later ≡ meaning tree ticks
-  -- what has been printed stays
-  pub grows : (ticks later : ℕ) → ticks ≤ later → IsPrefix (meaning tree ticks).pieces (meaning tree later).pieces
+abbrev pub Agrees : Source → Chunk → Type 0
+Agrees source chunk = (hosts : List Host) (replies : List Reply) → AgreesFor source chunk hosts replies

@@ -1,25 +1,31 @@
-// Source and code of the first form: sources that are lists of printed numbers. What such a source
-// means, what its code does, and that the two agree.
+//! That the chunk of a source does what the source means.
 #![tactic(auto)]
 
-ghost use Rattle.std.specs.Prelude.{List};
-ghost use Rattle.agrees.specs.declared.tree.Statement.{Statement};
-ghost use Rattle.agrees.specs.Agrees.{Agrees, IsSteady};
-ghost use Rattle.agrees.specs.Scheme.{scheme};
+ghost use Rattle.std.specs.Prelude.{◌≡◌, ℕ, List, []};
+ghost use Rattle.lua_tree.specs.Syntax.{Source};
+ghost use Rattle.lua_model.specs.Store.{Host, Reply};
+ghost use Rattle.source_meaning.specs.Meaning.{meaning};
+ghost use Rattle.rules.specs.Run.{IsNotStuck, ran};
+ghost use Rattle.scheme.specs.Scheme.{scheme};
+ghost use Rattle.first_form.specs.declared.tree.Statement.{Statement};
+ghost use Rattle.first_form.specs.Source.{IsPrintList};
+ghost use Rattle.first_form.specs.Meaning as early;
+ghost use Rattle.agrees.specs.Agrees.{Agrees};
+ghost use Rattle.agrees.specs.Printed.{course_of};
 
-pub mod chunk;
-pub mod tree;
-
-/// For every source of the first form: where it ends after some ticks, its code has ended after
-/// eight times as many steps, with the same pieces printed; where the code ends, the source does so
-/// too, with the same pieces; what each has printed the other prints; and the code is never stuck.
-/// A law, with nothing to run.
+/// Law: the chunk of a list of printed numbers does what the source means, with all hosts and replies.
 pub fn agreement()
-    ensures { (tree : List Statement) → Agrees tree (scheme tree) }
+    ensures { (source : Source) (tree : List Statement) (name : List ℕ) → IsPrintList source.body tree → Agrees source (scheme source name) }
 {}
 
-/// For every source of the first form: its meaning ends, an end stays, and what was printed stays. A
-/// law, with nothing to run.
-pub fn meaning_is_steady()
-    ensures { (tree : List Statement) → IsSteady tree }
+/// Law: a run of such a chunk is never stuck.
+pub fn never_stuck()
+    ensures { (source : Source) (tree : List Statement) (name : List ℕ) → IsPrintList source.body tree
+        → (hosts : List Host) (replies : List Reply) (n : ℕ) → IsNotStuck (ran (scheme source name) hosts replies n) }
+{}
+
+/// Law: without hosts the meaning of a list of printed numbers is the early one, at each number of ticks.
+pub fn printed_meaning()
+    ensures { (source : Source) (tree : List Statement) → IsPrintList source.body tree
+        → (ticks : ℕ) → meaning source [] [] ticks ≡ course_of (early.meaning tree ticks) }
 {}

@@ -86,30 +86,3 @@ fn equals_length(text: &[u8]) -> usize
 {
     text.iter().take_while(|byte| **byte == b'=').count()
 }
-
-#[cfg(test)]
-mod tests {
-    use super::*;
-
-    #[test]
-    fn long_brackets_end_at_the_first_closing_of_their_level(rt: HostRuntime) {
-        assert_eq!(rt; long_length(2, b"[==[a]=]b]==]c"), Some(13));
-        assert_eq!(rt; long_length(0, b"[[a]]]]"), Some(5));
-        assert_eq!(rt; long_length(1, b"[=[a]="), None);
-    }
-
-    #[test]
-    fn openings_say_their_level(rt: HostRuntime) {
-        for (text, want) in [("[==[", Some(2)), ("[=a", None), ("[", None)] {
-            assert_eq!(rt; opening_level(text.as_bytes()), want, "{text:?}");
-        }
-    }
-
-    #[test]
-    fn comments_are_long_or_end_with_their_line(rt: HostRuntime) {
-        assert_eq!(rt; comment_length(b"--[=x\n"), Some(5));
-        assert_eq!(rt; comment_length(b"--[[x\n]]y"), Some(8));
-        assert_eq!(rt; comment_length(b"--[==["), None);
-        assert_eq!(rt; comment_length(b"--"), Some(2));
-    }
-}

@@ -9,8 +9,6 @@ mod marks;
 mod piece;
 mod runs;
 mod strings;
-#[cfg(test)]
-mod tests;
 mod tokenize;
 mod words;
 

@@ -128,6 +128,3 @@ fn split_plain(text: &[u8]) -> Option<(u8, &[u8])>
         length => Some((b'\n', &text[length..])),
     }
 }
-
-#[cfg(test)]
-mod tests;

@@ -170,6 +170,3 @@ fn escaped_value(byte: u8) -> u8
         other => other,
     }
 }
-
-#[cfg(test)]
-mod tests;

@@ -6,8 +6,6 @@ mod byte_text;
 mod laws;
 mod names;
 mod numbers;
-#[cfg(test)]
-mod tests;
 
 pub use arith::{ArithOp, CompareOp, NumFault, add, div, mul, neg, pow, rem, sub};
 pub use byte_text::ByteText;

@@ -3,8 +3,6 @@
 
 mod laws;
 mod speller;
-#[cfg(test)]
-mod tests;
 mod token;
 mod tree;
 mod word;

@@ -2,8 +2,6 @@
 #![tactic(auto)]
 
 mod op;
-#[cfg(test)]
-mod tests;
 mod word;
 
 pub use op::{Format, Op};

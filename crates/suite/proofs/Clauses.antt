@@ -19,8 +19,7 @@ use Rattle.parser.specs.Places as syntax
 use Rattle.parser.specs.Laws.{TreesAreOne, NeverBoth}
 use Rattle.scopes.specs.declared.fault.ScopeFault.{ScopeFault}
 use Rattle.scopes.specs.Faults as scoping
-use Rattle.agrees.specs.declared.tree.Statement.{Statement}
-use Rattle.agrees.specs.Source.{is_chunk, IsFirstForm}
+use Rattle.first_form.specs.Source.{is_chunk, IsPrintList, IsFirstForm}
 use Rattle.suite.specs.declared.fault.Fault.{Fault}
 use Rattle.suite.specs.declared.status.Status.{Status}
 use Rattle.suite.specs.declared.outcome.Outcome.{Outcome}
@@ -30,7 +29,7 @@ use Rattle.suite.specs.Lines.{status_of, line_of, Refused, IsPut, Reported}
 use Rattle.suite.specs.Outcome.{IsBadSource, IsNotBuilt, IsFaultIn}
 use Rattle.suite.specs.Work.{FileRuns, FetchedRuns, IsFetched, HasOutput, Prints, PrintsPart}
 use Rattle.suite.specs.Causes.{Becomes, NoFault, HasNoSource}
-use Rattle.suite.proofs.SourceLemmas.{TokensAreOne, form_listed, list_scoped}
+use Rattle.suite.proofs.SourceLemmas.{TokensAreOne, form_is, list_scoped}
 
 abbrev pub TokensOrFault : Type 0
 TokensOrFault = (bytes : List ℕ) (tokens : List Token) (cause : Cause) (at : ℕ) → Lexes bytes tokens → Stops bytes cause at → ⊥
@@ -53,9 +52,9 @@ laws_of tokens_one tokens_never trees_one trees_never = record {
 pub named_is : (words : Words) (file : List ℕ) → Reads words file → named words ≡ file
 named_is words file r = ap second_of r.words_are
 
--- two outputs of a tree are one
-same_output : (tree : List Statement) (a b : List ℕ) → HasOutput tree a → HasOutput tree b → a ≡ b
-same_output tree a b h k = sym (h.output_is h.ends.0 h.ends.1) ∙ k.output_is h.ends.0 h.ends.1
+-- two outputs of a source are one
+same_output : (source : Source) (a b : List ℕ) → HasOutput source a → HasOutput source b → a ≡ b
+same_output source a b h k = sym (h.output_is h.ends.0 h.ends.1) ∙ k.output_is h.ends.0 h.ends.1
 
 count_snoc : (calls : List FileCall) (call : FileCall) → call.failed ≡ true → fault_count (calls ++ call ∷ []) ≡ suc (fault_count calls)
 count_snoc calls call e =
@@ -118,14 +117,15 @@ no_fault laws bytes tokens whole (Fault.TooDeep offset) lexed parsed keeps is =
     no_syntax_fault laws bytes tokens is.tokens whole (SyntaxFault.TooDeep is.at) lexed parsed is.lexed is.fault
 
 -- source of the first form, source with a fault and what is not built are three
-form_not_bad : Laws → (bytes : List ℕ) (tree : List Statement) (fault : Fault) → IsFirstForm bytes tree → IsBadSource bytes fault → ⊥
-form_not_bad laws bytes tree fault form bad =
-    no_fault laws bytes form.tokens form.whole fault form.lexed form.parsed (list_scoped form.whole tree form.listed) bad.fault_is
+form_not_bad : Laws → (bytes : List ℕ) (source : Source) (fault : Fault) → IsFirstForm bytes source → IsBadSource bytes fault → ⊥
+form_not_bad laws bytes source fault form bad =
+    no_fault laws bytes form.tokens source fault form.lexed form.parsed (list_scoped source form.tree form.listed) bad.fault_is
 
-form_not_unbuilt : Laws → (bytes : List ℕ) (tree : List Statement) → IsFirstForm bytes tree → IsNotBuilt bytes → ⊥
-form_not_unbuilt laws bytes tree form (inl chunk) = let source : is_chunk bytes ≡ false = form.source in cc
-form_not_unbuilt laws bytes tree form (inr other) =
-    other.no_list tree (form_listed laws.tokens_are_one laws.trees_are_one bytes other.tokens other.whole tree other.lexed other.parsed form)
+form_not_unbuilt : Laws → (bytes : List ℕ) (source : Source) → IsFirstForm bytes source → IsNotBuilt bytes → ⊥
+form_not_unbuilt laws bytes source form (inl chunk) = let no_chunk : is_chunk bytes ≡ false = form.no_chunk in cc
+form_not_unbuilt laws bytes source form (inr other) =
+    let same : source ≡ other.whole = form_is laws.tokens_are_one laws.trees_are_one bytes other.tokens other.whole source other.lexed other.parsed form in
+    other.no_list form.tree (subst (λ (w : Source). IsPrintList w.body form.tree) same form.listed)
 
 bad_not_unbuilt : Laws → (bytes : List ℕ) (fault : Fault) → IsBadSource bytes fault → IsNotBuilt bytes → ⊥
 bad_not_unbuilt laws bytes fault bad (inl chunk) = let source : is_chunk bytes ≡ false = bad.source in cc
@@ -181,22 +181,22 @@ module _ (laws : Laws) (words : Words) (file : List ℕ) (contents : Option Cont
   told_is bytes outcome h f =
       same_bytes contents file bytes f.bytes (subst (λ n. Tells contents n bytes) (named_is words file reads) h.told) f.told
 
-  form_at : (bytes fetched : List ℕ) (tree : List Statement) → bytes ≡ fetched → IsFirstForm bytes tree → IsFirstForm fetched tree
-  form_at bytes fetched tree e form = subst (λ b. IsFirstForm b tree) e form
+  form_at : (bytes fetched : List ℕ) (source : Source) → bytes ≡ fetched → IsFirstForm bytes source → IsFirstForm fetched source
+  form_at bytes fetched source e form = subst (λ b. IsFirstForm b source) e form
 
   bad_at : (bytes fetched : List ℕ) (fault : Fault) → bytes ≡ fetched → IsBadSource bytes fault → IsBadSource fetched fault
   bad_at bytes fetched fault e bad = subst (λ b. IsBadSource b fault) e bad
 
   -- a tree's output, where the sink took the output of the bytes
-  prints_text : (bytes fetched : List ℕ) (tree : List Statement) → bytes ≡ fetched → IsFirstForm bytes tree → Prints fetched before later → (text : List ℕ) × HasOutput tree text × Takes before later text
-  prints_text bytes fetched tree e form p =
-      let same = p.source.only tree (form_at bytes fetched tree e form) in
+  prints_text : (bytes fetched : List ℕ) (source : Source) → bytes ≡ fetched → IsFirstForm bytes source → Prints fetched before later → (text : List ℕ) × HasOutput source text × Takes before later text
+  prints_text bytes fetched source e form p =
+      let same = p.is_source.only source (form_at bytes fetched source e form) in
       (p.text, subst (λ t. HasOutput t p.text) (sym same) p.outputs, p.taken)
 
-  part_text : (bytes fetched : List ℕ) (tree : List Statement) (text : List ℕ) → bytes ≡ fetched → IsFirstForm bytes tree → HasOutput tree text → PrintsPart fetched before later → TakesPart before later text
-  part_text bytes fetched tree text e form h p =
-      let same = p.source.only tree (form_at bytes fetched tree e form) in
-      subst (TakesPart before later) (sym (same_output tree text p.text h (subst (λ t. HasOutput t p.text) (sym same) p.outputs))) p.taken
+  part_text : (bytes fetched : List ℕ) (source : Source) (text : List ℕ) → bytes ≡ fetched → IsFirstForm bytes source → HasOutput source text → PrintsPart fetched before later → TakesPart before later text
+  part_text bytes fetched source text e form h p =
+      let same = p.is_source.only source (form_at bytes fetched source e form) in
+      subst (TakesPart before later) (sym (same_output source text p.text h (subst (λ t. HasOutput t p.text) (sym same) p.outputs))) p.taken
 
   abbrev Runs : Outcome → Type 0
   Runs outcome = FileRuns file contents calls calls_after outcome before later old new
@@ -204,38 +204,38 @@ module _ (laws : Laws) (words : Words) (file : List ℕ) (contents : Option Cont
   abbrev Becoming : Outcome → Status → Type 0
   Becoming outcome result = Reported outcome file result err_before err_later err_old err_new
 
-  pub prints_clause : (outcome : Outcome) (result : Status) → Runs outcome → Becoming outcome result → (bytes : List ℕ) (tree : List Statement) → HasSource words contents bytes → IsFirstForm bytes tree → NoFault calls calls_after → (Rises old new → ⊥) → (Rises err_old err_new → ⊥) → ((result ≡ Status.Done) × (text : List ℕ) × HasOutput tree text × Takes before later text) ⊎ (result ≡ Status.OutOfMemory)
-  prints_clause Outcome.Done result f r bytes tree h form files out err =
-      let p = prints_text bytes f.bytes tree (told_is bytes Outcome.Done h f) form f.runs in inl (r.0, p.0, p.1, p.2)
-  prints_clause (Outcome.BadSource fault) result f r bytes tree h form files out err =
-      absurd (form_not_bad laws f.bytes tree fault (form_at bytes f.bytes tree (told_is bytes (Outcome.BadSource fault) h f) form) f.runs.0)
-  prints_clause Outcome.Unbuilt result f r bytes tree h form files out err =
-      absurd (form_not_unbuilt laws f.bytes tree (form_at bytes f.bytes tree (told_is bytes Outcome.Unbuilt h f) form) f.runs.0)
-  prints_clause Outcome.WriteFault result f r bytes tree h form files out err = absurd (out f.runs.1)
-  prints_clause Outcome.OutOfMemory result f (inl r) bytes tree h form files out err = inr r.0
-  prints_clause Outcome.OutOfMemory result f (inr r) bytes tree h form files out err = inr r.0
-  prints_clause Outcome.ReadFault result f r bytes tree h form files out err =
+  pub prints_clause : (outcome : Outcome) (result : Status) → Runs outcome → Becoming outcome result → (bytes : List ℕ) (source : Source) → HasSource words contents bytes → IsFirstForm bytes source → NoFault calls calls_after → (Rises old new → ⊥) → (Rises err_old err_new → ⊥) → ((result ≡ Status.Done) × (text : List ℕ) × HasOutput source text × Takes before later text) ⊎ (result ≡ Status.OutOfMemory)
+  prints_clause Outcome.Done result f r bytes source h form files out err =
+      let p = prints_text bytes f.bytes source (told_is bytes Outcome.Done h f) form f.runs in inl (r.0, p.0, p.1, p.2)
+  prints_clause (Outcome.BadSource fault) result f r bytes source h form files out err =
+      absurd (form_not_bad laws f.bytes source fault (form_at bytes f.bytes source (told_is bytes (Outcome.BadSource fault) h f) form) f.runs.0)
+  prints_clause Outcome.Unbuilt result f r bytes source h form files out err =
+      absurd (form_not_unbuilt laws f.bytes source (form_at bytes f.bytes source (told_is bytes Outcome.Unbuilt h f) form) f.runs.0)
+  prints_clause Outcome.WriteFault result f r bytes source h form files out err = absurd (out f.runs.1)
+  prints_clause Outcome.OutOfMemory result f (inl r) bytes source h form files out err = inr r.0
+  prints_clause Outcome.OutOfMemory result f (inr r) bytes source h form files out err = inr r.0
+  prints_clause Outcome.ReadFault result f r bytes source h form files out err =
       let grown = count_snoc calls (call_of false file true) refl in
       let count : fault_count calls_after ≡ suc (fault_count calls) = ap fault_count f.0 ∙ grown in
       absurd (omega (arith, files, count))
-  prints_clause Outcome.BadWords result f r bytes tree h form files out err = absurd f.runs
+  prints_clause Outcome.BadWords result f r bytes source h form files out err = absurd f.runs
 
-  pub part_clause : (outcome : Outcome) → Runs outcome → (bytes : List ℕ) (tree : List Statement) (text : List ℕ) → HasSource words contents bytes → IsFirstForm bytes tree → HasOutput tree text → TakesPart before later text
-  part_clause Outcome.Done f bytes tree text h form outputs =
-      let p = prints_text bytes f.bytes tree (told_is bytes Outcome.Done h f) form f.runs in
-      whole_part before later text (subst (Takes before later) (same_output tree p.0 text p.1 outputs) p.2)
-  part_clause (Outcome.BadSource fault) f bytes tree text h form outputs = none_part before later text f.runs.1
-  part_clause Outcome.Unbuilt f bytes tree text h form outputs = none_part before later text f.runs.1
-  part_clause Outcome.WriteFault f bytes tree text h form outputs =
-      part_text bytes f.bytes tree text (told_is bytes Outcome.WriteFault h f) form outputs f.runs.0
-  part_clause Outcome.OutOfMemory (inl f) bytes tree text h form outputs = none_part before later text f.1
-  part_clause Outcome.OutOfMemory (inr f) bytes tree text h form outputs =
+  pub part_clause : (outcome : Outcome) → Runs outcome → (bytes : List ℕ) (source : Source) (text : List ℕ) → HasSource words contents bytes → IsFirstForm bytes source → HasOutput source text → TakesPart before later text
+  part_clause Outcome.Done f bytes source text h form outputs =
+      let p = prints_text bytes f.bytes source (told_is bytes Outcome.Done h f) form f.runs in
+      whole_part before later text (subst (Takes before later) (same_output source p.0 text p.1 outputs) p.2)
+  part_clause (Outcome.BadSource fault) f bytes source text h form outputs = none_part before later text f.runs.1
+  part_clause Outcome.Unbuilt f bytes source text h form outputs = none_part before later text f.runs.1
+  part_clause Outcome.WriteFault f bytes source text h form outputs =
+      part_text bytes f.bytes source text (told_is bytes Outcome.WriteFault h f) form outputs f.runs.0
+  part_clause Outcome.OutOfMemory (inl f) bytes source text h form outputs = none_part before later text f.1
+  part_clause Outcome.OutOfMemory (inr f) bytes source text h form outputs =
       elim f.runs [
         | inl none ↦ none_part before later text none
-        | inr p ↦ part_text bytes f.bytes tree text (told_is bytes Outcome.OutOfMemory h f) form outputs p
+        | inr p ↦ part_text bytes f.bytes source text (told_is bytes Outcome.OutOfMemory h f) form outputs p
       ]
-  part_clause Outcome.ReadFault f bytes tree text h form outputs = none_part before later text f.1
-  part_clause Outcome.BadWords f bytes tree text h form outputs = absurd f.runs
+  part_clause Outcome.ReadFault f bytes source text h form outputs = none_part before later text f.1
+  part_clause Outcome.BadWords f bytes source text h form outputs = absurd f.runs
 
   -- a fetch that failed is none that succeeded
   failed_not : Fetched words true calls calls_after → IsFetched file false calls calls_after → ⊥
@@ -248,8 +248,8 @@ module _ (laws : Laws) (words : Words) (file : List ℕ) (contents : Option Cont
       let same = not_both calls (call_of false (named words) false) (call_of false file true) (sym h.listed ∙ f) in
       let failed : false ≡ true = ap (λ (c : FileCall). c.failed) same in cc
 
-  no_form : HasNoSource words contents → (outcome : Outcome) (f : FetchedRuns file contents calls calls_after outcome before later old new) → (tree : List Statement) → IsFirstForm f.bytes tree → ⊥
-  no_form h outcome f tree form = h.2 tree (subst (λ b. IsFirstForm b tree) (sym (told_is h.0 outcome h.1 f)) form)
+  no_form : HasNoSource words contents → (outcome : Outcome) (f : FetchedRuns file contents calls calls_after outcome before later old new) → (source : Source) → IsFirstForm f.bytes source → ⊥
+  no_form h outcome f source form = h.2 source (subst (λ b. IsFirstForm b source) (sym (told_is h.0 outcome h.1 f)) form)
 
   pub nothing_fetched : (outcome : Outcome) → Runs outcome → Fetched words true calls calls_after → Takes before later []
   nothing_fetched Outcome.Done f h = absurd (failed_not h f.fetched)
@@ -262,13 +262,13 @@ module _ (laws : Laws) (words : Words) (file : List ℕ) (contents : Option Cont
   nothing_fetched Outcome.BadWords f h = absurd f.runs
 
   pub nothing_built : (outcome : Outcome) → Runs outcome → HasNoSource words contents → Takes before later []
-  nothing_built Outcome.Done f h = absurd (no_form h Outcome.Done f f.runs.tree f.runs.source.form)
+  nothing_built Outcome.Done f h = absurd (no_form h Outcome.Done f f.runs.source f.runs.is_source.form)
   nothing_built (Outcome.BadSource fault) f h = f.runs.1
   nothing_built Outcome.Unbuilt f h = f.runs.1
-  nothing_built Outcome.WriteFault f h = absurd (no_form h Outcome.WriteFault f f.runs.0.tree f.runs.0.source.form)
+  nothing_built Outcome.WriteFault f h = absurd (no_form h Outcome.WriteFault f f.runs.0.source f.runs.0.is_source.form)
   nothing_built Outcome.OutOfMemory (inl f) h = f.1
   nothing_built Outcome.OutOfMemory (inr f) h =
-      elim f.runs [ inl none ↦ none | inr p ↦ absurd (no_form h Outcome.OutOfMemory f p.tree p.source.form) ]
+      elim f.runs [ inl none ↦ none | inr p ↦ absurd (no_form h Outcome.OutOfMemory f p.source p.is_source.form) ]
   nothing_built Outcome.ReadFault f h = f.1
   nothing_built Outcome.BadWords f h = absurd f.runs
 
@@ -318,11 +318,11 @@ module _ (laws : Laws) (words : Words) (file : List ℕ) (contents : Option Cont
   faulty_clause (Outcome.BadSource why) result f (inr (inl r)) bytes fault h bad g = inr r.0
   faulty_clause (Outcome.BadSource why) result f (inr (inr r)) bytes fault h bad g = inr r.0
   faulty_clause Outcome.Done result f r bytes fault h bad g =
-      absurd (form_not_bad laws f.bytes f.runs.tree fault f.runs.source.form (bad_at bytes f.bytes fault (told_is bytes Outcome.Done h f) bad))
+      absurd (form_not_bad laws f.bytes f.runs.source fault f.runs.is_source.form (bad_at bytes f.bytes fault (told_is bytes Outcome.Done h f) bad))
   faulty_clause Outcome.Unbuilt result f r bytes fault h bad g =
       absurd (bad_not_unbuilt laws f.bytes fault (bad_at bytes f.bytes fault (told_is bytes Outcome.Unbuilt h f) bad) f.runs.0)
   faulty_clause Outcome.WriteFault result f r bytes fault h bad g =
-      absurd (form_not_bad laws f.bytes f.runs.0.tree fault f.runs.0.source.form (bad_at bytes f.bytes fault (told_is bytes Outcome.WriteFault h f) bad))
+      absurd (form_not_bad laws f.bytes f.runs.0.source fault f.runs.0.is_source.form (bad_at bytes f.bytes fault (told_is bytes Outcome.WriteFault h f) bad))
   faulty_clause Outcome.OutOfMemory result f (inl r) bytes fault h bad g = inr r.0
   faulty_clause Outcome.OutOfMemory result f (inr r) bytes fault h bad g = inr r.0
   faulty_clause Outcome.ReadFault result f r bytes fault h bad g = absurd (fetched_not g f.0)
@@ -332,11 +332,11 @@ module _ (laws : Laws) (words : Words) (file : List ℕ) (contents : Option Cont
   not_built_clause Outcome.Unbuilt result f (inl r) bytes h not g = inl (inl r.0)
   not_built_clause Outcome.Unbuilt result f (inr r) bytes h not g = inl (inr r.0)
   not_built_clause Outcome.Done result f r bytes h not g =
-      absurd (form_not_unbuilt laws f.bytes f.runs.tree f.runs.source.form (subst IsNotBuilt (told_is bytes Outcome.Done h f) not))
+      absurd (form_not_unbuilt laws f.bytes f.runs.source f.runs.is_source.form (subst IsNotBuilt (told_is bytes Outcome.Done h f) not))
   not_built_clause (Outcome.BadSource fault) result f r bytes h not g =
       absurd (bad_not_unbuilt laws f.bytes fault f.runs.0 (subst IsNotBuilt (told_is bytes (Outcome.BadSource fault) h f) not))
   not_built_clause Outcome.WriteFault result f r bytes h not g =
-      absurd (form_not_unbuilt laws f.bytes f.runs.0.tree f.runs.0.source.form (subst IsNotBuilt (told_is bytes Outcome.WriteFault h f) not))
+      absurd (form_not_unbuilt laws f.bytes f.runs.0.source f.runs.0.is_source.form (subst IsNotBuilt (told_is bytes Outcome.WriteFault h f) not))
   not_built_clause Outcome.OutOfMemory result f (inl r) bytes h not g = inr r.0
   not_built_clause Outcome.OutOfMemory result f (inr r) bytes h not g = inr r.0
   not_built_clause Outcome.ReadFault result f r bytes h not g = absurd (fetched_not g f.0)

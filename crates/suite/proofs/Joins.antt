@@ -2,7 +2,7 @@
 use Rattle.std.proofs.Common.{◌≡◌, ℕ, ◌<◌, List, [], ◌∷◌, ◌++◌, length, ◌+◌, ◌≤◌, map, take, get_or, add-one, refl, sym, ap, ◌∙◌, append_assoc, arith}
 use Rattle.std.proofs.Math.Seq.{take-suc}
 use Rattle.std.proofs.lemmas.List.{map-append, length-map, length-take-le}
-use Rattle.agrees.specs.declared.chunk.Value.{Value}
+use Rattle.first_form.specs.declared.chunk.Value.{Value}
 use Rattle.std.specs.List.{join_with_byte}
 
 pub join_one : (c : ℕ) (y : List ℕ) → join_with_byte c ([] ++ y ∷ []) ≡ y

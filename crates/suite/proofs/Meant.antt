@@ -1,14 +1,19 @@
 -- What the code of a source prints is what the source means.
-use Rattle.std.proofs.Common.{◌≡◌, ℕ, suc, ◌*◌, ◌≤◌, List, length, Option, Some, None, inl, inr, refl, sym, ap, ◌∙◌, arith}
-use Rattle.agrees.specs.declared.tree.Statement.{Statement}
-use Rattle.agrees.specs.Source.{IsFirstForm}
-use Rattle.agrees.specs.Progress.{End, Done, Failed, Progress, output}
-use Rattle.agrees.specs.Meaning.{meaning}
-use Rattle.agrees.specs.Chunk.{Chunk}
-use Rattle.agrees.specs.Rules.{Conf, Running, Over, Stuck, run, start, ran, progress_of}
-use Rattle.agrees.specs.Agrees.{Agrees, IsSteady}
+use Rattle.std.proofs.Common.{◌≡◌, ℕ, suc, ◌*◌, ◌≤◌, List, [], ◌∷◌, ◌++◌, length, Option, Some, None, inl, inr, refl, sym, ap, ◌∙◌, arith}
+use Rattle.first_form.specs.declared.tree.Statement.{Statement}
+use Rattle.lua_model.specs.Store as whole
+use Rattle.lua_model.specs.Endings.{Ended, Course}
+use Rattle.source_meaning.specs.Meaning as whole_meaning
+use Rattle.agrees.specs.Printed.{prints_of, ending_of, course_of}
+use Rattle.std.specs.List.{concat}
+use Rattle.first_form.specs.Progress.{Piece, End, Done, Failed, Progress, output}
+use Rattle.first_form.specs.Meaning.{meaning}
+use Rattle.first_form.specs.Chunk.{Chunk}
+use Rattle.first_form.specs.Rules.{Conf, Running, Over, Stuck, run, start, ran, progress_of}
+use Rattle.first_form.specs.Agrees.{Agrees, IsSteady}
 use Rattle.suite_io.specs.Taken.{Takes}
 use Rattle.suite.specs.Output.{TakesPart}
+use Rattle.suite.specs.Reading.{IsRead}
 use Rattle.suite.specs.Work.{HasOutput, Prints, PrintsPart}
 use Rattle.std.proofs.lemmas.Bool.{cases_lt}
 use Rattle.suite.proofs.Runs.{over_later}
@@ -20,7 +25,17 @@ ran_later chunk n m end (Over end2 pieces) l is e =
     ap progress_of (over_later chunk n m (start chunk) end2 pieces l is ∙ sym is)
 ran_later chunk n m end Stuck l is e = cc
 
-module _ (tree : List Statement) (chunk : Chunk) (agrees : Agrees tree chunk) (steady : IsSteady tree) (few : length tree ≤ 200) where
+-- the early meaning has ended where the whole one has, with the same output
+done_of : (end : Option End) → ending_of end ≡ Ended → end ≡ Some Done
+done_of None e = cc
+done_of (Some Done) e = refl
+done_of (Some (Failed text)) e = cc
+
+output-prints_of : (pieces : List Piece) → whole.output (prints_of pieces) ≡ concat pieces
+output-prints_of [] = refl
+output-prints_of (piece ∷ pieces) = ap (λ text. piece ++ text) (output-prints_of pieces)
+
+module _ (tree : List Statement) (chunk : Chunk) (agrees : Agrees tree chunk) (steady : IsSteady tree) (bytes : List ℕ) (read : IsRead bytes tree) where
   enough : ℕ
   enough = suc (6 * length tree)
 
@@ -28,6 +43,7 @@ module _ (tree : List Statement) (chunk : Chunk) (agrees : Agrees tree chunk) (s
   source_ends : ran chunk 1000000000 ≡ meaning tree enough
   unfolding enough
   source_ends =
+      let few : length tree ≤ 200 = read.listed.few in
       let ended = agrees.ends enough Done steady.ends in
       ran_later chunk (8 * enough) 1000000000 Done _ (omega arith) refl (ap (λ (p : Progress). p.end) ended ∙ steady.ends) ∙ ended
 
@@ -48,27 +64,30 @@ module _ (tree : List Statement) (chunk : Chunk) (agrees : Agrees tree chunk) (s
     | inr more ↦ steady.stays enough ticks Done more steady.ends
   ]
 
-  source_output : HasOutput tree (output (ran chunk 1000000000))
-  unfolding enough
-  source_output = record {
-    ends = (enough, steady.ends);
-    output_is = λ ticks ended. ap output (same_end ticks ended ∙ sym source_ends);
-  }
+  module _ (is_early : (ticks : ℕ) → whole_meaning.meaning read.source [] [] ticks ≡ course_of (meaning tree ticks)) where
+    source_output : HasOutput read.source (output (ran chunk 1000000000))
+    unfolding enough
+    source_output = record {
+      ends = (enough, ap (λ (c : Course). c.ending) (is_early enough) ∙ ap ending_of steady.ends);
+      output_is = λ ticks ended.
+          let early_ends = done_of (meaning tree ticks).end (sym (ap (λ (c : Course). c.ending) (is_early ticks)) ∙ ended) in
+          ap (λ (c : Course). whole.output c.events) (is_early ticks) ∙ output-prints_of (meaning tree ticks).pieces ∙ ap output (same_end ticks early_ends ∙ sym source_ends);
+    }
 
-  pub source_prints : (bytes : List ℕ) (before later : Option (List ℕ)) → IsFirstForm bytes tree → ((other : List Statement) → IsFirstForm bytes other → other ≡ tree) → Takes before later (output (ran chunk 1000000000)) → Prints bytes before later
-  source_prints bytes before later form only t = record {
-    tree = tree;
-    text = output (ran chunk 1000000000);
-    source = record { form = form; only = only };
-    outputs = source_output;
-    taken = t;
-  }
+    pub source_prints : (before later : Option (List ℕ)) → Takes before later (output (ran chunk 1000000000)) → Prints bytes before later
+    source_prints before later t = record {
+      source = read.source;
+      text = output (ran chunk 1000000000);
+      is_source = record { form = read.form; only = read.only };
+      outputs = source_output;
+      taken = t;
+    }
 
-  pub source_prints_part : (bytes : List ℕ) (before later : Option (List ℕ)) → IsFirstForm bytes tree → ((other : List Statement) → IsFirstForm bytes other → other ≡ tree) → TakesPart before later (output (ran chunk 1000000000)) → PrintsPart bytes before later
-  source_prints_part bytes before later form only t = record {
-    tree = tree;
-    text = output (ran chunk 1000000000);
-    source = record { form = form; only = only };
-    outputs = source_output;
-    taken = t;
-  }
+    pub source_prints_part : (before later : Option (List ℕ)) → TakesPart before later (output (ran chunk 1000000000)) → PrintsPart bytes before later
+    source_prints_part before later t = record {
+      source = read.source;
+      text = output (ran chunk 1000000000);
+      is_source = record { form = read.form; only = read.only };
+      outputs = source_output;
+      taken = t;
+    }

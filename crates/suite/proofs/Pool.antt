@@ -9,12 +9,12 @@ use Rattle.std.proofs.lemmas.Slice.Eq.{bytes_eq-Decides}
 use Rattle.std.proofs.Math.Seq.{drop-cons}
 use Rattle.suite.specs.Compiling.{number_constant}
 use Rattle.indexmap.specs.IndexSet.{insert_key}
-use Rattle.agrees.specs.declared.tree.Statement.{Statement}
-use Rattle.agrees.specs.declared.tree.Statement.TheVariants.{Print}
-use Rattle.agrees.specs.declared.chunk.Instruction.{Instruction}
-use Rattle.agrees.specs.declared.chunk.Instruction.TheVariants.{GetGlobal, LoadK, Call, Return}
-use Rattle.agrees.specs.declared.chunk.Constant.{Constant}
-use Rattle.agrees.specs.Scheme.{print_name, taken, same, distinct, constants, number_of, words}
+use Rattle.first_form.specs.declared.tree.Statement.{Statement}
+use Rattle.first_form.specs.declared.tree.Statement.TheVariants.{Print}
+use Rattle.first_form.specs.declared.chunk.Instruction.{Instruction}
+use Rattle.first_form.specs.declared.chunk.Instruction.TheVariants.{GetGlobal, LoadK, Call, Return}
+use Rattle.first_form.specs.declared.chunk.Constant.{Constant}
+use Rattle.first_form.specs.Scheme.{print_name, taken, same, distinct, constants, number_of, words}
 
 pub same-Decides : (j k : Constant) → Decides (same j k) (j ≡ k)
 same-Decides (Constant.Text a) (Constant.Text b) =

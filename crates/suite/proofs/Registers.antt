@@ -1,9 +1,9 @@
 -- Registers that are set one after another, and the effect of a call.
 use Rattle.std.proofs.Common.{◌≡◌, ℕ, zero, suc, ◌+◌, ◌-◌, ◌<◌, Bool, true, false, List, [], ◌∷◌, length, take, drop, get_or, Option, Some, None, refl, sym, ap, subst, ◌∙◌, add-one, arith}
 use Rattle.std.specs.Prelude.{slice_get, slice_set, nat_le}
-use Rattle.agrees.specs.declared.chunk.Value.{Value}
-use Rattle.agrees.specs.declared.chunk.Instruction.TheVariants.{Call}
-use Rattle.agrees.specs.Rules.{Effect, need, put, put_nils, span, call, call_fault, printed, effect}
+use Rattle.first_form.specs.declared.chunk.Value.{Value}
+use Rattle.first_form.specs.declared.chunk.Instruction.TheVariants.{Call}
+use Rattle.first_form.specs.Rules.{Effect, need, put, put_nils, span, call, call_fault, printed, effect}
 use Rattle.suite.specs.declared.effects.Effected.{Effected}
 use Rattle.suite.specs.Effects.{CanGo, Carries}
 

@@ -4,9 +4,9 @@ use Rattle.std.proofs.lemmas.List.{append-nil}
 use Rattle.std.specs.List.{concat}
 use Rattle.std.proofs.lemmas.List.Folds.{concat-append}
 use Rattle.suite_io.specs.Taken.{Takes}
-use Rattle.agrees.specs.Chunk.{Chunk}
-use Rattle.agrees.specs.Progress.{Piece, End, output}
-use Rattle.agrees.specs.Rules.{Effect, Goes, Prints, Ends, Fails, IsStuck, State, Conf, Running, Over, Stuck, after, next, run, start, ran, progress_of, IsNotStuck}
+use Rattle.first_form.specs.Chunk.{Chunk}
+use Rattle.first_form.specs.Progress.{Piece, End, output}
+use Rattle.first_form.specs.Rules.{Effect, Goes, Prints, Ends, Fails, IsStuck, State, Conf, Running, Over, Stuck, after, next, run, start, ran, progress_of, IsNotStuck}
 use Rattle.suite.specs.Effects.{CanGo, effect_at}
 use Rattle.suite.specs.Frame.{Frame}
 use Rattle.suite.specs.Output.{TakesPart}

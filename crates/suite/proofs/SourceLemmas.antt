@@ -15,12 +15,12 @@ use Rattle.lua_tree.specs.declared.tree.Exp.{Exp}
 use Rattle.lua_tree.specs.declared.tree.Stat.{Stat}
 use Rattle.lua_tree.specs.declared.token.Token.{Token}
 use Rattle.parser.specs.Laws.{TreesAreOne}
-use Rattle.agrees.specs.Source.{is_chunk, PrintsNumber, ArePrinted, IsPrintList, IsFirstForm}
-use Rattle.agrees.specs.declared.tree.Statement.{Statement}
-use Rattle.agrees.specs.declared.tree.Statement.TheVariants.{Print}
+use Rattle.first_form.specs.Source.{is_chunk, PrintsNumber, ArePrinted, IsPrintList, IsFirstForm}
+use Rattle.first_form.specs.declared.tree.Statement.{Statement}
+use Rattle.first_form.specs.declared.tree.Statement.TheVariants.{Print}
 use Rattle.suite.specs.declared.fault.Fault.{Fault}
 use Rattle.suite.specs.Outcome.{IsBadSource, IsNoPrintList}
-use Rattle.suite.specs.Reading.{IsScopingFault, IsNumber, IsNumberList}
+use Rattle.suite.specs.Reading.{IsRead, IsScopingFault, IsNumber, IsNumberList}
 
 pub none_weaker : {A P Q : Type 0} (o : Option A) → (P → Q) → IfNone o P → IfNone o Q
 none_weaker (Some x) f h = tt
@@ -100,12 +100,19 @@ left_none all prints stats i ended reading =
 abbrev pub TokensAreOne : Type 0
 TokensAreOne = (bytes : List ℕ) (tokens others : List Token) → Lexes bytes tokens → Lexes bytes others → tokens ≡ others
 
--- a list of the bytes is one of their tree
-pub form_listed : TokensAreOne → TreesAreOne → (bytes : List ℕ) (tokens : List Token) (whole : Source) (tree : List Statement) → Lexes bytes tokens → IsTreeOf tokens whole → IsFirstForm bytes tree → IsPrintList whole.body tree
-form_listed tokens_one trees_one bytes tokens whole tree lexed parsed form =
+-- bytes of the first form are one source
+pub form_is : TokensAreOne → TreesAreOne → (bytes : List ℕ) (tokens : List Token) (whole other : Source) → Lexes bytes tokens → IsTreeOf tokens whole → IsFirstForm bytes other → other ≡ whole
+form_is tokens_one trees_one bytes tokens whole other lexed parsed form =
     let tokens_same : form.tokens ≡ tokens = tokens_one bytes form.tokens tokens form.lexed lexed in
-    let form_parsed : IsTreeOf tokens form.whole = subst (λ t. IsTreeOf t form.whole) tokens_same form.parsed in
-    subst (λ (w : Source). IsPrintList w.body tree) (trees_one tokens form.whole whole form_parsed parsed) form.listed
+    trees_one tokens other whole (subst (λ t. IsTreeOf t other) tokens_same form.parsed) parsed
+
+pub source_read : TokensAreOne → TreesAreOne → (bytes : List ℕ) (tokens : List Token) (whole : Source) (tree : List Statement) → is_chunk bytes ≡ false → Lexes bytes tokens → IsTreeOf tokens whole → IsPrintList whole.body tree → IsRead bytes tree
+source_read tokens_one trees_one bytes tokens whole tree no_chunk lexed parsed listed = record {
+  source = whole;
+  form = record { no_chunk = no_chunk; tokens = tokens; lexed = lexed; parsed = parsed; tree = tree; listed = listed };
+  listed = listed;
+  only = λ other form. form_is tokens_one trees_one bytes tokens whole other lexed parsed form;
+}
 
 -- a printed number mentions `print` alone
 one_mark : (line : ℕ) (s : syntax.Statement) (n : ℤ) (number : PrintsNumber s n) (place : Place) → statement_part line s place ≡ record { marks = mention number.name_line (codes "print") (place.scope (codes "print")) place.around ∷ []; next = place }

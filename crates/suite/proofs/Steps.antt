@@ -2,9 +2,9 @@
 use Rattle.std.proofs.Common.{◌≡◌, ℕ, suc, ◌+◌, List, [], ◌∷◌, ◌++◌, Option, sym, ap, subst, ◌∙◌, add-one}
 use Rattle.std.proofs.lemmas.List.{append-nil}
 use Rattle.suite_io.specs.Taken.{Takes}
-use Rattle.agrees.specs.declared.chunk.Value.{Value}
-use Rattle.agrees.specs.Chunk.{Chunk}
-use Rattle.agrees.specs.Rules.{Effect, Goes, Prints, Ends, Fails, IsStuck, State, Running, after}
+use Rattle.first_form.specs.declared.chunk.Value.{Value}
+use Rattle.first_form.specs.Chunk.{Chunk}
+use Rattle.first_form.specs.Rules.{Effect, Goes, Prints, Ends, Fails, IsStuck, State, Running, after}
 use Rattle.suite.specs.declared.effects.Effected.{Effected}
 use Rattle.suite.specs.Effects.{Carries, effect_at}
 use Rattle.suite.specs.Frame.{Frame}

@@ -1,7 +1,7 @@
 -- Serves a body. What a statement has the compiler take.
-use Rattle.agrees.specs.declared.tree.Statement.{Statement}
-use Rattle.agrees.specs.declared.tree.Statement.TheVariants.{Print}
-use Rattle.agrees.specs.declared.chunk.Constant.{Constant}
+use Rattle.first_form.specs.declared.tree.Statement.{Statement}
+use Rattle.first_form.specs.declared.tree.Statement.TheVariants.{Print}
+use Rattle.first_form.specs.declared.chunk.Constant.{Constant}
 
 -- the printed number, as a constant
 abbrev pub number_constant : Statement → Constant

@@ -1,8 +1,8 @@
 -- Serves the bodies. What the code answers for the effect of an instruction.
 use Rattle.std.specs.Prelude.{◌≡◌, ℕ, List, slice_get}
-use Rattle.agrees.specs.declared.chunk.Value.{Value}
-use Rattle.agrees.specs.Chunk.{Chunk}
-use Rattle.agrees.specs.Rules.{Effect, Goes, Prints, Ends, Fails, IsStuck, need, effect}
+use Rattle.first_form.specs.declared.chunk.Value.{Value}
+use Rattle.first_form.specs.Chunk.{Chunk}
+use Rattle.first_form.specs.Rules.{Effect, Goes, Prints, Ends, Fails, IsStuck, need, effect}
 use Rattle.suite.specs.declared.effects.Effected.{Effected}
 use Rattle.suite.specs.Frame.{Frame}
 

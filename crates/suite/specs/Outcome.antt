@@ -9,8 +9,8 @@ use Rattle.lexer.specs.Faults.{IsFaultOf}
 use Rattle.parser.specs.Places.{IsUnexpectedAt, IsTooDeepAt}
 use Rattle.scopes.specs.declared.fault.ScopeFault.{ScopeFault}
 use Rattle.scopes.specs.Faults as scoping
-use Rattle.agrees.specs.declared.tree.Statement.{Statement}
-use Rattle.agrees.specs.Source.{IsPrintList, is_chunk}
+use Rattle.first_form.specs.declared.tree.Statement.{Statement}
+use Rattle.first_form.specs.Source.{IsPrintList, is_chunk}
 use Rattle.suite.specs.declared.fault.Fault.{Fault}
 
 -- the offset of a token, or the length of the bytes, where there is none

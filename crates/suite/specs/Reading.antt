@@ -1,9 +1,11 @@
 -- Serves the bodies. What reading a source comes to.
-use Rattle.std.specs.Prelude.{◌≡◌, ℕ, ℤ, codes}
+use Rattle.std.specs.Prelude.{◌≡◌, ℕ, List, ℤ, codes}
 use Rattle.lua_tree.specs.Syntax.{Source, Expressions, expression, no_expressions, Expression, name_expression, number_literal}
 use Rattle.lexer.specs.declared.fault.LexFault.{LexFault}
 use Rattle.scopes.specs.declared.fault.ScopeFault.{ScopeFault}
 use Rattle.scopes.specs.Faults as scoping
+use Rattle.first_form.specs.declared.tree.Statement.{Statement}
+use Rattle.first_form.specs.Source.{IsPrintList, IsFirstForm}
 use Rattle.suite.specs.declared.fault.Fault.{Fault}
 use Rattle.suite.specs.declared.outcome.Outcome.{Outcome}
 use Rattle.suite.specs.declared.source.SourceFault.{SourceFault}
@@ -28,6 +30,13 @@ abbrev pub outcome_of : SourceFault → Outcome
 outcome_of (SourceFault.Bad fault) = Outcome.BadSource fault
 outcome_of SourceFault.Unbuilt = Outcome.Unbuilt
 outcome_of SourceFault.OutOfMemory = Outcome.OutOfMemory
+
+-- the bytes are one source, and these are its statements
+pub record IsRead (bytes : List ℕ) (tree : List Statement) : Type 0 where
+  pub source : Source
+  pub form : IsFirstForm bytes source
+  pub listed : IsPrintList source.body tree
+  pub only : (other : Source) → IsFirstForm bytes other → other ≡ source
 
 -- the name `print`
 pub record IsPrintName (e : Expression) : Type 0 where

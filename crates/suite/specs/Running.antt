@@ -2,10 +2,10 @@
 use Rattle.std.specs.Prelude.{◌≡◌, ℕ, List, [], ◌++◌, ◌⊎◌, Option, Some, None}
 use Rattle.std.specs.List.{concat}
 use Rattle.suite_io.specs.Taken.{Takes}
-use Rattle.agrees.specs.Chunk.{Chunk}
-use Rattle.agrees.specs.Progress as progress
-use Rattle.agrees.specs.Progress.{Piece, End, Progress, output}
-use Rattle.agrees.specs.Rules.{State, Running, Over, next}
+use Rattle.first_form.specs.Chunk.{Chunk}
+use Rattle.first_form.specs.Progress as progress
+use Rattle.first_form.specs.Progress.{Piece, End, Progress, output}
+use Rattle.first_form.specs.Rules.{State, Running, Over, next}
 use Rattle.suite.specs.declared.machine.StepEnd.{StepEnd}
 use Rattle.suite.specs.declared.machine.RunEnd.{RunEnd}
 use Rattle.suite.specs.Frame.{Frame}

@@ -6,43 +6,44 @@ use Rattle.suite_io.specs.declared.calls.FileCall.{FileCall}
 use Rattle.suite_io.specs.Calls.{call_of}
 use Rattle.suite_io.specs.Contents.{Contents}
 use Rattle.suite_io.specs.Taken.{Takes, Rises}
-use Rattle.agrees.specs.declared.tree.Statement.{Statement}
-use Rattle.agrees.specs.Source.{IsFirstForm}
-use Rattle.agrees.specs.Progress.{Done, output}
-use Rattle.agrees.specs.Meaning.{meaning}
+use Rattle.lua_tree.specs.Syntax.{Source}
+use Rattle.lua_model.specs.Store.{output}
+use Rattle.lua_model.specs.Endings.{Ended}
+use Rattle.source_meaning.specs.Meaning.{meaning}
+use Rattle.first_form.specs.Source.{IsFirstForm}
 use Rattle.suite.specs.declared.outcome.Outcome.{Outcome}
 use Rattle.suite.specs.Output.{TakesPart}
 use Rattle.suite.specs.Words.{Words, Reads, NoCommand, named}
 use Rattle.suite.specs.Outcome.{IsBadSource, IsNotBuilt}
 
--- the bytes are a source of the first form, of this tree alone
-pub record IsSource (bytes : List ℕ) (tree : List Statement) : Type 0 where
-  pub form : IsFirstForm bytes tree
-  pub only : (other : List Statement) → IsFirstForm bytes other → other ≡ tree
+-- the bytes are this source alone, and it is of the first form
+pub record IsSource (bytes : List ℕ) (source : Source) : Type 0 where
+  pub form : IsFirstForm bytes source
+  pub only : (other : Source) → IsFirstForm bytes other → other ≡ source
 
--- the tree's meaning ends, with this output
-pub record HasOutput (tree : List Statement) (text : List ℕ) : Type 0 where
-  pub ends : (ticks : ℕ) × ((meaning tree ticks).end ≡ Some Done)
-  pub output_is : (ticks : ℕ) → (meaning tree ticks).end ≡ Some Done → output (meaning tree ticks) ≡ text
+-- the meaning of the source ends, with this output
+pub record HasOutput (source : Source) (text : List ℕ) : Type 0 where
+  pub ends : (ticks : ℕ) × ((meaning source [] [] ticks).ending ≡ Ended)
+  pub output_is : (ticks : ℕ) → (meaning source [] [] ticks).ending ≡ Ended → output (meaning source [] [] ticks).events ≡ text
 
 -- the bytes are no source of the first form
 abbrev pub IsNotFirstForm : List ℕ → Type 0
-IsNotFirstForm bytes = (tree : List Statement) → IsFirstForm bytes tree → ⊥
+IsNotFirstForm bytes = (source : Source) → IsFirstForm bytes source → ⊥
 
 -- the sink took the output of the source
 pub record Prints (bytes : List ℕ) (before after : Option (List ℕ)) : Type 0 where
-  pub tree : List Statement
+  pub source : Source
   pub text : List ℕ
-  pub source : IsSource bytes tree
-  pub outputs : HasOutput tree text
+  pub is_source : IsSource bytes source
+  pub outputs : HasOutput source text
   pub taken : Takes before after text
 
 -- the sink took a first part of it
 pub record PrintsPart (bytes : List ℕ) (before after : Option (List ℕ)) : Type 0 where
-  pub tree : List Statement
+  pub source : Source
   pub text : List ℕ
-  pub source : IsSource bytes tree
-  pub outputs : HasOutput tree text
+  pub is_source : IsSource bytes source
+  pub outputs : HasOutput source text
   pub taken : TakesPart before after text
 
 -- what the bytes of a source come to: the outcome, what the sink took, and its count of faults

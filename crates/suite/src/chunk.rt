@@ -1,7 +1,7 @@
 // The code and the constants of a source.
 ghost use Rattle.std.specs.Prelude.{◌≡◌, slice_get, option_copied};
 
-use agrees::chunk::{Constant, Instruction};
+use first_form::chunk::{Constant, Instruction};
 use indexmap::IndexSet;
 use std::marker::Model;
 
@@ -14,7 +14,7 @@ pub struct Chunk {
 }
 
 impl Model for Chunk {
-    ghost use Rattle.agrees.specs.Chunk as plain;
+    ghost use Rattle.first_form.specs.Chunk as plain;
 
     ghost Value = { plain.Chunk };
 

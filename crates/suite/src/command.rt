@@ -7,7 +7,8 @@ use crate::compile::compile;
 use crate::machine::{RunEnd, run};
 use crate::outcome::Outcome;
 use crate::source::read_source;
-use agrees::meaning_is_steady;
+use agrees::printed_meaning;
+use first_form::meaning_is_steady;
 use std::alloc::Global;
 use suite_io::{FileFault, Files, Sink, Word};
 
@@ -44,7 +45,8 @@ fn run_source<O: Sink>(alloc: Global, source: &[u8], out: &mut O) -> Outcome
     let Ok(chunk) = compile(alloc, &tree) else {
         return Outcome::OutOfMemory;
     };
-    // A law: the source ends, and so its code does, within the steps.
+    // Laws: the source means what its statements do, and these end, so that its code does within the steps.
+    printed_meaning();
     meaning_is_steady();
     match run(alloc, &chunk, MAX_STEPS, out) {
         RunEnd::Done => Outcome::Done,

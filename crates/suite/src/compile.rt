@@ -2,15 +2,15 @@
 ghost use Rattle.std.specs.Prelude.{◌≡◌, ◌+◌, ◌<◌, ◌≤◌, ◌^◌, [], ◌∷◌, ◌++◌, length, IfOk, OnOk};
 ghost use Rattle.std.specs.List.{position_or_len};
 ghost use Rattle.indexmap.specs.IndexSet.{insert_key, index_set_len};
-ghost use Rattle.agrees.specs.Agrees.{Agrees};
-ghost use Rattle.agrees.specs.Scheme.{scheme, same, print_name as the_name};
-ghost use Rattle.agrees.specs.declared.chunk.Instruction.TheVariants.{GetGlobal, LoadK, Call};
+ghost use Rattle.first_form.specs.Agrees.{Agrees};
+ghost use Rattle.first_form.specs.Scheme.{scheme, same, print_name as the_name};
+ghost use Rattle.first_form.specs.declared.chunk.Instruction.TheVariants.{GetGlobal, LoadK, Call};
 ghost use Rattle.suite.specs.Compiling.{number_constant};
 
 use crate::chunk::Chunk;
-use agrees::agreement;
-use agrees::chunk::{Constant, Instruction};
-use agrees::tree::Statement;
+use first_form::agreement;
+use first_form::chunk::{Constant, Instruction};
+use first_form::tree::Statement;
 use indexmap::IndexSet;
 use lua_num::ByteText;
 use std::alloc::{AllocError, Global};

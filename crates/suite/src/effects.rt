@@ -1,12 +1,12 @@
 // What each instruction does to the registers.
 ghost use Rattle.std.specs.Prelude.{◌≡◌, ◌+◌, ◌-◌, ◌<◌, ◌≤◌, [], length, option_copied, IfOk};
-ghost use Rattle.agrees.specs.declared.chunk.Instruction.TheVariants.{GetGlobal, LoadK, Call};
-ghost use Rattle.agrees.specs.Rules.{effect, put, put_nils, value_of as the_value, global as the_global, call_fault as the_fault};
+ghost use Rattle.first_form.specs.declared.chunk.Instruction.TheVariants.{GetGlobal, LoadK, Call};
+ghost use Rattle.first_form.specs.Rules.{effect, put, put_nils, value_of as the_value, global as the_global, call_fault as the_fault};
 ghost use Rattle.suite.specs.Effects.{CanGo, Carries, place_effect};
 
 use crate::chunk::Chunk;
 use crate::show::printed_piece;
-use agrees::chunk::{Constant, Instruction, Value};
+use first_form::chunk::{Constant, Instruction, Value};
 use lua_num::ByteText;
 use std::alloc::{AllocError, Global};
 

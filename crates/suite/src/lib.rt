@@ -18,10 +18,3 @@ mod words;
 
 pub use status::Status;
 pub use top::suite;
-
-#[cfg(test)]
-mod grammar_tests;
-#[cfg(test)]
-mod scope_tests;
-#[cfg(test)]
-mod tests;

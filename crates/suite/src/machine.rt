@@ -1,15 +1,15 @@
 // Running a chunk by the rules of its instructions.
 ghost use Rattle.std.specs.Prelude.{◌≡◌, ◌+◌, ◌<◌, ◌≤◌, ◌^◌, ℕ, replicate, IfOk};
 ghost use Rattle.suite_io.specs.Taken.{Rises};
-ghost use Rattle.agrees.specs.declared.chunk.Value.TheVariants.{Nil};
-ghost use Rattle.agrees.specs.Rules.{IsNotStuck, start, ran, run as the_run};
+ghost use Rattle.first_form.specs.declared.chunk.Value.TheVariants.{Nil};
+ghost use Rattle.first_form.specs.Rules.{IsNotStuck, start, ran, run as the_run};
 ghost use Rattle.suite.specs.Effects.{CanGo, effect_at};
 ghost use Rattle.suite.specs.Running.{StepIs, RunIs};
 
 use crate::chunk::Chunk;
 use crate::effects::{Effected, perform};
 use crate::output::put_all;
-use agrees::chunk::Value;
+use first_form::chunk::Value;
 use lua_num::ByteText;
 use std::alloc::{AllocError, Global};
 use std::marker::Model;

@@ -1,8 +1,8 @@
 // Values as `print` shows them.
 ghost use Rattle.std.specs.Prelude.{◌≡◌, ◌++◌, IfOk, OnOk};
-ghost use Rattle.agrees.specs.Rules.{shown, printed};
+ghost use Rattle.first_form.specs.Rules.{shown, printed};
 
-use agrees::chunk::Value;
+use first_form::chunk::Value;
 use lua_num::{ByteText, decimal};
 use std::alloc::{AllocError, Global};
 

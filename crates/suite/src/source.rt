@@ -5,15 +5,14 @@ ghost use Rattle.lua_tree.specs.TreeLists.{expressions_of};
 ghost use Rattle.lua_tree.specs.Scoping.{Scoped};
 ghost use Rattle.lua_tree.specs.Tiling.{Lexes};
 ghost use Rattle.parser.specs.Places.{StopsBy};
-ghost use Rattle.agrees.specs.Source.{IsFirstForm, IsPrintList, PrintsNumber, is_chunk as the_is_chunk};
-ghost use Rattle.agrees.specs.declared.tree.Statement.{Statement};
+ghost use Rattle.first_form.specs.Source.{IsPrintList, PrintsNumber, is_chunk as the_is_chunk};
 ghost use Rattle.suite.specs.declared.fault.Fault.{Fault as OneFault};
 ghost use Rattle.suite.specs.Outcome.{IsBadSource, IsNotBuilt, IsFaultIn, IsNoPrintList};
-ghost use Rattle.suite.specs.Reading.{outcome_of, IsScopingFault, IsPrintName, IsNumber, IsNumberList};
+ghost use Rattle.suite.specs.Reading.{IsRead, outcome_of, IsScopingFault, IsPrintName, IsNumber, IsNumberList};
 
 use crate::fault::{Fault, offset_of};
 use crate::outcome::Outcome;
-use agrees::tree::Statement;
+use first_form::tree::Statement;
 use lexer::{LexFault, lex};
 use lua_tree::{Args, Block, Exp, ExpKind, StatKind, Token, Tree, tokens_are_one};
 use parser::{SyntaxFault, parse, trees_are_one};
@@ -80,8 +79,7 @@ const MAX_STATEMENTS: usize = 200;
 /// The statements of a source of the first form. A chunk is not lexed. The time is linear in the
 /// bytes.
 pub fn read_source(alloc: Global, bytes: &[u8]) -> Result<Vec<Statement>, SourceFault>
-    ensures tree { IfOk result (λ tree. IsFirstForm bytes.now tree.items) }
-    ensures only_tree { IfOk result (λ tree. (other : List Statement) → IsFirstForm bytes.now other → other ≡ tree.items) }
+    ensures tree { IfOk result (λ tree. IsRead bytes.now tree.items) }
     ensures bad { (fault : OneFault) → result ≡ Err (SourceFault.Bad fault) → IsBadSource bytes.now fault }
     ensures unbuilt { IsErrOf result SourceFault.Unbuilt → IsNotBuilt bytes.now }
 {
@@ -128,7 +126,6 @@ fn syntax_fault(fault: SyntaxFault, tokens: &[Token], bytes: &[u8]) -> SourceFau
 // The numbers that the statements of a tree print, where it keeps the rules of scoping.
 fn read_tree(alloc: Global, tree: &Tree) -> Result<Vec<Statement>, SourceFault>
     ensures tree { IfOk result (λ prints. IsPrintList (view_block tree.now.body) prints.items) }
-    ensures only_tree { IfOk result (λ prints. (other : List Statement) → IsPrintList (view_block tree.now.body) other → other ≡ prints.items) }
     ensures bad { (fault : OneFault) → result ≡ Err (SourceFault.Bad fault) → IsScopingFault (view_tree tree.now) fault }
     ensures scoped { IsErrOf result SourceFault.Unbuilt → Scoped (view_tree tree.now) }
     ensures unbuilt { IsErrOf result SourceFault.Unbuilt → IsNoPrintList (view_block tree.now.body) }
@@ -140,7 +137,6 @@ fn read_tree(alloc: Global, tree: &Tree) -> Result<Vec<Statement>, SourceFault>
 // The numbers that these statements print.
 fn read_block(alloc: Global, block: &Block) -> Result<Vec<Statement>, SourceFault>
     ensures tree { IfOk result (λ tree. IsPrintList (view_block block.now) tree.items) }
-    ensures only_tree { IfOk result (λ tree. (other : List Statement) → IsPrintList (view_block block.now) other → other ≡ tree.items) }
     ensures never_bad { (fault : OneFault) → result ≡ Err (SourceFault.Bad fault) → ⊥ }
     ensures unbuilt { IsErrOf result SourceFault.Unbuilt → IsNoPrintList (view_block block.now) }
 {
@@ -206,6 +202,3 @@ fn number_of(expression: &Exp) -> Option<i64>
         _ => None,
     }
 }
-
-#[cfg(test)]
-mod tests;

@@ -1,8 +1,8 @@
 // The top call.
 ghost use Rattle.std.specs.Prelude.{◌≡◌, ◌≢◌, ◌⊎◌, true, false, [], List, ℕ};
 ghost use Rattle.suite_io.specs.Taken.{Takes, Rises};
-ghost use Rattle.agrees.specs.declared.tree.Statement.{Statement};
-ghost use Rattle.agrees.specs.Source.{IsFirstForm};
+ghost use Rattle.lua_tree.specs.Syntax.{Source};
+ghost use Rattle.first_form.specs.Source.{IsFirstForm};
 ghost use Rattle.suite.specs.declared.fault.Fault.{Fault};
 ghost use Rattle.suite.specs.declared.outcome.Outcome.{Outcome};
 ghost use Rattle.suite.specs.Output.{TakesPart};
@@ -37,16 +37,16 @@ pub fn suite<F: Files, O: Sink, E: Sink>(
         × Reported settled (named words.now) result (E.taken err.old) (E.taken err.new) (E.faults err.old) (E.faults err.new) }
 
     // Source of the first form prints what it means, where no count of faults rose.
-    ensures prints { (bytes : List ℕ) (tree : List Statement) → HasSource words.now (F.contents files.old) bytes → IsFirstForm bytes tree
+    ensures prints { (bytes : List ℕ) (source : Source) → HasSource words.now (F.contents files.old) bytes → IsFirstForm bytes source
         → NoFault (F.calls files.old) (F.calls files.new) → ¬ (Rises (O.faults out.old) (O.faults out.new)) → ¬ (Rises (E.faults err.old) (E.faults err.new))
-        → ((result ≡ Status.Done) × (text : List ℕ) × HasOutput tree text × Takes (O.taken out.old) (O.taken out.new) text) ⊎ (result ≡ Status.OutOfMemory) }
+        → ((result ≡ Status.Done) × (text : List ℕ) × HasOutput source text × Takes (O.taken out.old) (O.taken out.new) text) ⊎ (result ≡ Status.OutOfMemory) }
 
     // At Done the whole output was put.
     ensures printed { result ≡ Status.Done → (bytes : List ℕ) → HasSource words.now (F.contents files.old) bytes → Prints bytes (O.taken out.old) (O.taken out.new) }
 
     // What is put to `out` is a first part of that, and nothing where there is no source to run.
-    ensures part { (bytes : List ℕ) (tree : List Statement) (text : List ℕ) → HasSource words.now (F.contents files.old) bytes → IsFirstForm bytes tree
-        → HasOutput tree text → TakesPart (O.taken out.old) (O.taken out.new) text }
+    ensures part { (bytes : List ℕ) (source : Source) (text : List ℕ) → HasSource words.now (F.contents files.old) bytes → IsFirstForm bytes source
+        → HasOutput source text → TakesPart (O.taken out.old) (O.taken out.new) text }
     ensures nothing { NoCommand words.now ⊎ Fetched words.now true (F.calls files.old) (F.calls files.new) ⊎ HasNoSource words.now (F.contents files.old)
         → Takes (O.taken out.old) (O.taken out.new) [] }
 

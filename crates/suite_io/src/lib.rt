@@ -7,8 +7,6 @@ mod memory_files;
 mod memory_sink;
 mod real;
 mod sink;
-#[cfg(test)]
-mod tests;
 
 pub use calls::{FileCall, FileCalls};
 pub use files::{FileFault, Files, Word};

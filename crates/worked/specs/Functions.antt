@@ -11,9 +11,9 @@ shared_cells = (record { body = (statement 1 false (local_function (codes "mk") 
 abbrev pub extra_arguments : Source
 extra_arguments = (record { body = (statement 1 false (local_function (codes "f") (function_body [] true (statement 1 false (local_statement ((codes "a") ∷ (codes "b") ∷ []) (expression (vararg_expression 1) no_expressions)) (statement 1 false (call_statement (call_expression 1 (name_expression 1 (codes "print")) (argument_list (expression (name_expression 1 (codes "a")) (expression (name_expression 1 (codes "b")) (expression (vararg_expression 1) no_expressions)))) 1)) no_statements)) 1 1)) (statement 1 false (call_statement (call_expression 1 (name_expression 1 (codes "f")) (argument_list (expression (number_literal 1 (pos 1)) (expression (number_literal 1 (pos 2)) (expression (number_literal 1 (pos 3)) no_expressions)))) 1)) no_statements)); last_line = 1 })
 
--- `local function f() return 1,2 end print((f()),f())`
+-- `local function f() return 1,2 end print((f()),f()) print(f(),(f()))`
 abbrev pub several_results : Source
-several_results = (record { body = (statement 1 false (local_function (codes "f") (function_body [] false (statement 1 false (return_statement (expression (number_literal 1 (pos 1)) (expression (number_literal 1 (pos 2)) no_expressions))) no_statements) 1 1)) (statement 1 false (call_statement (call_expression 1 (name_expression 1 (codes "print")) (argument_list (expression (parenthesized 1 (call_expression 1 (name_expression 1 (codes "f")) (argument_list no_expressions) 1)) (expression (call_expression 1 (name_expression 1 (codes "f")) (argument_list no_expressions) 1) no_expressions))) 1)) no_statements)); last_line = 1 })
+several_results = (record { body = (statement 1 false (local_function (codes "f") (function_body [] false (statement 1 false (return_statement (expression (number_literal 1 (pos 1)) (expression (number_literal 1 (pos 2)) no_expressions))) no_statements) 1 1)) (statement 1 false (call_statement (call_expression 1 (name_expression 1 (codes "print")) (argument_list (expression (parenthesized 1 (call_expression 1 (name_expression 1 (codes "f")) (argument_list no_expressions) 1)) (expression (call_expression 1 (name_expression 1 (codes "f")) (argument_list no_expressions) 1) no_expressions))) 1)) (statement 1 false (call_statement (call_expression 1 (name_expression 1 (codes "print")) (argument_list (expression (call_expression 1 (name_expression 1 (codes "f")) (argument_list no_expressions) 1) (expression (parenthesized 1 (call_expression 1 (name_expression 1 (codes "f")) (argument_list no_expressions) 1)) no_expressions))) 1)) no_statements))); last_line = 1 })
 
 -- `local function t(n) if n==0 then return 0 end return t(n-1) end print(t(3))`
 abbrev pub tail_call : Source

@@ -16,6 +16,10 @@ swap = (record { body = (statement 1 false (local_statement ((codes "a") ∷ (co
 abbrev pub late_left : Source
 late_left = (record { body = (statement 1 false (local_statement ((codes "a") ∷ []) (expression (number_literal 1 (pos 1)) no_expressions)) (statement 1 false (local_function (codes "f") (function_body [] false (statement 1 false (assignment (expression (name_expression 1 (codes "a")) no_expressions) (expression (number_literal 1 (pos 10)) no_expressions)) (statement 1 false (return_statement (expression (number_literal 1 (pos 1)) no_expressions)) no_statements)) 1 1)) (statement 1 false (call_statement (call_expression 1 (name_expression 1 (codes "print")) (argument_list (expression (binary_expression 1 BinaryOp.Add (name_expression 1 (codes "a")) (call_expression 1 (name_expression 1 (codes "f")) (argument_list no_expressions) 1)) no_expressions)) 1)) no_statements))); last_line = 1 })
 
+-- `local a="x" local function f() a="y" return "z" end print(a..f())`
+abbrev pub in_order : Source
+in_order = (record { body = (statement 1 false (local_statement ((codes "a") ∷ []) (expression (text_literal 1 (codes "x")) no_expressions)) (statement 1 false (local_function (codes "f") (function_body [] false (statement 1 false (assignment (expression (name_expression 1 (codes "a")) no_expressions) (expression (text_literal 1 (codes "y")) no_expressions)) (statement 1 false (return_statement (expression (text_literal 1 (codes "z")) no_expressions)) no_statements)) 1 1)) (statement 1 false (call_statement (call_expression 1 (name_expression 1 (codes "print")) (argument_list (expression (binary_expression 1 BinaryOp.Concat (name_expression 1 (codes "a")) (call_expression 1 (name_expression 1 (codes "f")) (argument_list no_expressions) 1)) no_expressions)) 1)) no_statements))); last_line = 1 })
+
 -- `local i=2 local a={} i, a[i] = i+1, 20 print(i, a[2], a[3])`
 abbrev pub copied_key : Source
 copied_key = (record { body = (statement 1 false (local_statement ((codes "i") ∷ []) (expression (number_literal 1 (pos 2)) no_expressions)) (statement 1 false (local_statement ((codes "a") ∷ []) (expression (constructor 1 no_fields) no_expressions)) (statement 1 false (assignment (expression (name_expression 1 (codes "i")) (expression (index_expression 1 (name_expression 1 (codes "a")) (name_expression 1 (codes "i"))) no_expressions)) (expression (binary_expression 1 BinaryOp.Add (name_expression 1 (codes "i")) (number_literal 1 (pos 1))) (expression (number_literal 1 (pos 20)) no_expressions))) (statement 1 false (call_statement (call_expression 1 (name_expression 1 (codes "print")) (argument_list (expression (name_expression 1 (codes "i")) (expression (index_expression 1 (name_expression 1 (codes "a")) (number_literal 1 (pos 2))) (expression (index_expression 1 (name_expression 1 (codes "a")) (number_literal 1 (pos 3))) no_expressions)))) 1)) no_statements)))); last_line = 1 })

@@ -9,7 +9,7 @@ ghost use Rattle.lua_model.specs.Store.{replies_values, asked, closed};
 ghost use Rattle.lua_model.specs.Endings.{Ended, Waiting};
 ghost use Rattle.opcode.specs.Word.{abc, abx, asbx};
 ghost use Rattle.worked.specs.Works.{HasCode, lines, prints, Works, Counts};
-ghost use Rattle.worked.specs.Straight.{addition, swap, late_left, copied_key, copied_key_left, least_number, value_logic, condition, late_end, endless_count};
+ghost use Rattle.worked.specs.Straight.{addition, swap, late_left, in_order, copied_key, copied_key_left, least_number, value_logic, condition, late_end, endless_count};
 ghost use Rattle.worked.specs.Functions.{shared_cells, extra_arguments, several_results, tail_call, broken_loop, seen_by_until};
 ghost use Rattle.worked.specs.Handlers.{index_handlers, newindex_handlers, concat_handler, missing_le, called_table, caught_table, caught_twice, kept_cell, closed_host, waiting_host, ask_host, one_reply};
 
@@ -22,6 +22,7 @@ pub fn straight_line_code()
     ensures swap { Works swap [] [] 10 (prints ((codes "nil" ∷ codes "1" ∷ []) ∷ [])) }
     ensures late_left_code { HasCode late_left 4 (Constant.Number (pos 1) ∷ Constant.Text (codes "print") ∷ []) (abx Op.LoadK 0 0 ∷ abx Op.Closure 1 0 ∷ abc Op.Move 0 0 0 ∷ abx Op.GetGlobal 2 1 ∷ abc Op.Move 3 1 0 ∷ abc Op.Call 3 1 2 ∷ abc Op.Add 3 0 3 ∷ abc Op.Call 2 2 1 ∷ abc Op.Return 0 1 0 ∷ []) }
     ensures late_left { Works late_left [] [] 12 (prints ((codes "11" ∷ []) ∷ [])) }
+    ensures in_order { Works in_order [] [] 13 (prints ((codes "xz" ∷ []) ∷ [])) }
     ensures copied_key { Works copied_key [] [] 11 (prints ((codes "3" ∷ codes "20" ∷ codes "nil" ∷ []) ∷ [])) }
     ensures copied_key_left { Works copied_key_left [] [] 12 (prints ((codes "3" ∷ codes "20" ∷ codes "nil" ∷ []) ∷ [])) }
     ensures least_number_code { HasCode least_number 2 (Constant.Text (codes "print") ∷ Constant.Number (negsuc (2 ^ 63 - 1)) ∷ []) (abx Op.GetGlobal 0 0 ∷ abx Op.LoadK 1 1 ∷ abc Op.Call 0 2 1 ∷ abc Op.Return 0 1 0 ∷ []) }
@@ -39,7 +40,7 @@ pub fn straight_line_code()
 pub fn functions_and_loops()
     ensures shared_cells { Works shared_cells [] [] 37 (prints ((codes "1" ∷ codes "2" ∷ codes "1" ∷ []) ∷ [])) }
     ensures extra_arguments { Works extra_arguments [] [] 14 (prints ((codes "1" ∷ codes "2" ∷ codes "1" ∷ codes "2" ∷ codes "3" ∷ []) ∷ [])) }
-    ensures several_results { Works several_results [] [] 14 (prints ((codes "1" ∷ codes "1" ∷ codes "2" ∷ []) ∷ [])) }
+    ensures several_results { Works several_results [] [] 26 (prints ((codes "1" ∷ codes "1" ∷ codes "2" ∷ []) ∷ (codes "1" ∷ codes "1" ∷ []) ∷ [])) }
     ensures tail_call { Works tail_call [] [] 22 (prints ((codes "0" ∷ []) ∷ [])) }
     ensures broken_loop { Works broken_loop [] [] 28 (prints ((codes "1" ∷ codes "2" ∷ codes "nil" ∷ []) ∷ [])) }
     ensures seen_by_until { Works seen_by_until [] [] 34 (prints ((codes "0" ∷ codes "2" ∷ []) ∷ [])) }

@@ -23,6 +23,10 @@ pub returns-clause-late_left : goal.returns-clause-late_left
 unfolding digits
 returns-clause-late_left c = record { before = refl; runs = refl; means = refl }
 
+pub returns-clause-in_order : goal.returns-clause-in_order
+unfolding digits
+returns-clause-in_order c = record { before = refl; runs = refl; means = refl }
+
 pub returns-clause-copied_key : goal.returns-clause-copied_key
 unfolding digits
 returns-clause-copied_key c = record { before = refl; runs = refl; means = refl }

@@ -1,5 +1,5 @@
 use Rattle.std.proofs.Common.{sym, ap, ◌∙◌}
-use Rattle.agrees.specs.Rules.{call_fault}
+use Rattle.first_form.specs.Rules.{call_fault}
 use Rattle.suite.proofs.Registers.{call_returns}
 use Rattle.suite.proofs.effects.call.Goals as goal
 

@@ -1,6 +1,6 @@
 use Rattle.std.proofs.Common.{◌∙◌, arith}
 use Rattle.std.proofs.lemmas.List.{length-set}
-use Rattle.agrees.specs.declared.chunk.Value.{Value}
+use Rattle.first_form.specs.declared.chunk.Value.{Value}
 use Rattle.suite.proofs.Registers.{nils_next}
 use Rattle.suite.proofs.effects.set_nils.Goals as goal
 

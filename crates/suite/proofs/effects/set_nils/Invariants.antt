@@ -1,5 +1,5 @@
 use Rattle.std.proofs.Common.{◌≡◌, ◌-◌, ◌≤◌, length}
-use Rattle.agrees.specs.Rules.{put_nils}
+use Rattle.first_form.specs.Rules.{put_nils}
 use Rattle.suite.proofs.effects.set_nils.Given as goal
 
 -- the rest of the registers are still to be set, and all of them are there

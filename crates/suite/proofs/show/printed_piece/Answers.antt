@@ -1,5 +1,5 @@
 use Rattle.std.proofs.Common.{◌∙◌, ap, ◌∷◌, [], ◌++◌}
-use Rattle.agrees.specs.Rules.{shown}
+use Rattle.first_form.specs.Rules.{shown}
 use Rattle.suite.proofs.Joins.{joined_first, joined_next}
 use Rattle.suite.proofs.show.printed_piece.Goals as goal
 use Rattle.suite.proofs.show.printed_piece.Goals.{then-index-gt0+in_ok-push, else-index-gt0}

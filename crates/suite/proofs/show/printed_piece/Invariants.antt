@@ -1,6 +1,6 @@
 use Rattle.std.proofs.Common.{◌≡◌, take, map}
 use Rattle.std.specs.List.{join_with_byte}
-use Rattle.agrees.specs.Rules.{shown}
+use Rattle.first_form.specs.Rules.{shown}
 use Rattle.suite.proofs.show.printed_piece.Given as goal
 
 abbrev pub invariant-loop-index : goal.invariant-loop-index

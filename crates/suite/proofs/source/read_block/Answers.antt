@@ -1,6 +1,6 @@
 use Rattle.std.proofs.Common.{◌≡◌, ◌≢◌, [], ◌∷◌, ◌++◌, length, None, Some, ap, ◌∙◌, rules}
 use Rattle.std.specs.Result.{result_ok}
-use Rattle.agrees.specs.declared.tree.Statement.TheVariants.{Print}
+use Rattle.first_form.specs.declared.tree.Statement.TheVariants.{Print}
 use Rattle.suite.proofs.SourceLemmas.{reading_more, print_list, stop_refused, left_next, left_none}
 use Rattle.suite.proofs.source.read_block.Goals as goal
 

@@ -1,5 +1,5 @@
 use Rattle.std.proofs.Common.{◌≡◌, replicate}
-use Rattle.agrees.specs.declared.chunk.Value.TheVariants.{Nil}
+use Rattle.first_form.specs.declared.chunk.Value.TheVariants.{Nil}
 use Rattle.suite.proofs.machine.Machine.new.Given as goal
 
 abbrev pub invariant-loop : goal.invariant-loop

@@ -1,0 +1,4 @@
+pub mod Examples
+pub mod Pool
+pub mod Run
+pub mod Pace
