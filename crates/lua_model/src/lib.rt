@@ -10,21 +10,25 @@ ghost use Rattle.lua_model.specs.Value.{is_nil_value, is_true_value, kind_of, sa
 pub use laws::border_is_least;
 pub use plain::{Plain, PlainList, Reply, ReplyList};
 
+/// A text, by its number in a pool of texts. Equal numbers of one pool are equal texts.
 #[derive(Clone, Copy, PartialEq, Eq, Hash, Debug)]
 pub struct TextId {
     pub index: usize,
 }
 
+/// A table, by its place in the order of creation, from 0.
 #[derive(Clone, Copy, PartialEq, Eq, Hash, Debug)]
 pub struct TableId {
     pub index: usize,
 }
 
+/// A closure, by its place in the order of creation, from 0.
 #[derive(Clone, Copy, PartialEq, Eq, Hash, Debug)]
 pub struct ClosureId {
     pub index: usize,
 }
 
+/// A value of Lua (manual 2.2). Built-in functions and hosts are their numbers.
 #[derive(Clone, Copy, PartialEq, Eq, Hash, Debug)]
 pub enum Value {
     Nil,
@@ -37,6 +41,7 @@ pub enum Value {
     Host(usize),
 }
 
+/// What `type` tells of a value (manual 5.1).
 #[derive(Clone, Copy, PartialEq, Eq, Debug)]
 pub enum Kind {
     Nil,
@@ -59,6 +64,7 @@ impl Value {
         }
     }
 
+    /// Whether the value is nil.
     pub fn is_nil(self) -> bool
         ensures { result ≡ is_nil_value self }
     {
@@ -68,6 +74,7 @@ impl Value {
         }
     }
 
+    /// The kind of the value.
     pub fn kind(self) -> Kind
         ensures { result ≡ kind_of self }
     {
@@ -81,6 +88,7 @@ impl Value {
         }
     }
 
+    /// Equality that asks no handler: of texts, tables and closures that of their numbers.
     pub fn raw_equal(self, other: Value) -> bool
         ensures { result ≡ same_value self other }
     {
