@@ -6,6 +6,7 @@ ghost use Rattle.lua_tree.specs.TreeLists.{unplaced, spell_else_of, spell_step_o
 
 mod parts;
 mod spelled;
+
 use crate::token::{TokenKind, Tokens};
 use crate::tree::{Args, Arms, Block, Body, Exp, ExpKind, Exps, ItemKind, Items, StatKind, Tree};
 use parts::{
