@@ -7,10 +7,6 @@ use Rattle.lua_model.specs.declared.Value.TheVariants.{Nil, Bool as Boolean, Num
 use Rattle.lua_model.specs.declared.Kind.{Kind}
 use Rattle.lua_model.specs.declared.Kind.TheVariants as kind
 
-abbrev pub is_nil_value : Value → Bool
-is_nil_value Nil = true
-is_nil_value _ = false
-
 abbrev pub is_true_value : Value → Bool
 is_true_value Nil = false
 is_true_value (Boolean b) = b

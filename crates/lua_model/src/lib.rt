@@ -5,12 +5,12 @@ mod laws;
 mod plain;
 
 ghost use Rattle.std.specs.Prelude.{◌≡◌};
-ghost use Rattle.lua_model.specs.Value.{is_nil_value, is_true_value, kind_of, same_value};
+ghost use Rattle.lua_model.specs.Value.{is_true_value, kind_of, same_value};
 
 pub use laws::border_is_least;
 pub use plain::{Plain, PlainList, Reply, ReplyList};
 
-/// A text, by its number in a pool of texts. Equal numbers of one pool are equal texts.
+/// A text of a run, by its number: equal numbers are equal texts.
 #[derive(Clone, Copy, PartialEq, Eq, Hash, Debug)]
 pub struct TextId {
     pub index: usize,
@@ -61,16 +61,6 @@ impl Value {
             Value::Nil => false,
             Value::Bool(b) => b,
             _ => true,
-        }
-    }
-
-    /// Whether the value is nil.
-    pub fn is_nil(self) -> bool
-        ensures { result ≡ is_nil_value self }
-    {
-        match self {
-            Value::Nil => true,
-            _ => false,
         }
     }
 

@@ -1,7 +1,7 @@
 // Numerals, strings that are taken as numbers, and the texts of numbers.
 ghost use Rattle.std.specs.Prelude.{◌≡◌, ℕ, ℤ, pos, ◌<◌, ◌≤◌, ◌^◌, List, length, Some, MatchOption, IfSome, IfNone, IfOk};
 ghost use Rattle.std.specs.List.{list_all, prefix_len};
-ghost use Rattle.lua_num.specs.Bytes.{is_space as is_a_space};
+ghost use Rattle.lua_num.specs.Bytes.{is_space};
 ghost use Rattle.lua_num.specs.Numeral.{numeral_number, text_number, decimal_text};
 ghost use Rattle.lua_num.specs.Meets.{Writes};
 ghost use Rattle.lua_num.specs.Reading.{is_no_space, HasMark, GivesValue, SplitsRun, WritesWord, DropsPlus, WritesSigned};
@@ -111,25 +111,27 @@ fn count_word(text: &[u8]) -> usize
     ensures count { result ≡ prefix_len is_no_space text.now }
     ensures within { result ≤ length text.now }
 {
-    text.iter().take_while(|byte| !is_space(**byte)).count()
+    text.iter()
+        .take_while(|byte| !is_space_byte(**byte))
+        .count()
 }
 
 fn is_all_space(text: &[u8]) -> bool
-    ensures { result ≡ list_all is_a_space text.now }
+    ensures { result ≡ list_all is_space text.now }
 {
-    text.iter().all(|byte| is_space(*byte))
+    text.iter().all(|byte| is_space_byte(*byte))
 }
 
 fn count_space(text: &[u8]) -> usize
-    ensures count { result ≡ prefix_len is_a_space text.now }
+    ensures count { result ≡ prefix_len is_space text.now }
     ensures within { result ≤ length text.now }
 {
-    text.iter().take_while(|byte| is_space(**byte)).count()
+    text.iter().take_while(|byte| is_space_byte(**byte)).count()
 }
 
 // `is_ascii_whitespace` leaves out the vertical tab.
-fn is_space(byte: u8) -> bool
-    ensures { result ≡ is_a_space byte }
+fn is_space_byte(byte: u8) -> bool
+    ensures { result ≡ is_space byte }
 {
     matches!(byte, b'\t'..=b'\r' | b' ')
 }

@@ -1,15 +1,14 @@
 -- The word of an instruction is read as that instruction, and what is read has the word.
-use Rattle.std.proofs.Common.{rules, ◌≡◌, ℕ, zero, suc, ◌+◌, ◌-◌, ◌*◌, ◌/◌, ◌%◌, ◌^◌, ◌<◌, ◌≤◌, ℤ, pos, negsuc, None, Some, List, [], ◌∷◌, IfSome, refl, sym, ap, ◌∙◌, subst, arith, cond, leb→le}
-use Rattle.std.proofs.lemmas.Bool.{le-ltb}
+use Rattle.std.proofs.Common.{rules, ◌≡◌, ℕ, zero, suc, ◌+◌, ◌-◌, ◌*◌, ◌/◌, ◌%◌, ◌^◌, ◌<◌, ◌≤◌, ℤ, pos, negsuc, None, Some, List, [], ◌∷◌, IfSome, refl, sym, ap, ◌∙◌, subst, arith, leb→le}
+use Rattle.std.proofs.lemmas.Bool.{cases_lt}
 use Rattle.std.proofs.lemmas.Int.{ints}
 use Rattle.std.proofs.lemmas.Option.{slice_get_past, slice_get_within, slice_get_cases, none-some, same_Some}
-use Rattle.std.proofs.Math.IntN.{+ℤ-neg_ℤ_cancel, -ℤ-+ℤ_cancel}
-use Rattle.std.specs.Prelude.{Option, slice_get, option_map, ◌+ℤ◌, ◌-ℤ◌, ◌≤ℤ◌, neg_ℤ}
+use Rattle.std.specs.Prelude.{Option, slice_get, option_map, ◌-ℤ◌, ◌≤ℤ◌, neg_ℤ}
 use mathlib.Core.Logic.{⊎_elim}
 use Rattle.opcode.specs.declared.op.Op.{Op}
 use Rattle.opcode.specs.declared.op.Format.{Format}
 use Rattle.opcode.specs.declared.word.Instr.{Instr}
-use Rattle.opcode.specs.Word.{op_number, format_of, excess_of, natural_of, operands_of, word_of, FieldsFit, InRange}
+use Rattle.opcode.specs.Word.{op_number, format_of, excess_of, operands_of, word_of, FieldsFit, InRange}
 use Rattle.opcode.specs.Reading.{opcodes, fields, instr_of}
 
 -- each opcode stands at its number
@@ -69,22 +68,24 @@ opened op n w at low = ap (λ k. option_map (λ o. fields o (format_of o) w) (sl
 pub read_as : (op : Op) (f : Format) (w : ℕ) → op_number op ≡ w % 64 → format_of op ≡ f → instr_of w ≡ Some (fields op f w)
 read_as op f w low is = opened op (op_number op) w (number_has op) (sym low) ∙ ap (λ g. Some (fields op g w)) is
 
-natural_back : (s : ℤ) → (m : ℕ) → s ≡ pos m → pos (natural_of s) ≡ s
-natural_back s m e = ap (λ x. pos (natural_of x)) e ∙ sym e
-
-excess_natural : (sbx : ℤ) → neg_ℤ (pos 131071) ≤ℤ sbx → (m : ℕ) × (sbx +ℤ pos 131071 ≡ pos m)
-excess_natural (pos n) low = (n + 131071, refl)
-excess_natural (negsuc n) low =
-    let small : n ≤ 131070 = leb→le n 131070 low.le in
-    (131071 - suc n, ap (λ b. cond b (negsuc (suc n - suc 131071)) (pos (131071 - suc n))) (le-ltb 131071 (suc n) (omega arith)))
-
 excess_back : (sbx : ℤ) → neg_ℤ (pos 131071) ≤ℤ sbx → pos (excess_of sbx) -ℤ pos 131071 ≡ sbx
-excess_back sbx low =
-    let m = excess_natural sbx low in
-    ap (λ x. x -ℤ pos 131071) (natural_back (sbx +ℤ pos 131071) m.0 m.1) ∙ +ℤ-neg_ℤ_cancel sbx (pos 131071)
+excess_back (pos n) low = omega (arith, ints)
+excess_back (negsuc n) low =
+    let small : n ≤ 131070 = leb→le n 131070 low.le in
+    let whole : 131070 - n + n ≡ 131070 = omega (arith, small) in
+    omega (arith, ints, whole)
 
 excess_there : (n : ℕ) → excess_of (pos n -ℤ pos 131071) ≡ n
-excess_there n = ap natural_of (-ℤ-+ℤ_cancel (pos n) (pos 131071))
+excess_there n = ⊎_elim below above (cases_lt n 131071) where
+  below : n < 131071 → excess_of (pos n -ℤ pos 131071) ≡ n
+  below h =
+      let is : pos n -ℤ pos 131071 ≡ negsuc (131070 - n) = omega (arith, ints, h) in
+      ap excess_of is ∙ omega (arith, h)
+
+  above : 131071 ≤ n → excess_of (pos n -ℤ pos 131071) ≡ n
+  above h =
+      let is : pos n -ℤ pos 131071 ≡ pos (n - 131071) = omega (arith, ints, h) in
+      ap excess_of is ∙ omega (arith, h)
 
 low_six : (f : Format) (i : Instr) (n : ℕ) → n < 64 → (n + 64 * i.a + operands_of f i) % 64 ≡ n
 low_six Format.Abc i n h = omega arith

@@ -1,6 +1,6 @@
 -- To be believed. Instruction words (A No-Frills Introduction to Lua 5.1 VM Instructions): the opcode in bits 0 to 5, A in 6 to
 -- 13, C in 14 to 22 and B in 23 to 31; Bx in 14 to 31; and sBx is Bx - 131071.
-use Rattle.std.specs.Prelude.{◌≡◌, ℕ, ◌+◌, ◌*◌, ◌<◌, ℤ, pos, negsuc, neg_ℤ, ◌+ℤ◌, ◌≤ℤ◌}
+use Rattle.std.specs.Prelude.{◌≡◌, ℕ, ◌+◌, ◌-◌, ◌*◌, ◌<◌, Bool, true, false, ℤ, pos, negsuc, neg_ℤ, ◌≤ℤ◌}
 use Rattle.opcode.specs.declared.op.Op.{Op}
 use Rattle.opcode.specs.declared.op.Format.{Format}
 use Rattle.opcode.specs.declared.word.Instr.{Instr}
@@ -55,14 +55,10 @@ format_of Op.ForLoop = Format.Asbx
 format_of Op.ForPrep = Format.Asbx
 format_of _ = Format.Abc
 
--- a number that is not below 0, as a natural one; 0 for the others
-abbrev pub natural_of : ℤ → ℕ
-natural_of (pos n) = n
-natural_of (negsuc _) = 0
-
 -- Bx of an sBx
 abbrev pub excess_of : ℤ → ℕ
-excess_of sbx = natural_of (sbx +ℤ pos 131071)
+excess_of (pos n) = n + 131071
+excess_of (negsuc n) = 131070 - n
 
 -- the part of the word above A
 abbrev pub operands_of : Format → Instr → ℕ
@@ -92,3 +88,8 @@ abx op a bx = word_of (record { op = op; a = a; b = 0; c = 0; bx = bx; sbx = pos
 
 abbrev pub asbx : Op → (a : ℕ) → (sbx : ℤ) → ℕ
 asbx op a sbx = word_of (record { op = op; a = a; b = 0; c = 0; bx = 0; sbx = sbx })
+
+-- a truth as a field: 1 is true
+abbrev pub truth_field : Bool → ℕ
+truth_field true = 1
+truth_field false = 0
