@@ -1,5 +1,5 @@
 -- Where a word of a sound function leads, and what is there.
-use Rattle.std.proofs.Common.{◌≡◌, ◌⊎◌, inl, inr, ℕ, zero, suc, ◌+◌, ◌<◌, ◌≤◌, ℤ, Bool, true, false, cond, ◌&&◌, not, List, [], ◌∷◌, length, None, Some, refl, sym, ap, subst, ◌∙◌, true≢false, arith, nat_le, leb-true, leb-false, lt-ltb, ltb-false, eq-eqb, length-drop}
+use Rattle.std.proofs.Common.{◌≡◌, ◌⊎◌, inl, inr, ℕ, zero, suc, ◌+◌, ◌<◌, ◌≤◌, ℤ, Bool, true, false, cond, ◌&&◌, not, List, [], ◌∷◌, length, None, Some, refl, sym, ap, subst, ◌∙◌, true≢false, arith, nat_le, leb-true, leb-false, lt-ltb, ltb-false, eq-eqb, length-drop, ◌||◌}
 use Rattle.std.specs.Prelude.{Option, option_and_then, is_some, is_none}
 use Rattle.opcode.specs.declared.op.Op.{Op}
 use Rattle.opcode.specs.declared.word.Instr.{Instr}
@@ -7,7 +7,8 @@ use Rattle.proto.specs.Chunk.{Chunk, own, functions}
 use Rattle.lua_model.specs.Datum.{Datum}
 use Rattle.rules.specs.declared.rule.Rule.{Rule}
 use Rattle.rules.specs.Words.{instr_at, is_test}
-use Rattle.rules.specs.Places.{some_of, belonging_to, is_further, next_pc, target, is_place, jmp_at, jmp_by, jmp_of, test_ways, ways, is_pc, is_edge}
+use Rattle.std.specs.List.{list_any}
+use Rattle.rules.specs.Places.{belonging_to, is_further, next_pc, target, is_place, jmp_at, jmp_by, jmp_of, test_ways, ways, is_pc, is_edge}
 use Rattle.rules.specs.Notes.{Note, Registers, AsksLess, FollowsIn, after, writes, closes, captures, prepares, touches, spares}
 use Rattle.rules.specs.Breaks.{wants, leaves, wanted_at, left_before, is_unmet, wants_at, plain_jumps, jumps, stays_in}
 use Rattle.rules.specs.State.{Cell}
@@ -144,9 +145,9 @@ target_of f (Some t) place free = (t, refl, place, none (wanted_at f t) free)
 -- where an instruction jumps to first
 pub first_target : (f : Chunk) (known : Known f) (pc : ℕ) (i : Instr) → is_further f pc ≡ false → instr_at f pc ≡ Some i → (o : Option ℕ) (rest : List (Option ℕ)) → jumps pc i ≡ o ∷ rest → Target f o
 first_target f known pc i solid at o rest is =
-    let places : some_of (λ t. not (is_place f t)) (jumps pc i) ≡ false = kept f known.main known.notes known.noted pc i solid at Rule.JumpTarget refl in
-    let frees : some_of (wants_at f) (jumps pc i) ≡ false = or_second_false _ _ (kept f known.main known.notes known.noted pc i solid at Rule.OpenResults refl) in
-    target_of f o (not_false (is_place f o) (some_head (λ t. not (is_place f t)) o rest (subst (λ js. some_of (λ t. not (is_place f t)) js ≡ false) is places))) (some_head (wants_at f) o rest (subst (λ js. some_of (wants_at f) js ≡ false) is frees))
+    let places : list_any (λ t. not (is_place f t)) (jumps pc i) ≡ false = kept f known.main known.notes known.noted pc i solid at Rule.JumpTarget refl in
+    let frees : list_any (wants_at f) (jumps pc i) ≡ false = or_second_false _ _ (kept f known.main known.notes known.noted pc i solid at Rule.OpenResults refl) in
+    target_of f o (not_false (is_place f o) (some_head (λ t. not (is_place f t)) o rest (subst (λ js. list_any (λ t. not (is_place f t)) js ≡ false) is places))) (some_head (wants_at f) o rest (subst (λ js. list_any (wants_at f) js ≡ false) is frees))
 
 jmp_jumps : (pc : ℕ) (op : Op) (i : Instr) (s : ℤ) → jmp_by op i ≡ Some s → cond (is_test op) (Some (suc (suc pc)) ∷ []) (plain_jumps pc op i) ≡ target pc s ∷ []
 jmp_jumps pc Op.Jmp i s e = ap (λ x. target pc x ∷ []) (some_one i.sbx s e)
@@ -160,13 +161,13 @@ jmp_target f known pc s solid jmp = go (instr_at f pc) refl jmp
     go None e h = none_some s h
     go (Some j) e h = first_target f known pc j solid e (target pc s) [] (jmp_jumps pc j.op j s h)
 
-pub first_way : (t u : ℕ) (rest : List (Option ℕ)) → u ≡ t → some_of (is_pc t) (Some u ∷ rest) ≡ true
-first_way t u rest same = ap (λ b. cond b true (some_of (is_pc t) rest)) (eq-eqb u t same)
+pub first_way : (t u : ℕ) (rest : List (Option ℕ)) → u ≡ t → list_any (is_pc t) (Some u ∷ rest) ≡ true
+first_way t u rest same = ap (λ b. b || list_any (is_pc t) rest) (eq-eqb u t same)
 
-pub second_way : (t : ℕ) (o : Option ℕ) (rest : List (Option ℕ)) → some_of (is_pc t) rest ≡ true → some_of (is_pc t) (o ∷ rest) ≡ true
+pub second_way : (t : ℕ) (o : Option ℕ) (rest : List (Option ℕ)) → list_any (is_pc t) rest ≡ true → list_any (is_pc t) (o ∷ rest) ≡ true
 second_way t o rest e = go (is_pc t o)
   where
-    go : (b : Bool) → cond b true (some_of (is_pc t) rest) ≡ true
+    go : (b : Bool) → (b || list_any (is_pc t) rest) ≡ true
     go true = refl
     go false = e
 
@@ -181,18 +182,18 @@ pub record Doing (f : Chunk) (known : Known f) (cells : List Cell) (k : ℕ) (re
 
 module _ (f : Chunk) (known : Known f) (cells : List Cell) (k : ℕ) (registers : List Datum) (pc : ℕ) (i : Instr) (d : Doing f known cells k registers pc i) where
   -- the frame arrives at an edge at which nothing is wanted
-  pub arrive_at : (cells1 : List Cell) → Opens f pc i k cells cells1 → ((a : ℕ) → prepares i.op i a ≡ false) → (t : ℕ) → is_place f (Some t) ≡ true → wanted_at f t ≡ None → some_of (is_pc t) (ways f pc i) ≡ true → Arrival f known.notes cells1 k registers t (writes i.op i) None
+  pub arrive_at : (cells1 : List Cell) → Opens f pc i k cells cells1 → ((a : ℕ) → prepares i.op i a ≡ false) → (t : ℕ) → is_place f (Some t) ≡ true → wanted_at f t ≡ None → list_any (is_pc t) (ways f pc i) ≡ true → Arrival f known.notes cells1 k registers t (writes i.op i) None
   arrive_at cells1 opens none t place free way =
       arrive f known pc i d.note d.at d.noted cells cells1 k registers d.holds opens none t (and_true _ _ place way) None (subst (λ o. Met (length registers) o None) (sym free) tt)
 
   -- it arrives at the next word
-  pub arrive_next : (cells1 : List Cell) → Opens f pc i k cells cells1 → ((a : ℕ) → prepares i.op i a ≡ false) → stays_in i.op ≡ false → leaves i.op i ≡ None → (t : ℕ) → t ≡ next_pc f pc i → some_of (is_pc t) (ways f pc i) ≡ true → Arrival f known.notes cells1 k registers t (writes i.op i) None
+  pub arrive_next : (cells1 : List Cell) → Opens f pc i k cells cells1 → ((a : ℕ) → prepares i.op i a ≡ false) → stays_in i.op ≡ false → leaves i.op i ≡ None → (t : ℕ) → t ≡ next_pc f pc i → list_any (is_pc t) (ways f pc i) ≡ true → Arrival f known.notes cells1 k registers t (writes i.op i) None
   arrive_next cells1 opens none goes leaves_none t is way =
       let place = next_place f known pc i t d.solid d.at goes is in
       arrive_at cells1 opens none t place.0 (unwanted f known t place.2 (left_none f pc i (belonging_to (functions f) i.op i) t d.solid d.at leaves_none refl is place.1)) way
 
   -- it arrives at the next word, with the open results that the word leaves
-  pub arrive_open : Opens f pc i k cells cells → ((a : ℕ) → prepares i.op i a ≡ false) → stays_in i.op ≡ false → (a : ℕ) → a < length registers → leaves i.op i ≡ Some a → next_pc f pc i ≡ suc pc → some_of (is_pc (suc pc)) (ways f pc i) ≡ true → Arrival f known.notes cells k registers (suc pc) (writes i.op i) (Some a)
+  pub arrive_open : Opens f pc i k cells cells → ((a : ℕ) → prepares i.op i a ≡ false) → stays_in i.op ≡ false → (a : ℕ) → a < length registers → leaves i.op i ≡ Some a → next_pc f pc i ≡ suc pc → list_any (is_pc (suc pc)) (ways f pc i) ≡ true → Arrival f known.notes cells k registers (suc pc) (writes i.op i) (Some a)
   arrive_open opens none goes a there leaves_a is way =
       let place = next_place f known pc i (suc pc) d.solid d.at goes (sym is) in
       arrive f known pc i d.note d.at d.noted cells cells k registers d.holds opens none (suc pc) (and_true _ _ place.0 way) (Some a) (wanted_met f known (suc pc) a (length registers) place.2 (left_next f pc i d.solid d.at ∙ leaves_a) there)
@@ -214,6 +215,6 @@ module _ (f : Chunk) (known : Known f) (cells : List Cell) (k : ℕ) (registers 
             jmp = e;
             t = jump_to.0;
             goes = jump_to.1;
-            yes = arrive_at cells opens none jump_to.0 jump_to.2 jump_to.3 (subst (λ ws. some_of (is_pc jump_to.0) ws ≡ true) (sym (all ∙ ap (λ o. o ∷ Some (suc (suc pc)) ∷ []) jump_to.1)) (first_way jump_to.0 jump_to.0 (Some (suc (suc pc)) ∷ []) refl));
-            skips = arrive_at cells opens none (suc (suc pc)) (subst (λ t. is_place f (Some t) ≡ true) (sym (some_one (suc (suc pc)) skip_to.0 skip_to.1)) skip_to.2) (subst (λ t. wanted_at f t ≡ None) (sym (some_one (suc (suc pc)) skip_to.0 skip_to.1)) skip_to.3) (subst (λ ws. some_of (is_pc (suc (suc pc))) ws ≡ true) (sym all) (second_way (suc (suc pc)) (target (suc pc) s) (Some (suc (suc pc)) ∷ []) (first_way (suc (suc pc)) (suc (suc pc)) [] refl)));
+            yes = arrive_at cells opens none jump_to.0 jump_to.2 jump_to.3 (subst (λ ws. list_any (is_pc jump_to.0) ws ≡ true) (sym (all ∙ ap (λ o. o ∷ Some (suc (suc pc)) ∷ []) jump_to.1)) (first_way jump_to.0 jump_to.0 (Some (suc (suc pc)) ∷ []) refl));
+            skips = arrive_at cells opens none (suc (suc pc)) (subst (λ t. is_place f (Some t) ≡ true) (sym (some_one (suc (suc pc)) skip_to.0 skip_to.1)) skip_to.2) (subst (λ t. wanted_at f t ≡ None) (sym (some_one (suc (suc pc)) skip_to.0 skip_to.1)) skip_to.3) (subst (λ ws. list_any (is_pc (suc (suc pc))) ws ≡ true) (sym all) (second_way (suc (suc pc)) (target (suc pc) s) (Some (suc (suc pc)) ∷ []) (first_way (suc (suc pc)) (suc (suc pc)) [] refl)));
           }

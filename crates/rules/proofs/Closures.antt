@@ -1,5 +1,5 @@
 -- CLOSURE in a sound chunk.
-use Rattle.std.proofs.Common.{◌≡◌, inl, inr, ℕ, zero, suc, ◌+◌, ◌≤◌, min, ℤ, Bool, true, false, cond, not, List, [], ◌∷◌, ◌++◌, length, take, drop, None, Some, refl, sym, ap, subst, ◌∙◌, true≢false, arith, nat_lt, nat_le, ltb-false, eq-eqb, length-take}
+use Rattle.std.proofs.Common.{◌≡◌, inl, inr, ℕ, zero, suc, ◌+◌, ◌≤◌, min, ℤ, Bool, true, false, not, List, [], ◌∷◌, ◌++◌, length, take, drop, None, Some, refl, sym, ap, subst, ◌∙◌, true≢false, arith, nat_lt, nat_le, ltb-false, eq-eqb, length-take, ◌||◌}
 use Rattle.std.specs.Prelude.{Option, is_none, nat_eq}
 use Rattle.opcode.specs.declared.op.Op.{Op}
 use Rattle.opcode.specs.declared.word.Instr.{Instr}
@@ -7,7 +7,8 @@ use Rattle.proto.specs.Chunk.{Chunk, own, functions, Functions, no_functions, an
 use Rattle.lua_model.specs.Datum.{Datum, closure}
 use Rattle.rules.specs.declared.rule.Rule.{Rule}
 use Rattle.opcode.specs.Reading.{instr_of}
-use Rattle.rules.specs.Places.{some_of, upvalue_count, belonging_to, next_pc}
+use Rattle.std.specs.List.{list_any}
+use Rattle.rules.specs.Places.{upvalue_count, belonging_to, next_pc}
 use Rattle.rules.specs.Notes.{Registers, captured_by, word_captures, closure_captures, captures}
 use Rattle.rules.specs.Breaks.{reaches, named_by, named_by_all, is_capture, captures_none, is_bad_word_of}
 use Rattle.rules.specs.Sound.{IsSound, AreSound}
@@ -26,7 +27,7 @@ reach_front : (limit : ℕ) (xs ys : List ℕ) → reaches limit (xs ++ ys) ≡ 
 reach_front limit [] ys e = refl
 reach_front limit (x ∷ xs) ys e = go (nat_le limit x) (reach_front limit xs ys) e
   where
-    go : (b : Bool) → (reaches limit (xs ++ ys) ≡ false → reaches limit xs ≡ false) → cond b true (reaches limit (xs ++ ys)) ≡ false → cond b true (reaches limit xs) ≡ false
+    go : (b : Bool) → (reaches limit (xs ++ ys) ≡ false → reaches limit xs ≡ false) → (b || reaches limit (xs ++ ys)) ≡ false → (b || reaches limit xs) ≡ false
     go true next h = h
     go false next h = next h
 
@@ -55,17 +56,17 @@ word_capture s caps (Some i) bad registers upvalues named =
     go true e = refl
     go false e = absurd (true≢false e)
 
-some_first : (t : ℕ → Bool) (w : ℕ) (rest : List ℕ) → t w ≡ true → some_of t (w ∷ rest) ≡ true
-some_first t w rest e = ap (λ b. cond b true (some_of t rest)) e
+some_first : (t : ℕ → Bool) (w : ℕ) (rest : List ℕ) → t w ≡ true → list_any t (w ∷ rest) ≡ true
+some_first t w rest e = ap (λ b. b || list_any t rest) e
 
-some_later : (t : ℕ → Bool) (w : ℕ) (rest : List ℕ) → some_of t rest ≡ true → some_of t (w ∷ rest) ≡ true
+some_later : (t : ℕ → Bool) (w : ℕ) (rest : List ℕ) → list_any t rest ≡ true → list_any t (w ∷ rest) ≡ true
 some_later t w rest e = go (t w)
   where
-    go : (b : Bool) → cond b true (some_of t rest) ≡ true
+    go : (b : Bool) → (b || list_any t rest) ≡ true
     go true = refl
     go false = e
 
-captures_ok : (s : State) (caps : Registers) (words : List ℕ) → some_of (is_bad_word_of Op.Closure) words ≡ false → reaches (length s.top.registers) (named_by_all Op.Move words) ≡ false → reaches (length s.top.cells) (named_by_all Op.GetUpval words) ≡ false → ((r : ℕ) → some_of (λ w. word_captures r (instr_of w)) words ≡ true → caps r ≡ true) → AreCaptures s caps words
+captures_ok : (s : State) (caps : Registers) (words : List ℕ) → list_any (is_bad_word_of Op.Closure) words ≡ false → reaches (length s.top.registers) (named_by_all Op.Move words) ≡ false → reaches (length s.top.cells) (named_by_all Op.GetUpval words) ≡ false → ((r : ℕ) → list_any (λ w. word_captures r (instr_of w)) words ≡ true → caps r ≡ true) → AreCaptures s caps words
 captures_ok s caps [] bad registers upvalues named = tt
 captures_ok s caps (w ∷ rest) bad registers upvalues named =
     (word_capture s caps (instr_of w) (some_head (is_bad_word_of Op.Closure) w rest bad) (reach_front _ (named_by Op.Move (instr_of w)) (named_by_all Op.Move rest) registers) (reach_front _ (named_by Op.GetUpval (instr_of w)) (named_by_all Op.GetUpval rest) upvalues) (λ r e. named r (some_first (λ v. word_captures r (instr_of v)) w rest e)), captures_ok s caps rest (some_tail (is_bad_word_of Op.Closure) w rest bad) (reach_back _ (named_by Op.Move (instr_of w)) (named_by_all Op.Move rest) registers) (reach_back _ (named_by Op.GetUpval (instr_of w)) (named_by_all Op.GetUpval rest) upvalues) (λ r e. named r (some_later (λ v. word_captures r (instr_of v)) w rest e)))
@@ -98,7 +99,7 @@ module _ (m0 : State) (base : BaseOf m0) (a b c bx : ℕ) (sbx : ℤ) (d : Doing
   abbrev taken_for : ℕ → Chunk → Effect
   taken_for n g = check (nat_eq (length (take n code_behind)) n) (take_cells (m m0 base) (take n code_behind) (λ m1 cells. add_closure (at_pc m1 (m1.top.pc + n)) a g cells))
 
-  closure_words_fine : (g : Chunk) (n : ℕ) → function_at (functions m0.top.function) bx ≡ Some g → n ≡ (own g).upvalues → n ≡ belonging_to (functions m0.top.function) Op.Closure (word Op.Closure a b c bx sbx) → nat_lt (length (take n code_behind)) n ≡ false → some_of (is_bad_word_of Op.Closure) (take n code_behind) ≡ false → reaches (length m0.top.registers) (named_by_all Op.Move (take n code_behind)) ≡ false → reaches (length m0.top.cells) (named_by_all Op.GetUpval (take n code_behind)) ≡ false → ((r : ℕ) → closure_captures (take n code_behind) Op.Closure r ≡ true → captures m0.top.function m0.top.pc (word Op.Closure a b c bx sbx) r ≡ true) → Fine (taken_for n g)
+  closure_words_fine : (g : Chunk) (n : ℕ) → function_at (functions m0.top.function) bx ≡ Some g → n ≡ (own g).upvalues → n ≡ belonging_to (functions m0.top.function) Op.Closure (word Op.Closure a b c bx sbx) → nat_lt (length (take n code_behind)) n ≡ false → list_any (is_bad_word_of Op.Closure) (take n code_behind) ≡ false → reaches (length m0.top.registers) (named_by_all Op.Move (take n code_behind)) ≡ false → reaches (length m0.top.cells) (named_by_all Op.GetUpval (take n code_behind)) ≡ false → ((r : ℕ) → closure_captures (take n code_behind) Op.Closure r ≡ true → captures m0.top.function m0.top.pc (word Op.Closure a b c bx sbx) r ≡ true) → Fine (taken_for n g)
   closure_words_fine g n at ups count few bad registers upvalues named =
       let len : length (take n code_behind) ≡ n = whole_take n code_behind few in
       let i : Instr = word Op.Closure a b c bx sbx in

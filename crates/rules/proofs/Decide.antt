@@ -8,11 +8,12 @@ use Rattle.proto.specs.Chunk.{Chunk, own}
 use Rattle.rules.specs.declared.rule.Rule.{Rule}
 use Rattle.opcode.specs.Reading.{instr_of}
 use Rattle.rules.specs.Words.{instr_at}
-use Rattle.rules.specs.Places.{some_of, words_of, is_place, is_further, is_edge}
+use Rattle.std.specs.List.{list_any}
+use Rattle.rules.specs.Places.{words_of, is_place, is_further, is_edge}
 use Rattle.rules.specs.Notes.{Note, Notes, Registers, Consistent, FollowsIn, IsStart, after, captures, captured_by, word_captures, closure_captures, closes}
 use Rattle.rules.specs.Breaks.{breaks, breaks_shape, place_breaks, is_shape, named_by, named_by_all, named_further}
 use Rattle.rules.specs.Sound.{Noted}
-use Rattle.rules.proofs.Lists.{none_some, some_one, and_first, and_second, and_not, or_cases, not_false, some_head, some_tail}
+use Rattle.rules.proofs.Lists.{none_some, some_one, and_first, and_second, and_not, or_cases, or_first_false, or_second_false, not_false, some_head, some_tail}
 use Rattle.rules.proofs.Checks.{at_or_below, some_place, no_place}
 
 -- for each pc, where it is noted, the registers that may be captured, and the loops
@@ -20,10 +21,10 @@ abbrev pub Listed : Type 0
 Listed = List (Option (List ℕ × List ℕ))
 
 abbrev pub member : List ℕ → Registers
-member xs r = some_of (λ x. x == r) xs
+member xs r = list_any (λ x. x == r) xs
 
 abbrev pub all_of : (ℕ → Bool) → List ℕ → Bool
-all_of t xs = not (some_of (λ x. not (t x)) xs)
+all_of t xs = not (list_any (λ x. not (t x)) xs)
 
 abbrev pub note_of : List ℕ × List ℕ → Note
 note_of p = record { captured = member p.0; loops = member p.1 }
@@ -43,20 +44,20 @@ none true h = absurd (true≢false (sym h))
 none false h = refl
 
 -- what holds of each element holds of a member
-member_each : (t : ℕ → Bool) (xs : List ℕ) → some_of (λ x. not (t x)) xs ≡ false → (r : ℕ) → member xs r ≡ true → t r ≡ true
+member_each : (t : ℕ → Bool) (xs : List ℕ) → list_any (λ x. not (t x)) xs ≡ false → (r : ℕ) → member xs r ≡ true → t r ≡ true
 member_each t [] e r is = absurd (true≢false (sym is))
 member_each t (x ∷ rest) e r is = go (x == r) refl (member_each t rest (some_tail (λ y. not (t y)) x rest e) r) is
   where
-    go : (b : Bool) → (x == r) ≡ b → (member rest r ≡ true → t r ≡ true) → cond b true (member rest r) ≡ true → t r ≡ true
+    go : (b : Bool) → (x == r) ≡ b → (member rest r ≡ true → t r ≡ true) → (b || member rest r) ≡ true → t r ≡ true
     go true same next h = subst (λ y. t y ≡ true) (eqb-true x r same) (not_false (t x) (some_head (λ y. not (t y)) x rest e))
     go false differ next h = next h
 
 member_all : (t : ℕ → Bool) (xs : List ℕ) → all_of t xs ≡ true → (r : ℕ) → member xs r ≡ true → t r ≡ true
-member_all t xs e r is = member_each t xs (none (some_of (λ x. not (t x)) xs) e) r is
+member_all t xs e r is = member_each t xs (none (list_any (λ x. not (t x)) xs) e) r is
 
 -- what further words capture is what they name
 captured_named : (r : ℕ) (op : Op) (i : Instr) → captured_by op i r ≡ true → member (elim op [ Op.Move ↦ i.b ∷ [] | _ ↦ [] ]) r ≡ true
-captured_named r Op.Move i e = ap (λ b. cond b true false) e
+captured_named r Op.Move i e = ap (λ b. b || false) e
 captured_named r _ i e = absurd (true≢false (sym e))
 
 word_named : (r : ℕ) (o : Option Instr) → word_captures r o ≡ true → member (named_by Op.Move o) r ≡ true
@@ -67,7 +68,7 @@ member_front : (xs ys : List ℕ) (r : ℕ) → member xs r ≡ true → member 
 member_front [] ys r e = absurd (true≢false (sym e))
 member_front (x ∷ xs) ys r e = go (x == r) (member_front xs ys r) e
   where
-    go : (b : Bool) → (member xs r ≡ true → member (xs ++ ys) r ≡ true) → cond b true (member xs r) ≡ true → cond b true (member (xs ++ ys) r) ≡ true
+    go : (b : Bool) → (member xs r ≡ true → member (xs ++ ys) r ≡ true) → (b || member xs r) ≡ true → (b || member (xs ++ ys) r) ≡ true
     go true next h = h
     go false next h = next h
 
@@ -75,15 +76,15 @@ member_back : (xs ys : List ℕ) (r : ℕ) → member ys r ≡ true → member (
 member_back [] ys r e = e
 member_back (x ∷ xs) ys r e = go (x == r) (member_back xs ys r e)
   where
-    go : (b : Bool) → member (xs ++ ys) r ≡ true → cond b true (member (xs ++ ys) r) ≡ true
+    go : (b : Bool) → member (xs ++ ys) r ≡ true → (b || member (xs ++ ys) r) ≡ true
     go true h = refl
     go false h = h
 
-words_named : (r : ℕ) (words : List ℕ) → some_of (λ w. word_captures r (instr_of w)) words ≡ true → member (named_by_all Op.Move words) r ≡ true
+words_named : (r : ℕ) (words : List ℕ) → list_any (λ w. word_captures r (instr_of w)) words ≡ true → member (named_by_all Op.Move words) r ≡ true
 words_named r [] e = absurd (true≢false (sym e))
 words_named r (w ∷ rest) e = go (word_captures r (instr_of w)) refl (words_named r rest) e
   where
-    go : (b : Bool) → word_captures r (instr_of w) ≡ b → (some_of (λ v. word_captures r (instr_of v)) rest ≡ true → member (named_by_all Op.Move rest) r ≡ true) → cond b true (some_of (λ v. word_captures r (instr_of v)) rest) ≡ true → member (named_by Op.Move (instr_of w) ++ named_by_all Op.Move rest) r ≡ true
+    go : (b : Bool) → word_captures r (instr_of w) ≡ b → (list_any (λ v. word_captures r (instr_of v)) rest ≡ true → member (named_by_all Op.Move rest) r ≡ true) → (b || list_any (λ v. word_captures r (instr_of v)) rest) ≡ true → member (named_by Op.Move (instr_of w) ++ named_by_all Op.Move rest) r ≡ true
     go true is next h = member_front (named_by Op.Move (instr_of w)) (named_by_all Op.Move rest) r (word_named r (instr_of w) is)
     go false is next h = member_back (named_by Op.Move (instr_of w)) (named_by_all Op.Move rest) r (next h)
 
@@ -116,23 +117,15 @@ follows_is f pc i p (Some q) e = record {
 
 abbrev pub some_below : (ℕ → Bool) → ℕ → Bool
 some_below t zero = false
-some_below t (suc n) = cond (t n) true (some_below t n)
+some_below t (suc n) = t n || some_below t n
 
 none_below : (t : ℕ → Bool) (n : ℕ) → some_below t n ≡ false → (k : ℕ) → k < n → t k ≡ false
 none_below t zero e k h = absurd (not-suc-le-zero h)
 none_below t (suc n) e k h =
     elim (at_or_below n k h) [
-      | inl same ↦ subst (λ j. t j ≡ false) same (head (t n) (some_below t n) e)
-      | inr low ↦ none_below t n (tail (t n) (some_below t n) e) k low
+      | inl same ↦ subst (λ j. t j ≡ false) same (or_first_false _ _ e)
+      | inr low ↦ none_below t n (or_second_false _ _ e) k low
     ]
-  where
-    head : (b rest : Bool) → cond b true rest ≡ false → b ≡ false
-    head true rest h1 = absurd (true≢false h1)
-    head false rest h1 = refl
-
-    tail : (b rest : Bool) → cond b true rest ≡ false → rest ≡ false
-    tail true rest h1 = absurd (true≢false h1)
-    tail false rest h1 = h1
 
 abbrev pub bad_edge : Chunk → Listed → ℕ → Instr → List ℕ × List ℕ → ℕ → Bool
 bad_edge f ls pc i p t = is_edge f pc i t && not (follows_listed f pc i p (listed_at ls t))
@@ -161,24 +154,16 @@ listed_within ls pc p e = go (nat_le (length ls) pc) refl
     go true is = none_some p (sym (ap flat (slice_get_past ls pc (leb-true (length ls) pc is))) ∙ e)
     go false is = leb-false (length ls) pc is
 
-or_first : (a b : Bool) → (a || b) ≡ false → a ≡ false
-or_first true b e = e
-or_first false b e = refl
-
-or_second : (a b : Bool) → (a || b) ≡ false → b ≡ false
-or_second true b e = absurd (true≢false e)
-or_second false b e = e
-
 pub listed_consistent : (f : Chunk) (ls : Listed) → inconsistent f ls ≡ false → Consistent f (notes_of ls)
 listed_consistent f ls ok = record {
-  start = start_is (listed_at ls 0) (or_first _ _ ok);
+  start = start_is (listed_at ls 0) (or_first_false _ _ ok);
   edges = λ pc t i n at note edge. go pc t i n at edge (listed_at ls pc) refl note;
 }
   where
     go : (pc t : ℕ) (i : Instr) (n : Note) → instr_at f pc ≡ Some i → is_edge f pc i t ≡ true → (o : Option (List ℕ × List ℕ)) → listed_at ls pc ≡ o → option_map note_of o ≡ Some n → FollowsIn (after f pc i n) (notes_of ls t)
     go pc t i n at edge None e note = none_some n note
     go pc t i n at edge (Some p) e note =
-        let bad : bad_from f ls pc (instr_at f pc) (listed_at ls pc) ≡ false = none_below (λ k. bad_from f ls k (instr_at f k) (listed_at ls k)) (length ls) (or_second (bad_start (listed_at ls 0)) (some_below (λ k. bad_from f ls k (instr_at f k) (listed_at ls k)) (length ls)) ok) pc (listed_within ls pc p e) in
+        let bad : bad_from f ls pc (instr_at f pc) (listed_at ls pc) ≡ false = none_below (λ k. bad_from f ls k (instr_at f k) (listed_at ls k)) (length ls) (or_second_false (bad_start (listed_at ls 0)) (some_below (λ k. bad_from f ls k (instr_at f k) (listed_at ls k)) (length ls)) ok) pc (listed_within ls pc p e) in
         let here : bad_from f ls pc (Some i) (Some p) ≡ false = subst (λ x. bad_from f ls pc (Some i) x ≡ false) e (subst (λ x. bad_from f ls pc x (listed_at ls pc) ≡ false) at bad) in
         let low : t < length (own f).code = ltb-true t (length (own f).code) (and_first (nat_lt t (length (own f).code)) (not (is_further f t)) (and_first (is_place f (Some t)) _ edge)) in
         let fits : follows_listed f pc i p (listed_at ls t) ≡ true = not_false (follows_listed f pc i p (listed_at ls t)) (and_not (is_edge f pc i t) (not (follows_listed f pc i p (listed_at ls t))) (none_below (bad_edge f ls pc i p) (length (own f).code) here t low) edge) in

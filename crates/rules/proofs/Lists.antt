@@ -1,8 +1,8 @@
 -- Facts of lists and tests.
-use Rattle.std.proofs.Common.{◌≡◌, ◌⊎◌, inl, inr, ℕ, zero, suc, ◌+◌, ◌<◌, ◌≤◌, Bool, true, false, cond, ◌&&◌, ◌||◌, not, List, [], ◌∷◌, ◌++◌, length, None, Some, refl, sym, ap, ◌∙◌, true≢false, arith, not-suc-le-zero, le_of_suc-le-suc, leb-false, nat_le, length-set}
+use Rattle.std.proofs.Common.{◌≡◌, ◌⊎◌, inl, inr, ℕ, zero, suc, ◌+◌, ◌<◌, ◌≤◌, Bool, true, false, ◌&&◌, ◌||◌, not, List, [], ◌∷◌, ◌++◌, length, None, Some, refl, sym, ap, ◌∙◌, true≢false, arith, not-suc-le-zero, le_of_suc-le-suc, leb-false, nat_le, length-set}
 use Rattle.std.specs.Prelude.{slice_get, slice_set}
 use Rattle.lua_model.specs.Datum.{Datum, adjusted}
-use Rattle.rules.specs.Places.{some_of}
+use Rattle.std.specs.List.{list_any}
 use Rattle.rules.specs.Breaks.{reaches}
 use Rattle.rules.specs.State.{spliced}
 
@@ -112,19 +112,11 @@ both_false false b e h = h
 pub clash : {A : Type 0} {b : Bool} → b ≡ true → b ≡ false → A
 clash e h = absurd (true≢false (sym e ∙ h))
 
-pub some_head : {A : Type 0} (t : A → Bool) (x : A) (xs : List A) → some_of t (x ∷ xs) ≡ false → t x ≡ false
-some_head t x xs e = go (t x) e
-  where
-    go : (b : Bool) → cond b true (some_of t xs) ≡ false → b ≡ false
-    go true h = absurd (true≢false h)
-    go false h = refl
+pub some_head : {A : Type 0} (t : A → Bool) (x : A) (xs : List A) → list_any t (x ∷ xs) ≡ false → t x ≡ false
+some_head t x xs = or_first_false (t x) (list_any t xs)
 
-pub some_tail : {A : Type 0} (t : A → Bool) (x : A) (xs : List A) → some_of t (x ∷ xs) ≡ false → some_of t xs ≡ false
-some_tail t x xs e = go (t x) e
-  where
-    go : (b : Bool) → cond b true (some_of t xs) ≡ false → some_of t xs ≡ false
-    go true h = absurd (true≢false h)
-    go false h = h
+pub some_tail : {A : Type 0} (t : A → Bool) (x : A) (xs : List A) → list_any t (x ∷ xs) ≡ false → list_any t xs ≡ false
+some_tail t x xs = or_second_false (t x) (list_any t xs)
 
 pub reach_head : (limit x : ℕ) (xs : List ℕ) → reaches limit (x ∷ xs) ≡ false → x < limit
 reach_head limit x xs e = leb-false limit x (some_head (λ n. nat_le limit n) x xs e)

@@ -5,6 +5,7 @@ use Rattle.std.proofs.lemmas.Bool.{false_from_ne_true, lt-leb}
 use Rattle.std.specs.Prelude.{Option, slice_get, slice_set, option_map, option_and_then, ◌==◌, ◌+ℤ◌, ◌-ℤ◌}
 use Rattle.opcode.specs.declared.op.Op.{Op}
 use Rattle.opcode.specs.declared.word.Instr.{Instr}
+use Rattle.opcode.specs.Word.{truth_field}
 use Rattle.proto.specs.Chunk.{Chunk, own, functions}
 use Rattle.proto.specs.declared.parts.Constant.{Constant}
 use Rattle.lua_num.specs.declared.arith.ArithOp.{ArithOp}
@@ -16,12 +17,13 @@ use Rattle.lua_model.specs.Operators.{arith as arith_of, negate, size, compare, 
 use Rattle.lua_num.specs.Arith.{wrap}
 use Rattle.rules.specs.declared.rule.Rule.{Rule}
 use Rattle.rules.specs.Words.{instr_at, is_test}
-use Rattle.rules.specs.Places.{some_of, belonging_to, next_pc, as_pc, target, is_place, jmp_at, test_ways, ways, is_pc, is_edge}
+use Rattle.std.specs.List.{list_any}
+use Rattle.rules.specs.Places.{belonging_to, next_pc, as_pc, target, is_place, jmp_at, test_ways, ways, is_pc, is_edge}
 use Rattle.rules.specs.Notes.{Note, Registers, is_among, is_from_to, writes, closes, captures, prepares, touches, spares, after, AsksLess, FollowsIn}
 use Rattle.rules.specs.Breaks.{reaches, operands, names, has_order, constants_of, upvalues_of, is_no_text, wants, leaves, wanted_at, jumps, stays_in, is_shape, instr_breaks, breaks_register, breaks_name, breaks_numbers, breaks_captured}
 use Rattle.rules.specs.State.{into, test, turn, nowhere, OpenResults, Cell, State, Effect, need, at_pc, with_registers, with_results, with_store, register, constant, value_of, operand, name_of, global_name, span, set}
 use Rattle.rules.specs.Cells.{read_cell, close_from}
-use Rattle.rules.specs.Calls.{jump, skip, next_jmp, bit, leave}
+use Rattle.rules.specs.Calls.{jump, skip, next_jmp, leave}
 use Rattle.rules.specs.Step.{loop_number, number_of, turn_loop, three, prepare, set_list, do_setlist, give, give_test, give_nowhere, do_arith, do_compare, open_list, listed, count_of, landing_of, effect}
 use Rattle.rules.proofs.Lists.{get_some, set_other, set_same, or_cases, or_left, length-adjusted, some_one, clash, and_true, and_first, and_second, not_false, or_first_false, or_second_false, reach_head, reach_tail}
 use Rattle.rules.proofs.Further.{kept}
@@ -217,7 +219,7 @@ module _ (m0 : State) (base : BaseOf m0) where
   -- a word that goes on to the next one, closes nothing and leaves nothing
   pub step_next : (i : Instr) → DoingOf i → ((r : ℕ) → closes i.op i r ≡ false) → ((a : ℕ) → prepares i.op i a ≡ false) → stays_in i.op ≡ false → leaves i.op i ≡ None → belonging_to (functions m0.top.function) i.op i ≡ 0 → plain i → ArrivalOf (suc m0.top.pc) (writes i.op i) None
   step_next i d kept_open none goes lv alone way =
-      arrive_next m0.top.function base.known m0.cells (length m0.below) m0.top.registers m0.top.pc i d m0.cells (λ r is. inl (is, kept_open r)) none goes lv (suc m0.top.pc) (next_zero m0.top.pc _ alone) (subst (λ ws. some_of (is_pc (suc m0.top.pc)) ws ≡ true) (sym way) (first_way (suc m0.top.pc) (next_pc m0.top.function m0.top.pc i) [] (sym (next_zero m0.top.pc _ alone))))
+      arrive_next m0.top.function base.known m0.cells (length m0.below) m0.top.registers m0.top.pc i d m0.cells (λ r is. inl (is, kept_open r)) none goes lv (suc m0.top.pc) (next_zero m0.top.pc _ alone) (subst (λ ws. list_any (is_pc (suc m0.top.pc)) ws ≡ true) (sym way) (first_way (suc m0.top.pc) (next_pc m0.top.function m0.top.pc i) [] (sym (next_zero m0.top.pc _ alone))))
 
   -- R(A) is there, of a word that names it first
   pub first_there : (i : Instr) (a : ℕ) (rest : List ℕ) → DoingOf i → names i.op i ≡ a ∷ rest → a < length m0.top.registers
@@ -362,7 +364,7 @@ module _ (m0 : State) (base : BaseOf m0) where
   pub jmp_fine : (a b c bx : ℕ) (sbx : ℤ) → DoingOf (word Op.Jmp a b c bx sbx) → Fine (effect Op.Jmp m (word Op.Jmp a b c bx sbx))
   jmp_fine a b c bx sbx d =
       let to : Target m0.top.function (target m0.top.pc sbx) = first_target m0.top.function base.known m0.top.pc (word Op.Jmp a b c bx sbx) d.solid d.at (target m0.top.pc sbx) [] refl in
-      jump_fine (word Op.Jmp a b c bx sbx) d to.0 to.1 (arrive_at m0.top.function base.known m0.cells (length m0.below) m0.top.registers m0.top.pc (word Op.Jmp a b c bx sbx) d m0.cells (λ r is. inl (is, refl)) (λ x. refl) to.0 to.2 to.3 (subst (λ o. some_of (is_pc to.0) (o ∷ []) ≡ true) (sym to.1) (first_way to.0 to.0 [] refl)))
+      jump_fine (word Op.Jmp a b c bx sbx) d to.0 to.1 (arrive_at m0.top.function base.known m0.cells (length m0.below) m0.top.registers m0.top.pc (word Op.Jmp a b c bx sbx) d m0.cells (λ r is. inl (is, refl)) (λ x. refl) to.0 to.2 to.3 (subst (λ o. list_any (is_pc to.0) (o ∷ []) ≡ true) (sym to.1) (first_way to.0 to.0 [] refl)))
 
   -- behind a test that closes, prepares and leaves nothing
   pub test_ways_of : (i : Instr) → DoingOf i → ((r : ℕ) → closes i.op i r ≡ false) → ((a : ℕ) → prepares i.op i a ≡ false) → is_test i.op ≡ true → belonging_to (functions m0.top.function) i.op i ≡ 0 → jumps m0.top.pc i ≡ Some (suc (suc m0.top.pc)) ∷ [] → ways m0.top.function m0.top.pc i ≡ test_ways m0.top.pc (jmp_at m0.top.function (suc m0.top.pc)) → Branches m0.top.function base.known.notes m0.cells (length m0.below) m0.top.registers (suc m0.top.pc) (writes i.op i)
@@ -385,7 +387,7 @@ module _ (m0 : State) (base : BaseOf m0) where
       let v = get_some m0.top.registers b (second_there (word Op.TestSet a b c bx sbx) a b [] d refl) in
       let old = get_some m0.top.registers a (first_there (word Op.TestSet a b c bx sbx) a (b ∷ []) d refl) in
       let ways_are : Branches m0.top.function base.known.notes m0.cells (length m0.below) m0.top.registers (suc m0.top.pc) (only a) = test_ways_of (word Op.TestSet a b c bx sbx) d (λ r. refl) (λ x. refl) refl refl refl refl in
-      need_fine (next_jmp m) ways_are.s _ ways_are.jmp (need_fine (register m b) v.0 _ v.1 (cond_fine (bit (not (is_true v.0)) == c) _ _ (
+      need_fine (next_jmp m) ways_are.s _ ways_are.jmp (need_fine (register m b) v.0 _ v.1 (cond_fine (truth_field (not (is_true v.0)) == c) _ _ (
       branch_fine m base (only a) ways_are false) (
       need_fine (register m a) old.0 _ old.1 (
       branch_fine (with_registers m (slice_set m0.top.registers a v.0)) (base_registers m0.top.function m0.top.cells m0.top.registers (slice_set m0.top.registers a v.0) m0.top.landing m0.below m0.cells m0.closures base (length-set m0.top.registers a v.0)) nothing (branches_written m0.top.function base.known.notes m0.cells (length m0.below) m0.top.registers (suc m0.top.pc) (only a) (slice_set m0.top.registers a v.0) ways_are (length-set m0.top.registers a v.0) (λ r e. set_other m0.top.registers a r v.0 (not_eqb a r e))) true))))
@@ -514,7 +516,7 @@ module _ (m0 : State) (base : BaseOf m0) where
       let len2 : length (slice_set (slice_set m0.top.registers a (number now)) (a + 3) (number now)) ≡ length m0.top.registers = length-set (slice_set m0.top.registers a (number now)) (a + 3) (number now) ∙ len1 in
       let old = get_some (slice_set m0.top.registers a (number now)) (a + 3) (omega arith) in
       let to : Target m0.top.function (target m0.top.pc sbx) = first_target m0.top.function base.known m0.top.pc (word Op.ForLoop a b c bx sbx) d.solid d.at (target m0.top.pc sbx) [] refl in
-      let arrival : ArrivalOf to.0 (only (a + 3)) None = arrive_at m0.top.function base.known m0.cells (length m0.below) m0.top.registers m0.top.pc (word Op.ForLoop a b c bx sbx) d m0.cells (λ r is. inl (is, refl)) (λ x. refl) to.0 to.2 to.3 (subst (λ o. some_of (is_pc to.0) (o ∷ Some (suc m0.top.pc) ∷ []) ≡ true) (sym to.1) (first_way to.0 to.0 (Some (suc m0.top.pc) ∷ []) refl)) in
+      let arrival : ArrivalOf to.0 (only (a + 3)) None = arrive_at m0.top.function base.known m0.cells (length m0.below) m0.top.registers m0.top.pc (word Op.ForLoop a b c bx sbx) d m0.cells (λ r is. inl (is, refl)) (λ x. refl) to.0 to.2 to.3 (subst (λ o. list_any (is_pc to.0) (o ∷ Some (suc m0.top.pc) ∷ []) ≡ true) (sym to.1) (first_way to.0 to.0 (Some (suc m0.top.pc) ∷ []) refl)) in
       need_fine (register (with_registers m (slice_set m0.top.registers a (number now))) (a + 3)) old.0 _ old.1 (
       need_fine (as_pc (pos (suc m0.top.pc) +ℤ sbx)) to.0 _ to.1 (
       land_fine nowhere (at_pc (with_registers m (slice_set (slice_set m0.top.registers a (number now)) (a + 3) (number now))) to.0) (base_registers m0.top.function m0.top.cells m0.top.registers (slice_set (slice_set m0.top.registers a (number now)) (a + 3) (number now)) m0.top.landing m0.below m0.cells m0.closures base len2) (
@@ -558,4 +560,4 @@ module _ (m0 : State) (base : BaseOf m0) where
           let to : Target m0.top.function (target m0.top.pc sbx) = first_target m0.top.function base.known m0.top.pc (word Op.ForPrep a b c bx sbx) d.solid d.at (target m0.top.pc sbx) [] refl in
           need_fine (as_pc (pos (suc m0.top.pc) +ℤ sbx)) to.0 _ to.1 (
           land_fine nowhere (at_pc (with_registers m (three m0.top.registers a x y z)) to.0) (base_registers m0.top.function m0.top.cells m0.top.registers (three m0.top.registers a x y z) m0.top.landing m0.below m0.cells m0.closures base (length-three m0.top.registers a x y z)) (
-          prepared m0.top.function base.known m0.top.pc (word Op.ForPrep a b c bx sbx) a d.note d.at d.noted m0.cells (length m0.below) m0.top.registers (three m0.top.registers a x y z) d.holds (length-three m0.top.registers a x y z) (λ r e. three_other m0.top.registers a x y z r (λ low high. not_among a 3 r e low high)) (λ r low high. three_numbers m0.top.registers a x y z r far low high) free (λ s e. eqb-true a s e) (λ r. refl) to.0 (and_true (is_place m0.top.function (Some to.0)) _ to.2 (subst (λ o. some_of (is_pc to.0) (o ∷ []) ≡ true) (sym to.1) (first_way to.0 to.0 [] refl))) to.3) [])
+          prepared m0.top.function base.known m0.top.pc (word Op.ForPrep a b c bx sbx) a d.note d.at d.noted m0.cells (length m0.below) m0.top.registers (three m0.top.registers a x y z) d.holds (length-three m0.top.registers a x y z) (λ r e. three_other m0.top.registers a x y z r (λ low high. not_among a 3 r e low high)) (λ r low high. three_numbers m0.top.registers a x y z r far low high) free (λ s e. eqb-true a s e) (λ r. refl) to.0 (and_true (is_place m0.top.function (Some to.0)) _ to.2 (subst (λ o. list_any (is_pc to.0) (o ∷ []) ≡ true) (sym to.1) (first_way to.0 to.0 [] refl))) to.3) [])

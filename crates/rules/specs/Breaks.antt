@@ -8,12 +8,13 @@ use Rattle.proto.specs.Chunk.{Chunk, own, functions, function_at}
 use Rattle.rules.specs.declared.rule.Rule.{Rule}
 use Rattle.opcode.specs.Reading.{instr_of}
 use Rattle.rules.specs.Words.{instr_at, is_test}
-use Rattle.rules.specs.Places.{some_of, further_words, is_further, belonging_to, words_of, next_pc, target, is_place, jmp_at}
+use Rattle.std.specs.List.{list_any}
+use Rattle.rules.specs.Places.{further_words, is_further, belonging_to, words_of, next_pc, target, is_place, jmp_at}
 use Rattle.rules.specs.Notes.{Note, Notes}
 
 -- some number of a list is not below the limit
 abbrev pub reaches : ℕ → List ℕ → Bool
-reaches limit numbers = some_of (λ n. nat_le limit n) numbers
+reaches limit numbers = list_any (λ n. nat_le limit n) numbers
 
 -- BadWord: the opcode is 38 or more.
 
@@ -126,7 +127,7 @@ abbrev pub jumps : ℕ → Instr → List (Option ℕ)
 jumps pc i = if is_test i.op then Some (suc (suc pc)) ∷ [] else plain_jumps pc i.op i
 
 abbrev pub breaks_jump : Chunk → ℕ → Instr → Bool
-breaks_jump f pc i = some_of (λ t. not (is_place f t)) (jumps pc i)
+breaks_jump f pc i = list_any (λ t. not (is_place f t)) (jumps pc i)
 
 -- NameConstant: a global's name is no string.
 abbrev pub is_no_text : Option Constant → Bool
@@ -179,7 +180,7 @@ abbrev pub breaks_results : Chunk → ℕ → Instr → Bool
 breaks_results f pc i =
     is_unmet (wants i.op i) (left_before f pc)
     || (is_some (leaves i.op i) && is_none (wanted_at f (suc pc)))
-    || some_of (wants_at f) (jumps pc i)
+    || list_any (wants_at f) (jumps pc i)
 
 -- LoopNumbers: a FORLOOP where its three registers are not surely the numbers of a loop.
 abbrev pub breaks_numbers : Option Note → Op → Instr → Bool
@@ -210,7 +211,7 @@ is_bad_word_of _ w = w == 0
 abbrev pub breaks_further : Chunk → ℕ → Instr → Bool
 breaks_further f pc i =
     nat_lt (length (words_of f pc i)) (belonging_to (functions f) i.op i)
-    || some_of (is_bad_word_of i.op) (words_of f pc i)
+    || list_any (is_bad_word_of i.op) (words_of f pc i)
 
 -- NoJump: a test is not followed by a JMP.
 abbrev pub breaks_no_jump : Chunk → ℕ → Instr → Bool
@@ -242,7 +243,7 @@ breaks_shape f main =
     nat_lt 250 (own f).registers
     || nat_lt (own f).registers (own f).params
     || (has_arg_table (own f).flags && nat_le (own f).registers (own f).params)
-    || not (some_of (λ flags. flags == (own f).flags) allowed_flags)
+    || not (list_any (λ flags. flags == (own f).flags) allowed_flags)
     || (not (is_vararg (own f).flags) && has_vararg (further_words f) (own f).code)
     || (main && nat_lt 0 (own f).upvalues)
     || length (own f).code == 0

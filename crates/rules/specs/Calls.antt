@@ -1,5 +1,6 @@
 -- To be believed. Calls, and where their results land (manual 2.5.8, 2.8 and 5.1, `pcall`; CALL, TAILCALL, RETURN, TFORLOOP and CONCAT).
 use Rattle.std.specs.Prelude.{ℕ, zero, suc, ◌+◌, ℤ, pos, ◌+ℤ◌, Bool, true, false, not, nat_lt, nat_le, nat_eq, List, [], ◌∷◌, ◌++◌, map, length, take, drop, replicate, slice_get, slice_set, Option, Some, None, codes, if◌then◌else◌}
+use Rattle.opcode.specs.Word.{truth_field}
 use Rattle.proto.specs.Chunk.{own}
 use Rattle.lua_model.specs.Datum.{Datum, boolean, number, text, table, closure, native, host, is_nil, is_true, first_of, adjusted}
 use Rattle.lua_model.specs.declared.plain.Plain.{Plain}
@@ -29,10 +30,6 @@ next_jmp m = jmp_at m.top.function m.top.pc
 abbrev pub branch : State → Bool → Effect
 branch m true = need (next_jmp m) (λ s. jump (skip m) s)
 branch m false = need (next_jmp m) (λ s. Goes (skip m))
-
-abbrev pub bit : Bool → ℕ
-bit true = 1
-bit false = 0
 
 abbrev pub negated_as : Bool → Bool → Bool
 negated_as true b = not b
@@ -168,7 +165,7 @@ turned m a vs =
 -- results land in the running frame
 abbrev pub land : Landing → State → List Datum → Effect
 land (into a) m vs = set m a (first_of vs)
-land (test a negated) m vs = branch m (nat_eq (bit (negated_as negated (is_true (first_of vs)))) a)
+land (test a negated) m vs = branch m (nat_eq (truth_field (negated_as negated (is_true (first_of vs)))) a)
 land (pairs a first n) m vs = join m a first n (first_of vs)
 land (fixed a n) m vs = set_all m a (adjusted n vs)
 land (open_at a) m vs = Goes (with_results m (Some (record { first = a; values = vs })))

@@ -5,7 +5,8 @@ use Rattle.opcode.specs.declared.word.Instr.{Instr}
 use Rattle.proto.specs.Chunk.{Chunk}
 use Rattle.opcode.specs.Reading.{instr_of}
 use Rattle.rules.specs.Words.{instr_at}
-use Rattle.rules.specs.Places.{some_of, words_of, is_edge}
+use Rattle.std.specs.List.{list_any}
+use Rattle.rules.specs.Places.{words_of, is_edge}
 
 -- a set of registers
 abbrev pub Registers : Type 0
@@ -35,7 +36,7 @@ word_captures r (Some i) = captured_by i.op i r
 
 -- the registers that the further words of a CLOSURE name
 abbrev pub closure_captures : List ℕ → Op → Registers
-closure_captures further Op.Closure r = some_of (λ w. word_captures r (instr_of w)) further
+closure_captures further Op.Closure r = list_any (λ w. word_captures r (instr_of w)) further
 closure_captures further _ r = false
 
 abbrev pub captures : Chunk → ℕ → Instr → Registers

@@ -1,15 +1,13 @@
 -- To be believed. Which words of a function are further words, and which pcs can follow a word (the instructions that jump, skip
 -- and take words with them).
-use Rattle.std.specs.Prelude.{ℕ, zero, suc, ◌+◌, ℤ, pos, negsuc, ◌+ℤ◌, Bool, true, false, not, ◌&&◌, ◌==◌, nat_lt, List, [], ◌∷◌, length, take, drop, get_or, Option, Some, None, if◌then◌else◌}
+use Rattle.std.specs.Prelude.{ℕ, zero, suc, ◌+◌, ℤ, pos, negsuc, ◌+ℤ◌, Bool, true, false, not, ◌&&◌, ◌==◌, nat_lt, nat_eq, List, [], ◌∷◌, length, take, drop, get_or, Option, Some, None, if◌then◌else◌}
+use Rattle.std.specs.List.{list_any}
+use Rattle.std.specs.Option.{option_eq}
 use Rattle.opcode.specs.declared.op.Op.{Op}
 use Rattle.opcode.specs.declared.word.Instr.{Instr}
 use Rattle.proto.specs.Chunk.{Chunk, own, Functions, functions, function_at}
 use Rattle.opcode.specs.Reading.{instr_of}
 use Rattle.rules.specs.Words.{instr_at, is_test}
-
-abbrev pub some_of : {A : Type 0} → (A → Bool) → List A → Bool
-some_of test [] = false
-some_of test (x ∷ rest) = if test x then true else some_of test rest
 
 abbrev pub upvalue_count : Option Chunk → ℕ
 upvalue_count None = 0
@@ -90,9 +88,8 @@ abbrev pub ways : Chunk → ℕ → Instr → List (Option ℕ)
 ways f pc i = if is_test i.op then test_ways pc (jmp_at f (suc pc)) else plain_ways f pc i.op i
 
 abbrev pub is_pc : ℕ → Option ℕ → Bool
-is_pc t None = false
-is_pc t (Some u) = u == t
+is_pc t way = option_eq nat_eq way (Some t)
 
 -- an edge: a way to a pc of the code that is no further word
 abbrev pub is_edge : Chunk → ℕ → Instr → ℕ → Bool
-is_edge f pc i t = is_place f (Some t) && some_of (is_pc t) (ways f pc i)
+is_edge f pc i t = is_place f (Some t) && list_any (is_pc t) (ways f pc i)

@@ -2,6 +2,7 @@
 use Rattle.std.specs.Prelude.{ℕ, zero, suc, ◌+◌, ◌-◌, ℤ, pos, ◌+ℤ◌, ◌-ℤ◌, ◌*ℤ◌, Bool, true, false, not, ◌==◌, nat_lt, nat_le, nat_eq, List, [], ◌∷◌, ◌++◌, length, take, drop, slice_get, slice_set, replicate, Option, Some, None, option_and_then, if◌then◌else◌}
 use Rattle.opcode.specs.declared.op.Op.{Op}
 use Rattle.opcode.specs.declared.word.Instr.{Instr}
+use Rattle.opcode.specs.Word.{truth_field}
 use Rattle.proto.specs.Chunk.{Chunk, own, functions, function_at}
 use Rattle.lua_num.specs.declared.arith.ArithOp.{ArithOp}
 use Rattle.lua_num.specs.declared.arith.CompareOp.{CompareOp}
@@ -12,7 +13,7 @@ use Rattle.lua_model.specs.Acts.{Act, value, call as calls, failure, Use, negate
 use Rattle.lua_model.specs.Operators.{arith, negate, size, compare, index, set_index, index_fault, LoopNumbers, counts, no_count, loop_numbers, goes_on}
 use Rattle.rules.specs.State.{Landing, into, test, fixed, open_at, turn, nowhere, OpenResults, State, Effect, Goes, Fails, need, check, at_pc, with_registers, with_results, with_store, register, constant, operand, global_name, span, set, set_all}
 use Rattle.rules.specs.Cells.{read_cell, write_cell, close_from, take_cells}
-use Rattle.rules.specs.Calls.{jump, skip, next_jmp, branch, bit, answer, join, land, call, tail_call, leave}
+use Rattle.rules.specs.Calls.{jump, skip, next_jmp, branch, answer, join, land, call, tail_call, leave}
 
 -- An operator's answer goes to a register, to a test, or nowhere; where it is a call, that call's first result does.
 abbrev pub give : State → ℕ → Act → Effect
@@ -23,7 +24,7 @@ is_negated negated = true
 is_negated _ = false
 
 abbrev pub give_test : State → ℕ → Act → Effect
-give_test m a (value v) = branch m (bit (is_true v) == a)
+give_test m a (value v) = branch m (truth_field (is_true v) == a)
 give_test m a (calls h args how) = call (test a (is_negated how)) m h args
 give_test m a (failure v) = Fails m v
 
@@ -146,10 +147,10 @@ effect Op.Jmp m i = jump m i.sbx
 effect Op.Eq m i = do_compare CompareOp.Eq m i
 effect Op.Lt m i = do_compare CompareOp.Lt m i
 effect Op.Le m i = do_compare CompareOp.Le m i
-effect Op.Test m i = need (register m i.a) (λ v. branch m (not (bit (not (is_true v)) == i.c)))
+effect Op.Test m i = need (register m i.a) (λ v. branch m (not (truth_field (not (is_true v)) == i.c)))
 effect Op.TestSet m i =
     need (next_jmp m) (λ s. need (register m i.b) (λ v.
-    if bit (not (is_true v)) == i.c then branch m false else need (register m i.a) (λ old. branch (with_registers m (slice_set m.top.registers i.a v)) true)))
+    if truth_field (not (is_true v)) == i.c then branch m false else need (register m i.a) (λ old. branch (with_registers m (slice_set m.top.registers i.a v)) true)))
 effect Op.Call m i =
     need (register m i.a) (λ f. listed m (suc i.a) (count_of i.b) (λ m1 args. call (landing_of i.a (count_of i.c)) m1 f args))
 effect Op.TailCall m i = need (register m i.a) (λ f. listed m (suc i.a) (count_of i.b) (λ m1 args. tail_call i.a m1 f args))

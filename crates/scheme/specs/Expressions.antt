@@ -9,6 +9,7 @@ use Rattle.lua_num.specs.Bytes.{Text}
 use Rattle.lua_tree.specs.Syntax.{Expression, nil_literal, true_literal, false_literal, vararg_expression, number_literal, text_literal, name_expression, binary_expression, unary_expression, parenthesized}
 use Rattle.lua_tree.specs.WellFormed.{is_call}
 use Rattle.opcode.specs.declared.op.Op.{Op}
+use Rattle.opcode.specs.Word.{truth_field}
 use Rattle.proto.specs.Constants.{constant_number}
 use Rattle.scheme.specs.Making.{◌>>=◌, ◌>>◌, Maker, Part, Asks, nothing, answer, read, put, new_label, place, jump_to, take_registers, freeing, constant, Where, in_register, in_upvalue, in_globals, next_name, pass_name, name, when}
 use Rattle.proto.specs.declared.parts.Constant.{Constant}
@@ -154,10 +155,6 @@ abbrev pub rk_text : (line : ℕ) → Text → Asks ℕ
 rk_text line text m = cond (is_small (Constant.Text text) m) (small_constant (Constant.Text text)) (λ n. record { value = n.free; after = next_text line text n }) m
 
 -- ---- tests
-
-abbrev pub truth_field : Bool → ℕ
-truth_field true = 1
-truth_field false = 0
 
 abbrev pub comparison_word : BinaryOp → Bool → (x y : ℕ) → Piece
 comparison_word BinaryOp.Ne truth x y = Piece.Abc Op.Eq (truth_field (not truth)) x y

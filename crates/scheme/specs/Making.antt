@@ -1,6 +1,7 @@
 -- To be believed. A function that is being made: what the parts of the scheme read and change. The scheme is this suite's own, in
 -- the shape of luac's code (A No-Frills Introduction to Lua 5.1 VM Instructions).
-use Rattle.std.specs.Prelude.{ℕ, suc, ◌+◌, max, ◌==◌, Bool, true, false, cond, ◌||◌, List, [], ◌∷◌, ◌++◌, length, get_or, set, take, drop, Option, Some, None}
+use Rattle.std.specs.Prelude.{ℕ, suc, ◌+◌, max, nat_eq, Bool, true, false, cond, ◌||◌, List, [], ◌∷◌, ◌++◌, length, get_or, set, take, drop, Some, None}
+use Rattle.std.specs.Option.{option_eq}
 use Rattle.lua_num.specs.Bytes.{Text}
 use Rattle.lua_tree.specs.Scoping.{Use, local_use, upvalue_use, global_use}
 use Rattle.opcode.specs.declared.op.Op.{Op}
@@ -121,12 +122,8 @@ constant c m = record {
 
 -- ---- names
 
-abbrev pub is_number : ℕ → Option ℕ → Bool
-is_number n None = false
-is_number n (Some m) = m == n
-
 abbrev pub is_declaration : (declaration : ℕ) → Local → Bool
-is_declaration declaration local = is_number declaration local.declaration
+is_declaration declaration local = option_eq nat_eq local.declaration (Some declaration)
 
 -- the register of a declaration
 abbrev pub register_among : (declaration : ℕ) → List Active → ℕ
