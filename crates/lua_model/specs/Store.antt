@@ -1,4 +1,5 @@
--- To be believed. What a run of Lua changes: tables, globals and which hosts are live, and outside of them its events and the replies of hosts.
+-- To be believed. What a run of Lua changes beside cells and closures: tables and globals (manual 2.2 and 2.3), which hosts are live, and outside
+-- of them its events and the replies of hosts, which are this suite's own.
 use Rattle.std.specs.Prelude.{ℕ, ℤ, pos, ◌+ℤ◌, Bool, List, [], ◌∷◌, ◌++◌, Option, Some, None, get_or, slice_set}
 use Rattle.std.specs.Str.{bytes_eq}
 use Rattle.lua_model.specs.declared.plain.Plain.{Plain}

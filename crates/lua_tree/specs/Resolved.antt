@@ -1,4 +1,4 @@
--- To be believed. What the scopes of a source are.
+-- To be believed. What the scopes of a source are (manual 2.6).
 use Rattle.std.specs.Prelude.{ℕ, zero, suc, Bool, List, [], ◌∷◌, ◌++◌}
 use Rattle.lua_tree.specs.Syntax.{Source}
 use Rattle.lua_tree.specs.Outline.{Mark, local_name, opened, outline}

@@ -1,6 +1,8 @@
 -- To be believed. Scoping: what each name means, what is captured, the upvalues of each function, and the first place
 -- where a source breaks a rule (manual 2.6, 2.4.4 and 2.5.9; at most 200 active locals and 60 upvalues a function).
-use Rattle.std.specs.Prelude.{◌≡◌, ◌==◌, ◌&&◌, ◌||◌, ℕ, zero, suc, nat_lt, Bool, false, not, List, [], ◌∷◌, ◌++◌, length, get_or, Option, Some, None, if◌then◌else◌}
+use Rattle.std.specs.Prelude.{◌≡◌, ◌==◌, ◌&&◌, ◌||◌, ℕ, zero, suc, nat_lt, Bool, false, not, List, [], ◌∷◌, ◌++◌, length, map, get_or, Option, Some, None, if◌then◌else◌}
+use Rattle.std.specs.List.{list_any}
+use Rattle.std.specs.Option.{option_or}
 use Rattle.lua_tree.specs.Syntax.{Source}
 use Rattle.lua_tree.specs.Outline.{Binding, Mark, mention, local_name, hidden_local, dots, leave, opened, innermost, outline}
 
@@ -10,12 +12,10 @@ inside_of home [] = []
 inside_of home (function ∷ around) = if function == home then [] else function ∷ inside_of home around
 
 abbrev pub is_one_of : ℕ → List ℕ → Bool
-is_one_of n [] = false
-is_one_of n (m ∷ others) = (n == m) || is_one_of n others
+is_one_of n numbers = list_any (λ m. n == m) numbers
 
 abbrev pub is_known : ℕ → List Binding → Bool
-is_known declaration [] = false
-is_known declaration (binding ∷ others) = (declaration == binding.declaration) || is_known declaration others
+is_known declaration known = list_any (λ binding. declaration == binding.declaration) known
 
 -- a mention in a function, or in one inside it, of what is declared outside it makes an upvalue of it, if none is known yet
 abbrev pub with_mention : (function : ℕ) → Binding → (around : List ℕ) → List Binding → List Binding
@@ -73,8 +73,7 @@ outer_of zero marks = 0
 outer_of (suc f) marks = get_or (outer_functions marks) f 0
 
 abbrev pub uses_by : (function : ℕ) → List Mark → List Binding → List Use
-uses_by f marks [] = []
-uses_by f marks (binding ∷ bindings) = use_in f marks (Some binding) ∷ uses_by f marks bindings
+uses_by f marks bindings = map (λ binding. use_in f marks (Some binding)) bindings
 
 -- where the upvalues of a function come from: what they are in the function around it
 abbrev pub sources_of : (function : ℕ) → List Mark → List Use
@@ -88,16 +87,12 @@ pub data Breach : Type 0 where
 abbrev pub above : (most reached : ℕ) → Breach → Option Breach
 above most reached breach = if nat_lt most reached then Some breach else None
 
-abbrev pub first_of : Option Breach → Option Breach → Option Breach
-first_of (Some breach) other = Some breach
-first_of None other = other
-
 -- the upvalues of some functions, with a mention behind these marks
 abbrev pub upvalue_breach : (line : ℕ) → List Mark → List ℕ → Option Breach
 upvalue_breach line marks [] = None
 upvalue_breach line marks (f ∷ functions) =
     let reached = length (upvalues_of f marks) in
-    first_of (above 60 reached (too_many_upvalues line reached)) (upvalue_breach line marks functions)
+    option_or (above 60 reached (too_many_upvalues line reached)) (upvalue_breach line marks functions)
 
 -- whether a mark behind others breaks a rule
 abbrev pub breach_at : List Mark → Mark → Option Breach
@@ -111,7 +106,7 @@ breach_at before mark = None
 -- the first break of a rule, in the order of the spelling
 abbrev pub first_breach : (before marks : List Mark) → Option Breach
 first_breach before [] = None
-first_breach before (mark ∷ marks) = first_of (breach_at before mark) (first_breach (before ++ mark ∷ []) marks)
+first_breach before (mark ∷ marks) = option_or (breach_at before mark) (first_breach (before ++ mark ∷ []) marks)
 
 abbrev pub breach_of : Source → Option Breach
 breach_of source = first_breach [] (outline source)

@@ -1,4 +1,4 @@
--- To be believed. The tree of a source, without pointers: what all definitions speak of.
+-- To be believed. The tree of a source (manual 2.4, 2.5 and 8), without pointers: what all definitions speak of.
 use Rattle.std.specs.Prelude.{ℕ, ℤ, Bool, List, Option}
 use Rattle.lua_num.specs.Bytes.{Text}
 use Rattle.lua_tree.specs.declared.tree.BinaryOp.{BinaryOp}

@@ -1,4 +1,4 @@
--- To be believed. The tree of tokens.
+-- To be believed. The tree of tokens (manual 8).
 use Rattle.std.specs.Prelude.{List}
 use Rattle.lua_tree.specs.Syntax.{Source}
 use Rattle.lua_tree.specs.WellFormed.{WellFormed}

@@ -1,7 +1,8 @@
 // Words: names and keywords (manual 2.1).
 ghost use Rattle.std.specs.Prelude.{◌≡◌, true, false, IfSome, IfNone};
 ghost use Rattle.lua_tree.specs.Bytes.{is_among, is_letter, is_word};
-ghost use Rattle.lua_tree.specs.Names.{is_name, all_pass};
+ghost use Rattle.std.specs.List.{list_all};
+ghost use Rattle.lua_tree.specs.Names.{is_name};
 ghost use Rattle.lua_tree.specs.Tokens.{keywords, IsWordKind};
 
 use crate::token::TokenKind;
@@ -70,7 +71,7 @@ fn is_word(byte: u8) -> bool
 }
 
 fn are_words(text: &[u8]) -> bool
-    ensures { result ≡ all_pass is_word text.now }
+    ensures { result ≡ list_all is_word text.now }
 {
     for byte in text {
         if !is_word(*byte) {

@@ -1,4 +1,4 @@
--- To be believed. The instruction that a word is: the opcode is in bits 0 to 5, A in 6 to 13, C in 14 to 22 and B in 23
+-- To be believed. The instruction that a word is (A No-Frills Introduction to Lua 5.1 VM Instructions): the opcode is in bits 0 to 5, A in 6 to 13, C in 14 to 22 and B in 23
 -- to 31; Bx in 14 to 31; and sBx is Bx - 131071.
 use Rattle.std.specs.Prelude.{ℕ, ◌/◌, ◌%◌, ◌-ℤ◌, pos, List, [], ◌∷◌, slice_get, Option, option_map}
 use Rattle.opcode.specs.declared.op.Op.{Op}

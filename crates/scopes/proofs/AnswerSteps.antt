@@ -2,7 +2,8 @@
 use Rattle.std.proofs.Common.{◌≡◌, ℕ, suc, ◌+◌, ◌≤◌, Bool, true, false, List, [], ◌∷◌, ◌++◌, length, replicate, None, refl, sym, ap, ◌∙◌, subst, append-nil, length-append, arith}
 use Rattle.std.proofs.lemmas.List.{length-replicate}
 use Rattle.lua_tree.specs.Outline.{Mark, local_name, hidden_local, dots, leave, opened, reaching}
-use Rattle.lua_tree.specs.Scoping.{first_of, first_breach, outer_functions, outer_of, upvalues_of, uses_of, uses_by}
+use Rattle.std.specs.Option.{option_or}
+use Rattle.lua_tree.specs.Scoping.{first_breach, outer_functions, outer_of, upvalues_of, uses_of, uses_by}
 use Rattle.lua_tree.specs.Resolved.{functions_in, captured_below, upvalues_below, declarations_in}
 use Rattle.scopes.specs.Uses.{uses_of_names, uses_of_functions}
 use Rattle.scopes.specs.Standing.{AreWellMade, Answers, HaveUpvalues, Declared, Opened}
@@ -25,7 +26,7 @@ answers_same old new marks answers names captured functions = record {
 
 -- marks that keep the rules come behind
 keeps_both : (marks more : List Mark) → first_breach [] marks ≡ None → first_breach marks more ≡ None → first_breach [] (marks ++ more) ≡ None
-keeps_both marks more keeps fits = breach_of_both [] marks more ∙ ap (λ x. first_of x (first_breach marks more)) keeps ∙ fits
+keeps_both marks more keeps fits = breach_of_both [] marks more ∙ ap (λ x. option_or x (first_breach marks more)) keeps ∙ fits
 
 made_quiet : (marks more : List Mark) → Quiet more → AreWellMade marks marks → AreWellMade (marks ++ more) (marks ++ more)
 made_quiet marks more quiet made = made_both (marks ++ more) marks more (made_more marks more marks made) (quiet_made (marks ++ more) more quiet)
@@ -65,7 +66,7 @@ answers_declared old new marks line hidden count answers declared within =
     answers_quiet old new marks (first ++ second) count answers
     (quiet_both first second (hidden_quiet line old.here.active hidden) (names_quiet line (old.here.active + hidden) count))
     (outer_both first second ∙ ap (λ x. x ++ outer_functions second) (hidden_outer line old.here.active hidden) ∙ names_outer line (old.here.active + hidden) count)
-    (breach_of_both marks first second ∙ ap (λ x. first_of x (first_breach (marks ++ first) second)) (reach_few (hidden_local line) line (λ before n. refl) hidden old.here.active marks (omega arith)) ∙
+    (breach_of_both marks first second ∙ ap (λ x. option_or x (first_breach (marks ++ first) second)) (reach_few (hidden_local line) line (λ before n. refl) hidden old.here.active marks (omega arith)) ∙
     reach_few (local_name line) line (λ before n. refl) count (old.here.active + hidden) (marks ++ first) within)
     (declarations_both first second ∙ ap (λ x. x + declarations_in second) (hidden_declarations line old.here.active hidden) ∙ omega (arith, names_declarations line (old.here.active + hidden) count))
     declared.captured declared.names declared.functions

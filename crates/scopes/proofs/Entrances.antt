@@ -6,7 +6,8 @@ use Rattle.std.proofs.lemmas.Bool.{cases_lt}
 use Rattle.std.specs.Str.{bytes_eq}
 use Rattle.lua_num.specs.Bytes.{Text}
 use Rattle.lua_tree.specs.Outline.{Binding, Scope, Place, Walk, Part, Mark, local_name, hidden_local, dots, leave, opened, mention, both, within, innermost, with_name, with_names, with_locals, come, in_loop, in_function, reaching, declares, marked}
-use Rattle.lua_tree.specs.Scoping.{Breach, too_many_locals, first_of, first_breach, is_one_of}
+use Rattle.std.specs.Option.{option_or}
+use Rattle.lua_tree.specs.Scoping.{Breach, too_many_locals, first_breach, is_one_of}
 use Rattle.scopes.specs.declared.fault.ScopeFault.{ScopeFault}
 use Rattle.scopes.specs.declared.resolver.Around.{Around}
 use Rattle.scopes.specs.declared.resolver.Local.{Local}
@@ -77,20 +78,20 @@ reach_many : (mark : ℕ → Mark) (line : ℕ) → Reaches mark line → (left 
 reach_many mark line h left zero active before all many = absurd (omega arith)
 reach_many mark line h zero (suc count) active before all many =
     let e : active ≡ 200 = omega arith in
-    rw e (ap (λ breach. first_of breach (first_breach (before ++ mark 201 ∷ []) (reaching mark 201 count))) (h before 201))
+    rw e (ap (λ breach. option_or breach (first_breach (before ++ mark 201 ∷ []) (reaching mark 201 count))) (h before 201))
 reach_many mark line h (suc left) (suc count) active before all many =
-    ap (λ breach. first_of breach (first_breach (before ++ mark (suc active) ∷ []) (reaching mark (suc active) count))) (h before (suc active) ∙ none_above 200 (suc active) _ (omega arith))
+    ap (λ breach. option_or breach (first_breach (before ++ mark (suc active) ∷ []) (reaching mark (suc active) count))) (h before (suc active) ∙ none_above 200 (suc active) _ (omega arith))
     ∙ reach_many mark line h left count (suc active) _ (omega arith) (omega arith)
 
-first_some : (one other : Option Breach) (breach : Breach) → one ≡ Some breach → first_of one other ≡ Some breach
-first_some one other breach e = ap (λ x. first_of x other) e
+first_some : (one other : Option Breach) (breach : Breach) → one ≡ Some breach → option_or one other ≡ Some breach
+first_some one other breach e = ap (λ x. option_or x other) e
 
 declared_many : (line hidden active count : ℕ) (marks : List Mark) → active ≤ 200 → 200 < active + hidden + count →
     first_breach marks (reaching (hidden_local line) active hidden ++ reaching (local_name line) (active + hidden) count) ≡ Some (too_many_locals line 201)
 declared_many line hidden active count marks low many = breach_of_both marks (reaching (hidden_local line) active hidden) (reaching (local_name line) (active + hidden) count) ∙ go (cases_lt 200 (active + hidden))
   where
-    go : ((200 < active + hidden) ⊎ (active + hidden ≤ 200)) → first_of (first_breach marks (reaching (hidden_local line) active hidden)) (first_breach (marks ++ reaching (hidden_local line) active hidden) (reaching (local_name line) (active + hidden) count)) ≡ Some (too_many_locals line 201)
-    go (inr e) = ap (λ breach. first_of breach (first_breach (marks ++ reaching (hidden_local line) active hidden) (reaching (local_name line) (active + hidden) count))) (reach_few (hidden_local line) line (λ before n. refl) hidden active marks e)
+    go : ((200 < active + hidden) ⊎ (active + hidden ≤ 200)) → option_or (first_breach marks (reaching (hidden_local line) active hidden)) (first_breach (marks ++ reaching (hidden_local line) active hidden) (reaching (local_name line) (active + hidden) count)) ≡ Some (too_many_locals line 201)
+    go (inr e) = ap (λ breach. option_or breach (first_breach (marks ++ reaching (hidden_local line) active hidden) (reaching (local_name line) (active + hidden) count))) (reach_few (hidden_local line) line (λ before n. refl) hidden active marks e)
         ∙ reach_many (local_name line) line (λ before n. refl) (200 - (active + hidden)) count (active + hidden) _ (omega arith) (omega arith)
     go (inl e) = first_some _ _ _ (reach_many (hidden_local line) line (λ before n. refl) (200 - active) hidden active marks (omega arith) (omega arith))
 

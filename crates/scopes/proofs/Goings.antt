@@ -2,7 +2,8 @@
 use Rattle.std.proofs.Common.{◌≡◌, sym, ap, subst, ◌∙◌, ℕ, List, [], ◌++◌, length, append_assoc, append-nil, Option, Some, None, Result, Ok, Err}
 use Rattle.std.specs.Result.{IsErrAnd}
 use Rattle.lua_tree.specs.Outline.{Place, Walk, Part, nothing, both, within, Mark}
-use Rattle.lua_tree.specs.Scoping.{Breach, first_breach, first_of}
+use Rattle.std.specs.Option.{option_or}
+use Rattle.lua_tree.specs.Scoping.{Breach, first_breach}
 use Rattle.scopes.specs.declared.fault.ScopeFault.{ScopeFault}
 use Rattle.scopes.specs.declared.resolver.Around.{Around}
 use Rattle.scopes.specs.declared.resolver.Resolver.{Resolver}
@@ -12,19 +13,19 @@ use Rattle.scopes.proofs.AnswerSteps.{answers_same}
 use Rattle.scopes.proofs.Marks.{nested_stays, breach_of_both}
 
 -- what a breach of two parts is
-other_none : (one other : Option Breach) → first_of one other ≡ None → other ≡ None
+other_none : (one other : Option Breach) → option_or one other ≡ None → other ≡ None
 other_none (Some breach) other e = cc
 other_none None other e = e
 
-breach_first : (one other : Option Breach) (fault : ScopeFault) → IsBreach one fault → IsBreach (first_of one other) fault
-breach_first one other (ScopeFault.NoLoop line) e = ap (λ breach. first_of breach other) e
-breach_first one other (ScopeFault.NoVararg line) e = ap (λ breach. first_of breach other) e
-breach_first one other (ScopeFault.TooManyLocals line reached) e = ap (λ breach. first_of breach other) e
-breach_first one other (ScopeFault.TooManyUpvalues line reached) e = ap (λ breach. first_of breach other) e
+breach_first : (one other : Option Breach) (fault : ScopeFault) → IsBreach one fault → IsBreach (option_or one other) fault
+breach_first one other (ScopeFault.NoLoop line) e = ap (λ breach. option_or breach other) e
+breach_first one other (ScopeFault.NoVararg line) e = ap (λ breach. option_or breach other) e
+breach_first one other (ScopeFault.TooManyLocals line reached) e = ap (λ breach. option_or breach other) e
+breach_first one other (ScopeFault.TooManyUpvalues line reached) e = ap (λ breach. option_or breach other) e
 breach_first one other ScopeFault.OutOfMemory e = tt
 
-breach_second : (one other : Option Breach) (fault : ScopeFault) → one ≡ None → IsBreach other fault → IsBreach (first_of one other) fault
-breach_second one other fault none e = subst (λ (breach : Option Breach). IsBreach (first_of breach other) fault) (sym none) e
+breach_second : (one other : Option Breach) (fault : ScopeFault) → one ≡ None → IsBreach other fault → IsBreach (option_or one other) fault
+breach_second one other fault none e = subst (λ (breach : Option Breach). IsBreach (option_or breach other) fault) (sym none) e
 
 -- the marks behind a part break no rule where it stands
 no_breach : (r : Resolver) (marks more : List Mark) (place : Place) → Stands r (marks ++ more) place → first_breach marks more ≡ None

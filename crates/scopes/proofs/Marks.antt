@@ -3,7 +3,8 @@ use Rattle.std.proofs.Common.{◌≡◌, ◌==◌, ◌&&◌, ◌||◌, ℕ, zero
 use Rattle.std.proofs.Math.ListN.{get_or-append}
 use Rattle.std.proofs.Math.Seq.{get_or-append_seam}
 use Rattle.lua_tree.specs.Outline.{Binding, Mark, mention, local_name, opened, innermost}
-use Rattle.lua_tree.specs.Scoping.{Breach, first_of, breach_at, first_breach, with_mention, upvalues_behind, outer_functions, outer_of, use_in, uses_among, is_captured}
+use Rattle.std.specs.Option.{option_or}
+use Rattle.lua_tree.specs.Scoping.{Breach, breach_at, first_breach, with_mention, upvalues_behind, outer_functions, outer_of, use_in, uses_among, is_captured}
 use Rattle.lua_tree.specs.Resolved.{declarations_in, functions_in}
 use Rattle.scopes.specs.Standing.{AreNested}
 
@@ -48,15 +49,15 @@ uses_both all (mention line name means around ∷ one) other = ap (λ x. use_in 
 uses_both all (mark ∷ one) other = uses_both all one other
 
 -- the first breach is that of the first part, or that of the second behind it
-pub first_of_three : (one other third : Option Breach) → first_of one (first_of other third) ≡ first_of (first_of one other) third
+pub first_of_three : (one other third : Option Breach) → option_or one (option_or other third) ≡ option_or (option_or one other) third
 first_of_three None other third = refl
 first_of_three (Some breach) other third = refl
 
-pub breach_of_both : (before one other : List Mark) → first_breach before (one ++ other) ≡ first_of (first_breach before one) (first_breach (before ++ one) other)
+pub breach_of_both : (before one other : List Mark) → first_breach before (one ++ other) ≡ option_or (first_breach before one) (first_breach (before ++ one) other)
 breach_of_both before [] other = ap (λ x. first_breach x other) (sym (append-nil before))
 breach_of_both before (mark ∷ one) other =
-    ap (first_of (breach_at before mark)) (breach_of_both (before ++ mark ∷ []) one other
-    ∙ ap (λ x. first_of (first_breach (before ++ mark ∷ []) one) (first_breach x other)) (append_assoc before (mark ∷ []) one)) ∙
+    ap (option_or (breach_at before mark)) (breach_of_both (before ++ mark ∷ []) one other
+    ∙ ap (λ x. option_or (first_breach (before ++ mark ∷ []) one) (first_breach x other)) (append_assoc before (mark ∷ []) one)) ∙
     first_of_three (breach_at before mark) (first_breach (before ++ mark ∷ []) one) (first_breach (before ++ mark ∷ one) other)
 
 -- the function around one stays so

@@ -6,7 +6,8 @@ use Rattle.std.specs.List.{All}
 use Rattle.std.proofs.lemmas.List.Elements.{All-head, All-tail}
 use Rattle.lua_num.specs.Bytes.{Text}
 use Rattle.lua_tree.specs.Outline.{Binding, Place, Mark, mention, mentions}
-use Rattle.lua_tree.specs.Scoping.{Breach, too_many_upvalues, first_of, first_breach}
+use Rattle.std.specs.Option.{option_or}
+use Rattle.lua_tree.specs.Scoping.{Breach, too_many_upvalues, first_breach}
 use Rattle.scopes.specs.Faults.{IsBreach}
 use Rattle.scopes.specs.Standing.{binding_of, later, lookup, Answers, Surrounds, Goes}
 use Rattle.scopes.specs.Capturing.{Stuck, Used}
@@ -115,7 +116,7 @@ goes_stuck line name old new b fault means low (inr stuck) = record {
       (subst (λ x. Stuck b line x old.functions.items fault) (sym stands.surrounds.around) stuck) in
       subst (λ x. IsBreach (first_breach marks (mention line name x place.around ∷ [])) fault) (sym some)
       (breach_told (first_breach marks (mention line name (Some (binding_of b)) place.around ∷ [])) line fault
-      (ap (λ x. first_of x None) (overfull_breach marks line name b old.functions.items place.around fault stands.answers.well_made stands.answers.functions are over)) over.told);
+      (ap (λ x. option_or x None) (overfull_breach marks line name b old.functions.items place.around fault stands.answers.well_made stands.answers.functions are over)) over.told);
 }
 
 pub goes_memory : (line : ℕ) (name : Text) (old new : Resolver) (fault : ScopeFault) → fault ≡ ScopeFault.OutOfMemory → Goes (mentions line name) old new (Err fault)

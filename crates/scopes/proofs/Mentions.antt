@@ -4,7 +4,8 @@ use Rattle.std.proofs.Math.ListN.{set, length-set}
 use Rattle.std.proofs.lemmas.Bool.Decides.{nat_tests}
 use Rattle.lua_num.specs.Bytes.{Text}
 use Rattle.lua_tree.specs.Outline.{Binding, Mark, mention, innermost}
-use Rattle.lua_tree.specs.Scoping.{inside_of, is_one_of, upvalues_of, slot_of, outer_functions, local_use, upvalue_use, global_use, uses_among, is_captured, first_of, first_breach}
+use Rattle.std.specs.Option.{option_or}
+use Rattle.lua_tree.specs.Scoping.{inside_of, is_one_of, upvalues_of, slot_of, outer_functions, local_use, upvalue_use, global_use, uses_among, is_captured, first_breach}
 use Rattle.lua_tree.specs.Resolved.{declarations_in, functions_in, captured_below, upvalues_below}
 use Rattle.scopes.specs.Uses.{use_of, source_use, uses_of_names, uses_of_functions}
 use Rattle.scopes.specs.Standing.{binding_of, AreNested, AreWellMade, HaveUpvalues, Answers}
@@ -102,7 +103,7 @@ pub declarations_mentioned : (marks : List Mark) (line : ℕ) (name : Text) (mea
 declarations_mentioned marks line name means around = omega (arith, declarations_both marks (mention line name means around ∷ []))
 
 keeps_one : (marks : List Mark) (mark : Mark) → first_breach [] marks ≡ None → first_breach marks (mark ∷ []) ≡ None → first_breach [] (marks ++ mark ∷ []) ≡ None
-keeps_one marks mark keeps fits = breach_of_both [] marks (mark ∷ []) ∙ ap (λ x. first_of x (first_breach marks (mark ∷ []))) keeps ∙ fits
+keeps_one marks mark keeps fits = breach_of_both [] marks (mark ∷ []) ∙ ap (λ x. option_or x (first_breach marks (mark ∷ []))) keeps ∙ fits
 
 -- a declaration is mentioned
 pub answers_mentioned : (old between new : Resolver) (marks : List Mark) (line : ℕ) (name : Text) (b : Bound) (around : List ℕ) (used : NameUse) → Answers old marks → around ≡ reverse old.stack.items → AreNested around marks → is_one_of b.home around ≡ true →
@@ -119,7 +120,7 @@ answers_mentioned old between new marks line name b around used answers stack ne
     let length_is : length between.captured.items ≡ length old.captured.items = ap length is_used.captured ∙ captured_length is_used.source b.declaration old.captured.items in
     record {
       keeps = keeps_one marks (mention line name (Some (binding_of b)) around) answers.keeps
-          (ap (λ x. first_of x None) (no_breach line all (inside_of b.home around) (λ f. few_everywhere f between.functions.items all made count is.are)));
+          (ap (λ x. option_or x None) (no_breach line all (inside_of b.home around) (λ f. few_everywhere f between.functions.items all made count is.are)));
       well_made = made;
       declarations = declarations_mentioned marks line name (Some (binding_of b)) around ∙ answers.declarations ∙ sym length_is ∙ ap (λ x. length x.items) (sym captured);
       functions = count ∙ ap (λ x. length x.items) (sym functions);

@@ -3,7 +3,8 @@ use Rattle.std.proofs.Common.{◌≡◌, ◌==◌, ◌&&◌, ◌||◌, inl, inr,
 use Rattle.std.proofs.lemmas.Bool.Decides.{nat_tests}
 use Rattle.lua_num.specs.Bytes.{Text}
 use Rattle.lua_tree.specs.Outline.{Binding, Mark}
-use Rattle.lua_tree.specs.Scoping.{inside_of, is_one_of, is_known, upvalues_of, Breach, too_many_upvalues, first_of, upvalue_breach}
+use Rattle.std.specs.Option.{option_or}
+use Rattle.lua_tree.specs.Scoping.{inside_of, is_one_of, is_known, upvalues_of, Breach, too_many_upvalues, upvalue_breach}
 use Rattle.lua_tree.specs.Resolved.{declarations_in, functions_in}
 use Rattle.scopes.specs.Standing.{binding_of, AreNested, AreWellMade}
 use Rattle.scopes.specs.Capturing.{slot_from, Full, Stuck}
@@ -92,11 +93,11 @@ one_more false known binding = omega arith
 pub no_breach : (line : ℕ) (marks : List Mark) (functions : List ℕ) → ((f : ℕ) → length (upvalues_of f marks) ≤ 60) → upvalue_breach line marks functions ≡ None
 no_breach line marks [] few = refl
 no_breach line marks (f ∷ functions) few =
-    ap (λ x. first_of x (upvalue_breach line marks functions)) (none_above 60 (length (upvalues_of f marks)) (too_many_upvalues line (length (upvalues_of f marks))) (few f)) ∙
+    ap (λ x. option_or x (upvalue_breach line marks functions)) (none_above 60 (length (upvalues_of f marks)) (too_many_upvalues line (length (upvalues_of f marks))) (few f)) ∙
     no_breach line marks functions few
 
 breach_step : (t : Bool) (n line : ℕ) (rest : Option Breach) → nat_lt 60 n ≡ t → n ≤ 61 → (n ≤ 60 → rest ≡ Some (too_many_upvalues line 61)) →
-    first_of (if t then Some (too_many_upvalues line n) else None) rest ≡ Some (too_many_upvalues line 61)
+    option_or (if t then Some (too_many_upvalues line n) else None) rest ≡ Some (too_many_upvalues line 61)
 breach_step true n line rest e most go =
     let last : n ≡ 61 = grind (arith, nat_tests) in
     ap (λ x. Some (too_many_upvalues line x)) last

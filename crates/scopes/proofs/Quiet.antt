@@ -2,7 +2,8 @@
 use Rattle.std.proofs.Common.{◌≡◌, ◌==◌, ◌&&◌, ◌||◌, ℕ, zero, suc, ◌+◌, ◌<◌, ◌≤◌, Bool, true, false, List, [], ◌∷◌, ◌++◌, length, replicate, Some, None, if◌then◌else◌, nat_lt, refl, sym, ap, ◌∙◌, subst, append_assoc, append-nil, add-suc, arith}
 use Rattle.std.proofs.lemmas.Bool.Decides.{nat_tests}
 use Rattle.lua_tree.specs.Outline.{Binding, Mark, mention, local_name, hidden_local, reaching}
-use Rattle.lua_tree.specs.Scoping.{inside_of, is_one_of, upvalues_behind, upvalues_of, outer_functions, uses_among, uses_of, is_captured, sources_of, Breach, too_many_locals, above, first_of, breach_at, first_breach}
+use Rattle.std.specs.Option.{option_or}
+use Rattle.lua_tree.specs.Scoping.{inside_of, is_one_of, upvalues_behind, upvalues_of, outer_functions, uses_among, uses_of, is_captured, sources_of, Breach, too_many_locals, above, breach_at, first_breach}
 use Rattle.lua_tree.specs.Resolved.{declarations_in, functions_in, captured_below, upvalues_below}
 use Rattle.scopes.specs.Uses.{uses_of_functions, source_uses}
 use Rattle.scopes.specs.Standing.{AreNested, AreWellMade, HaveUpvalues, numbers_of}
@@ -77,7 +78,7 @@ Reaches mark line = (before : List Mark) (n : ℕ) → breach_at before (mark n)
 pub reach_few : (mark : ℕ → Mark) (line : ℕ) → Reaches mark line → (count active : ℕ) (before : List Mark) → active + count ≤ 200 → first_breach before (reaching mark active count) ≡ None
 reach_few mark line h zero active before few = refl
 reach_few mark line h (suc count) active before few =
-    ap (λ breach. first_of breach (first_breach (before ++ mark (suc active) ∷ []) (reaching mark (suc active) count))) (h before (suc active) ∙ none_above 200 (suc active) _ (omega arith))
+    ap (λ breach. option_or breach (first_breach (before ++ mark (suc active) ∷ []) (reaching mark (suc active) count))) (h before (suc active) ∙ none_above 200 (suc active) _ (omega arith))
     ∙ reach_few mark line h count (suc active) _ (omega arith)
 
 -- what marks mention is well made behind others too

@@ -1,4 +1,4 @@
--- Serves the laws: what a greater number of ticks keeps.
+-- Serves the laws: what a greater number of ticks keeps, and what a run that goes on lacks.
 use Rattle.std.specs.Prelude.{◌≡◌, ◌≢◌, ℕ, ◌≤◌, List}
 use Rattle.lua_tree.specs.Syntax.{Source}
 use Rattle.lua_model.specs.Store.{Host, Reply}

@@ -1,4 +1,4 @@
--- To be believed. Programs that ask: what a task does, in small pieces, until it asks for other tasks. The state is passed along; ticks,
+-- To be believed, and this suite's own. Programs that ask: what a task does, in small pieces, until it asks for other tasks. The state is passed along; ticks,
 -- events and replies stand outside.
 use Rattle.std.specs.Prelude.{ℕ, zero, suc, List, [], ◌∷◌}
 use Rattle.lua_model.specs.Datum.{Datum}
