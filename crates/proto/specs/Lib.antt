@@ -1,2 +1,3 @@
 pub mod Chunk
 pub mod Constants
+pub mod View
