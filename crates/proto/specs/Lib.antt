@@ -1,3 +1,2 @@
 pub mod Chunk
 pub mod Constants
-pub mod View

@@ -1,0 +1,15 @@
+// What stands in front of a function's code.
+
+use lua_num::ByteText;
+
+/// The source, the lines and the shape of a function.
+#[derive(Drop)]
+pub struct Front {
+    pub source: Option<ByteText>,
+    pub line_defined: u32,
+    pub last_line: u32,
+    pub upvalues: u8,
+    pub params: u8,
+    pub vararg: u8,
+    pub registers: u8,
+}
