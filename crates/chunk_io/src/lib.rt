@@ -5,8 +5,10 @@ mod fault;
 mod front;
 mod heading;
 mod layout;
+mod lists;
 mod miss;
 mod reading;
+mod writing;
 
 pub use fault::ChunkFault;
 pub use layout::Layout;

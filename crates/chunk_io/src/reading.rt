@@ -11,7 +11,7 @@ use proto::{Constant, LocVar};
 use std::alloc::Global;
 
 #[tactic(auto, unfolding(crate::specs::Reading::number_at))]
-fn u32_of(layout: Layout, bytes: &[u8]) -> Result<(u32, &[u8]), ReadError>
+pub fn u32_of(layout: Layout, bytes: &[u8]) -> Result<(u32, &[u8]), ReadError>
     ensures { Gives (λ x. (x.0, x.1.now)) result (number_at layout 4 bytes.now) }
 {
     if bytes.len() < 4 {
@@ -41,7 +41,7 @@ fn u64_of(layout: Layout, bytes: &[u8]) -> Result<(u64, &[u8]), ReadError>
 }
 
 #[tactic(auto, unfolding(crate::specs::Reading::int_at))]
-fn int_of(layout: Layout, bytes: &[u8]) -> Result<(u32, &[u8]), ReadError>
+pub fn int_of(layout: Layout, bytes: &[u8]) -> Result<(u32, &[u8]), ReadError>
     ensures { Gives (λ x. (x.0, x.1.now)) result (int_at layout bytes.now) }
 {
     let (number, rest) = u32_of(layout, bytes)?;
@@ -105,7 +105,7 @@ fn ended_of(alloc: Global, count: u64, bytes: &[u8]) -> Result<(ByteText, &[u8])
 }
 
 #[tactic(auto, unfolding(crate::specs::Reading::text_at))]
-fn text_of(alloc: Global, layout: Layout, bytes: &[u8]) -> Result<(ByteText, &[u8]), ReadError>
+pub fn text_of(alloc: Global, layout: Layout, bytes: &[u8]) -> Result<(ByteText, &[u8]), ReadError>
     ensures { Gives (λ x. (x.0, x.1.now)) result (text_at layout bytes.now) }
 {
     let (size, rest) = some_size_of(layout, bytes)?;
@@ -159,7 +159,11 @@ fn whole_of(layout: Layout, bytes: &[u8]) -> Result<(i64, &[u8]), ReadError>
 }
 
 #[tactic(auto, unfolding(crate::specs::Reading::constant_at))]
-fn constant_of(alloc: Global, layout: Layout, bytes: &[u8]) -> Result<(Constant, &[u8]), ReadError>
+pub fn constant_of(
+    alloc: Global,
+    layout: Layout,
+    bytes: &[u8],
+) -> Result<(Constant, &[u8]), ReadError>
     ensures { Gives (λ x. (x.0, x.1.now)) result (constant_at layout bytes.now) }
 {
     match bytes {
@@ -182,7 +186,7 @@ fn constant_of(alloc: Global, layout: Layout, bytes: &[u8]) -> Result<(Constant,
 }
 
 #[tactic(auto, unfolding(crate::specs::Reading::local_at))]
-fn local_of(alloc: Global, layout: Layout, bytes: &[u8]) -> Result<(LocVar, &[u8]), ReadError>
+pub fn local_of(alloc: Global, layout: Layout, bytes: &[u8]) -> Result<(LocVar, &[u8]), ReadError>
     ensures { Gives (λ x. (x.0, x.1.now)) result (local_at layout bytes.now) }
 {
     let (name, rest) = text_of(alloc, layout, bytes)?;

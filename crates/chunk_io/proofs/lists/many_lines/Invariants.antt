@@ -1,0 +1,7 @@
+use Rattle.std.proofs.Common.{◌≡◌, ◌-◌}
+use Rattle.chunk_io.specs.Reading.{int_at, many_at}
+use Rattle.chunk_io.proofs.Loop.{with_front}
+use Rattle.chunk_io.proofs.lists.many_lines.Given as goal
+
+abbrev pub invariant-loop : goal.invariant-loop
+invariant-loop l = with_front l.lines.items (many_at (int_at l.layout) (l.count - l.counter) l.rest) ≡ many_at (int_at l.layout) l.count l.bytes
