@@ -4,7 +4,7 @@ use Rattle.std.specs.List.{AllByRecursion}
 use Rattle.proto.specs.Chunk.{Chunk}
 use Rattle.chunk_io.specs.declared.layout.Layout.{Layout}
 use Rattle.chunk_io.specs.declared.fault.ChunkFault.{ChunkFault}
-use Rattle.chunk_io.specs.declared.fault.ChunkFault.TheVariants.{Header, Integral, Truncated, BadTag, BadString, BadCount, TooDeep, Trailing}
+use Rattle.chunk_io.specs.declared.fault.ChunkFault.TheVariants.{Header, Integral, Truncated, BadTag, BadString, BadCount, TooDeep, Trailing, OutOfMemory}
 use Rattle.chunk_io.specs.Items.{Item, sign, order, width, integral, begin, int, tag, flag, some_size, ending, end, bytes_of, Allowed, items, spelling}
 
 abbrev pub is_tag : ℕ → Bool
@@ -40,3 +40,8 @@ pub record IsFault (bytes : List ℕ) (fault : ChunkFault) : Type 0 where
   pub left : List ℕ
   pub here : bytes ≡ spelling before ++ left
   pub missed : Misses due (length (spelling before)) left fault
+
+-- a fault that is answered is one of the bytes; want of memory says nothing
+abbrev pub StopsBy : List ℕ → ChunkFault → Type 0
+StopsBy bytes OutOfMemory = Unit {0}
+StopsBy bytes fault = IsFault bytes fault

@@ -131,3 +131,7 @@ Fits l c = AllByRecursion Allowed (items l c)
 pub record Spelled (bytes : List ℕ) (l : Layout) (c : Chunk) : Type 0 where
   pub fits : Fits l c
   pub is : bytes ≡ spelling (items l c)
+
+-- the bytes spell the chunk in some layout, which their header names
+abbrev pub IsChunkOf : List ℕ → Chunk → Type 0
+IsChunkOf bytes c = (l : Layout) × Spelled bytes l c
