@@ -7,7 +7,7 @@ ghost use Rattle.proto.specs.declared.constant_table.ConstantFault.TheVariants.{
 use crate::lists::ConstantList;
 use crate::parts::Constant;
 use indexmap::IndexSet;
-use std::alloc::{AllocError, Global};
+use std::alloc::{AllocError, AllocFailed, Global};
 use std::marker::Model;
 use thiserror::Error;
 
@@ -42,10 +42,10 @@ impl Model for ConstantTable {
     ghost invariant = { λ t. length t.constants.keys ≤ 262144 };
 }
 
-impl From<std::alloc::AllocFailed<Constant>> for ConstantFault {
+impl From<AllocFailed<Constant>> for ConstantFault {
     ghost from_gives = { λ _ fault. fault ≡ OutOfMemory };
 
-    fn from(_error: std::alloc::AllocFailed<Constant>) -> Self {
+    fn from(_error: AllocFailed<Constant>) -> Self {
         ConstantFault::OutOfMemory
     }
 }
@@ -60,7 +60,8 @@ impl ConstantTable {
         }
     }
 
-    /// The number of a constant, which goes last where it is new. In constant time on average.
+    /// The number of a constant, which goes last where it is new. In constant time on average. Fails where it is new
+    /// and 262,144 are there, or where memory runs out; the table is then as it was.
     pub fn number(&mut self, constant: Constant) -> Result<u32, ConstantFault>
         ensures number { IfOk result (λ n. n ≡ constant_number constant self.old) }
         ensures table { OnOk result (self.new ≡ with_constant constant self.old) }
@@ -75,14 +76,11 @@ impl ConstantTable {
         Ok(number as u32)
     }
 
-    /// The constants in the order of their numbers.
+    /// The constants in the order of their numbers, in linear time.
     pub fn into_list(self, alloc: Global) -> Result<ConstantList, AllocError>
         ensures { IfOk result (λ list. list ≡ self) }
     {
-        let mut list = ConstantList::new(alloc);
-        for constant in self.constants {
-            list.push(constant)?;
-        }
-        Ok(list)
+        let constants = self.constants.into_iter().collect(alloc)?;
+        Ok(ConstantList::from_vec(constants))
     }
 }

@@ -6,7 +6,7 @@ use std::alloc::{AllocError, Global};
 use std::marker::Model;
 
 /// The words of a function, by their pc.
-#[derive(Drop)]
+#[derive(Debug, Drop)]
 pub struct Code {
     words: Vec<u32>,
 }
@@ -61,7 +61,7 @@ impl Code {
 }
 
 /// The constants of a function, by their numbers.
-#[derive(Drop)]
+#[derive(Debug, Drop)]
 pub struct ConstantList {
     constants: Vec<Constant>,
 }
@@ -117,7 +117,7 @@ impl ConstantList {
 }
 
 /// The line of each word of a function, by its pc.
-#[derive(Drop)]
+#[derive(Debug, Drop)]
 pub struct Lines {
     lines: Vec<u32>,
 }
@@ -172,7 +172,7 @@ impl Lines {
 }
 
 /// The listed locals of a function, in order of declaration.
-#[derive(Drop)]
+#[derive(Debug, Drop)]
 pub struct LocVars {
     locals: Vec<LocVar>,
 }
