@@ -1,6 +1,7 @@
-// What stands in front of a function's code.
+// What stands in front of a function's code, and behind the functions in it.
 
-use lua_num::ByteText;
+use lua_num::{ByteText, Names};
+use proto::{Lines, LocVars};
 
 /// The source, the lines and the shape of a function.
 #[derive(Drop)]
@@ -12,4 +13,12 @@ pub struct Front {
     pub params: u8,
     pub vararg: u8,
     pub registers: u8,
+}
+
+/// The lines, the locals and the names of upvalues of a function.
+#[derive(Drop)]
+pub struct Debug {
+    pub lines: Lines,
+    pub locals: LocVars,
+    pub names: Names,
 }

@@ -3,6 +3,7 @@
 
 mod fault;
 mod front;
+mod function;
 mod heading;
 mod layout;
 mod lists;

@@ -196,7 +196,7 @@ pub fn local_of(alloc: Global, layout: Layout, bytes: &[u8]) -> Result<(LocVar, 
 }
 
 #[tactic(auto, unfolding(crate::specs::Reading::front_at))]
-fn front_of(alloc: Global, layout: Layout, bytes: &[u8]) -> Result<(Front, &[u8]), ReadError>
+pub fn front_of(alloc: Global, layout: Layout, bytes: &[u8]) -> Result<(Front, &[u8]), ReadError>
     ensures { Gives (λ x. (x.0, x.1.now)) result (front_at layout bytes.now) }
 {
     let (source, rest) = source_of(alloc, layout, bytes)?;

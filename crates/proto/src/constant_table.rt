@@ -1,5 +1,5 @@
 // The constants of a function that is being made.
-ghost use Rattle.std.specs.Prelude.{◌≡◌, ◌≤◌, true, false, [], length, IfOk, OnOk, OnErr, Err};
+ghost use Rattle.std.specs.Prelude.{◌≡◌, ◌<◌, ◌≤◌, true, false, [], length, IfOk, OnOk, OnErr, Err};
 ghost use Rattle.std.specs.List.{list_any};
 ghost use Rattle.proto.specs.Constants.{same_constant, constant_number, with_constant};
 ghost use Rattle.proto.specs.declared.constant_table.ConstantFault.TheVariants.{TooMany, OutOfMemory};
@@ -64,6 +64,7 @@ impl ConstantTable {
     /// and 262,144 are there, or where memory runs out; the table is then as it was.
     pub fn number(&mut self, constant: Constant) -> Result<u32, ConstantFault>
         ensures number { IfOk result (λ n. n ≡ constant_number constant self.old) }
+        ensures within { IfOk result (λ n. n < 262144) }
         ensures table { OnOk result (self.new ≡ with_constant constant self.old) }
         ensures err { OnErr result (self.new ≡ self.old) }
         ensures too_many { result ≡ Err TooMany → (length self.old ≡ 262144) × (list_any (same_constant constant) self.old ≡ false) }
@@ -78,7 +79,8 @@ impl ConstantTable {
 
     /// The constants in the order of their numbers, in linear time.
     pub fn into_list(self, alloc: Global) -> Result<ConstantList, AllocError>
-        ensures { IfOk result (λ list. list ≡ self) }
+        ensures list { IfOk result (λ list. list ≡ self) }
+        ensures few { IfOk result (λ list. length list ≤ 262144) }
     {
         let constants = self.constants.into_iter().collect(alloc)?;
         Ok(ConstantList::from_vec(constants))
