@@ -101,8 +101,11 @@ local_items l v = string_items l v.name ++ (int l v.start ∷ int l v.end ∷ []
 abbrev pub counted : {A : Type 0} → Layout → (A → List Item) → List A → List Item
 counted l items xs = int l (length xs) ∷ flat_map items xs
 
+abbrev pub shape_items : Own → List Item
+shape_items f = shape f.upvalues ∷ shape f.params ∷ shape f.flags ∷ shape f.registers ∷ []
+
 abbrev pub front_items : Layout → Own → List Item
-front_items l f = source_items l f.source ++ (int l f.line_defined ∷ int l f.last_line ∷ shape f.upvalues ∷ shape f.params ∷ shape f.flags ∷ shape f.registers ∷ [])
+front_items l f = source_items l f.source ++ (int l f.line_defined ∷ int l f.last_line ∷ shape_items f)
 
 abbrev pub debug_items : Layout → Own → List Item
 debug_items l f = counted l (λ line. int l line ∷ []) f.lines ++ (counted l (local_items l) f.locals ++ counted l (string_items l) f.upvalue_names)

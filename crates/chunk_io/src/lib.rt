@@ -1,6 +1,7 @@
 //! Chunks as bytes.
 #![tactic(auto)]
 
+mod dumping;
 mod fault;
 mod front;
 mod function;

@@ -10,7 +10,7 @@ use lua_num::{ByteText, Names};
 use proto::{Constant, LocVar};
 use std::alloc::AllocError;
 
-fn put_u32(out: &mut ByteText, layout: Layout, number: u32) -> Result<(), AllocError>
+pub fn put_u32(out: &mut ByteText, layout: Layout, number: u32) -> Result<(), AllocError>
     ensures { OnOk result (out.new ≡ out.old ++ number_bytes layout w32 number) }
 {
     let mut bytes = [0; 4];
@@ -35,7 +35,7 @@ fn put_u64(out: &mut ByteText, layout: Layout, number: u64) -> Result<(), AllocE
 }
 
 // A count, of which no more than four bytes are written.
-fn put_count(out: &mut ByteText, layout: Layout, count: usize) -> Result<(), AllocError>
+pub fn put_count(out: &mut ByteText, layout: Layout, count: usize) -> Result<(), AllocError>
     ensures { OnOk result (out.new ≡ out.old ++ number_bytes layout w32 count) }
 {
     put_u32(out, layout, (count % 0x1_0000_0000) as u32)
@@ -59,7 +59,7 @@ fn put_string(out: &mut ByteText, layout: Layout, text: &ByteText) -> Result<(),
     out.push(0)
 }
 
-fn put_source(
+pub fn put_source(
     out: &mut ByteText,
     layout: Layout,
     source: &Option<ByteText>,
@@ -100,7 +100,7 @@ fn put_local(out: &mut ByteText, layout: Layout, local: &LocVar) -> Result<(), A
     put_u32(out, layout, local.end)
 }
 
-fn put_words(out: &mut ByteText, layout: Layout, words: &[u32]) -> Result<(), AllocError>
+pub fn put_words(out: &mut ByteText, layout: Layout, words: &[u32]) -> Result<(), AllocError>
     ensures { OnOk result (out.new ≡ out.old ++ spelling (counted layout (λ word. instruction layout word ∷ []) words.now)) }
 {
     put_count(out, layout, words.len())?;
@@ -110,7 +110,7 @@ fn put_words(out: &mut ByteText, layout: Layout, words: &[u32]) -> Result<(), Al
     Ok(())
 }
 
-fn put_constants(
+pub fn put_constants(
     out: &mut ByteText,
     layout: Layout,
     constants: &[Constant],
@@ -124,7 +124,7 @@ fn put_constants(
     Ok(())
 }
 
-fn put_lines(out: &mut ByteText, layout: Layout, lines: &[u32]) -> Result<(), AllocError>
+pub fn put_lines(out: &mut ByteText, layout: Layout, lines: &[u32]) -> Result<(), AllocError>
     ensures { OnOk result (out.new ≡ out.old ++ spelling (counted layout (λ line. int layout line ∷ []) lines.now)) }
 {
     put_count(out, layout, lines.len())?;
@@ -134,7 +134,7 @@ fn put_lines(out: &mut ByteText, layout: Layout, lines: &[u32]) -> Result<(), Al
     Ok(())
 }
 
-fn put_locals(out: &mut ByteText, layout: Layout, locals: &[LocVar]) -> Result<(), AllocError>
+pub fn put_locals(out: &mut ByteText, layout: Layout, locals: &[LocVar]) -> Result<(), AllocError>
     ensures { OnOk result (out.new ≡ out.old ++ spelling (counted layout (local_items layout) locals.now)) }
 {
     put_count(out, layout, locals.len())?;
@@ -144,7 +144,7 @@ fn put_locals(out: &mut ByteText, layout: Layout, locals: &[LocVar]) -> Result<(
     Ok(())
 }
 
-fn put_names(out: &mut ByteText, layout: Layout, names: &Names) -> Result<(), AllocError>
+pub fn put_names(out: &mut ByteText, layout: Layout, names: &Names) -> Result<(), AllocError>
     ensures { OnOk result (out.new ≡ out.old ++ spelling (counted layout (string_items layout) names.now)) }
 {
     put_count(out, layout, names.items().len())?;
