@@ -1,1 +1,4 @@
 pub mod Numbers
+pub mod Phrases
+pub mod Joined
+pub mod Renamed
