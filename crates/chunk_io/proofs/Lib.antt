@@ -5,3 +5,5 @@ pub mod Renamed
 pub mod SingleBytes
 pub mod ReadNumbers
 pub mod NumberItems
+pub mod Parts
+pub mod Constants
