@@ -7,3 +7,5 @@ pub mod ReadNumbers
 pub mod NumberItems
 pub mod Parts
 pub mod Constants
+pub mod Begins
+pub mod Functions
