@@ -9,3 +9,6 @@ pub mod Parts
 pub mod Constants
 pub mod Begins
 pub mod Functions
+pub mod Headers
+pub mod Offsets
+pub mod Whole
