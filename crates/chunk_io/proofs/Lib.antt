@@ -1,2 +1,16 @@
 pub mod Loop
 pub mod Spelled
+pub mod Numbers
+pub mod Phrases
+pub mod Joined
+pub mod Renamed
+pub mod SingleBytes
+pub mod ReadNumbers
+pub mod NumberItems
+pub mod Parts
+pub mod Constants
+pub mod Begins
+pub mod Functions
+pub mod Headers
+pub mod Offsets
+pub mod Whole
