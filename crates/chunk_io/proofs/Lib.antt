@@ -14,3 +14,4 @@ pub mod Functions
 pub mod Headers
 pub mod Offsets
 pub mod Whole
+pub mod OneAnswer

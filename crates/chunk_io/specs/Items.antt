@@ -1,6 +1,6 @@
 -- To be believed. The bytes of a chunk (the binary chunks of Lua 5.1, as `luac` writes them): a chunk is a list of items in a layout,
 -- in order, and each item has its bytes.
-use Rattle.std.specs.Prelude.{◌≡◌, ◌<◌, ◌≤◌, ◌^◌, ℕ, suc, ◌==◌, ℤ, FitsSigned, Bool, true, false, List, [], ◌∷◌, ◌++◌, length, map, Option, None, Some, if◌then◌else◌}
+use Rattle.std.specs.Prelude.{◌≡◌, ◌<◌, ◌≤◌, ◌^◌, ℕ, suc, ◌==◌, ℤ, FitsSigned, Bool, true, false, List, [], ◌∷◌, ◌++◌, length, take, map, Option, None, Some, refl, if◌then◌else◌}
 use Rattle.std.specs.List.{flat_map, AllByRecursion}
 use Rattle.std.specs.Int.{Width, w32, w64, to_le_bytes, to_be_bytes, cast_unsigned}
 use Rattle.lua_num.specs.Bytes.{Text}
@@ -138,3 +138,11 @@ pub record Spelled (bytes : List ℕ) (l : Layout) (c : Chunk) : Type 0 where
 -- the bytes spell the chunk in some layout, which their header names
 abbrev pub IsChunkOf : List ℕ → Chunk → Type 0
 IsChunkOf bytes c = (l : Layout) × Spelled bytes l c
+
+-- the layout of this suite's own chunks
+abbrev pub le8 : Layout
+le8 = record { little = true; size = 8; is_size = refl }
+
+-- bytes that begin with the header of a layout
+abbrev pub HasLayout : List ℕ → Layout → Type 0
+HasLayout bytes l = take 12 bytes ≡ spelling (header l)

@@ -1,3 +1,4 @@
 pub mod Items
 pub mod Faults
 pub mod Reading
+pub mod Laws

@@ -2,7 +2,7 @@
 ghost use Rattle.std.specs.Prelude.{◌≡◌, ◌++◌, ℕ, map, OnOk, IfOk};
 ghost use Rattle.proto.specs.Chunk.{own, functions_of};
 ghost use Rattle.proto.specs.View.{view_proto};
-ghost use Rattle.chunk_io.specs.Items.{spelling, front_items, shape_items, debug_items, function_items, each_items, Fits, Spelled};
+ghost use Rattle.chunk_io.specs.Items.{spelling, front_items, shape_items, debug_items, function_items, each_items, Fits, Spelled, le8};
 
 use crate::layout::Layout;
 use crate::writing::{
@@ -12,6 +12,14 @@ use crate::writing::{
 use lua_num::ByteText;
 use proto::Proto;
 use std::alloc::{AllocError, Global};
+
+/// The bytes of a chunk in the layout of this suite's own: little endian, sizes of 8 bytes. The time is linear in them.
+pub fn dump(alloc: Global, proto: &Proto) -> Result<ByteText, AllocError>
+    requires { Fits le8 (view_proto proto.now) }
+    ensures { IfOk result (λ text. Spelled text le8 (view_proto proto.now)) }
+{
+    dump_as(alloc, proto, Layout::le8())
+}
 
 /// The bytes of a chunk in a layout. The time is linear in them.
 pub fn dump_as(alloc: Global, proto: &Proto, layout: Layout) -> Result<ByteText, AllocError>

@@ -1,13 +1,28 @@
 // The header of a chunk.
-ghost use Rattle.std.specs.Prelude.{◌≡◌, ℕ, List, [], ◌∷◌};
+ghost use Rattle.std.specs.Prelude.{◌≡◌, ℕ, List, [], ◌∷◌, IsErrOf};
+ghost use Rattle.chunk_io.specs.declared.miss.ReadError.{ReadError as OneError};
+ghost use Rattle.chunk_io.specs.Items.{le8 as the_le8};
 ghost use Rattle.chunk_io.specs.Reading.{Gives, sign_at, signs_at, order_at, width_at, integral_at, header_at, layout_of};
 
 use crate::layout::Layout;
 use crate::miss::{Miss, ReadError};
 
+impl Layout {
+    /// Little endian, sizes of 8 bytes: the layout of this suite's own chunks.
+    pub fn le8() -> Self
+        ensures { result ≡ the_le8 }
+    {
+        Self {
+            little: true,
+            size: 8,
+        }
+    }
+}
+
 #[tactic(auto, unfolding(crate::specs::Reading::sign_at))]
 fn sign_of(sign: u8, bytes: &[u8]) -> Result<&[u8], ReadError>
-    ensures { Gives (λ x. (tt, x.now)) result (sign_at sign bytes.now) }
+    ensures given { Gives (λ x. (tt, x.now)) result (sign_at sign bytes.now) }
+    ensures no_memory { IsErrOf result OneError.Memory → ⊥ }
 {
     match bytes {
         [] => Err(ReadError::Miss(Miss::Truncated)),
@@ -18,7 +33,8 @@ fn sign_of(sign: u8, bytes: &[u8]) -> Result<&[u8], ReadError>
 
 #[tactic(auto, unfolding(crate::specs::Reading::order_at))]
 fn order_of(bytes: &[u8]) -> Result<(bool, &[u8]), ReadError>
-    ensures { Gives (λ x. (x.0, x.1.now)) result (order_at bytes.now) }
+    ensures given { Gives (λ x. (x.0, x.1.now)) result (order_at bytes.now) }
+    ensures no_memory { IsErrOf result OneError.Memory → ⊥ }
 {
     match bytes {
         [] => Err(ReadError::Miss(Miss::Truncated)),
@@ -31,7 +47,8 @@ fn order_of(bytes: &[u8]) -> Result<(bool, &[u8]), ReadError>
 // Whether a size has 8 bytes, and not 4.
 #[tactic(auto, unfolding(crate::specs::Reading::width_at))]
 fn width_of(bytes: &[u8]) -> Result<(bool, &[u8]), ReadError>
-    ensures { Gives (λ x. (x.0, x.1.now)) result (width_at bytes.now) }
+    ensures given { Gives (λ x. (x.0, x.1.now)) result (width_at bytes.now) }
+    ensures no_memory { IsErrOf result OneError.Memory → ⊥ }
 {
     match bytes {
         [] => Err(ReadError::Miss(Miss::Truncated)),
@@ -43,7 +60,8 @@ fn width_of(bytes: &[u8]) -> Result<(bool, &[u8]), ReadError>
 
 #[tactic(auto, unfolding(crate::specs::Reading::integral_at))]
 fn integral_of(bytes: &[u8]) -> Result<&[u8], ReadError>
-    ensures { Gives (λ x. (tt, x.now)) result (integral_at bytes.now) }
+    ensures given { Gives (λ x. (tt, x.now)) result (integral_at bytes.now) }
+    ensures no_memory { IsErrOf result OneError.Memory → ⊥ }
 {
     match bytes {
         [] => Err(ReadError::Miss(Miss::Truncated)),
@@ -55,7 +73,8 @@ fn integral_of(bytes: &[u8]) -> Result<&[u8], ReadError>
 
 #[tactic(auto, unfolding(crate::specs::Reading::header_at, crate::specs::Reading::signs_at))]
 pub fn header_of(bytes: &[u8]) -> Result<(Layout, &[u8]), ReadError>
-    ensures { Gives (λ x. (x.0, x.1.now)) result (header_at bytes.now) }
+    ensures given { Gives (λ x. (x.0, x.1.now)) result (header_at bytes.now) }
+    ensures no_memory { IsErrOf result OneError.Memory → ⊥ }
 {
     let rest = signature_of(bytes)?;
     let (little, rest) = order_of(rest)?;
@@ -79,7 +98,8 @@ fn layout(little: bool, wide: bool) -> Layout
 
 #[tactic(auto, unfolding(crate::specs::Reading::signs_at))]
 fn signature_of(bytes: &[u8]) -> Result<&[u8], ReadError>
-    ensures { Gives (λ x. (tt, x.now)) result (signs_at (27 ∷ 76 ∷ 117 ∷ 97 ∷ 81 ∷ 0 ∷ []) bytes.now) }
+    ensures given { Gives (λ x. (tt, x.now)) result (signs_at (27 ∷ 76 ∷ 117 ∷ 97 ∷ 81 ∷ 0 ∷ []) bytes.now) }
+    ensures no_memory { IsErrOf result OneError.Memory → ⊥ }
 {
     let rest = sign_of(0x1b, bytes)?;
     let rest = sign_of(b'L', rest)?;

@@ -6,11 +6,16 @@ mod fault;
 mod front;
 mod function;
 mod heading;
+mod laws;
 mod layout;
 mod lists;
 mod miss;
 mod reading;
+mod undumping;
 mod writing;
 
+pub use dumping::{dump, dump_as};
 pub use fault::ChunkFault;
+pub use laws::{chunk_or_fault, chunks_are_one, faults_are_one, layouts_are_one, never_both};
 pub use layout::Layout;
+pub use undumping::{read_layout, undump};
