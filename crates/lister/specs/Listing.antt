@@ -1,5 +1,5 @@
 -- To be believed, and this suite's own. The listing of a chunk: its text, line by line.
-use Rattle.std.specs.Prelude.{ℕ, zero, suc, ◌+◌, ◌-◌, ◌/◌, ◌%◌, ◌==◌, nat_lt, nat_le, ◌||◌, ◌&&◌, Bool, true, false, ℤ, pos, ◌+ℤ◌, List, [], ◌∷◌, ◌++◌, length, map, slice_get, Option, None, Some, codes, if◌then◌else◌}
+use Rattle.std.specs.Prelude.{ℕ, suc, ◌+◌, ◌-◌, ◌/◌, ◌%◌, ◌==◌, nat_lt, nat_le, ◌||◌, ◌&&◌, Bool, true, false, pos, ◌+ℤ◌, List, [], ◌∷◌, ◌++◌, length, slice_get, Option, None, Some, codes, if◌then◌else◌}
 use Rattle.std.specs.List.{flat_map}
 use Rattle.lua_num.specs.Bytes.{Text}
 use Rattle.lua_num.specs.Numeral.{decimal_text}
