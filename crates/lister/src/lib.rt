@@ -1,0 +1,11 @@
+//! The listing of a chunk.
+#![tactic(auto)]
+
+mod code;
+mod function;
+mod instruction;
+mod lists;
+mod shape;
+mod text;
+
+pub use function::list;
