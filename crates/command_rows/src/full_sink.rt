@@ -13,7 +13,7 @@ pub struct FullSink {
 }
 
 impl FullSink {
-    pub fn new(alloc: Global, full_at: u64) -> Self {
+    pub(crate) fn new(alloc: Global, full_at: u64) -> Self {
         Self {
             taken: Vec::new(alloc),
             puts: 0,
@@ -21,7 +21,7 @@ impl FullSink {
         }
     }
 
-    pub fn taken(&self) -> &[u8] {
+    pub(crate) fn taken(&self) -> &[u8] {
         self.taken.as_slice()
     }
 }

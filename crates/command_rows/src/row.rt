@@ -21,7 +21,7 @@ pub struct Row {
 }
 
 /// The row of a text; none where it has no `: `.
-pub fn read_row(alloc: Global, text: &str) -> Result<Option<Row>, AllocError> {
+pub(crate) fn read_row(alloc: Global, text: &str) -> Result<Option<Row>, AllocError> {
     let Some((front, rest)) = text.split_once(": ") else {
         return Ok(None);
     };

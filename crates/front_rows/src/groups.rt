@@ -4,7 +4,7 @@ use lua_tree::{BinaryOp, Exp, ExpKind, StatKind, Tree, UnaryOp};
 use std::alloc::{AllocError, Global};
 
 /// The first expression that a source assigns, with its operators in front; what is no operator, name or number is `?`.
-pub fn grouped(alloc: Global, source: &[u8]) -> Result<String, AllocError> {
+pub(crate) fn grouped(alloc: Global, source: &[u8]) -> Result<String, AllocError> {
     match tree_of(alloc, source)? {
         Ok(tree) => {
             let mut text = String::new(alloc);

@@ -6,7 +6,7 @@ use std::alloc::{AllocError, Global};
 
 /// What each name means, then whether each declaration is captured, then for each function its upvalues, with `|` between;
 /// or the fault. L, U and G are a local's declaration, an upvalue's slot and a global.
-pub fn meanings(alloc: Global, source: &[u8]) -> Result<String, AllocError> {
+pub(crate) fn meanings(alloc: Global, source: &[u8]) -> Result<String, AllocError> {
     match scopes_of(alloc, source)? {
         Ok(scopes) => scopes_text(alloc, &scopes),
         Err(fault) => Ok(fault),
@@ -14,7 +14,7 @@ pub fn meanings(alloc: Global, source: &[u8]) -> Result<String, AllocError> {
 }
 
 /// Whether a source keeps the rules of scoping, or the fault.
-pub fn kept(alloc: Global, source: &[u8]) -> Result<String, AllocError> {
+pub(crate) fn kept(alloc: Global, source: &[u8]) -> Result<String, AllocError> {
     match scopes_of(alloc, source)? {
         Ok(_) => String::from_str(alloc, "kept"),
         Err(fault) => Ok(fault),

@@ -4,7 +4,7 @@ use lua_tree::{Token, TokenKind, is_name, keyword};
 use std::alloc::{AllocError, Global};
 
 /// Each token with its offset and its line, or the fault; and whether `check` agrees.
-pub fn lexed(alloc: Global, source: &[u8]) -> Result<String, AllocError> {
+pub(crate) fn lexed(alloc: Global, source: &[u8]) -> Result<String, AllocError> {
     let (text, checked) = match lex(alloc, source) {
         Ok(tokens) => (tokens_text(alloc, tokens.items())?, Ok(())),
         Err(LexFault::OutOfMemory) => return Err(AllocError),
@@ -39,7 +39,7 @@ fn kind_text(alloc: Global, kind: &TokenKind) -> Result<String, AllocError> {
 }
 
 /// The keyword that a text is, or whether it is a name.
-pub fn word_text(alloc: Global, text: &[u8]) -> Result<String, AllocError> {
+pub(crate) fn word_text(alloc: Global, text: &[u8]) -> Result<String, AllocError> {
     match keyword(text) {
         Some(kind) => format!(in alloc; "{kind:?}, name {}", is_name(text)),
         None => format!(in alloc; "name {}", is_name(text)),

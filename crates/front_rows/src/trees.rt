@@ -5,7 +5,7 @@ use parser::{SyntaxFault, parse};
 use std::alloc::{AllocError, Global};
 
 /// The tree of a source, or why there is none.
-pub fn tree_of(alloc: Global, source: &[u8]) -> Result<Result<Tree, String>, AllocError> {
+pub(crate) fn tree_of(alloc: Global, source: &[u8]) -> Result<Result<Tree, String>, AllocError> {
     match lex(alloc, source) {
         Ok(tokens) => tree_of_tokens(alloc, &tokens),
         Err(fault) => Ok(Err(format!(in alloc; "{fault}")?)),
@@ -31,7 +31,7 @@ fn spells(spelled: &Tokens, tokens: &Tokens) -> bool {
 }
 
 /// Whether a source is a tree that spells its tokens, or the fault.
-pub fn parsed(alloc: Global, source: &[u8]) -> Result<String, AllocError> {
+pub(crate) fn parsed(alloc: Global, source: &[u8]) -> Result<String, AllocError> {
     match tree_of(alloc, source)? {
         Ok(_) => String::from_str(alloc, "a tree"),
         Err(fault) => Ok(fault),
