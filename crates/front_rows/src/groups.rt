@@ -28,9 +28,27 @@ fn put_expression(alloc: Global, out: &mut String, expression: &Exp) -> Result<(
     match &expression.kind {
         ExpKind::Number(n) => out.push_str(&format!(in alloc; "{n}")?),
         ExpKind::Name(name) => out.push_str(&format!(in alloc; "{}", name.bytes().escape_ascii())?),
-        ExpKind::And(left, right) => put_binary(alloc, out, "and", left, right),
-        ExpKind::Or(left, right) => put_binary(alloc, out, "or", left, right),
-        ExpKind::Binary { op, left, right } => put_binary(alloc, out, op_text(*op), left, right),
+        ExpKind::And(left, right) => {
+            out.push_str("(and ")?;
+            put_expression(alloc, out, left)?;
+            out.push_str(" ")?;
+            put_expression(alloc, out, right)?;
+            out.push_str(")")
+        }
+        ExpKind::Or(left, right) => {
+            out.push_str("(or ")?;
+            put_expression(alloc, out, left)?;
+            out.push_str(" ")?;
+            put_expression(alloc, out, right)?;
+            out.push_str(")")
+        }
+        ExpKind::Binary { op, left, right } => {
+            out.push_str(&format!(in alloc; "({} ", op_text(*op))?)?;
+            put_expression(alloc, out, left)?;
+            out.push_str(" ")?;
+            put_expression(alloc, out, right)?;
+            out.push_str(")")
+        }
         ExpKind::Unary { op, of } => {
             out.push_str(&format!(in alloc; "({} ", unary_text(*op))?)?;
             put_expression(alloc, out, of)?;
@@ -39,20 +57,6 @@ fn put_expression(alloc: Global, out: &mut String, expression: &Exp) -> Result<(
         ExpKind::Paren(inner) => put_expression(alloc, out, inner),
         _ => out.push_str("?"),
     }
-}
-
-fn put_binary(
-    alloc: Global,
-    out: &mut String,
-    op: &str,
-    left: &Exp,
-    right: &Exp,
-) -> Result<(), AllocError> {
-    out.push_str(&format!(in alloc; "({op} ")?)?;
-    put_expression(alloc, out, left)?;
-    out.push_str(" ")?;
-    put_expression(alloc, out, right)?;
-    out.push_str(")")
 }
 
 fn op_text(op: BinaryOp) -> &'static str {
