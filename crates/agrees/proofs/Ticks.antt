@@ -13,7 +13,7 @@ use Rattle.lua_model.specs.Endings.{Failed, Waiting, Going, Course}
 use Rattle.source_meaning.specs.State.{State, Flow, goes}
 use Rattle.source_meaning.specs.Tasks as task
 use Rattle.source_meaning.specs.Programs.{World, Answer, ended, failed, waiting, going, after, heard, run, eval}
-use Rattle.source_meaning.specs.Meaning.{program, sequence, apply_callee, outside_call, reply_results, results_of, main_place, course_of, meaning}
+use Rattle.source_meaning.specs.Meaning.{program, sequence, apply_value, outside_call, reply_results, results_of, main_place, course_of, meaning}
 use Rattle.first_form.specs.declared.tree.Statement as early
 use Rattle.first_form.specs.declared.tree.Statement.TheVariants.{Print}
 use Rattle.first_form.specs.Source.{PrintsNumber, ArePrinted}
@@ -59,7 +59,7 @@ module _ (store : Store) (f : Datum) (prints_by : IsPrinter f) (meant_is : globa
   act_told n k w (fails v) s = refl
   act_told n k w act s = absurd s
 
-  called_told : (n k : ℕ) (w : Outside) (g : Datum) → IsPrinter g → (v : ℤ) → behind_call (run (eval program n) (apply_callee (callee store g) g 0 1 (number v ∷ []) state) (world k w)) ≡ flow (said_by (act_of g v store) w) k w
+  called_told : (n k : ℕ) (w : Outside) (g : Datum) → IsPrinter g → (v : ℤ) → behind_call (run (eval program n) (apply_value g 0 1 (number v ∷ []) state) (world k w)) ≡ flow (said_by (act_of g v store) w) k w
   called_told n k w (native zero) p v = refl
   called_told n k w (host h) p v = act_told n k w (call_host h (number v ∷ []) store) (act_is_said (host h) tt v store)
   called_told n k w g p v = absurd p
@@ -67,7 +67,7 @@ module _ (store : Store) (f : Datum) (prints_by : IsPrinter f) (meant_is : globa
   -- a statement with six ticks
   statement_told : (l1 l2 l3 l4 : ℕ) (v : ℤ) (n k : ℕ) (w : Outside) → eval program (suc (suc (suc (suc n)))) (task.statement main_place (print_call l1 l2 l3 l4 v)) state (world (suc (suc (suc (suc (suc (suc k)))))) w) ≡ flow (say v w) k w
   statement_told l1 l2 l3 l4 v n k w =
-      ap (λ g. behind_call (run (eval program (suc n)) (apply_callee (callee store g) g 0 1 (number v ∷ []) state) (world k w))) meant_is
+      ap (λ g. behind_call (run (eval program (suc n)) (apply_value g 0 1 (number v ∷ []) state) (world k w))) meant_is
       ∙ called_told (suc n) k w f prints_by v
 
   -- and with fewer

@@ -1,6 +1,6 @@
 -- To be believed. The values of Lua (manual 2.2), and what they are taken as (2.2.1). A string is its bytes; tables, closures,
 -- built-in functions and hosts are numbers.
-use Rattle.std.specs.Prelude.{ℕ, zero, suc, ℤ, Bool, true, false, List, [], ◌∷◌, Option, Some, None, codes, nat_eq}
+use Rattle.std.specs.Prelude.{ℕ, zero, suc, ℤ, Bool, true, false, List, [], ◌∷◌, drop, Option, Some, None, codes, nat_eq}
 use Rattle.std.specs.Bool.{beq as bool_eq}
 use Rattle.std.specs.Ordering.{int_eq}
 use Rattle.std.specs.Str.{bytes_eq}
@@ -65,6 +65,11 @@ abbrev pub adjusted : ℕ → List Datum → List Datum
 adjusted zero vs = []
 adjusted (suc n) [] = nil ∷ adjusted n []
 adjusted (suc n) (v ∷ vs) = v ∷ adjusted n vs
+
+-- the arguments behind the parameters, where the function keeps them (manual 2.5.9)
+abbrev pub extra_of : (keeps : Bool) → (params : ℕ) → List Datum → List Datum
+extra_of true params args = drop params args
+extra_of false params args = []
 
 -- the number that a value is taken as, by arithmetic and the numeric `for`, and where a built-in function wants a number
 abbrev pub to_number : Datum → Option ℤ

@@ -133,6 +133,10 @@ compare s CompareOp.Le a b = at_most s a b
 abbrev pub index_fault : Datum → Datum
 index_fault v = text (codes "attempt to index a " ++ kind_name v ++ codes " value")
 
+-- how many values an index may try, which is this suite's own
+abbrev pub chain_limit : ℕ
+chain_limit = 100
+
 -- reading v[k], where so many values may be tried
 abbrev pub index_within : ℕ → Store → Datum → Datum → Act
 index_within zero s v k = fail_text (codes "loop in gettable")
@@ -143,7 +147,7 @@ index_within (suc more) s (table t) k =
 index_within (suc more) s v k = failure (index_fault v)
 
 abbrev pub index : Store → Datum → Datum → Act
-index s v k = index_within 100 s v k
+index s v k = index_within chain_limit s v k
 
 -- writing v[k] = x, where so many values may be tried: what is done, and the store after it; a nil key fails at once
 abbrev pub set_index_within : ℕ → Store → Datum → Datum → Datum → Act × Store
@@ -155,11 +159,11 @@ set_index_within (suc more) s (table t) k x =
 set_index_within (suc more) s v k x = (failure (index_fault v), s)
 
 abbrev pub set_index : Store → Datum → Datum → Datum → Act × Store
-set_index s v k x = set_index_within 100 s v k x
+set_index s v k x = set_index_within chain_limit s v k x
 
 -- ---- calls (manual 2.8, "call")
 
--- how deep a call of a function of the source may be, how many protected calls may stand directly in one another, and the failure
+-- This suite's own: how deep a call of a function of the source may be, how many protected calls may stand directly in one another, and the failure
 -- of a call that passes one of these
 abbrev pub depth_limit : ℕ
 depth_limit = 20000
@@ -174,6 +178,11 @@ stack_overflow = text (codes "stack overflow")
 abbrev pub callee : Store → Datum → Callee
 callee s f =
     if is_function f then plain f else (if is_function (handler s f (codes "__call")) then through (handler s f (codes "__call")) else no_function (text (codes "attempt to call a " ++ kind_name f ++ codes " value")))
+
+-- the arguments of a call: a table that stands for its handler is put before them
+abbrev pub with_called : Callee → Datum → List Datum → List Datum
+with_called (through handler) f args = f ∷ args
+with_called _ f args = args
 
 -- ---- the numeric `for` (manual 2.4.5)
 

@@ -109,3 +109,7 @@ as_plain _ = None
 -- one event more
 abbrev pub happens : Event → Outside → Outside
 happens e w = record w { events = w.events ++ e ∷ [] }
+
+-- a host is asked, and gives the next reply, behind which these are left
+abbrev pub replied : (host : ℕ) → List Plain → Reply → (left : List Reply) → Outside → Outside
+replied h args reply left w = happens (asked h args reply) (record w { replies = left })

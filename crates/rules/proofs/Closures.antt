@@ -1,5 +1,5 @@
 -- CLOSURE in a sound chunk.
-use Rattle.std.proofs.Common.{◌≡◌, inl, inr, ℕ, zero, suc, ◌+◌, ◌≤◌, min, ℤ, Bool, true, false, not, List, [], ◌∷◌, ◌++◌, length, take, drop, None, Some, refl, sym, ap, subst, ◌∙◌, true≢false, arith, nat_lt, nat_le, ltb-false, eq-eqb, length-take, ◌||◌}
+use Rattle.std.proofs.Common.{◌≡◌, inl, inr, ℕ, zero, suc, ◌+◌, ◌≤◌, min, ℤ, Bool, true, false, not, List, [], ◌∷◌, ◌++◌, length, take, drop, ◌==◌, None, Some, refl, sym, ap, subst, ◌∙◌, true≢false, arith, nat_lt, nat_le, ltb-false, eq-eqb, length-take, ◌||◌}
 use Rattle.std.specs.Prelude.{Option, is_none, nat_eq}
 use Rattle.opcode.specs.declared.op.Op.{Op}
 use Rattle.opcode.specs.declared.word.Instr.{Instr}
@@ -8,14 +8,14 @@ use Rattle.lua_model.specs.Datum.{Datum, closure}
 use Rattle.rules.specs.declared.rule.Rule.{Rule}
 use Rattle.opcode.specs.Reading.{instr_of}
 use Rattle.std.specs.List.{list_any}
-use Rattle.rules.specs.Places.{upvalue_count, belonging_to, next_pc}
-use Rattle.rules.specs.Notes.{Registers, captured_by, word_captures, closure_captures, captures}
-use Rattle.rules.specs.Breaks.{reaches, named_by, named_by_all, is_capture, captures_none, is_bad_word_of}
+use Rattle.rules.specs.Places.{named_by, named_by_all, upvalue_count, belonging_to, next_pc}
+use Rattle.rules.specs.Notes.{Registers, captures}
+use Rattle.rules.specs.Breaks.{reaches, is_capture, captures_none, is_bad_word_of}
 use Rattle.rules.specs.Sound.{IsSound, AreSound}
 use Rattle.rules.specs.State.{Cell, Closure, State, Effect, check, at_pc}
 use Rattle.rules.specs.Cells.{take_cells}
 use Rattle.rules.specs.Step.{add_closure, effect}
-use Rattle.rules.proofs.Lists.{none_some, some_one, clash, or_first_false, or_second_false, some_head, some_tail, reach_head, reach_tail, get_pushed}
+use Rattle.rules.proofs.Lists.{none_some, some_one, clash, or_first_false, or_second_false, some_head, some_tail, reach_head, reach_tail, get_pushed, member}
 use Rattle.rules.proofs.Invariant.{IsClosure, Base, BaseOf, Fine}
 use Rattle.rules.proofs.Landing.{need_fine, check_fine, set_fine}
 use Rattle.rules.proofs.Closing.{base_cells}
@@ -42,12 +42,12 @@ inner_sound (and_function c rest) zero g are e = subst (λ x. IsSound x false) (
 inner_sound (and_function c rest) (suc n) g are e = inner_sound rest n g are.1 e
 
 -- what the rules say of a further word
-one_capture : (s : State) (caps : Registers) (op : Op) (a b c bx : ℕ) (sbx : ℤ) → is_capture op ≡ true → reaches (length s.top.registers) (named_by Op.Move (Some (word op a b c bx sbx))) ≡ false → reaches (length s.top.cells) (named_by Op.GetUpval (Some (word op a b c bx sbx))) ≡ false → ((r : ℕ) → captured_by op (word op a b c bx sbx) r ≡ true → caps r ≡ true) → IsCapture s caps op (word op a b c bx sbx)
-one_capture s caps Op.Move a b c bx sbx is registers upvalues named = (reach_head _ b [] registers, named b (eq-eqb b b refl))
+one_capture : (s : State) (caps : Registers) (op : Op) (a b c bx : ℕ) (sbx : ℤ) → is_capture op ≡ true → reaches (length s.top.registers) (named_by Op.Move (Some (word op a b c bx sbx))) ≡ false → reaches (length s.top.cells) (named_by Op.GetUpval (Some (word op a b c bx sbx))) ≡ false → ((r : ℕ) → member (named_by Op.Move (Some (word op a b c bx sbx))) r ≡ true → caps r ≡ true) → IsCapture s caps op (word op a b c bx sbx)
+one_capture s caps Op.Move a b c bx sbx is registers upvalues named = (reach_head _ b [] registers, named b (ap (λ t. t || false) (eq-eqb b b refl)))
 one_capture s caps Op.GetUpval a b c bx sbx is registers upvalues named = reach_head _ b [] upvalues
 one_capture s caps _ a b c bx sbx is registers upvalues named = clash is refl
 
-word_capture : (s : State) (caps : Registers) (o : Option Instr) → captures_none o ≡ false → reaches (length s.top.registers) (named_by Op.Move o) ≡ false → reaches (length s.top.cells) (named_by Op.GetUpval o) ≡ false → ((r : ℕ) → word_captures r o ≡ true → caps r ≡ true) → (i : Instr) × (o ≡ Some i) × IsCapture s caps i.op i
+word_capture : (s : State) (caps : Registers) (o : Option Instr) → captures_none o ≡ false → reaches (length s.top.registers) (named_by Op.Move o) ≡ false → reaches (length s.top.cells) (named_by Op.GetUpval o) ≡ false → ((r : ℕ) → member (named_by Op.Move o) r ≡ true → caps r ≡ true) → (i : Instr) × (o ≡ Some i) × IsCapture s caps i.op i
 word_capture s caps None bad registers upvalues named = absurd (true≢false bad)
 word_capture s caps (Some i) bad registers upvalues named =
     (i, refl, one_capture s caps i.op i.a i.b i.c i.bx i.sbx (go (is_capture i.op) bad) registers upvalues named)
@@ -56,20 +56,26 @@ word_capture s caps (Some i) bad registers upvalues named =
     go true e = refl
     go false e = absurd (true≢false e)
 
-some_first : (t : ℕ → Bool) (w : ℕ) (rest : List ℕ) → t w ≡ true → list_any t (w ∷ rest) ≡ true
-some_first t w rest e = ap (λ b. b || list_any t rest) e
-
-some_later : (t : ℕ → Bool) (w : ℕ) (rest : List ℕ) → list_any t rest ≡ true → list_any t (w ∷ rest) ≡ true
-some_later t w rest e = go (t w)
+member_front : (xs ys : List ℕ) (r : ℕ) → member xs r ≡ true → member (xs ++ ys) r ≡ true
+member_front [] ys r e = absurd (true≢false (sym e))
+member_front (x ∷ xs) ys r e = go (x == r) (member_front xs ys r) e
   where
-    go : (b : Bool) → (b || list_any t rest) ≡ true
-    go true = refl
-    go false = e
+    go : (b : Bool) → (member xs r ≡ true → member (xs ++ ys) r ≡ true) → (b || member xs r) ≡ true → (b || member (xs ++ ys) r) ≡ true
+    go true next h = h
+    go false next h = next h
 
-captures_ok : (s : State) (caps : Registers) (words : List ℕ) → list_any (is_bad_word_of Op.Closure) words ≡ false → reaches (length s.top.registers) (named_by_all Op.Move words) ≡ false → reaches (length s.top.cells) (named_by_all Op.GetUpval words) ≡ false → ((r : ℕ) → list_any (λ w. word_captures r (instr_of w)) words ≡ true → caps r ≡ true) → AreCaptures s caps words
+member_back : (xs ys : List ℕ) (r : ℕ) → member ys r ≡ true → member (xs ++ ys) r ≡ true
+member_back [] ys r e = e
+member_back (x ∷ xs) ys r e = go (x == r) (member_back xs ys r e)
+  where
+    go : (b : Bool) → member (xs ++ ys) r ≡ true → (b || member (xs ++ ys) r) ≡ true
+    go true h = refl
+    go false h = h
+
+captures_ok : (s : State) (caps : Registers) (words : List ℕ) → list_any (is_bad_word_of Op.Closure) words ≡ false → reaches (length s.top.registers) (named_by_all Op.Move words) ≡ false → reaches (length s.top.cells) (named_by_all Op.GetUpval words) ≡ false → ((r : ℕ) → member (named_by_all Op.Move words) r ≡ true → caps r ≡ true) → AreCaptures s caps words
 captures_ok s caps [] bad registers upvalues named = tt
 captures_ok s caps (w ∷ rest) bad registers upvalues named =
-    (word_capture s caps (instr_of w) (some_head (is_bad_word_of Op.Closure) w rest bad) (reach_front _ (named_by Op.Move (instr_of w)) (named_by_all Op.Move rest) registers) (reach_front _ (named_by Op.GetUpval (instr_of w)) (named_by_all Op.GetUpval rest) upvalues) (λ r e. named r (some_first (λ v. word_captures r (instr_of v)) w rest e)), captures_ok s caps rest (some_tail (is_bad_word_of Op.Closure) w rest bad) (reach_back _ (named_by Op.Move (instr_of w)) (named_by_all Op.Move rest) registers) (reach_back _ (named_by Op.GetUpval (instr_of w)) (named_by_all Op.GetUpval rest) upvalues) (λ r e. named r (some_later (λ v. word_captures r (instr_of v)) w rest e)))
+    (word_capture s caps (instr_of w) (some_head (is_bad_word_of Op.Closure) w rest bad) (reach_front _ (named_by Op.Move (instr_of w)) (named_by_all Op.Move rest) registers) (reach_front _ (named_by Op.GetUpval (instr_of w)) (named_by_all Op.GetUpval rest) upvalues) (λ r e. named r (member_front (named_by Op.Move (instr_of w)) (named_by_all Op.Move rest) r e)), captures_ok s caps rest (some_tail (is_bad_word_of Op.Closure) w rest bad) (reach_back _ (named_by Op.Move (instr_of w)) (named_by_all Op.Move rest) registers) (reach_back _ (named_by Op.GetUpval (instr_of w)) (named_by_all Op.GetUpval rest) upvalues) (λ r e. named r (member_back (named_by Op.Move (instr_of w)) (named_by_all Op.Move rest) r e)))
 
 abbrev base_closures : (f : Chunk) (ups : List ℕ) (registers : List Datum) (landing : _) (below : _) (cells : List Cell) (closures : List Closure) (c : Closure) → Base f ups registers landing below cells closures → IsClosure cells c → Base f ups registers landing below cells (closures ++ c ∷ [])
 base_closures f ups registers landing below cells closures c base is = record {
@@ -99,7 +105,7 @@ module _ (m0 : State) (base : BaseOf m0) (a b c bx : ℕ) (sbx : ℤ) (d : Doing
   abbrev taken_for : ℕ → Chunk → Effect
   taken_for n g = check (nat_eq (length (take n code_behind)) n) (take_cells (m m0 base) (take n code_behind) (λ m1 cells. add_closure (at_pc m1 (m1.top.pc + n)) a g cells))
 
-  closure_words_fine : (g : Chunk) (n : ℕ) → function_at (functions m0.top.function) bx ≡ Some g → n ≡ (own g).upvalues → n ≡ belonging_to (functions m0.top.function) Op.Closure (word Op.Closure a b c bx sbx) → nat_lt (length (take n code_behind)) n ≡ false → list_any (is_bad_word_of Op.Closure) (take n code_behind) ≡ false → reaches (length m0.top.registers) (named_by_all Op.Move (take n code_behind)) ≡ false → reaches (length m0.top.cells) (named_by_all Op.GetUpval (take n code_behind)) ≡ false → ((r : ℕ) → closure_captures (take n code_behind) Op.Closure r ≡ true → captures m0.top.function m0.top.pc (word Op.Closure a b c bx sbx) r ≡ true) → Fine (taken_for n g)
+  closure_words_fine : (g : Chunk) (n : ℕ) → function_at (functions m0.top.function) bx ≡ Some g → n ≡ (own g).upvalues → n ≡ belonging_to (functions m0.top.function) Op.Closure (word Op.Closure a b c bx sbx) → nat_lt (length (take n code_behind)) n ≡ false → list_any (is_bad_word_of Op.Closure) (take n code_behind) ≡ false → reaches (length m0.top.registers) (named_by_all Op.Move (take n code_behind)) ≡ false → reaches (length m0.top.cells) (named_by_all Op.GetUpval (take n code_behind)) ≡ false → ((r : ℕ) → member (named_by_all Op.Move (take n code_behind)) r ≡ true → captures m0.top.function m0.top.pc (word Op.Closure a b c bx sbx) r ≡ true) → Fine (taken_for n g)
   closure_words_fine g n at ups count few bad registers upvalues named =
       let len : length (take n code_behind) ≡ n = whole_take n code_behind few in
       let i : Instr = word Op.Closure a b c bx sbx in

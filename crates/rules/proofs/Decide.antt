@@ -1,27 +1,24 @@
 -- Notes that are listed, and tests that tell whether they are consistent and break nothing.
-use Rattle.std.proofs.Common.{◌≡◌, inl, inr, ℕ, zero, suc, ◌<◌, ◌≤◌, Bool, true, false, cond, ◌&&◌, ◌||◌, not, List, [], ◌∷◌, ◌++◌, length, None, Some, refl, sym, ap, subst, ◌∙◌, true≢false, arith, not-suc-le-zero, nat_lt, nat_le, eqb-true, ne_eqb, leb-true, leb-false, ltb-true}
+use Rattle.std.proofs.Common.{◌≡◌, inl, inr, ℕ, zero, suc, ◌<◌, ◌≤◌, Bool, true, false, cond, ◌&&◌, ◌||◌, not, List, [], ◌∷◌, length, None, Some, refl, sym, ap, subst, ◌∙◌, true≢false, arith, not-suc-le-zero, nat_lt, nat_le, eqb-true, ne_eqb, leb-true, leb-false, ltb-true}
 use Rattle.std.specs.Prelude.{Option, slice_get, option_map, ◌==◌}
 use Rattle.std.proofs.lemmas.Option.{slice_get_past}
 use Rattle.opcode.specs.declared.op.Op.{Op}
 use Rattle.opcode.specs.declared.word.Instr.{Instr}
 use Rattle.proto.specs.Chunk.{Chunk, own}
 use Rattle.rules.specs.declared.rule.Rule.{Rule}
-use Rattle.opcode.specs.Reading.{instr_of}
 use Rattle.rules.specs.Words.{instr_at}
 use Rattle.std.specs.List.{list_any}
 use Rattle.rules.specs.Places.{words_of, is_place, is_further, is_edge}
-use Rattle.rules.specs.Notes.{Note, Notes, Registers, Consistent, FollowsIn, IsStart, after, captures, captured_by, word_captures, closure_captures, closes}
-use Rattle.rules.specs.Breaks.{breaks, breaks_shape, place_breaks, is_shape, named_by, named_by_all, named_further}
+use Rattle.rules.specs.Notes.{Note, Notes, Consistent, FollowsIn, IsStart, after, captures, closes}
+use Rattle.rules.specs.Places.{named_further}
+use Rattle.rules.specs.Breaks.{breaks, breaks_shape, place_breaks, is_shape}
 use Rattle.rules.specs.Sound.{Noted}
-use Rattle.rules.proofs.Lists.{none_some, some_one, and_first, and_second, and_not, or_cases, or_first_false, or_second_false, not_false, some_head, some_tail}
+use Rattle.rules.proofs.Lists.{none_some, some_one, and_first, and_second, and_not, or_cases, or_first_false, or_second_false, not_false, some_head, some_tail, member}
 use Rattle.rules.proofs.Checks.{at_or_below, some_place, no_place}
 
 -- for each pc, where it is noted, the registers that may be captured, and the loops
 abbrev pub Listed : Type 0
 Listed = List (Option (List ℕ × List ℕ))
-
-abbrev pub member : List ℕ → Registers
-member xs r = list_any (λ x. x == r) xs
 
 abbrev pub all_of : (ℕ → Bool) → List ℕ → Bool
 all_of t xs = not (list_any (λ x. not (t x)) xs)
@@ -55,43 +52,6 @@ member_each t (x ∷ rest) e r is = go (x == r) refl (member_each t rest (some_t
 member_all : (t : ℕ → Bool) (xs : List ℕ) → all_of t xs ≡ true → (r : ℕ) → member xs r ≡ true → t r ≡ true
 member_all t xs e r is = member_each t xs (none (list_any (λ x. not (t x)) xs) e) r is
 
--- what further words capture is what they name
-captured_named : (r : ℕ) (op : Op) (i : Instr) → captured_by op i r ≡ true → member (elim op [ Op.Move ↦ i.b ∷ [] | _ ↦ [] ]) r ≡ true
-captured_named r Op.Move i e = ap (λ b. b || false) e
-captured_named r _ i e = absurd (true≢false (sym e))
-
-word_named : (r : ℕ) (o : Option Instr) → word_captures r o ≡ true → member (named_by Op.Move o) r ≡ true
-word_named r None e = absurd (true≢false (sym e))
-word_named r (Some i) e = captured_named r i.op i e
-
-member_front : (xs ys : List ℕ) (r : ℕ) → member xs r ≡ true → member (xs ++ ys) r ≡ true
-member_front [] ys r e = absurd (true≢false (sym e))
-member_front (x ∷ xs) ys r e = go (x == r) (member_front xs ys r) e
-  where
-    go : (b : Bool) → (member xs r ≡ true → member (xs ++ ys) r ≡ true) → (b || member xs r) ≡ true → (b || member (xs ++ ys) r) ≡ true
-    go true next h = h
-    go false next h = next h
-
-member_back : (xs ys : List ℕ) (r : ℕ) → member ys r ≡ true → member (xs ++ ys) r ≡ true
-member_back [] ys r e = e
-member_back (x ∷ xs) ys r e = go (x == r) (member_back xs ys r e)
-  where
-    go : (b : Bool) → member (xs ++ ys) r ≡ true → (b || member (xs ++ ys) r) ≡ true
-    go true h = refl
-    go false h = h
-
-words_named : (r : ℕ) (words : List ℕ) → list_any (λ w. word_captures r (instr_of w)) words ≡ true → member (named_by_all Op.Move words) r ≡ true
-words_named r [] e = absurd (true≢false (sym e))
-words_named r (w ∷ rest) e = go (word_captures r (instr_of w)) refl (words_named r rest) e
-  where
-    go : (b : Bool) → word_captures r (instr_of w) ≡ b → (list_any (λ v. word_captures r (instr_of v)) rest ≡ true → member (named_by_all Op.Move rest) r ≡ true) → (b || list_any (λ v. word_captures r (instr_of v)) rest) ≡ true → member (named_by Op.Move (instr_of w) ++ named_by_all Op.Move rest) r ≡ true
-    go true is next h = member_front (named_by Op.Move (instr_of w)) (named_by_all Op.Move rest) r (word_named r (instr_of w) is)
-    go false is next h = member_back (named_by Op.Move (instr_of w)) (named_by_all Op.Move rest) r (next h)
-
-captures_named : (further : List ℕ) (op : Op) (r : ℕ) → closure_captures further op r ≡ true → member (named_further Op.Move op further) r ≡ true
-captures_named further Op.Closure r e = words_named r further e
-captures_named further _ r e = absurd (true≢false (sym e))
-
 -- whether what is listed at the end of an edge follows what is listed at its start
 abbrev pub follows_listed : Chunk → ℕ → Instr → List ℕ × List ℕ → Option (List ℕ × List ℕ) → Bool
 follows_listed f pc i p None = false
@@ -103,7 +63,7 @@ follows_is f pc i p None e = absurd (true≢false (sym e))
 follows_is f pc i p (Some q) e = record {
   captured = λ r is. elim (or_cases (member p.0 r && not (closes i.op i r)) (captures f pc i r) is) [
     | inl old ↦ stays r (member_all (λ s. closes i.op i s || member q.0 s) p.0 (and_first _ _ (and_first _ _ e)) r (and_first _ _ old)) (and_second _ _ old)
-    | inr new ↦ member_all (member q.0) (named_further Op.Move i.op (words_of f pc i)) (and_second _ _ (and_first _ _ e)) r (captures_named (words_of f pc i) i.op r new)
+    | inr new ↦ member_all (member q.0) (named_further Op.Move i.op (words_of f pc i)) (and_second _ _ (and_first _ _ e)) r new
   ];
   loops = λ a is. member_all (after f pc i (note_of p)).loops q.1 (and_second _ _ e) a is;
 }

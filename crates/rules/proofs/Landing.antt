@@ -10,7 +10,8 @@ use Rattle.lua_model.specs.Operators.{callee, join as join_two, depth_limit, pro
 use Rattle.lua_model.specs.Builtins.{native as built_in, call_host}
 use Rattle.rules.specs.Places.{as_pc}
 use Rattle.rules.specs.Notes.{Notes, Registers, is_from_to, is_among}
-use Rattle.rules.specs.Breaks.{has_arg_table, wanted_at}
+use Rattle.rules.specs.Breaks.{wanted_at}
+use Rattle.rules.specs.Words.{has_arg_table}
 use Rattle.rules.specs.State.{Landing, into, test, pairs, fixed, open_at, turn, nowhere, Frame, Cell, Closure, State, Effect, Goes, need, check, with_registers, with_store, register, has_registers, set, spliced, set_all}
 use Rattle.rules.specs.Calls.{call_within, failed_in, next_jmp, branch, heard, asked_of, answered, entered, apply, apply_to, call_by, frame_of, with_arg_table, begin, push, answer, join, turned, land, call}
 use Rattle.rules.proofs.Lists.{get_some, set_other, set_same, length-spliced, spliced_other, length-adjusted, and_true, clash}

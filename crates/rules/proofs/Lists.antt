@@ -1,5 +1,5 @@
 -- Facts of lists and tests.
-use Rattle.std.proofs.Common.{◌≡◌, ◌⊎◌, inl, inr, ℕ, zero, suc, ◌+◌, ◌<◌, ◌≤◌, Bool, true, false, ◌&&◌, ◌||◌, not, List, [], ◌∷◌, ◌++◌, length, None, Some, refl, sym, ap, ◌∙◌, true≢false, arith, not-suc-le-zero, le_of_suc-le-suc, leb-false, nat_le, length-set}
+use Rattle.std.proofs.Common.{◌≡◌, ◌⊎◌, inl, inr, ℕ, zero, suc, ◌+◌, ◌<◌, ◌≤◌, Bool, true, false, ◌&&◌, ◌||◌, ◌==◌, not, List, [], ◌∷◌, ◌++◌, length, None, Some, refl, sym, ap, ◌∙◌, true≢false, arith, not-suc-le-zero, le_of_suc-le-suc, leb-false, nat_le, length-set}
 use Rattle.std.specs.Prelude.{slice_get, slice_set}
 use Rattle.lua_model.specs.Datum.{Datum, adjusted}
 use Rattle.std.specs.List.{list_any}
@@ -123,3 +123,7 @@ reach_head limit x xs e = leb-false limit x (some_head (λ n. nat_le limit n) x 
 
 pub reach_tail : (limit x : ℕ) (xs : List ℕ) → reaches limit (x ∷ xs) ≡ false → reaches limit xs ≡ false
 reach_tail limit x xs e = some_tail (λ n. nat_le limit n) x xs e
+
+-- a register is among some
+abbrev pub member : List ℕ → ℕ → Bool
+member xs r = list_any (λ x. x == r) xs

@@ -5,10 +5,10 @@ use Rattle.opcode.specs.declared.word.Instr.{Instr}
 use Rattle.proto.specs.Chunk.{Chunk, function, own, Functions, functions}
 use Rattle.lua_model.specs.Datum.{Datum}
 use Rattle.rules.specs.declared.rule.Rule.{Rule}
-use Rattle.rules.specs.Words.{instr_at}
+use Rattle.rules.specs.Words.{instr_at, has_arg_table}
 use Rattle.rules.specs.Places.{further_from}
 use Rattle.rules.specs.Notes.{Note, Registers, IsStart}
-use Rattle.rules.specs.Breaks.{wanted_at, wants, is_unmet, has_arg_table, breaks_shape}
+use Rattle.rules.specs.Breaks.{wanted_at, wants, is_unmet, breaks_shape}
 use Rattle.rules.specs.Sound.{IsSound}
 use Rattle.rules.specs.State.{Frame, Cell}
 use Rattle.rules.proofs.Lists.{clash, or_first_false, or_second_false, and_true}

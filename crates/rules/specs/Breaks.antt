@@ -1,15 +1,15 @@
 -- To be believed, and this suite's own. The rules that a function may break, and where; the registers are those that the
 -- instructions read and write.
-use Rattle.std.specs.Prelude.{ℕ, zero, suc, pred, ◌+◌, ◌-◌, Bool, true, false, not, ◌&&◌, ◌||◌, ◌==◌, nat_lt, nat_le, List, [], ◌∷◌, ◌++◌, map, length, slice_get, filter, Option, Some, None, is_none, is_some, option_and_then, if◌then◌else◌}
+use Rattle.std.specs.Prelude.{ℕ, zero, suc, pred, ◌+◌, ◌-◌, Bool, true, false, not, ◌&&◌, ◌||◌, ◌==◌, nat_lt, nat_le, List, [], ◌∷◌, map, length, slice_get, filter, Option, Some, None, is_none, is_some, option_and_then, if◌then◌else◌}
 use Rattle.opcode.specs.declared.op.Op.{Op}
 use Rattle.opcode.specs.declared.word.Instr.{Instr}
 use Rattle.proto.specs.declared.parts.Constant.{Constant}
 use Rattle.proto.specs.Chunk.{Chunk, own, functions, function_at}
 use Rattle.rules.specs.declared.rule.Rule.{Rule}
 use Rattle.opcode.specs.Reading.{instr_of}
-use Rattle.rules.specs.Words.{instr_at, is_test}
+use Rattle.rules.specs.Words.{instr_at, is_test, is_vararg, has_arg_table}
 use Rattle.std.specs.List.{list_any}
-use Rattle.rules.specs.Places.{further_words, is_further, belonging_to, words_of, next_pc, target, is_place, jmp_at}
+use Rattle.rules.specs.Places.{named_further, further_words, is_further, belonging_to, words_of, next_pc, target, is_place, jmp_at}
 use Rattle.rules.specs.Notes.{Note, Notes}
 
 -- some number of a list is not below the limit
@@ -60,21 +60,6 @@ names Op.TForLoop i = (i.a + 5) ∷ (i.a + 2 + i.c) ∷ []
 names Op.SetList i = (i.a + i.b) ∷ []
 names Op.Vararg i = if i.b == 1 then [] else (i.a + (i.b - 2)) ∷ []
 names _ i = i.a ∷ []
-
--- the register of each further word MOVE, and the upvalue of each GETUPVAL
-abbrev pub named_by : Op → Option Instr → List ℕ
-named_by op None = []
-named_by Op.Move (Some i) = elim i.op [ Op.Move ↦ i.b ∷ [] | _ ↦ [] ]
-named_by Op.GetUpval (Some i) = elim i.op [ Op.GetUpval ↦ i.b ∷ [] | _ ↦ [] ]
-named_by _ (Some i) = []
-
-abbrev pub named_by_all : Op → List ℕ → List ℕ
-named_by_all op [] = []
-named_by_all op (w ∷ rest) = named_by op (instr_of w) ++ named_by_all op rest
-
-abbrev pub named_further : Op → Op → List ℕ → List ℕ
-named_further by Op.Closure further = named_by_all by further
-named_further by _ further = []
 
 abbrev pub has_order : Op → Instr → Bool
 has_order Op.LoadNil i = nat_le i.a i.b
@@ -220,13 +205,6 @@ breaks_no_jump f pc i = is_test i.op && is_none (jmp_at f (suc pc))
 -- Shape: what is wrong with a function as a whole.
 abbrev pub allowed_flags : List ℕ
 allowed_flags = 0 ∷ 2 ∷ 3 ∷ 7 ∷ []
-
-abbrev pub is_vararg : ℕ → Bool
-is_vararg flags = not (flags == 0)
-
--- the register behind the parameters is a table of the extra arguments
-abbrev pub has_arg_table : ℕ → Bool
-has_arg_table flags = flags == 7
 
 abbrev pub is_vararg_word : Option Instr → Bool
 is_vararg_word None = false

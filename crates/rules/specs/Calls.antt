@@ -1,15 +1,15 @@
 -- To be believed. Calls, and where their results land (manual 2.5.8, 2.8 and 5.1, `pcall`; CALL, TAILCALL, RETURN, TFORLOOP and CONCAT).
-use Rattle.std.specs.Prelude.{ℕ, zero, suc, ◌+◌, ℤ, pos, ◌+ℤ◌, Bool, true, false, not, nat_lt, nat_le, nat_eq, List, [], ◌∷◌, ◌++◌, map, length, take, drop, replicate, slice_get, slice_set, Option, Some, None, codes, if◌then◌else◌}
+use Rattle.std.specs.Prelude.{ℕ, zero, suc, ◌+◌, ℤ, pos, ◌+ℤ◌, Bool, true, false, not, nat_lt, nat_le, nat_eq, List, [], ◌∷◌, ◌++◌, map, length, take, replicate, slice_get, slice_set, Option, Some, None, codes, if◌then◌else◌}
 use Rattle.opcode.specs.Word.{truth_field}
 use Rattle.proto.specs.Chunk.{own}
-use Rattle.lua_model.specs.Datum.{Datum, boolean, number, text, table, closure, native, host, is_nil, is_true, first_of, adjusted}
+use Rattle.lua_model.specs.Datum.{Datum, boolean, number, text, table, closure, native, host, is_nil, is_true, first_of, adjusted, extra_of}
 use Rattle.lua_model.specs.declared.plain.Plain.{Plain}
-use Rattle.lua_model.specs.Store.{Store, Reply, replies_values, replies_failure, printed, asked, closed, as_datum, happens, new_table, raw_set, with_items}
+use Rattle.lua_model.specs.Store.{Store, Reply, replies_values, replies_failure, printed, closed, as_datum, happens, replied, new_table, raw_set, with_items}
 use Rattle.lua_model.specs.Acts.{Act, value, call as calls, failure, Callee, plain, through, no_function, NativeAct, results, prints, asks, fails, protects, closes}
-use Rattle.lua_model.specs.Operators.{depth_limit, protection_limit, stack_overflow, callee, join as join_two}
+use Rattle.lua_model.specs.Operators.{depth_limit, protection_limit, stack_overflow, callee, with_called, join as join_two}
 use Rattle.lua_model.specs.Builtins.{native as built_in, call_host}
 use Rattle.rules.specs.Places.{jmp_at, as_pc}
-use Rattle.rules.specs.Breaks.{is_vararg, has_arg_table}
+use Rattle.rules.specs.Words.{is_vararg, has_arg_table}
 use Rattle.rules.specs.State.{Landing, into, test, pairs, fixed, open_at, turn, nowhere, Frame, Closure, State, Effect, Goes, Fails, Ends, Waits, need, check, at_pc, with_registers, with_results, with_store, register, has_registers, set, spliced, set_all}
 use Rattle.rules.specs.Cells.{close_from}
 
@@ -61,7 +61,7 @@ module _ (enters : ℕ → State → Closure → List Datum → Effect) (lands :
   abbrev pub asked_of : ℕ → State → ℕ → List Plain → List Reply → Effect
   asked_of p m h args [] = Waits
   asked_of p m h args (reply ∷ left) =
-      heard p (record m { outside = happens (asked h args reply) (record m.outside { replies = left }) }) reply
+      heard p (record m { outside = replied h args reply left m.outside }) reply
 
   -- what a built-in or a host answered; `again` makes a protected call
   abbrev pub answered : ℕ → (Datum → List Datum → Effect) → State → NativeAct → Effect
@@ -89,10 +89,6 @@ module _ (enters : ℕ → State → Closure → List Datum → Effect) (lands :
   apply_to p again m (through handler) args = apply p again m handler args
   apply_to p again m (no_function v) args = failed_in lands p m v
 
-  abbrev pub with_called : Callee → Datum → List Datum → List Datum
-  with_called (through handler) f args = f ∷ args
-  with_called _ f args = args
-
   -- a call with p protections, where so many more may be: a protected call has one more; where none is left it is not made
   abbrev pub call_within : ℕ → ℕ → State → Datum → List Datum → Effect
   call_within zero p m f args =
@@ -102,11 +98,6 @@ module _ (enters : ℕ → State → Closure → List Datum → Effect) (lands :
 
   abbrev pub call_by : State → Datum → List Datum → Effect
   call_by m f args = call_within protection_limit 0 m f args
-
--- the arguments behind the parameters, where the function keeps them
-abbrev pub extra_of : Bool → ℕ → List Datum → List Datum
-extra_of true params args = drop params args
-extra_of false params args = []
 
 -- a frame of a function: its registers nil, the parameters set from the arguments
 abbrev pub frame_of : Closure → List Datum → Landing → ℕ → Frame

@@ -1,12 +1,11 @@
 -- To be believed, and this suite's own. Notes on the registers at the pcs of a function, and which notes are consistent.
-use Rattle.std.specs.Prelude.{◌≡◌, ℕ, suc, ◌+◌, Bool, true, false, not, ◌&&◌, ◌||◌, ◌==◌, nat_lt, nat_le, List, Option, Some, None}
+use Rattle.std.specs.Prelude.{◌≡◌, ℕ, suc, ◌+◌, Bool, true, false, not, ◌&&◌, ◌||◌, ◌==◌, nat_lt, nat_le, Option, Some, None}
 use Rattle.opcode.specs.declared.op.Op.{Op}
 use Rattle.opcode.specs.declared.word.Instr.{Instr}
 use Rattle.proto.specs.Chunk.{Chunk}
-use Rattle.opcode.specs.Reading.{instr_of}
 use Rattle.rules.specs.Words.{instr_at}
 use Rattle.std.specs.List.{list_any}
-use Rattle.rules.specs.Places.{words_of, is_edge}
+use Rattle.rules.specs.Places.{named_further, words_of, is_edge}
 
 -- a set of registers
 abbrev pub Registers : Type 0
@@ -25,22 +24,9 @@ pub record Note : Type 0 where
 abbrev pub Notes : Type 0
 Notes = ℕ → Option Note
 
--- the register that a further word captures
-abbrev pub captured_by : Op → Instr → ℕ → Bool
-captured_by Op.Move i r = i.b == r
-captured_by _ i r = false
-
-abbrev pub word_captures : ℕ → Option Instr → Bool
-word_captures r None = false
-word_captures r (Some i) = captured_by i.op i r
-
 -- the registers that the further words of a CLOSURE name
-abbrev pub closure_captures : List ℕ → Op → Registers
-closure_captures further Op.Closure r = list_any (λ w. word_captures r (instr_of w)) further
-closure_captures further _ r = false
-
 abbrev pub captures : Chunk → ℕ → Instr → Registers
-captures f pc i r = closure_captures (words_of f pc i) i.op r
+captures f pc i r = list_any (λ named. named == r) (named_further Op.Move i.op (words_of f pc i))
 
 -- registers from the first on, up to the last
 abbrev pub is_from_to : ℕ → ℕ → Registers

@@ -1,6 +1,6 @@
--- To be believed. Which words of a function are further words, and which pcs can follow a word (the instructions that jump, skip
--- and take words with them).
-use Rattle.std.specs.Prelude.{ℕ, zero, suc, ◌+◌, ℤ, pos, negsuc, ◌+ℤ◌, Bool, true, false, not, ◌&&◌, ◌==◌, nat_lt, nat_eq, List, [], ◌∷◌, length, take, drop, get_or, Option, Some, None, if◌then◌else◌}
+-- To be believed. Which words of a function are further words, and which pcs can follow a word (A No-Frills Introduction to Lua 5.1 VM
+-- Instructions, those that jump, skip and take words with them).
+use Rattle.std.specs.Prelude.{ℕ, zero, suc, ◌+◌, ℤ, pos, negsuc, ◌+ℤ◌, Bool, true, false, not, ◌&&◌, ◌==◌, nat_lt, nat_eq, List, [], ◌∷◌, ◌++◌, length, take, drop, get_or, Option, Some, None, if◌then◌else◌}
 use Rattle.std.specs.List.{list_any}
 use Rattle.std.specs.Option.{option_eq}
 use Rattle.opcode.specs.declared.op.Op.{Op}
@@ -39,6 +39,22 @@ is_further f pc = get_or (further_words f) pc false
 -- the words that belong to the instruction at a pc, those that are there
 abbrev pub words_of : Chunk → ℕ → Instr → List ℕ
 words_of f pc i = take (belonging_to (functions f) i.op i) (drop (suc pc) (own f).code)
+
+-- the register of each further word MOVE, and the upvalue of each GETUPVAL
+abbrev pub named_by : Op → Option Instr → List ℕ
+named_by op None = []
+named_by Op.Move (Some i) = elim i.op [ Op.Move ↦ i.b ∷ [] | _ ↦ [] ]
+named_by Op.GetUpval (Some i) = elim i.op [ Op.GetUpval ↦ i.b ∷ [] | _ ↦ [] ]
+named_by _ (Some i) = []
+
+abbrev pub named_by_all : Op → List ℕ → List ℕ
+named_by_all op [] = []
+named_by_all op (w ∷ rest) = named_by op (instr_of w) ++ named_by_all op rest
+
+-- of the words that belong to an instruction
+abbrev pub named_further : Op → Op → List ℕ → List ℕ
+named_further by Op.Closure further = named_by_all by further
+named_further by _ further = []
 
 -- the pc after the word and those that belong to it
 abbrev pub next_pc : Chunk → ℕ → Instr → ℕ
@@ -87,6 +103,7 @@ plain_ways f pc _ i = Some (next_pc f pc i) ∷ []
 abbrev pub ways : Chunk → ℕ → Instr → List (Option ℕ)
 ways f pc i = if is_test i.op then test_ways pc (jmp_at f (suc pc)) else plain_ways f pc i.op i
 
+-- whether a way goes to this pc
 abbrev pub is_pc : ℕ → Option ℕ → Bool
 is_pc t way = option_eq nat_eq way (Some t)
 

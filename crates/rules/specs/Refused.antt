@@ -1,4 +1,4 @@
--- Serves the laws. Chunks that the verifier refuses, one for each rule.
+-- Serves the laws. Chunks that the verifier refuses, at least one for each rule.
 use Rattle.std.specs.Prelude.{ℕ, pos, negsuc, List, [], ◌∷◌, None}
 use Rattle.opcode.specs.declared.op.Op.{Op}
 use Rattle.opcode.specs.Word.{abc, abx, asbx}

@@ -75,7 +75,7 @@ start chunk store replies = let m = first_state chunk store replies in after m (
 abbrev pub ran : Chunk → List Host → List Reply → ℕ → Conf
 ran chunk hosts replies n = run n (start chunk (first_store hosts) replies)
 
--- what happened so far
+-- what happened so far; of a stuck run nothing counts
 abbrev pub events_of : Conf → List Event
 events_of (Going m) = m.outside.events
 events_of (Ended store outside) = outside.events

@@ -1,5 +1,5 @@
--- To be believed. The instructions at the places of a function (A No-Frills Introduction to Lua 5.1 VM Instructions).
-use Rattle.std.specs.Prelude.{ℕ, Bool, true, false, slice_get, Option, option_and_then}
+-- To be believed. The instructions at the places of a function, and what its vararg flags say (A No-Frills Introduction to Lua 5.1 VM Instructions).
+use Rattle.std.specs.Prelude.{ℕ, Bool, true, false, not, ◌==◌, slice_get, Option, option_and_then}
 use Rattle.opcode.specs.declared.op.Op.{Op}
 use Rattle.opcode.specs.declared.word.Instr.{Instr}
 use Rattle.opcode.specs.Reading.{instr_of}
@@ -18,3 +18,11 @@ is_test Op.Test = true
 is_test Op.TestSet = true
 is_test Op.TForLoop = true
 is_test _ = false
+
+-- Vararg flags: bit 1 has an `arg` local, bit 2 is vararg, bit 4 needs the `arg` table.
+abbrev pub is_vararg : ℕ → Bool
+is_vararg flags = not (flags == 0)
+
+-- the register behind the parameters is a table of the extra arguments
+abbrev pub has_arg_table : ℕ → Bool
+has_arg_table flags = flags == 7

@@ -1,7 +1,8 @@
 -- To be believed. The parts of the scheme for expressions (manual 2.5), each by the parts of the expressions in it.
-use Rattle.std.specs.Prelude.{ℕ, ◌+◌, ◌-◌, nat_le, ◌==◌, Bool, true, false, not, cond, ◌||◌, [], Option, Some, None, is_some, ℤ, Result, Ok, Err}
+use Rattle.std.specs.Prelude.{ℕ, ◌+◌, ◌-◌, nat_le, ◌==◌, Bool, true, false, not, cond, ◌||◌, [], Option, Some, None, is_some, ℤ}
+use Rattle.std.specs.Bool.{beq}
+use Rattle.std.specs.Result.{result_ok}
 use Rattle.lua_num.specs.declared.arith.ArithOp.{ArithOp}
-use Rattle.lua_num.specs.declared.arith.NumFault.{NumFault}
 use Rattle.lua_num.specs.Arith.{outcome, negation}
 use Rattle.lua_tree.specs.declared.tree.BinaryOp.{BinaryOp}
 use Rattle.lua_tree.specs.declared.tree.UnaryOp.{UnaryOp}
@@ -27,13 +28,9 @@ arith_op BinaryOp.Rem = Some ArithOp.Rem
 arith_op BinaryOp.Pow = Some ArithOp.Pow
 arith_op op = None
 
-abbrev pub unless_fault : Result ℤ NumFault → Option ℤ
-unless_fault (Ok n) = Some n
-unless_fault (Err fault) = None
-
 -- an operator of arithmetic on two numbers, unless it fails
 abbrev pub fold_binary : Option ArithOp → Option ℤ → Option ℤ → Option ℤ
-fold_binary (Some op) (Some a) (Some b) = unless_fault (outcome op a b)
+fold_binary (Some op) (Some a) (Some b) = result_ok (outcome op a b)
 fold_binary op a b = None
 
 abbrev pub fold_unary : UnaryOp → Option ℤ → Option ℤ
@@ -183,13 +180,9 @@ is_true_constant Constant.Nil = false
 is_true_constant (Constant.Bool b) = b
 is_true_constant k = true
 
-abbrev pub same_truth : Bool → Bool → Bool
-same_truth true b = b
-same_truth false b = not b
-
 -- a jump where the literal has this truth
 abbrev pub jump_literal : (line : ℕ) → Constant → (truth : Bool) → (label : ℕ) → Part
-jump_literal line k truth label = when (same_truth truth (is_true_constant k)) (jump_to line label)
+jump_literal line k truth label = when (beq truth (is_true_constant k)) (jump_to line label)
 
 abbrev pub test_by : Option Constant → (line : ℕ) → Coded → (truth : Bool) → (label : ℕ) → Part
 test_by (Some k) line c truth label = jump_literal line k truth label
@@ -284,15 +277,18 @@ binary_value line BinaryOp.Pow = arithmetic line Op.Pow
 binary_value line BinaryOp.Concat = concat line
 binary_value line op = truth_value line op
 
+abbrev pub is_comparison : BinaryOp → Bool
+is_comparison BinaryOp.Eq = true
+is_comparison BinaryOp.Ne = true
+is_comparison BinaryOp.Lt = true
+is_comparison BinaryOp.Le = true
+is_comparison BinaryOp.Gt = true
+is_comparison BinaryOp.Ge = true
+is_comparison op = false
+
 -- the jumps of a comparison are its own; other operators are tested as values
 abbrev pub binary_jump : BinaryOp → (of_comparison of_value : Bool → ℕ → Part) → Bool → ℕ → Part
-binary_jump BinaryOp.Eq of_comparison of_value = of_comparison
-binary_jump BinaryOp.Ne of_comparison of_value = of_comparison
-binary_jump BinaryOp.Lt of_comparison of_value = of_comparison
-binary_jump BinaryOp.Le of_comparison of_value = of_comparison
-binary_jump BinaryOp.Gt of_comparison of_value = of_comparison
-binary_jump BinaryOp.Ge of_comparison of_value = of_comparison
-binary_jump op of_comparison of_value = of_value
+binary_jump op of_comparison of_value = cond (is_comparison op) of_comparison of_value
 
 -- the spine of `..` goes on to the right
 abbrev pub binary_spine : BinaryOp → (of_concat of_value : Part) → Part
@@ -351,7 +347,7 @@ jump_over truth left right label = do
   place over
 
 abbrev pub logic_jump : (decides : Bool) → (left right : Coded) → (truth : Bool) → ℕ → Part
-logic_jump decides left right truth label = cond (same_truth decides truth) (jump_both truth left right label) (jump_over truth left right label)
+logic_jump decides left right truth label = cond (beq decides truth) (jump_both truth left right label) (jump_over truth left right label)
 
 -- where the register is not F, the value goes by F
 abbrev pub logic_moved : (line : ℕ) → (decides : Bool) → (left right : Coded) → ℕ → Part

@@ -1,5 +1,5 @@
 -- To be believed. The parts of the scheme for functions (manual 2.5.9 and 2.6): closures, and what a function is when its words are made.
-use Rattle.std.specs.Prelude.{ℕ, suc, max, nat_lt, Bool, true, false, cond, List, [], ◌∷◌, ◌++◌, length, get_or, drop, Option, ℤ, pos, ◌-ℤ◌, unsigned_abs}
+use Rattle.std.specs.Prelude.{ℕ, suc, max, nat_lt, Bool, true, false, cond, List, [], ◌∷◌, ◌++◌, length, map, get_or, drop, Option, ℤ, pos, ◌-ℤ◌, unsigned_abs}
 use Rattle.lua_num.specs.Bytes.{Text}
 use Rattle.lua_tree.specs.Syntax.{function_expression, FunctionBody}
 use Rattle.lua_tree.specs.Scoping.{Use, local_use, upvalue_use, global_use}
@@ -28,8 +28,7 @@ words_from labels pc [] = []
 words_from labels pc (item ∷ items) = word_at labels pc item.piece ∷ words_from labels (suc pc) items
 
 abbrev pub lines_of : List Item → List ℕ
-lines_of [] = []
-lines_of (item ∷ items) = item.line ∷ lines_of items
+lines_of items = map (λ item. item.line) items
 
 -- how far a word jumps, and the longest jump
 abbrev pub reach_at : (labels : List ℕ) → (pc : ℕ) → Piece → ℕ
@@ -108,7 +107,7 @@ with_params params = do
   activate locals
   take_registers (length params)
 
--- a function's words: its parameters, its statements, and the last RETURN, past which no local is active
+-- a function's words: its parameters, its statements, and the last RETURN, at which no local is active
 abbrev pub whole_function : (end_line : ℕ) → List Text → Part → Part
 whole_function end_line params statements = do
   with_params params
@@ -142,8 +141,7 @@ source_name m (upvalue_use slot) = get_or m.upvalue_names slot []
 source_name m global_use = []
 
 abbrev pub source_names : Maker → List Use → List Text
-source_names m [] = []
-source_names m (use' ∷ uses) = source_name m use' ∷ source_names m uses
+source_names m uses = map (source_name m) uses
 
 -- the further words of a CLOSURE
 abbrev pub further_word : Where → Piece

@@ -1,6 +1,7 @@
 -- To be believed. A function that is being made: what the parts of the scheme read and change. The scheme is this suite's own, in
 -- the shape of luac's code (A No-Frills Introduction to Lua 5.1 VM Instructions).
-use Rattle.std.specs.Prelude.{ℕ, suc, ◌+◌, max, nat_eq, Bool, true, false, cond, ◌||◌, List, [], ◌∷◌, ◌++◌, length, get_or, set, take, drop, Some, None}
+use Rattle.std.specs.Prelude.{ℕ, suc, ◌+◌, max, nat_eq, Bool, true, false, cond, List, [], ◌∷◌, ◌++◌, length, get_or, set, take, drop, Some, None}
+use Rattle.std.specs.List.{list_any}
 use Rattle.std.specs.Option.{option_eq}
 use Rattle.lua_num.specs.Bytes.{Text}
 use Rattle.lua_tree.specs.Scoping.{Use, local_use, upvalue_use, global_use}
@@ -191,8 +192,7 @@ end_all here [] entries = entries
 end_all here (one ∷ others) entries = end_all here others (end_one here one.listed entries)
 
 abbrev pub any_captured : List Active → Bool
-any_captured [] = false
-any_captured (one ∷ others) = one.local.captured || any_captured others
+any_captured active = list_any (λ one. one.local.captured) active
 
 -- whether one of the active locals from the n-th on is captured
 abbrev pub captured_from : ℕ → Maker → Bool

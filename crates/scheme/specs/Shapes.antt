@@ -1,9 +1,8 @@
 -- To be believed, and this suite's own. Trees whose chunks are read back to source: flat ones, plain ones, and room for what is written longer.
 use Rattle.std.specs.Prelude.{◌≡◌, ℕ, suc, ◌+◌, ◌*◌, ◌≤◌, max, Bool, true, false, ◌&&◌, is_some, if◌then◌else◌}
-use Rattle.lua_tree.specs.declared.tree.BinaryOp.{BinaryOp}
 use Rattle.lua_tree.specs.declared.tree.UnaryOp.{UnaryOp}
 use Rattle.lua_tree.specs.Syntax.{Statements, no_statements, statement, Statement, assignment, call_statement, do_block, while_loop, repeat_loop, if_statement, numeric_for, generic_for, function_statement, local_function, local_statement, return_statement, break_statement, Branches, no_branches, branch, Otherwise, no_otherwise, otherwise, ForStep, no_step, by_step, FunctionBody, function_body, Expressions, no_expressions, expression, Expression, nil_literal, true_literal, false_literal, number_literal, text_literal, name_expression, function_expression, index_expression, field_expression, call_expression, method_call, and_expression, or_expression, binary_expression, unary_expression, constructor, parenthesized, Arguments, argument_list, text_argument, table_argument, Fields, no_fields, positional, named, keyed, Source}
-use Rattle.scheme.specs.Expressions.{fold}
+use Rattle.scheme.specs.Expressions.{fold, is_comparison}
 
 -- ---- flat trees: one value goes to one name, or a name is called with a list of values
 
@@ -42,15 +41,6 @@ Flat source = are_flat source.body ≡ true
 
 -- ---- plain trees: `and`, `or` and comparisons stand only in the conditions of `if`, `while` and `repeat`, under `not`, `and`, `or`
 -- and parentheses there
-
-abbrev pub is_comparison : BinaryOp → Bool
-is_comparison BinaryOp.Eq = true
-is_comparison BinaryOp.Ne = true
-is_comparison BinaryOp.Lt = true
-is_comparison BinaryOp.Le = true
-is_comparison BinaryOp.Gt = true
-is_comparison BinaryOp.Ge = true
-is_comparison op = false
 
 -- whether an expression is plain as a value, and as a condition
 pub record Plainness : Type 0 where

@@ -1,5 +1,6 @@
 -- To be believed. The parts of the scheme for statements (manual 2.4), each by the parts of the expressions and blocks in it.
 use Rattle.std.specs.Prelude.{ℕ, zero, suc, ◌+◌, ◌==◌, Bool, false, cond, ◌&&◌, ◌||◌, List, [], ◌∷◌, length, Option, Some, None, codes, pos, if◌then◌else◌}
+use Rattle.std.specs.List.{list_any}
 use Rattle.lua_num.specs.Bytes.{Text}
 use Rattle.lua_tree.specs.Syntax.{field_expression}
 use Rattle.lua_tree.specs.WellFormed.{is_call}
@@ -100,8 +101,7 @@ is_target x (name_target text (in_register y)) = x == y
 is_target x target = false
 
 abbrev pub is_among : (register : ℕ) → List Target → Bool
-is_among x [] = false
-is_among x (target ∷ targets) = is_target x target || is_among x targets
+is_among x targets = list_any (is_target x) targets
 
 -- a local is the table or the key of a target, and is itself a target further right
 abbrev pub clashes : (register : ℕ) → List Target → Bool
@@ -140,8 +140,8 @@ abbrev pub stored_from : (line register : ℕ) → List Target → Part
 stored_from line r [] m = m
 stored_from line r (target ∷ targets) m = store_register line target r (stored_from line (suc r) targets m)
 
-abbrev pub adjusted : (line : ℕ) → List Target → List Coded → Part
-adjusted line targets values = do
+abbrev pub assign_adjusted : (line : ℕ) → List Target → List Coded → Part
+assign_adjusted line targets values = do
   base ← read (λ m. m.free)
   adjust line values (length targets)
   stored_from line base targets
@@ -151,7 +151,7 @@ assign_part line targets values = do
   parts ← all_targets targets
   count ← read active_count
   places ← copies line count parts
-  cond (length values == length targets) (each_stored line places values) (adjusted line places values)
+  cond (length values == length targets) (each_stored line places values) (assign_adjusted line places values)
 
 -- the path of a function statement: a name, and fields
 abbrev pub with_fields : (line : ℕ) → Coded → List Text → Coded

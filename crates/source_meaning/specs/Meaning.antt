@@ -1,5 +1,5 @@
 -- To be believed. What each part of a source does (manual 2.2 to 2.8).
-use Rattle.std.specs.Prelude.{ℕ, suc, ◌+◌, ◌==◌, ◌||◌, ℤ, pos, ◌+ℤ◌, nat_lt, nat_eq, Bool, true, false, not, List, [], ◌∷◌, ◌++◌, length, map, drop, Option, Some, None, codes, if◌then◌else◌}
+use Rattle.std.specs.Prelude.{ℕ, suc, ◌+◌, ◌==◌, ◌||◌, ℤ, pos, ◌+ℤ◌, nat_lt, nat_eq, Bool, true, false, not, List, [], ◌∷◌, ◌++◌, length, map, drop, Option, Some, None, is_some, codes, if◌then◌else◌}
 use Rattle.lua_num.specs.declared.arith.ArithOp.{ArithOp}
 use Rattle.lua_num.specs.declared.arith.CompareOp.{CompareOp}
 use Rattle.lua_tree.specs.declared.tree.BinaryOp.{BinaryOp}
@@ -8,11 +8,12 @@ use Rattle.lua_tree.specs.Syntax.{Statements, no_statements, Statement, assignme
 use Rattle.lua_tree.specs.Syntax as syntax
 use Rattle.lua_num.specs.Bytes.{Text}
 use Rattle.lua_num.specs.Arith.{wrap}
+use Rattle.lua_tree.specs.Outline.{all_params}
 use Rattle.lua_model.specs.Datum.{Datum, nil, boolean, number, text, table, closure, native, host, is_nil, is_true, first_of, adjusted}
 use Rattle.lua_model.specs.Store.{printed, closed, Store, Host, Reply, replies_values, replies_failure, as_datum, global, with_global, new_table, with_items}
 use Rattle.lua_model.specs.Acts.{Act, value, failure, used, Callee, plain, through, no_function, NativeAct, results, prints, asks, fails, protects, closes}
 use Rattle.lua_model.specs.Acts as acts
-use Rattle.lua_model.specs.Operators.{arith, negate, join, size, compare, index, set_index, depth_limit, protection_limit, stack_overflow, callee, loop_numbers, LoopNumbers, counts, no_count, goes_on}
+use Rattle.lua_model.specs.Operators.{arith, negate, join, size, compare, index, set_index, depth_limit, protection_limit, stack_overflow, callee, with_called, loop_numbers, LoopNumbers, counts, no_count, goes_on}
 use Rattle.lua_model.specs.Builtins as builtins
 use Rattle.lua_model.specs.Builtins.{call_host, failure_text, start}
 use Rattle.lua_model.specs.Endings.{Ended, Failed, Waiting, Going, Course}
@@ -304,8 +305,7 @@ path_target (name ∷ names) (Some m) = path_from 0 (name_expression 0 name) (na
 
 -- a method has a first parameter `self`
 abbrev pub as_method : Option Text → FunctionBody → FunctionBody
-as_method None f = f
-as_method (Some m) (function_body params vararg b first last) = function_body (codes "self" ∷ params) vararg b first last
+as_method method (function_body params vararg b first last) = function_body (all_params (is_some method) params) vararg b first last
 
 abbrev pub single : Expression → Expressions
 single e = syntax.expression e no_expressions
@@ -366,7 +366,7 @@ abbrev pub is_closure : Datum → Bool
 is_closure (closure c) = true
 is_closure f = false
 
--- a tail call of a function of the source takes the place of the one that calls; every other one is a call from there
+-- a tail call of a function of the source takes the place of the one that calls; one of another function is a call from there
 abbrev pub tail_depth : Callee → (depth : ℕ) → ℕ
 tail_depth (plain f) depth = if is_closure f then depth else suc depth
 tail_depth (through h) depth = if is_closure h then depth else suc depth
@@ -408,11 +408,13 @@ apply (native n) around depth args s = outside_call (builtins.native n args s.st
 apply (host h) around depth args s = outside_call (call_host h args s.store) around depth s
 apply f around depth args s = done [] s
 
--- a table with `__call` is put before the arguments
-abbrev pub apply_callee : Callee → Datum → (around depth : ℕ) → List Datum → State → Prog (List Datum)
-apply_callee (plain f) v around depth args s = apply f around depth args s
-apply_callee (through h) v around depth args s = apply h around depth (v ∷ args) s
-apply_callee (no_function e) v around depth args s = fault e s
+abbrev pub apply_callee : Callee → (around depth : ℕ) → List Datum → State → Prog (List Datum)
+apply_callee (plain f) around depth args s = apply f around depth args s
+apply_callee (through h) around depth args s = apply h around depth args s
+apply_callee (no_function e) around depth args s = fault e s
+
+abbrev pub apply_value : Datum → (around depth : ℕ) → List Datum → State → Prog (List Datum)
+apply_value v around depth args s = apply_callee (callee s.store v) around depth (with_called (callee s.store v) v args) s
 
 -- ---- tasks
 
@@ -443,8 +445,8 @@ program (count_turn at name i limit step b) s =
     block_with at (name ∷ []) (number i ∷ []) b s (λ f s1. behind_turn at f s1 (λ env. count_from at name (wrap (i +ℤ step)) limit step b s1))
 program (iterator_turn at names f state vs b) s =
     block_with at names vs b s (λ g s1. behind_turn at g s1 (λ env. iterate_from at names f state (first_of vs) b s1))
-program (call depth f args) s = apply_callee (callee s.store f) f 0 depth args s
-program (protected_call nth depth f args) s = apply_callee (callee s.store f) f nth depth args s
+program (call depth f args) s = apply_value f 0 depth args s
+program (protected_call nth depth f args) s = apply_value f nth depth args s
 program refused_call s = done tt s
 
 -- ---- the meaning

@@ -3,7 +3,7 @@
 use Rattle.std.specs.Prelude.{ℕ, zero, suc, List, [], ◌∷◌}
 use Rattle.lua_model.specs.Datum.{Datum}
 use Rattle.lua_model.specs.declared.plain.Plain.{Plain}
-use Rattle.lua_model.specs.Store.{Reply, Event, asked, Outside, happens}
+use Rattle.lua_model.specs.Store.{Reply, Event, asked, Outside, happens, replied}
 use Rattle.source_meaning.specs.State.{State}
 use Rattle.source_meaning.specs.Tasks.{Task, Gives}
 
@@ -67,7 +67,7 @@ with_event e w = record w { outside = happens e w.outside }
 -- the next reply, where one is left
 abbrev pub heard : {A : Type 0} → ℕ → List Plain → List Reply → World → (Reply → World → Answer A) → Answer A
 heard h vs [] w k = waiting w
-heard h vs (r ∷ rs) w k = k r (record w { outside = happens (asked h vs r) (record w.outside { replies = rs }) })
+heard h vs (r ∷ rs) w k = k r (record w { outside = replied h vs r rs w.outside })
 
 -- the run of a program, where each task that it asks for is done by `self`
 abbrev pub run : {A : Type 0} → ((q : Task) → State → World → Answer (Gives q)) → Prog A → World → Answer A

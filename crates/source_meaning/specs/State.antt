@@ -2,9 +2,10 @@
 -- 2.3, 2.5.9 and 2.6).
 use Rattle.std.specs.Prelude.{ℕ, Bool, false, List, [], ◌∷◌, ◌++◌, length, drop, Option, Some, None, get_or, slice_set, cond}
 use Rattle.std.specs.Str.{bytes_eq}
+use Rattle.std.specs.Option.{option_or}
 use Rattle.lua_tree.specs.Syntax.{Statements, no_statements, FunctionBody, function_body}
 use Rattle.lua_num.specs.Bytes.{Text}
-use Rattle.lua_model.specs.Datum.{Datum, nil, first_of}
+use Rattle.lua_model.specs.Datum.{Datum, nil, first_of, extra_of}
 use Rattle.lua_model.specs.Store.{Store}
 
 -- names and their cells, the innermost first
@@ -69,13 +70,9 @@ abbrev pub find : Text → Env → Option ℕ
 find name [] = None
 find name (e ∷ es) = cond (bytes_eq name e.0) (Some e.1) (find name es)
 
-abbrev pub first_some : Option ℕ → Option ℕ → Option ℕ
-first_some None o = o
-first_some (Some c) o = Some c
-
 -- the cell of a name, none for a global
 abbrev pub meant : Place → Text → Option ℕ
-meant at name = first_some (find name at.own) (find name at.outer)
+meant at name = option_or (find name at.own) (find name at.outer)
 
 abbrev pub with_own : Place → Env → Place
 with_own at env = record at { own = env }
@@ -100,4 +97,4 @@ closure_at s c = get_or s.closures c no_closure
 
 -- inside a function that is called: its parameters are new locals, and `...` is the arguments behind them
 abbrev pub inside : Closure → (depth : ℕ) → List Datum → Env → Place
-inside f depth args own = record { own = own; outer = f.sees; extra = cond f.vararg (drop (length f.params) args) []; depth = depth }
+inside f depth args own = record { own = own; outer = f.sees; extra = extra_of f.vararg (length f.params) args; depth = depth }

@@ -1,0 +1,62 @@
+// Rows: the words of a call, the source of `a.lua`, and which puts do not go well.
+use row_source::read_source;
+use std::alloc::{AllocError, Global};
+use suite_io::Word;
+
+/// How a put ends that does not go well.
+#[derive(Clone, Copy)]
+pub enum Ending {
+    Fails,
+    Full,
+}
+
+/// A call of the suite. The puts of these numbers end as `ending` says; no put has the number 0.
+#[derive(Drop)]
+pub struct Row {
+    pub words: Vec<Word>,
+    pub source: Vec<u8>,
+    pub ending: Ending,
+    pub out_ends: u64,
+    pub err_ends: u64,
+}
+
+/// The row of a text; none where it has no `: `.
+pub(crate) fn read_row(alloc: Global, text: &str) -> Result<Option<Row>, AllocError> {
+    let Some((front, rest)) = text.split_once(": ") else {
+        return Ok(None);
+    };
+    match rest.split_once(": ") {
+        Some((words, source)) => read_parts(alloc, front, words, source),
+        None => read_parts(alloc, "", front, rest),
+    }
+}
+
+fn read_parts(
+    alloc: Global,
+    put: &str,
+    words: &str,
+    source: &str,
+) -> Result<Option<Row>, AllocError> {
+    let (sink, end) = put.split_once(' ').unwrap_or(("", ""));
+    let (kind, number) = end.split_once(' ').unwrap_or(("", ""));
+    let number = number.parse::<u64>().unwrap_or(0);
+    Ok(Some(Row {
+        words: read_words(alloc, words)?,
+        source: read_source(alloc, source)?,
+        ending: if kind == "full" {
+            Ending::Full
+        } else {
+            Ending::Fails
+        },
+        out_ends: if sink == "out" { number } else { 0 },
+        err_ends: if sink == "err" { number } else { 0 },
+    }))
+}
+
+fn read_words(alloc: Global, text: &str) -> Result<Vec<Word>, AllocError> {
+    let mut words = Vec::new(alloc);
+    for word in text.split_ascii_whitespace() {
+        words.push(String::from_str(alloc, word)?)?;
+    }
+    Ok(words)
+}
