@@ -8,4 +8,7 @@ pub mod SourceLemmas
 pub mod WordLemmas
 pub mod Meant
 pub mod Working
-pub mod Clauses
+pub mod Facts
+pub mod RunClauses
+pub mod ListClauses
+pub mod TaskClauses

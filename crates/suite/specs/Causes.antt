@@ -1,11 +1,14 @@
 -- To be believed. What the clauses of the top call speak of.
 use Rattle.std.specs.Prelude.{◌≡◌, ℕ, Bool, List, ◌⊎◌, Option}
+use Rattle.proto.specs.Chunk.{Chunk}
+use Rattle.chunk_io.specs.Items.{IsChunkOf}
 use Rattle.suite_io.specs.declared.calls.FileCall.{FileCall}
 use Rattle.suite_io.specs.Contents.{Contents}
 use Rattle.suite_io.specs.Calls.{fault_count}
 use Rattle.suite.specs.declared.status.Status.{Status}
 use Rattle.suite.specs.Lines.{Refused}
-use Rattle.suite.specs.Words.{Words, Fetched, HasSource}
+use Rattle.suite.specs.declared.words.Task.{Task}
+use Rattle.suite.specs.Words.{Words, Fetched, HasFile}
 use Rattle.suite.specs.Work.{IsNotFirstForm}
 
 -- the status stays, or gives way where a put of its line was refused
@@ -20,6 +23,10 @@ GrowsByOneFetch words calls calls_after = (calls_after ≡ calls) ⊎ ((failed :
 abbrev pub NoFault : List FileCall → List FileCall → Type 0
 NoFault calls calls_after = fault_count calls_after ≡ fault_count calls
 
--- the named file is told to be no source of the first form
+-- the file is to be run, and is told to be no source of the first form
 abbrev pub HasNoSource : Words → Option Contents → Type 0
-HasNoSource words contents = (bytes : List ℕ) × HasSource words contents bytes × IsNotFirstForm bytes
+HasNoSource words contents = (bytes : List ℕ) × HasFile words Task.Run contents bytes × IsNotFirstForm bytes
+
+-- the file is to be listed, and is told to be no chunk
+abbrev pub HasNoChunk : Words → Option Contents → Type 0
+HasNoChunk words contents = (bytes : List ℕ) × HasFile words Task.List contents bytes × ((chunk : Chunk) → IsChunkOf bytes chunk → ⊥)

@@ -3,6 +3,7 @@ use Rattle.std.specs.Prelude.{◌≡◌, ℕ, List, [], ◌∷◌, ◌++◌, ◌
 use Rattle.std.specs.Fmt.{decimal}
 use Rattle.lexer.specs.declared.fault.LexFault.{LexFault}
 use Rattle.scopes.specs.declared.fault.ScopeFault.{ScopeFault}
+use Rattle.chunk_io.specs.declared.fault.ChunkFault.{ChunkFault}
 use Rattle.suite_io.specs.Taken.{Takes, Rises}
 use Rattle.suite.specs.declared.fault.Fault.{Fault}
 use Rattle.suite.specs.declared.status.Status.{Status}
@@ -13,6 +14,7 @@ abbrev pub number_of : Status → ℕ
 number_of Status.Done = 0
 number_of Status.BadWords = 2
 number_of Status.BadSource = 4
+number_of Status.BadChunk = 5
 number_of Status.ReadFault = 8
 number_of Status.WriteFault = 9
 number_of Status.OutOfMemory = 10
@@ -23,6 +25,7 @@ abbrev pub status_of : Outcome → Status
 status_of Outcome.Done = Status.Done
 status_of Outcome.BadWords = Status.BadWords
 status_of (Outcome.BadSource fault) = Status.BadSource
+status_of (Outcome.BadChunk fault) = Status.BadChunk
 status_of Outcome.ReadFault = Status.ReadFault
 status_of Outcome.WriteFault = Status.WriteFault
 status_of Outcome.OutOfMemory = Status.OutOfMemory
@@ -53,6 +56,18 @@ fault_text (Fault.Unexpected offset) = codes ": Unexpected at offset " ++ decima
 fault_text (Fault.TooDeep offset) = codes ": TooDeep at offset " ++ decimal offset
 fault_text (Fault.Scoping fault) = scope_text fault
 
+-- the name of a fault of a chunk, and its offset, where it has one; want of memory is no such fault
+abbrev pub chunk_text : ChunkFault → List ℕ
+chunk_text (ChunkFault.Header at) = codes ": Header at offset " ++ decimal at
+chunk_text ChunkFault.Integral = codes ": Integral"
+chunk_text (ChunkFault.Truncated at) = codes ": Truncated at offset " ++ decimal at
+chunk_text (ChunkFault.BadTag at) = codes ": BadTag at offset " ++ decimal at
+chunk_text (ChunkFault.BadString at) = codes ": BadString at offset " ++ decimal at
+chunk_text (ChunkFault.BadCount at) = codes ": BadCount at offset " ++ decimal at
+chunk_text ChunkFault.TooDeep = codes ": TooDeep"
+chunk_text (ChunkFault.Trailing at) = codes ": Trailing at offset " ++ decimal at
+chunk_text ChunkFault.OutOfMemory = codes ": OutOfMemory"
+
 -- a line that speaks of a file of this name: `luasuite: `, the name, the text, and a line end
 abbrev pub line_with : List ℕ → List ℕ → List ℕ
 line_with name text = codes "luasuite: " ++ (name ++ (text ++ 10 ∷ []))
@@ -61,6 +76,7 @@ abbrev pub line_of : Outcome → List ℕ → List ℕ
 line_of Outcome.Done name = []
 line_of Outcome.BadWords name = line_with [] (codes "bad words")
 line_of (Outcome.BadSource fault) name = line_with name (fault_text fault)
+line_of (Outcome.BadChunk fault) name = line_with name (chunk_text fault)
 line_of Outcome.ReadFault name = line_with name (codes ": read failed")
 line_of Outcome.WriteFault name = line_with [] (codes "write failed")
 line_of Outcome.OutOfMemory name = line_with [] (codes "out of memory")
@@ -84,6 +100,9 @@ abbrev pub Reported : Outcome → List ℕ → Status → Option (List ℕ) → 
 Reported Outcome.Done name result before after old new = (result ≡ Status.Done) × Takes before after []
 Reported (Outcome.BadSource fault) name result before after old new =
     IsPut Status.BadSource (line_of (Outcome.BadSource fault) name) result before after old new
+    ⊎ IsPut Status.OutOfMemory (line_of Outcome.OutOfMemory name) result before after old new
+Reported (Outcome.BadChunk fault) name result before after old new =
+    IsPut Status.BadChunk (line_of (Outcome.BadChunk fault) name) result before after old new
     ⊎ IsPut Status.OutOfMemory (line_of Outcome.OutOfMemory name) result before after old new
 Reported outcome name result before after old new =
     IsPut (status_of outcome) (line_of outcome name) result before after old new

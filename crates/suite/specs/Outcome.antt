@@ -1,4 +1,4 @@
--- To be believed. What is wrong with the bytes of a file that is not run.
+-- To be believed. What is wrong with the bytes of a file that is not run or listed.
 use Rattle.std.specs.Prelude.{◌≡◌, ◌⊎◌, ℕ, true, false, List, length, slice_get, Option, Some, None}
 use Rattle.lua_tree.specs.Syntax.{Source, Statements}
 use Rattle.lua_tree.specs.Trees.{IsTreeOf}
@@ -9,9 +9,12 @@ use Rattle.lexer.specs.Faults.{IsFaultOf}
 use Rattle.parser.specs.Places.{IsUnexpectedAt, IsTooDeepAt}
 use Rattle.scopes.specs.declared.fault.ScopeFault.{ScopeFault}
 use Rattle.scopes.specs.Faults as scoping
+use Rattle.chunk_io.specs.declared.fault.ChunkFault.{ChunkFault}
+use Rattle.chunk_io.specs.Faults.{IsFault}
 use Rattle.first_form.specs.declared.tree.Statement.{Statement}
 use Rattle.first_form.specs.Source.{IsPrintList, is_chunk}
 use Rattle.suite.specs.declared.fault.Fault.{Fault}
+use Rattle.suite.specs.declared.words.Task.{Task}
 
 -- the offset of a token, or the length of the bytes, where there is none
 abbrev pub offset_of : ℕ → Option Token → ℕ
@@ -50,16 +53,20 @@ pub record IsBadSource (bytes : List ℕ) (fault : Fault) : Type 0 where
 abbrev pub IsNoPrintList : Statements → Type 0
 IsNoPrintList body = (tree : List Statement) → IsPrintList body tree → ⊥
 
--- the bytes are source with a tree that keeps the rules of scoping, and its statements are not at most 200 printed numbers
-pub record IsOtherSource (bytes : List ℕ) : Type 0 where
+-- the bytes are source with this tree, which keeps the rules of scoping
+pub record IsGoodSource (bytes : List ℕ) (whole : Source) : Type 0 where
   pub source : is_chunk bytes ≡ false
   pub tokens : List Token
   pub lexed : Lexes bytes tokens
-  pub whole : Source
   pub parsed : IsTreeOf tokens whole
   pub scoped : Scoped whole
-  pub no_list : IsNoPrintList whole.body
 
--- a chunk, or source that is not built
-abbrev pub IsNotBuilt : List ℕ → Type 0
-IsNotBuilt bytes = (is_chunk bytes ≡ true) ⊎ IsOtherSource bytes
+-- what is not built: of running a chunk or other source, of listing source
+abbrev pub IsNotBuilt : Task → List ℕ → Type 0
+IsNotBuilt Task.Run bytes = (is_chunk bytes ≡ true) ⊎ ((whole : Source) × IsGoodSource bytes whole × IsNoPrintList whole.body)
+IsNotBuilt Task.List bytes = (whole : Source) × IsGoodSource bytes whole
+
+-- the bytes are read as a chunk, and this is their fault
+pub record IsBadChunk (bytes : List ℕ) (fault : ChunkFault) : Type 0 where
+  pub chunk : is_chunk bytes ≡ true
+  pub fault_is : IsFault bytes fault

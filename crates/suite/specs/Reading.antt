@@ -1,11 +1,13 @@
 -- Serves the bodies. What reading a source comes to.
-use Rattle.std.specs.Prelude.{◌≡◌, ℕ, List, ℤ, codes}
+use Rattle.std.specs.Prelude.{◌≡◌, ℕ, List, Option, ℤ, codes}
 use Rattle.lua_tree.specs.Syntax.{Source, Expressions, expression, no_expressions, Expression, name_expression, number_literal}
 use Rattle.lexer.specs.declared.fault.LexFault.{LexFault}
 use Rattle.scopes.specs.declared.fault.ScopeFault.{ScopeFault}
 use Rattle.scopes.specs.Faults as scoping
 use Rattle.first_form.specs.declared.tree.Statement.{Statement}
 use Rattle.first_form.specs.Source.{IsPrintList, IsFirstForm}
+use Rattle.suite_io.specs.Taken.{Takes, Rises}
+use Rattle.suite.specs.Output.{TakesPart}
 use Rattle.suite.specs.declared.fault.Fault.{Fault}
 use Rattle.suite.specs.declared.outcome.Outcome.{Outcome}
 use Rattle.suite.specs.declared.source.SourceFault.{SourceFault}
@@ -52,3 +54,10 @@ pub record IsNumber (e : Expression) (n : ℤ) : Type 0 where
 pub record IsNumberList (es : Expressions) (n : ℤ) : Type 0 where
   pub line : ℕ
   pub is : es ≡ expression (number_literal line n) no_expressions
+
+-- what putting a text comes to
+abbrev pub PutsText : List ℕ → Outcome → Option (List ℕ) → Option (List ℕ) → ℕ → ℕ → Type 0
+PutsText text Outcome.Done before after old new = Takes before after text
+PutsText text Outcome.WriteFault before after old new = TakesPart before after text × Rises old new
+PutsText text Outcome.OutOfMemory before after old new = TakesPart before after text
+PutsText text outcome before after old new = ⊥

@@ -6,6 +6,7 @@ mod command;
 mod compile;
 mod effects;
 mod fault;
+mod listing;
 mod machine;
 mod outcome;
 mod output;

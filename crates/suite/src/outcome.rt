@@ -4,6 +4,7 @@ ghost use Rattle.suite.specs.Lines.{status_of};
 
 use crate::fault::Fault;
 use crate::status::Status;
+use chunk_io::ChunkFault;
 
 /// What the work came to, before its line is put.
 #[derive(Clone, Copy, Debug, PartialEq, Eq)]
@@ -11,6 +12,7 @@ pub enum Outcome {
     Done,
     BadWords,
     BadSource(Fault),
+    BadChunk(ChunkFault),
     ReadFault,
     WriteFault,
     OutOfMemory,
@@ -26,6 +28,7 @@ impl Outcome {
             Outcome::Done => Status::Done,
             Outcome::BadWords => Status::BadWords,
             Outcome::BadSource(_) => Status::BadSource,
+            Outcome::BadChunk(_) => Status::BadChunk,
             Outcome::ReadFault => Status::ReadFault,
             Outcome::WriteFault => Status::WriteFault,
             Outcome::OutOfMemory => Status::OutOfMemory,

@@ -2,13 +2,14 @@
 ghost use Rattle.std.specs.Prelude.{◌≡◌, ◌≤◌, ℕ, IfOk, OnOk, OnErr, IsErrOf};
 ghost use Rattle.std.specs.String.{string_bytes};
 ghost use Rattle.suite_io.specs.Taken.{Takes, Rises};
-ghost use Rattle.suite.specs.Lines.{Reported, IsPut, Refused, line_with, fault_text as the_text, lexical_text as the_lexical_text, scope_text as the_scope_text};
+ghost use Rattle.suite.specs.Lines.{Reported, IsPut, Refused, line_with, fault_text as the_text, lexical_text as the_lexical_text, scope_text as the_scope_text, chunk_text as the_chunk_text};
 ghost use Rattle.suite.specs.Output.{TakesPart};
 
 use crate::fault::Fault;
 use crate::outcome::Outcome;
 use crate::output::put_all;
 use crate::status::Status;
+use chunk_io::ChunkFault;
 use lexer::LexFault;
 use scopes::ScopeFault;
 use std::alloc::{AllocError, Global};
@@ -25,6 +26,7 @@ pub fn report<E: Sink>(alloc: Global, err: &mut E, outcome: Outcome, name: &str)
         Outcome::Done => status,
         Outcome::BadWords => put_line(err, status, "", "bad words"),
         Outcome::BadSource(fault) => report_fault(alloc, err, fault, name),
+        Outcome::BadChunk(fault) => report_chunk(alloc, err, fault, name),
         Outcome::ReadFault => put_line(err, status, name, ": read failed"),
         Outcome::WriteFault => put_line(err, status, "", "write failed"),
         Outcome::OutOfMemory => put_line(err, status, "", "out of memory"),
@@ -41,6 +43,34 @@ fn report_fault<E: Sink>(alloc: Global, err: &mut E, fault: Fault, name: &str) -
     match fault_text(alloc, fault) {
         Ok(text) => put_line(err, Status::BadSource, name, text.as_str()),
         Err(_) => put_line(err, Status::OutOfMemory, "", "out of memory"),
+    }
+}
+
+// Puts the line of a fault of a chunk, in the same way.
+fn report_chunk<E: Sink>(alloc: Global, err: &mut E, fault: ChunkFault, name: &str) -> Status
+    ensures reported { Reported (Outcome.BadChunk fault) name.now result (E.taken err.old) (E.taken err.new) (E.faults err.old) (E.faults err.new) }
+    ensures never_falls { E.faults err.old ≤ E.faults err.new }
+{
+    match chunk_text(alloc, fault) {
+        Ok(text) => put_line(err, Status::BadChunk, name, text.as_str()),
+        Err(_) => put_line(err, Status::OutOfMemory, "", "out of memory"),
+    }
+}
+
+// The name of a fault of a chunk, and its offset.
+fn chunk_text(alloc: Global, fault: ChunkFault) -> Result<String, AllocError>
+    ensures { IfOk result (λ text. string_bytes text ≡ the_chunk_text fault) }
+{
+    match fault {
+        ChunkFault::Header { at } => format!(in alloc; ": Header at offset {at}"),
+        ChunkFault::Integral => String::from_str(alloc, ": Integral"),
+        ChunkFault::Truncated { at } => format!(in alloc; ": Truncated at offset {at}"),
+        ChunkFault::BadTag { at } => format!(in alloc; ": BadTag at offset {at}"),
+        ChunkFault::BadString { at } => format!(in alloc; ": BadString at offset {at}"),
+        ChunkFault::BadCount { at } => format!(in alloc; ": BadCount at offset {at}"),
+        ChunkFault::TooDeep => String::from_str(alloc, ": TooDeep"),
+        ChunkFault::Trailing { at } => format!(in alloc; ": Trailing at offset {at}"),
+        ChunkFault::OutOfMemory => String::from_str(alloc, ": OutOfMemory"),
     }
 }
 

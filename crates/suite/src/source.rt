@@ -1,5 +1,5 @@
 // Reading a source of the first form.
-ghost use Rattle.std.specs.Prelude.{◌≡◌, ℤ, List, IfOk, IsErrOf, IfSome, IfNone, IsTrue, ◌↔◌};
+ghost use Rattle.std.specs.Prelude.{◌≡◌, ℤ, List, false, IfOk, IsOk, IsErrOf, IfSome, IfNone, IsTrue, ◌↔◌};
 ghost use Rattle.lua_tree.specs.View.{view_block, view_tree, view_statement, view_exp};
 ghost use Rattle.lua_tree.specs.TreeLists.{expressions_of};
 ghost use Rattle.lua_tree.specs.Scoping.{Scoped};
@@ -7,11 +7,12 @@ ghost use Rattle.lua_tree.specs.Tiling.{Lexes};
 ghost use Rattle.parser.specs.Places.{StopsBy};
 ghost use Rattle.first_form.specs.Source.{IsPrintList, PrintsNumber, is_chunk as the_is_chunk};
 ghost use Rattle.suite.specs.declared.fault.Fault.{Fault as OneFault};
-ghost use Rattle.suite.specs.Outcome.{IsBadSource, IsNotBuilt, IsFaultIn, IsNoPrintList};
+ghost use Rattle.suite.specs.Outcome.{IsBadSource, IsGoodSource, IsNotBuilt, IsFaultIn, IsNoPrintList};
 ghost use Rattle.suite.specs.Reading.{IsRead, outcome_of, IsScopingFault, IsPrintName, IsNumber, IsNumberList};
 
 use crate::fault::{Fault, offset_of};
 use crate::outcome::Outcome;
+use crate::words::Task;
 use first_form::tree::Statement;
 use lexer::{LexFault, lex};
 use lua_tree::{Args, Block, Exp, ExpKind, StatKind, Token, Tree, tokens_are_one};
@@ -81,22 +82,34 @@ const MAX_STATEMENTS: usize = 200;
 pub fn read_source(alloc: Global, bytes: &[u8]) -> Result<Vec<Statement>, SourceFault>
     ensures tree { IfOk result (λ tree. IsRead bytes.now tree.items) }
     ensures bad { (fault : OneFault) → result ≡ Err (SourceFault.Bad fault) → IsBadSource bytes.now fault }
-    ensures unbuilt { IsErrOf result SourceFault.Unbuilt → IsNotBuilt bytes.now }
+    ensures unbuilt { IsErrOf result SourceFault.Unbuilt → IsNotBuilt Task.Run bytes.now }
 {
     if is_chunk(bytes) {
         return Err(SourceFault::Unbuilt);
     }
-    let tokens = lex(alloc, bytes)?;
     // Laws: these are the only tokens of the source, and they have one tree.
     tokens_are_one();
     trees_are_one();
+    let tree = good_tree(alloc, bytes)?;
+    read_block(alloc, &tree.body)
+}
+
+/// The tree of a source, which keeps the rules of scoping, or its fault. The time is linear in the bytes.
+pub fn good_tree(alloc: Global, bytes: &[u8]) -> Result<Tree, SourceFault>
+    requires { the_is_chunk bytes.now ≡ false }
+    ensures tree { IfOk result (λ tree. IsGoodSource bytes.now (view_tree tree)) }
+    ensures bad { (fault : OneFault) → result ≡ Err (SourceFault.Bad fault) → IsBadSource bytes.now fault }
+    ensures built { IsErrOf result SourceFault.Unbuilt → ⊥ }
+{
+    let tokens = lex(alloc, bytes)?;
     match parse(alloc, &tokens) {
-        Ok(tree) => read_tree(alloc, &tree),
+        Ok(tree) => scoped_tree(alloc, tree),
         Err(fault) => Err(syntax_fault(fault, tokens.items(), bytes)),
     }
 }
 
-fn is_chunk(bytes: &[u8]) -> bool
+/// Whether a file is read as a chunk.
+pub fn is_chunk(bytes: &[u8]) -> bool
     ensures { result ≡ the_is_chunk bytes.now }
 {
     match bytes {
@@ -123,15 +136,15 @@ fn syntax_fault(fault: SyntaxFault, tokens: &[Token], bytes: &[u8]) -> SourceFau
     }
 }
 
-// The numbers that the statements of a tree print, where it keeps the rules of scoping.
-fn read_tree(alloc: Global, tree: &Tree) -> Result<Vec<Statement>, SourceFault>
-    ensures tree { IfOk result (λ prints. IsPrintList (view_block tree.now.body) prints.items) }
-    ensures bad { (fault : OneFault) → result ≡ Err (SourceFault.Bad fault) → IsScopingFault (view_tree tree.now) fault }
-    ensures scoped { IsErrOf result SourceFault.Unbuilt → Scoped (view_tree tree.now) }
-    ensures unbuilt { IsErrOf result SourceFault.Unbuilt → IsNoPrintList (view_block tree.now.body) }
+// The tree, where it keeps the rules of scoping.
+fn scoped_tree(alloc: Global, tree: Tree) -> Result<Tree, SourceFault>
+    ensures tree { IfOk result (λ kept. kept ≡ tree) }
+    ensures scoped { IsOk result → Scoped (view_tree tree) }
+    ensures bad { (fault : OneFault) → result ≡ Err (SourceFault.Bad fault) → IsScopingFault (view_tree tree) fault }
+    ensures built { IsErrOf result SourceFault.Unbuilt → ⊥ }
 {
-    resolve(alloc, tree)?;
-    read_block(alloc, &tree.body)
+    resolve(alloc, &tree)?;
+    Ok(tree)
 }
 
 // The numbers that these statements print.

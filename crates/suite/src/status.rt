@@ -9,8 +9,10 @@ pub enum Status {
     Done = 0,
     /// The words are no command.
     BadWords = 2,
-    /// The source has a lexical or a syntax fault.
+    /// The source has a lexical, a syntax or a scope fault.
     BadSource = 4,
+    /// The bytes are no chunk.
+    BadChunk = 5,
     /// The file could not be read.
     ReadFault = 8,
     /// Output, or the line that says why, could not be written.

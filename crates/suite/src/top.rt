@@ -2,17 +2,22 @@
 ghost use Rattle.std.specs.Prelude.{◌≡◌, ◌≢◌, ◌⊎◌, true, false, [], List, ℕ};
 ghost use Rattle.suite_io.specs.Taken.{Takes, Rises};
 ghost use Rattle.lua_tree.specs.Syntax.{Source};
+ghost use Rattle.proto.specs.Chunk.{Chunk};
+ghost use Rattle.chunk_io.specs.Items.{IsChunkOf};
+ghost use Rattle.chunk_io.specs.declared.fault.ChunkFault.{ChunkFault};
+ghost use Rattle.lister.specs.Listing.{listing};
 ghost use Rattle.first_form.specs.Source.{IsFirstForm};
 ghost use Rattle.suite.specs.declared.fault.Fault.{Fault};
 ghost use Rattle.suite.specs.declared.outcome.Outcome.{Outcome};
+ghost use Rattle.suite.specs.declared.words.Task.{Task};
 ghost use Rattle.suite.specs.Output.{TakesPart};
-ghost use Rattle.suite.specs.Words.{NoCommand, Fetched, HasSource, named};
+ghost use Rattle.suite.specs.Words.{NoCommand, Fetched, HasFile, named};
 ghost use Rattle.suite.specs.Lines.{Reported, status_of, line_of};
-ghost use Rattle.suite.specs.Outcome.{IsBadSource, IsNotBuilt};
-ghost use Rattle.suite.specs.Work.{Works, HasOutput, Prints};
-ghost use Rattle.suite.specs.Causes.{Becomes, GrowsByOneFetch, NoFault, HasNoSource};
+ghost use Rattle.suite.specs.Outcome.{IsBadSource, IsBadChunk, IsNotBuilt};
+ghost use Rattle.suite.specs.Work.{Works, HasOutput, Prints, Lists};
+ghost use Rattle.suite.specs.Causes.{Becomes, GrowsByOneFetch, NoFault, HasNoSource, HasNoChunk};
 
-use crate::command::run_file;
+use crate::command::do_file;
 use crate::outcome::Outcome;
 use crate::report::report;
 use crate::status::Status;
@@ -20,10 +25,10 @@ use crate::words::read_words;
 use std::alloc::Global;
 use suite_io::{Files, Sink, Word};
 
-/// Carries out the command that the words say: `run FILE` reads the file to a tree and runs a list of
-/// printed numbers. Every other list of words is refused. The work goes in the order words, fetch,
-/// tokens, tree, scopes, statements, run, and the line for `err` that every status but `Done` has; the first refusal gives
-/// the status. What a run had put to `out` before a refusal stays. Want of memory is a free answer.
+/// Carries out the command that the words say: `run FILE` reads the file to a tree and runs a list of printed numbers,
+/// `list FILE` reads a chunk and puts its listing. Every other list of words is refused. The work goes in the order words,
+/// fetch, reading (of source: tokens, tree, scopes, statements), run or listing, and the line for `err` that every status but
+/// `Done` has; the first refusal gives the status. What was put to `out` before a refusal stays. Want of memory is a free answer.
 pub fn suite<F: Files, O: Sink, E: Sink>(
     alloc: Global,
     words: &[Word],
@@ -37,17 +42,25 @@ pub fn suite<F: Files, O: Sink, E: Sink>(
         × Reported settled (named words.now) result (E.taken err.old) (E.taken err.new) (E.faults err.old) (E.faults err.new) }
 
     // Source of the first form prints what it means, where no count of faults rose.
-    ensures prints { (bytes : List ℕ) (source : Source) → HasSource words.now (F.contents files.old) bytes → IsFirstForm bytes source
+    ensures prints { (bytes : List ℕ) (source : Source) → HasFile words.now Task.Run (F.contents files.old) bytes → IsFirstForm bytes source
         → NoFault (F.calls files.old) (F.calls files.new) → ¬ (Rises (O.faults out.old) (O.faults out.new)) → ¬ (Rises (E.faults err.old) (E.faults err.new))
         → ((result ≡ Status.Done) × (text : List ℕ) × HasOutput source text × Takes (O.taken out.old) (O.taken out.new) text) ⊎ (result ≡ Status.OutOfMemory) }
 
-    // At Done the whole output was put.
-    ensures printed { result ≡ Status.Done → (bytes : List ℕ) → HasSource words.now (F.contents files.old) bytes → Prints bytes (O.taken out.old) (O.taken out.new) }
+    // A chunk is listed, where no count of faults rose.
+    ensures lists { (bytes : List ℕ) (chunk : Chunk) → HasFile words.now Task.List (F.contents files.old) bytes → IsChunkOf bytes chunk
+        → NoFault (F.calls files.old) (F.calls files.new) → ¬ (Rises (O.faults out.old) (O.faults out.new)) → ¬ (Rises (E.faults err.old) (E.faults err.new))
+        → ((result ≡ Status.Done) × Takes (O.taken out.old) (O.taken out.new) (listing chunk)) ⊎ (result ≡ Status.OutOfMemory) }
 
-    // What is put to `out` is a first part of that, and nothing where there is no source to run.
-    ensures part { (bytes : List ℕ) (source : Source) (text : List ℕ) → HasSource words.now (F.contents files.old) bytes → IsFirstForm bytes source
+    // At Done the whole output was put.
+    ensures printed { result ≡ Status.Done → (bytes : List ℕ) → HasFile words.now Task.Run (F.contents files.old) bytes → Prints bytes (O.taken out.old) (O.taken out.new) }
+    ensures listed { result ≡ Status.Done → (bytes : List ℕ) → HasFile words.now Task.List (F.contents files.old) bytes → Lists bytes (O.taken out.old) (O.taken out.new) }
+
+    // What is put to `out` is a first part of that, and nothing where there is nothing to run or list.
+    ensures part { (bytes : List ℕ) (source : Source) (text : List ℕ) → HasFile words.now Task.Run (F.contents files.old) bytes → IsFirstForm bytes source
         → HasOutput source text → TakesPart (O.taken out.old) (O.taken out.new) text }
-    ensures nothing { NoCommand words.now ⊎ Fetched words.now true (F.calls files.old) (F.calls files.new) ⊎ HasNoSource words.now (F.contents files.old)
+    ensures listed_part { (bytes : List ℕ) (chunk : Chunk) → HasFile words.now Task.List (F.contents files.old) bytes → IsChunkOf bytes chunk
+        → TakesPart (O.taken out.old) (O.taken out.new) (listing chunk) }
+    ensures nothing { NoCommand words.now ⊎ Fetched words.now true (F.calls files.old) (F.calls files.new) ⊎ HasNoSource words.now (F.contents files.old) ⊎ HasNoChunk words.now (F.contents files.old)
         → Takes (O.taken out.old) (O.taken out.new) [] }
 
     // The calls of files, which store nothing.
@@ -62,14 +75,20 @@ pub fn suite<F: Files, O: Sink, E: Sink>(
     ensures read_fault { result ≡ Status.ReadFault → Fetched words.now true (F.calls files.old) (F.calls files.new) }
     ensures fetch_failed { Fetched words.now true (F.calls files.old) (F.calls files.new) → Becomes Status.ReadFault result (E.faults err.old) (E.faults err.new) }
     ensures bad_source { result ≡ Status.BadSource → Fetched words.now false (F.calls files.old) (F.calls files.new)
-        × (fault : Fault) × ((bytes : List ℕ) → HasSource words.now (F.contents files.old) bytes → IsBadSource bytes fault)
+        × (fault : Fault) × ((task : Task) (bytes : List ℕ) → HasFile words.now task (F.contents files.old) bytes → IsBadSource bytes fault)
         × Takes (E.taken err.old) (E.taken err.new) (line_of (Outcome.BadSource fault) (named words.now)) }
-    ensures faulty { (bytes : List ℕ) (fault : Fault) → HasSource words.now (F.contents files.old) bytes → IsBadSource bytes fault
+    ensures faulty { (task : Task) (bytes : List ℕ) (fault : Fault) → HasFile words.now task (F.contents files.old) bytes → IsBadSource bytes fault
         → Fetched words.now false (F.calls files.old) (F.calls files.new)
         → Becomes Status.BadSource result (E.faults err.old) (E.faults err.new) ⊎ (result ≡ Status.OutOfMemory) }
+    ensures bad_chunk { result ≡ Status.BadChunk → Fetched words.now false (F.calls files.old) (F.calls files.new)
+        × (fault : ChunkFault) × ((task : Task) (bytes : List ℕ) → HasFile words.now task (F.contents files.old) bytes → (task ≡ Task.List) × IsBadChunk bytes fault)
+        × Takes (E.taken err.old) (E.taken err.new) (line_of (Outcome.BadChunk fault) (named words.now)) }
+    ensures broken { (bytes : List ℕ) (fault : ChunkFault) → HasFile words.now Task.List (F.contents files.old) bytes → IsBadChunk bytes fault
+        → Fetched words.now false (F.calls files.old) (F.calls files.new)
+        → Becomes Status.BadChunk result (E.faults err.old) (E.faults err.new) ⊎ (result ≡ Status.OutOfMemory) }
     ensures unbuilt { result ≡ Status.Unbuilt → Fetched words.now false (F.calls files.old) (F.calls files.new)
-        × ((bytes : List ℕ) → HasSource words.now (F.contents files.old) bytes → IsNotBuilt bytes) }
-    ensures not_built { (bytes : List ℕ) → HasSource words.now (F.contents files.old) bytes → IsNotBuilt bytes
+        × ((task : Task) (bytes : List ℕ) → HasFile words.now task (F.contents files.old) bytes → IsNotBuilt task bytes) }
+    ensures not_built { (task : Task) (bytes : List ℕ) → HasFile words.now task (F.contents files.old) bytes → IsNotBuilt task bytes
         → Fetched words.now false (F.calls files.old) (F.calls files.new)
         → Becomes Status.Unbuilt result (E.faults err.old) (E.faults err.new) ⊎ (result ≡ Status.OutOfMemory) }
     ensures write_fault { result ≡ Status.WriteFault → Rises (O.faults out.old) (O.faults out.new) ⊎ Rises (E.faults err.old) (E.faults err.new) }
@@ -78,14 +97,16 @@ pub fn suite<F: Files, O: Sink, E: Sink>(
     ensures line { result ≢ Status.WriteFault → result ≢ Status.OutOfMemory → (settled : Outcome) × (status_of settled ≡ result)
         × Takes (E.taken err.old) (E.taken err.new) (line_of settled (named words.now)) }
 {
-    // Laws: bytes have one list of tokens, or a fault, and never both; so it is with tokens and trees.
+    // Laws: bytes have one list of tokens, or a fault, and never both; so it is with tokens and trees, and with bytes and chunks.
     lua_tree::tokens_are_one();
     lua_tree::never_both();
     parser::trees_are_one();
     parser::never_both();
+    chunk_io::chunks_are_one();
+    chunk_io::never_both();
     match read_words(words) {
-        Some(file) => {
-            let outcome = run_file(alloc, file, files, out);
+        Some((task, file)) => {
+            let outcome = do_file(alloc, task, file, files, out);
             report(alloc, err, outcome, file.as_str())
         }
         None => report(alloc, err, Outcome::BadWords, ""),
