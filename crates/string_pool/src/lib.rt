@@ -1,0 +1,66 @@
+//! The texts of a run, each kept once.
+#![tactic(auto)]
+
+ghost use Rattle.std.specs.Prelude.{◌≡◌, ◌<◌, false, Some, slice_get, [], length, get_or, IfOk, OnOk, OnErr};
+ghost use Rattle.std.specs.List.{list_any};
+ghost use Rattle.std.specs.Str.{bytes_eq};
+ghost use Rattle.string_pool.specs.Texts.{with_text, TextsDiffer};
+
+use indexmap::IndexSet;
+use lua_model::TextId;
+use std::alloc::{AllocError, Global};
+use std::marker::Model;
+
+/// Texts by their ids, no two of them alike. Contracts see the list of their bytes.
+#[derive(Drop)]
+pub struct Pool {
+    texts: IndexSet<Vec<u8>>,
+}
+
+impl Model for Pool {
+    ghost use Rattle.std.specs.Prelude.{List};
+    ghost use Rattle.lua_num.specs.Bytes.{Text};
+    ghost use Rattle.string_pool.specs.Texts.{texts_of, TextsDiffer};
+
+    ghost Value = { List Text };
+
+    ghost view = { λ p. texts_of p.texts.keys };
+
+    ghost invariant = { λ p. TextsDiffer (texts_of p.texts.keys) };
+}
+
+impl Pool {
+    /// No texts, which takes no memory.
+    pub fn new(alloc: Global) -> Self
+        ensures { result ≡ [] }
+    {
+        Self {
+            texts: IndexSet::new(alloc),
+        }
+    }
+
+    /// The id of these bytes: that of the text with these bytes where there is one, which takes no memory, or that of
+    /// a copy of them, which goes last. In time linear in the bytes on average. Fails where memory runs out; the pool
+    /// is then as it was.
+    pub fn intern(&mut self, alloc: Global, bytes: &[u8]) -> Result<TextId, AllocError>
+        ensures texts { OnOk result (self.new ≡ with_text self.old bytes.now) }
+        ensures id { IfOk result (λ id. slice_get self.new id.index ≡ Some bytes.now) }
+        ensures differ { TextsDiffer self.new }
+        ensures there { OnErr result (list_any (bytes_eq bytes.now) self.old ≡ false) }
+        ensures err { OnErr result (self.new ≡ self.old) }
+    {
+        if let Some((index, _)) = self.texts.get_full(bytes) {
+            return Ok(TextId { index });
+        }
+        let (index, _) = self.texts.insert_full(bytes.to_vec(alloc)?)?;
+        Ok(TextId { index })
+    }
+
+    /// The bytes of an id that this pool gave, in constant time.
+    pub fn bytes(&self, id: TextId) -> &[u8]
+        requires { id.index < length self.now }
+        ensures { result.now ≡ get_or self.now id.index [] }
+    {
+        self.texts[id.index].as_slice()
+    }
+}
