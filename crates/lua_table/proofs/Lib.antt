@@ -1,0 +1,9 @@
+pub mod Borders
+pub mod Equality
+pub mod Examples
+pub mod First
+pub mod Mapped
+pub mod Places
+pub mod Rows
+pub mod Walks
+pub mod Writes

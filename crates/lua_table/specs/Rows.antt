@@ -1,0 +1,18 @@
+-- Serves the bodies: rows of values as pairs.
+use Rattle.std.specs.Prelude.{◌≡◌, ℕ, ◌+◌, ◌<◌, false, List, [], ◌∷◌}
+use Rattle.lua_model.specs.declared.Value.{Value}
+use Rattle.lua_model.specs.Value.{same_value}
+use Rattle.lua_table.specs.Entries.{Entries, entry, is_nil_value, number_key}
+
+-- the first n numbers from 1 have values
+abbrev pub IsFull : Entries → ℕ → Type 0
+IsFull ps n = (m : ℕ) → m < n → is_nil_value (entry ps (number_key (m + 1))) ≡ false
+
+-- the pairs of a row of values whose first key is n + 1
+abbrev pub row_pairs : ℕ → List Value → Entries
+row_pairs n [] = []
+row_pairs n (v ∷ vs) = (number_key (n + 1), v) ∷ row_pairs (n + 1) vs
+
+-- the key is none of the first n numbers from 1
+abbrev pub IsOutside : ℕ → Value → Type 0
+IsOutside n k = (i : ℕ) → i < n → same_value k (number_key (i + 1)) ≡ false

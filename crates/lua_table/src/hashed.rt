@@ -1,0 +1,119 @@
+// Pairs in a map, in the order in which keys were first given a value.
+ghost use Rattle.std.specs.Prelude.{◌≡◌, ◌^◌, ◌≤◌, true, false, ◌↔◌, [], Err, Some, None, OnOk, OnErr, IfOk, IsTrue, length, drop};
+ghost use Rattle.lua_table.specs.Entries.{is_nil_value, entry, has_place, with_entry, first_pair, pair_after};
+
+use crate::fault::{NextFault, SetFault};
+use crate::keys::is_nil;
+use indexmap::IndexMap;
+use lua_model::Value;
+use std::alloc::Global;
+use std::marker::Model;
+
+/// How many pairs a map may hold.
+const MOST_PAIRS: usize = 1 << 62;
+
+/// A map of pairs, whose keys keep their places. Contracts see the list of pairs.
+#[derive(Drop)]
+pub(crate) struct Hashed {
+    map: IndexMap<Value, Value>,
+}
+
+impl Model for Hashed {
+    ghost use Rattle.std.specs.Prelude.{◌≤◌, ◌^◌, length};
+    ghost use Rattle.lua_table.specs.Entries.{Entries};
+
+    ghost Value = { Entries };
+
+    ghost view = { λ t. t.map.entries };
+
+    ghost invariant = { λ t. length t.map.entries ≤ 2 ^ 62 };
+}
+
+impl Hashed {
+    pub(crate) fn new(alloc: Global) -> Self
+        ensures { result ≡ [] }
+    {
+        Self {
+            map: IndexMap::new(alloc),
+        }
+    }
+
+    pub(crate) fn len(&self) -> usize
+        ensures len { result ≡ length self.now }
+        ensures small { result ≤ 2 ^ 62 }
+    {
+        self.map.len()
+    }
+
+    pub(crate) fn is_empty(&self) -> bool
+        ensures { IsTrue result ↔ (self.now ≡ []) }
+    {
+        self.map.is_empty()
+    }
+
+    /// The value of a key, nil where it has none. An empty map hashes nothing.
+    pub(crate) fn get(&self, key: Value) -> Value
+        ensures { result ≡ entry self.now key }
+    {
+        if self.map.is_empty() {
+            return Value::Nil;
+        }
+        match self.map.get(&key) {
+            Some(value) => *value,
+            None => Value::Nil,
+        }
+    }
+
+    fn has(&self, key: Value) -> bool
+        ensures { result ≡ has_place self.now key }
+    {
+        self.map.contains_key(&key)
+    }
+
+    /// Writes a value, as `Table::set`.
+    pub(crate) fn set(&mut self, key: Value, value: Value) -> Result<(), SetFault>
+        ensures pairs { OnOk result (self.new ≡ with_entry self.old key value) }
+        ensures nil_key { result ≡ Err SetFault.NilKey ↔ is_nil_value key ≡ true }
+        ensures memory { result ≡ Err SetFault.OutOfMemory → (has_place self.old key ≡ false) × (is_nil_value value ≡ false) }
+        ensures refused { OnErr result (self.new ≡ self.old) }
+    {
+        if is_nil(key) {
+            return Err(SetFault::NilKey);
+        }
+        if is_nil(value) && !self.has(key) {
+            return Ok(());
+        }
+        if self.map.len() >= MOST_PAIRS && !self.has(key) {
+            return Err(SetFault::OutOfMemory);
+        }
+        self.map.insert(key, value)?;
+        Ok(())
+    }
+
+    /// The first pair whose value is not nil, from a place on.
+    pub(crate) fn first_from(&self, start: usize) -> Option<(Value, Value)>
+        ensures { result ≡ first_pair (drop start self.now) }
+    {
+        let len = self.map.len();
+        for i in start..len {
+            let Some((key, value)) = self.map.get_index(i) else {
+                return None;
+            };
+            if !is_nil(*value) {
+                return Some((*key, *value));
+            }
+        }
+        None
+    }
+
+    /// The first pair whose value is not nil behind the place of a key.
+    pub(crate) fn next(&self, key: Value) -> Result<Option<(Value, Value)>, NextFault>
+        ensures pair { IfOk result (λ p. pair_after self.now key ≡ Some p) }
+        ensures unknown { OnErr result (pair_after self.now key ≡ None) }
+    {
+        match self.map.get_index_of(&key) {
+            Some(i) => Ok(self.first_from(i + 1)),
+            None => Err(NextFault::UnknownKey),
+        }
+    }
+}
