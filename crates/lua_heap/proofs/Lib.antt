@@ -1,0 +1,9 @@
+pub mod Mapped
+pub mod Alike
+pub mod Entries
+pub mod Growth
+pub mod Entities
+pub mod Names
+pub mod Pushes
+pub mod Interned
+pub mod Callers

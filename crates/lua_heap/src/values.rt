@@ -1,0 +1,48 @@
+// Lists of values.
+ghost use Rattle.std.specs.Prelude.{◌≡◌, [], ◌∷◌, ◌++◌, OnOk, OnErr};
+
+use lua_model::Value;
+use std::alloc::{AllocError, Global};
+use std::marker::Model;
+
+/// Values, in order. Contracts see the list.
+#[derive(Debug, Drop)]
+pub struct ValueList {
+    values: Vec<Value>,
+}
+
+impl Model for ValueList {
+    ghost use Rattle.std.specs.Prelude.{List};
+    ghost use Rattle.lua_model.specs.declared.Value.{Value as Item};
+
+    ghost Value = { List Item };
+
+    ghost view = { λ l. l.values.items };
+}
+
+impl ValueList {
+    /// No values, which takes no memory.
+    pub fn new(alloc: Global) -> Self
+        ensures { result ≡ [] }
+    {
+        Self {
+            values: Vec::new(alloc),
+        }
+    }
+
+    /// Appends a value.
+    pub fn push(&mut self, value: Value) -> Result<(), AllocError>
+        ensures ok { OnOk result (self.new ≡ self.old ++ value ∷ []) }
+        ensures err { OnErr result (self.new ≡ self.old) }
+    {
+        self.values.push(value)?;
+        Ok(())
+    }
+
+    /// The values.
+    pub fn items(&self) -> &[Value]
+        ensures { result.now ≡ self.now }
+    {
+        self.values.as_slice()
+    }
+}
