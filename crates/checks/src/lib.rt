@@ -6,6 +6,8 @@ mod arith;
 #[cfg(test)]
 mod files;
 #[cfg(test)]
+mod heap;
+#[cfg(test)]
 mod instructions;
 #[cfg(test)]
 mod numbers;
