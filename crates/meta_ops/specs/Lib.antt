@@ -1,0 +1,4 @@
+pub mod Acts
+pub mod Grown
+pub mod Orders
+pub mod Steps

@@ -1,0 +1,204 @@
+// Indexing with its handlers (manual 2.8, "index" and "newindex").
+ghost use Rattle.std.specs.Prelude.{◌≡◌, ◌<◌, false, length, IfOk, OnOk, OnErr};
+ghost use Rattle.lua_model.specs.Datum.{text, is_nil as is_nil_datum};
+ghost use Rattle.lua_model.specs.Store.{raw_set};
+ghost use Rattle.lua_model.specs.Operators.{index as index_in, index_within as index_within_in, set_index as set_index_in, set_index_within as set_index_within_in, index_fault};
+ghost use Rattle.lua_heap.specs.State.{datum, IsOf, own_store, with_store, Keeps};
+ghost use Rattle.meta_ops.specs.Acts.{act_of, IsActOf, OnlyTexts, OnlyTables};
+ghost use Rattle.meta_ops.specs.Grown.{Grown};
+ghost use Rattle.meta_ops.specs.Steps.{IsRead, IsWritten};
+
+use crate::act::{Act, Then};
+use crate::failures::{kind_failure, text_value};
+use crate::handlers::{call_with, handler, is_function, is_nil};
+use lua_heap::Heap;
+use lua_model::{TableId, Value};
+use std::alloc::{AllocError, Global};
+
+/// How many values an index may try.
+const CHAIN_LIMIT: usize = 100;
+
+/// What one try of an index comes to: it is done, or goes on at a handler that is no function.
+#[derive(Drop)]
+enum Step {
+    Done(Act),
+    Next(Value),
+}
+
+/// `on[key]`: the entry of a table, or what its handler gives, which is asked where it is a function and is read in turn
+/// where it is not. At most 100 values are read, each in constant time on average. Where memory runs out only texts of the
+/// heap changed.
+pub fn index(alloc: Global, heap: &mut Heap, on: Value, key: Value) -> Result<Act, AllocError>
+    requires on { IsOf heap.old on }
+    requires key { IsOf heap.old key }
+    ensures act { IfOk result (λ r. act_of heap.new r ≡ index_in (own_store heap.old) (datum heap.old on) (datum heap.old key)) }
+    ensures known { IfOk result (IsActOf heap.new) }
+    ensures only_texts { OnlyTexts heap.old heap.new }
+    ensures keeps { Keeps heap.old heap.new }
+{
+    let act = index_within(alloc, heap, on, key, CHAIN_LIMIT)?;
+    Ok(act)
+}
+
+/// Reads `on[key]`, where so many values may be tried.
+fn index_within(
+    alloc: Global,
+    heap: &mut Heap,
+    on: Value,
+    key: Value,
+    limit: usize,
+) -> Result<Act, AllocError>
+    requires on { IsOf heap.old on }
+    requires key { IsOf heap.old key }
+    ensures act { IfOk result (λ r. act_of heap.new r ≡ index_within_in limit (own_store heap.old) (datum heap.old on) (datum heap.old key)) }
+    ensures known { IfOk result (IsActOf heap.new) }
+    ensures grown { Grown heap.old heap.new }
+{
+    let mut at = on;
+    for _ in 0..limit {
+        match read_step(alloc, heap, at, key)? {
+            Step::Done(act) => return Ok(act),
+            Step::Next(next) => at = next,
+        }
+    }
+    Ok(Act::Fail(text_value(alloc, heap, b"loop in gettable")?))
+}
+
+fn read_step(alloc: Global, heap: &mut Heap, on: Value, key: Value) -> Result<Step, AllocError>
+    requires on { IsOf heap.old on }
+    requires key { IsOf heap.old key }
+    ensures step { IfOk result (IsRead heap.old heap.new on key) }
+    ensures grown { Grown heap.old heap.new }
+{
+    let Value::Table(table) = on else {
+        let failure = index_failure(alloc, heap, on)?;
+        return Ok(Step::Done(Act::Fail(failure)));
+    };
+    let entry = heap.raw_get(table, key);
+    if !is_nil(entry) {
+        return Ok(Step::Done(Act::Value(entry)));
+    }
+    let handler = handler(alloc, heap, on, b"__index")?;
+    if is_nil(handler) {
+        Ok(Step::Done(Act::Value(Value::Nil)))
+    } else if is_function(handler) {
+        let call = call_with(alloc, handler, &[on, key], Then::Take)?;
+        Ok(Step::Done(call))
+    } else {
+        Ok(Step::Next(handler))
+    }
+}
+
+/// Sets `on[key]`: the entry of a table, or what its handler makes of it, which is asked where it is a function and is
+/// written in turn where it is not, but only where there is no entry. At most 100 values are tried, each in constant time
+/// on average. Where memory runs out only texts of the heap changed.
+pub fn set_index(
+    alloc: Global,
+    heap: &mut Heap,
+    on: Value,
+    key: Value,
+    value: Value,
+) -> Result<Act, AllocError>
+    requires on { IsOf heap.old on }
+    requires key { IsOf heap.old key }
+    requires value { IsOf heap.old value }
+    ensures act { IfOk result (λ r. (act_of heap.new r, own_store heap.new) ≡ set_index_in (own_store heap.old) (datum heap.old on) (datum heap.old key) (datum heap.old value)) }
+    ensures known { IfOk result (IsActOf heap.new) }
+    ensures only_tables { OnlyTables heap.old heap.new }
+    ensures err { OnErr result (OnlyTexts heap.old heap.new) }
+    ensures keeps { Keeps heap.old heap.new }
+{
+    let act = set_index_within(alloc, heap, on, key, value, CHAIN_LIMIT)?;
+    Ok(act)
+}
+
+/// Sets `on[key]`, where so many values may be tried.
+fn set_index_within(
+    alloc: Global,
+    heap: &mut Heap,
+    on: Value,
+    key: Value,
+    value: Value,
+    limit: usize,
+) -> Result<Act, AllocError>
+    requires on { IsOf heap.old on }
+    requires key { IsOf heap.old key }
+    requires value { IsOf heap.old value }
+    ensures act { IfOk result (λ r. (act_of heap.new r, own_store heap.new) ≡ set_index_within_in limit (own_store heap.old) (datum heap.old on) (datum heap.old key) (datum heap.old value)) }
+    ensures known { IfOk result (IsActOf heap.new) }
+    ensures only_tables { OnlyTables heap.old heap.new }
+    ensures err { OnErr result (OnlyTexts heap.old heap.new) }
+    ensures keeps { Keeps heap.old heap.new }
+{
+    let mut at = on;
+    for _ in 0..limit {
+        match write_step(alloc, heap, at, key, value)? {
+            Step::Done(act) => return Ok(act),
+            Step::Next(next) => at = next,
+        }
+    }
+    Ok(Act::Fail(text_value(alloc, heap, b"loop in settable")?))
+}
+
+fn write_step(
+    alloc: Global,
+    heap: &mut Heap,
+    on: Value,
+    key: Value,
+    value: Value,
+) -> Result<Step, AllocError>
+    requires on { IsOf heap.old on }
+    requires key { IsOf heap.old key }
+    requires value { IsOf heap.old value }
+    ensures step { IfOk result (IsWritten heap.old heap.new on key value) }
+    ensures only_tables { OnlyTables heap.old heap.new }
+    ensures err { OnErr result (OnlyTexts heap.old heap.new) }
+    ensures keeps { Keeps heap.old heap.new }
+{
+    let Value::Table(table) = on else {
+        let failure = index_failure(alloc, heap, on)?;
+        return Ok(Step::Done(Act::Fail(failure)));
+    };
+    if is_nil(key) {
+        let failure = text_value(alloc, heap, b"table index is nil")?;
+        return Ok(Step::Done(Act::Fail(failure)));
+    }
+    if !is_nil(heap.raw_get(table, key)) {
+        set_entry(heap, table, key, value)?;
+        return Ok(Step::Done(Act::Value(Value::Nil)));
+    }
+    let handler = handler(alloc, heap, on, b"__newindex")?;
+    if is_nil(handler) {
+        set_entry(heap, table, key, value)?;
+        Ok(Step::Done(Act::Value(Value::Nil)))
+    } else if is_function(handler) {
+        let call = call_with(alloc, handler, &[on, key, value], Then::Discard)?;
+        Ok(Step::Done(call))
+    } else {
+        Ok(Step::Next(handler))
+    }
+}
+
+/// Sets the entry of a key that is not nil, which fails only where memory runs out; the heap is then as it was.
+fn set_entry(heap: &mut Heap, table: TableId, key: Value, value: Value) -> Result<(), AllocError>
+    requires table { table.index < length heap.old.tables }
+    requires key { IsOf heap.old key }
+    requires value { IsOf heap.old value }
+    requires not_nil { is_nil_datum (datum heap.old key) ≡ false }
+    ensures state { OnOk result (heap.new ≡ with_store heap.old (raw_set (own_store heap.old) table.index (datum heap.old key) (datum heap.old value))) }
+    ensures keeps { Keeps heap.old heap.new }
+    ensures err { OnErr result (heap.new ≡ heap.old) }
+{
+    heap.raw_set(table, key, value).map_err(|_| AllocError)
+}
+
+/// The failure of a read or a write at a value that is no table.
+fn index_failure(alloc: Global, heap: &mut Heap, v: Value) -> Result<Value, AllocError>
+    requires { IsOf heap.old v }
+    ensures value { IfOk result (λ r. datum heap.new r ≡ index_fault (datum heap.old v)) }
+    ensures known { IfOk result (IsOf heap.new) }
+    ensures grown { Grown heap.old heap.new }
+{
+    let failure = kind_failure(alloc, heap, b"attempt to index a ", v, b" value")?;
+    Ok(failure)
+}

@@ -1,0 +1,19 @@
+//! The operators of Lua with their handlers, and what a call goes to.
+#![tactic(auto)]
+
+mod act;
+mod arithmetic;
+mod calls;
+mod comparison;
+mod failures;
+mod handlers;
+mod indexing;
+mod operands;
+mod texts;
+
+pub use act::{Act, Callee, Then};
+pub use arithmetic::{arith, negate};
+pub use calls::callee;
+pub use comparison::compare;
+pub use indexing::{index, set_index};
+pub use texts::{concat2, length};
