@@ -40,7 +40,10 @@ fn keys_keep_their_places(rt: HostRuntime) -> Result<(), Fail> {
     table.set(first, Value::Number(1))?;
     table.set(second, Value::Number(2))?;
     table.set(first, Value::Nil)?;
-    assert_eq!(rt; table.next(Value::Nil), Ok(Some((second, Value::Number(2)))));
+    assert_eq!(rt;
+        table.next(Value::Nil),
+        Ok(Some((second, Value::Number(2))))
+    );
     table.set(first, Value::Number(3))?;
     assert_eq!(rt; table.next(Value::Nil), Ok(Some((first, Value::Number(3)))));
     assert_eq!(rt; table.next(second), Ok(None));
@@ -59,7 +62,10 @@ fn a_heap_holds_tables_and_globals(rt: HostRuntime) -> Result<(), Fail> {
     heap.raw_set(table, Value::Text(name), Value::Table(metatable))?;
     heap.set_metatable(table, Some(metatable));
     heap.set_global(name, Value::Table(table))?;
-    assert_eq!(rt; heap.raw_get(table, Value::Text(name)), Value::Table(metatable));
+    assert_eq!(rt;
+        heap.raw_get(table, Value::Text(name)),
+        Value::Table(metatable)
+    );
     assert_eq!(rt; heap.metatable(table), Some(metatable));
     assert_eq!(rt; heap.global(name), Value::Table(table));
     assert_eq!(rt; heap.table_number(metatable), 2);

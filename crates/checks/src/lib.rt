@@ -8,6 +8,8 @@ mod files;
 #[cfg(test)]
 mod heap;
 #[cfg(test)]
+mod hosts;
+#[cfg(test)]
 mod instructions;
 #[cfg(test)]
 mod numbers;

@@ -1,22 +1,12 @@
--- What callers of a heap need: values that a heap keeps are kept in lists and over several calls, pairs have values of the heap, and so has what it gave.
-use Rattle.std.proofs.Common.{◌≡◌, ℕ, ◌<◌, List, [], ◌∷◌, ◌++◌, Some, slice_get, length, map, get_or, refl, sym, ap, subst, ◌∙◌, arith}
+-- What callers of a heap need: values that a heap keeps are kept in lists and over several calls, and pairs have values of the heap.
+use Rattle.std.proofs.Common.{◌≡◌, ℕ, ◌<◌, List, length, map, get_or, refl, ap, ◌∙◌}
 use Rattle.std.specs.List.{All}
-use Rattle.std.proofs.lemmas.List.{length-append}
 use Rattle.std.proofs.lemmas.List.Elements.{All-get_or, All-map, All-weaker}
-use Rattle.std.proofs.lemmas.Option.{get_or_from_slice_get, slice_get_within}
-use Rattle.lua_num.specs.Bytes.{Text}
-use Rattle.lua_model.specs.declared.ClosureId.{ClosureId}
-use Rattle.lua_model.specs.declared.TableId.{TableId}
-use Rattle.lua_model.specs.declared.TextId.{TextId}
 use Rattle.lua_model.specs.declared.Value.{Value}
-use Rattle.lua_model.specs.declared.Value.TheVariants.{Text as TextValue, Table as TableValue, Closure as ClosureValue}
-use Rattle.lua_model.specs.Datum.{text}
-use Rattle.lua_model.specs.Store.{no_table, new_table}
 use Rattle.lua_table.specs.Entries.{Entries}
-use Rattle.lua_heap.specs.declared.cells.CellId.{CellId}
 use Rattle.lua_heap.specs.declared.cells.Cell.{Cell}
 use Rattle.lua_heap.specs.declared.cells.Cell.TheVariants.{InStack, Held}
-use Rattle.lua_heap.specs.State.{HeapState, ClosureState, CellState, held, datum, IsOf, Keeps, ArePairsOf, pairs_of, own_store, with_store, IsCellOf, cell_of}
+use Rattle.lua_heap.specs.State.{HeapState, held, datum, IsOf, Keeps, ArePairsOf, pairs_of, IsCellOf, cell_of}
 use Rattle.lua_heap.proofs.Growth.{map_agree}
 
 -- ---- several calls
@@ -64,23 +54,3 @@ value_is_known s ps i d h l = (All-get_or (λ p. IsOf s p.0 × IsOf s p.1) ps i 
 
 pub values_are_known : (s : HeapState) (ps : Entries) → ArePairsOf s ps → All (IsOf s) (map (λ p. p.1) ps)
 values_are_known s ps h = All-map (IsOf s) (λ p. p.1) ps (All-weaker (λ p. IsOf s p.0 × IsOf s p.1) (λ p. IsOf s p.1) (λ p l. l.1) ps h)
-
--- ---- what a heap gave
-
-pub interned_is_known : (s : HeapState) (id : TextId) (b : Text) → slice_get s.texts id.index ≡ Some b → IsOf s (TextValue id)
-interned_is_known s id b e = slice_get_within s.texts id.index b e
-
-pub interned_stands_for : (s : HeapState) (id : TextId) (b : Text) → slice_get s.texts id.index ≡ Some b → datum s (TextValue id) ≡ text b
-interned_stands_for s id b e = ap text (get_or_from_slice_get s.texts id.index b [] e)
-
-last_is_there : {X : Type 0} (xs : List X) (x : X) (n : ℕ) → n ≡ length xs → n < length (xs ++ x ∷ [])
-last_is_there xs x n e = omega (arith, length-append xs (x ∷ []))
-
-pub new_table_is_known : (old new : HeapState) (id : TableId) → id.index ≡ length old.tables → new ≡ with_store old (new_table (own_store old)) → IsOf new (TableValue id)
-new_table_is_known old new id e is = subst (λ u. id.index < length u.tables) (sym is) (last_is_there old.tables no_table id.index e)
-
-pub new_closure_is_known : (old new : HeapState) (c : ClosureState) (id : ClosureId) → id.index ≡ length old.closures → new ≡ record old { closures = old.closures ++ c ∷ [] } → IsOf new (ClosureValue id)
-new_closure_is_known old new c id e is = subst (λ u. id.index < length u.closures) (sym is) (last_is_there old.closures c id.index e)
-
-pub new_cell_is_known : (old new : HeapState) (c : CellState) (id : CellId) → id.index ≡ length old.cells → new ≡ record old { cells = old.cells ++ c ∷ [] } → id.index < length new.cells
-new_cell_is_known old new c id e is = subst (λ u. id.index < length u.cells) (sym is) (last_is_there old.cells c id.index e)

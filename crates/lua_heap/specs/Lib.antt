@@ -1,2 +1,3 @@
 pub mod State
 pub mod Inside
+pub mod Grown

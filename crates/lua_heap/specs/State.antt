@@ -64,6 +64,10 @@ IsOf h _ = Unit {0}
 abbrev pub Keeps : HeapState → HeapState → Type 0
 Keeps old new = (v : Value) → IsOf old v → IsOf new v × (datum new v ≡ datum old v)
 
+-- the values of a list
+abbrev pub AreOf : HeapState → List Value → Type 0
+AreOf h vs = All (IsOf h) vs
+
 -- the values of a list of pairs, and what they stand for
 abbrev pub ArePairsOf : HeapState → List (Value × Value) → Type 0
 ArePairsOf h pairs = All (λ p. IsOf h p.0 × IsOf h p.1) pairs
@@ -120,3 +124,12 @@ no_closure = record { function = 0; cells = [] }
 
 abbrev pub no_cell : CellState
 no_cell = in_stack 0
+
+-- ---- changes
+
+-- of a heap only its texts changed, or only these and the pairs and metatables of its tables
+abbrev pub OnlyTexts : HeapState → HeapState → Type 0
+OnlyTexts old new = new ≡ record old { texts = new.texts }
+
+abbrev pub OnlyTables : HeapState → HeapState → Type 0
+OnlyTables old new = new ≡ record old { texts = new.texts; tables = new.tables }

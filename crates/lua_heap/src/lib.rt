@@ -5,9 +5,11 @@ mod cells;
 mod closures;
 mod globals;
 mod heap;
+mod operands;
 mod tables;
 mod values;
 
 pub use cells::{Cell, CellId};
 pub use heap::Heap;
+pub use operands::{is_nil, kind_name, number_of, text_of, text_value};
 pub use values::ValueList;

@@ -1,5 +1,5 @@
 // Lists of values.
-ghost use Rattle.std.specs.Prelude.{◌≡◌, [], ◌∷◌, ◌++◌, OnOk, OnErr};
+ghost use Rattle.std.specs.Prelude.{◌≡◌, [], ◌∷◌, ◌++◌, IfOk, OnOk, OnErr};
 
 use lua_model::Value;
 use std::alloc::{AllocError, Global};
@@ -28,6 +28,17 @@ impl ValueList {
         Self {
             values: Vec::new(alloc),
         }
+    }
+
+    /// These values, in linear time.
+    pub fn from_slice(alloc: Global, values: &[Value]) -> Result<Self, AllocError>
+        ensures { IfOk result (λ list. list ≡ values.now) }
+    {
+        let mut list = Self::new(alloc);
+        for value in values {
+            list.push(*value)?;
+        }
+        Ok(list)
     }
 
     /// Appends a value.

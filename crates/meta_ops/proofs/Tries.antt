@@ -6,12 +6,12 @@ use Rattle.lua_model.specs.Store.{Store}
 use Rattle.lua_model.specs.Acts as model
 use Rattle.lua_model.specs.Acts.{fail_text}
 use Rattle.lua_model.specs.Operators.{index_within, set_index_within}
-use Rattle.lua_heap.specs.State.{HeapState, datum, IsOf, own_store, Keeps}
+use Rattle.lua_heap.specs.State.{HeapState, datum, IsOf, own_store, Keeps, OnlyTexts}
 use Rattle.lua_heap.proofs.Callers.{keeps_itself, keeps_both}
-use Rattle.meta_ops.specs.Acts.{act_of, OnlyTexts}
+use Rattle.meta_ops.specs.Acts.{act_of}
 use Rattle.meta_ops.specs.declared.act.Act.{Act}
 use Rattle.meta_ops.specs.declared.indexing.Step.{Step}
-use Rattle.meta_ops.specs.Grown.{Grown}
+use Rattle.lua_heap.specs.Grown.{Grown}
 use Rattle.meta_ops.specs.Steps.{IsRead, IsWritten, IsReading, IsWriting}
 
 -- ---- one heap after another

@@ -1,9 +1,7 @@
 -- To be believed. What the operators answer in the program, as what the definitions answer.
-use Rattle.std.specs.Prelude.{◌≡◌, List, map}
-use Rattle.std.specs.List.{All}
-use Rattle.lua_model.specs.declared.Value.{Value}
+use Rattle.std.specs.Prelude.{map}
 use Rattle.lua_model.specs.Acts as model
-use Rattle.lua_heap.specs.State.{HeapState, datum, IsOf}
+use Rattle.lua_heap.specs.State.{HeapState, datum, IsOf, AreOf}
 use Rattle.meta_ops.specs.declared.act.Then.{Then}
 use Rattle.meta_ops.specs.declared.act.Act.{Act}
 use Rattle.meta_ops.specs.declared.act.Callee.{Callee}
@@ -26,9 +24,6 @@ callee_of h (Callee.Through handler) = model.through (datum h handler)
 callee_of h (Callee.Fail v) = model.no_function (datum h v)
 
 -- the values of an answer are the heap's
-abbrev pub AreOf : HeapState → List Value → Type 0
-AreOf h vs = All (IsOf h) vs
-
 abbrev pub IsActOf : HeapState → Act → Type 0
 IsActOf h (Act.Value v) = IsOf h v
 IsActOf h (Act.Call handler args then) = IsOf h handler × AreOf h args
@@ -38,10 +33,3 @@ abbrev pub IsCalleeOf : HeapState → Callee → Type 0
 IsCalleeOf h (Callee.Plain f) = IsOf h f
 IsCalleeOf h (Callee.Through handler) = IsOf h handler
 IsCalleeOf h (Callee.Fail v) = IsOf h v
-
--- of a heap only its texts changed, or only these and the pairs and metatables of its tables
-abbrev pub OnlyTexts : HeapState → HeapState → Type 0
-OnlyTexts old new = new ≡ record old { texts = new.texts }
-
-abbrev pub OnlyTables : HeapState → HeapState → Type 0
-OnlyTables old new = new ≡ record old { texts = new.texts; tables = new.tables }

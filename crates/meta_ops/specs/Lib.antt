@@ -1,4 +1,3 @@
 pub mod Acts
-pub mod Grown
 pub mod Orders
 pub mod Steps

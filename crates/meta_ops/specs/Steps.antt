@@ -2,9 +2,9 @@
 use Rattle.std.specs.Prelude.{◌≡◌, ℕ, suc, ◌+◌}
 use Rattle.lua_model.specs.declared.Value.{Value}
 use Rattle.lua_model.specs.Operators.{index_within, set_index_within}
-use Rattle.lua_heap.specs.State.{HeapState, datum, IsOf, own_store}
-use Rattle.meta_ops.specs.Acts.{act_of, IsActOf, OnlyTexts}
-use Rattle.meta_ops.specs.Grown.{Grown}
+use Rattle.lua_heap.specs.State.{HeapState, datum, IsOf, own_store, OnlyTexts}
+use Rattle.meta_ops.specs.Acts.{act_of, IsActOf}
+use Rattle.lua_heap.specs.Grown.{Grown}
 use Rattle.meta_ops.specs.declared.indexing.Step.{Step}
 
 -- a read is done, or goes on at another value

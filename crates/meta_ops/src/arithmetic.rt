@@ -3,15 +3,14 @@ ghost use Rattle.std.specs.Prelude.{◌≡◌, ℤ, [], ◌∷◌, Ok, IfOk, IsO
 ghost use Rattle.lua_num.specs.Arith.{outcome as outcome_of};
 ghost use Rattle.lua_model.specs.Operators.{arith as arith_in, negate as negate_in, event_of as event_text, fault_text as fault_of, of_numbers, ask_or, either_handler as either_handler_of, no_arithmetic};
 ghost use Rattle.lua_model.specs.Acts.{take};
-ghost use Rattle.lua_heap.specs.State.{datum, IsOf, own_store, Keeps};
-ghost use Rattle.meta_ops.specs.Acts.{act_of, IsActOf, OnlyTexts};
-ghost use Rattle.meta_ops.specs.Grown.{Grown};
+ghost use Rattle.lua_heap.specs.State.{datum, IsOf, own_store, Keeps, OnlyTexts};
+ghost use Rattle.meta_ops.specs.Acts.{act_of, IsActOf};
+ghost use Rattle.lua_heap.specs.Grown.{Grown};
 
 use crate::act::{Act, Then};
-use crate::failures::{kind_failure, text_value};
-use crate::handlers::{call_with, either_handler, handler, is_nil};
-use crate::operands::number_of;
-use lua_heap::Heap;
+use crate::failures::kind_failure;
+use crate::handlers::{call_with, either_handler, handler};
+use lua_heap::{Heap, is_nil, number_of, text_value};
 use lua_model::Value;
 use lua_num::{ArithOp, NumFault, add, div, mul, neg, pow, rem, sub};
 use std::alloc::{AllocError, Global};
@@ -146,12 +145,11 @@ fn arithmetic_failure(alloc: Global, heap: &mut Heap, v: Value) -> Result<Value,
     ensures known { IfOk result (IsOf heap.new) }
     ensures grown { Grown heap.old heap.new }
 {
-    let failure = kind_failure(
+    kind_failure(
         alloc,
         heap,
         b"attempt to perform arithmetic on a ",
         v,
         b" value",
-    )?;
-    Ok(failure)
+    )
 }

@@ -2,8 +2,8 @@
 ghost use Rattle.std.specs.Prelude.{◌≡◌, true, IfOk, IsOk};
 ghost use Rattle.lua_model.specs.Datum.{is_function as is_function_datum};
 ghost use Rattle.lua_model.specs.Operators.{callee as callee_in};
-ghost use Rattle.lua_heap.specs.State.{datum, IsOf, own_store, Keeps};
-ghost use Rattle.meta_ops.specs.Acts.{callee_of, IsCalleeOf, OnlyTexts};
+ghost use Rattle.lua_heap.specs.State.{datum, IsOf, own_store, Keeps, OnlyTexts};
+ghost use Rattle.meta_ops.specs.Acts.{callee_of, IsCalleeOf};
 
 use crate::act::Callee;
 use crate::failures::kind_failure;

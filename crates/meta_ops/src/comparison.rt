@@ -1,15 +1,16 @@
 // Comparison with its handlers (manual 2.5.2 and 2.8).
-ghost use Rattle.std.specs.Prelude.{◌≡◌, ℤ, IfOk, IsOk};
-ghost use Rattle.lua_model.specs.Operators.{compare as compare_in, equal as equal_in, less as less_in, at_most as at_most_in, incomparable as incomparable_of, text_less as is_text_less};
-ghost use Rattle.lua_heap.specs.State.{HeapState, datum, IsOf, own_store, Keeps};
-ghost use Rattle.meta_ops.specs.Acts.{act_of, IsActOf, OnlyTexts};
-ghost use Rattle.meta_ops.specs.Grown.{Grown};
+ghost use Rattle.std.specs.Prelude.{◌≡◌, ℤ, [], ◌∷◌, IfOk, IsOk, codes};
+ghost use Rattle.lua_model.specs.Operators.{compare as compare_in, equal as equal_in, less as less_in, at_most as at_most_in, incomparable as incomparable_of, text_less as is_text_less, ask_or, common_handler as common_handler_of};
+ghost use Rattle.lua_model.specs.Acts.{truth, negated};
+ghost use Rattle.lua_heap.specs.State.{HeapState, datum, IsOf, own_store, Keeps, OnlyTexts};
+ghost use Rattle.meta_ops.specs.Acts.{act_of, IsActOf};
+ghost use Rattle.lua_heap.specs.Grown.{Grown};
 ghost use Rattle.meta_ops.specs.Orders.{less_of, at_most_of, are_both_tables};
 
 use crate::act::{Act, Then};
-use crate::failures::{kind_failure, kind_name, text_value};
-use crate::handlers::{call_with, common_handler, is_nil};
-use lua_heap::Heap;
+use crate::failures::kind_failure;
+use crate::handlers::{call_with, common_handler};
+use lua_heap::{Heap, is_nil, kind_name, text_value};
 use lua_model::Value;
 use lua_num::{ByteText, CompareOp};
 use std::alloc::{AllocError, Global};
@@ -71,15 +72,9 @@ fn less(alloc: Global, heap: &mut Heap, a: Value, b: Value) -> Result<Act, Alloc
     if let Some(is_less) = plain_less(heap, a, b) {
         return Ok(Act::Value(Value::Bool(is_less)));
     }
-    let handler = common_handler(alloc, heap, a, b, b"__lt")?;
-    if is_nil(handler) {
-        incomparable(alloc, heap, a, b)
-    } else {
-        call_with(alloc, handler, &[a, b], Then::Truth)
-    }
+    ask_less(alloc, heap, a, b)
 }
 
-// A missing `__le` is the negation of `__lt` with swapped operands.
 fn at_most(alloc: Global, heap: &mut Heap, a: Value, b: Value) -> Result<Act, AllocError>
     requires a { IsOf heap.old a }
     requires b { IsOf heap.old b }
@@ -92,9 +87,37 @@ fn at_most(alloc: Global, heap: &mut Heap, a: Value, b: Value) -> Result<Act, Al
         return Ok(Act::Value(Value::Bool(is_at_most)));
     }
     let handler = common_handler(alloc, heap, a, b, b"__le")?;
-    if !is_nil(handler) {
-        return call_with(alloc, handler, &[a, b], Then::Truth);
+    if is_nil(handler) {
+        ask_not_greater(alloc, heap, a, b)
+    } else {
+        call_with(alloc, handler, &[a, b], Then::Truth)
     }
+}
+
+/// Asks the handler `__lt` of both operands, or else fails.
+fn ask_less(alloc: Global, heap: &mut Heap, a: Value, b: Value) -> Result<Act, AllocError>
+    requires a { IsOf heap.old a }
+    requires b { IsOf heap.old b }
+    ensures act { IfOk result (λ r. act_of heap.new r ≡ ask_or (common_handler_of (own_store heap.old) (datum heap.old a) (datum heap.old b) (codes "__lt")) (datum heap.old a ∷ datum heap.old b ∷ []) truth (incomparable_of (datum heap.old a) (datum heap.old b))) }
+    ensures known { IfOk result (IsActOf heap.new) }
+    ensures grown { Grown heap.old heap.new }
+{
+    let handler = common_handler(alloc, heap, a, b, b"__lt")?;
+    if is_nil(handler) {
+        incomparable(alloc, heap, a, b)
+    } else {
+        call_with(alloc, handler, &[a, b], Then::Truth)
+    }
+}
+
+/// Asks the handler `__lt` of both operands for `a <= b`, with the operands swapped, or else fails.
+fn ask_not_greater(alloc: Global, heap: &mut Heap, a: Value, b: Value) -> Result<Act, AllocError>
+    requires a { IsOf heap.old a }
+    requires b { IsOf heap.old b }
+    ensures act { IfOk result (λ r. act_of heap.new r ≡ ask_or (common_handler_of (own_store heap.old) (datum heap.old a) (datum heap.old b) (codes "__lt")) (datum heap.old b ∷ datum heap.old a ∷ []) negated (incomparable_of (datum heap.old a) (datum heap.old b))) }
+    ensures known { IfOk result (IsActOf heap.new) }
+    ensures grown { Grown heap.old heap.new }
+{
     let handler = common_handler(alloc, heap, a, b, b"__lt")?;
     if is_nil(handler) {
         incomparable(alloc, heap, a, b)

@@ -3,19 +3,12 @@ ghost use Rattle.std.specs.Prelude.{◌≡◌, IfOk};
 ghost use Rattle.lua_model.specs.Datum.{is_nil as is_nil_datum, is_function as is_function_datum};
 ghost use Rattle.lua_model.specs.Operators.{handler as handler_of, either_handler as either_handler_of, common_handler as common_handler_of};
 ghost use Rattle.lua_heap.specs.State.{HeapState, datum, IsOf, own_store};
-ghost use Rattle.meta_ops.specs.Grown.{Grown};
+ghost use Rattle.lua_heap.specs.Grown.{Grown};
 
 use crate::act::{Act, Then};
-use lua_heap::{Heap, ValueList};
+use lua_heap::{Heap, ValueList, is_nil};
 use lua_model::Value;
 use std::alloc::{AllocError, Global};
-
-/// Whether a value is nil.
-pub fn is_nil(v: Value) -> bool
-    ensures { (h : HeapState) → result ≡ is_nil_datum (datum h v) }
-{
-    matches!(v, Value::Nil)
-}
 
 /// Whether a value is a function.
 pub fn is_function(v: Value) -> bool
@@ -96,10 +89,7 @@ pub fn call_with(
 ) -> Result<Act, AllocError>
     ensures { IfOk result (λ r. r ≡ Act.Call handler values.now then) }
 {
-    let mut args = ValueList::new(alloc);
-    for value in values {
-        args.push(*value)?;
-    }
+    let args = ValueList::from_slice(alloc, values)?;
     Ok(Act::Call {
         handler,
         args,

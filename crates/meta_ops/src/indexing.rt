@@ -1,17 +1,17 @@
 // Indexing with its handlers (manual 2.8, "index" and "newindex").
 ghost use Rattle.std.specs.Prelude.{◌≡◌, ◌<◌, false, length, IfOk, OnOk, OnErr};
-ghost use Rattle.lua_model.specs.Datum.{text, is_nil as is_nil_datum};
+ghost use Rattle.lua_model.specs.Datum.{is_nil as is_nil_datum};
 ghost use Rattle.lua_model.specs.Store.{raw_set};
 ghost use Rattle.lua_model.specs.Operators.{index as index_in, index_within as index_within_in, set_index as set_index_in, set_index_within as set_index_within_in, index_fault};
-ghost use Rattle.lua_heap.specs.State.{datum, IsOf, own_store, with_store, Keeps};
-ghost use Rattle.meta_ops.specs.Acts.{act_of, IsActOf, OnlyTexts, OnlyTables};
-ghost use Rattle.meta_ops.specs.Grown.{Grown};
+ghost use Rattle.lua_heap.specs.State.{datum, IsOf, own_store, with_store, Keeps, OnlyTexts, OnlyTables};
+ghost use Rattle.meta_ops.specs.Acts.{act_of, IsActOf};
+ghost use Rattle.lua_heap.specs.Grown.{Grown};
 ghost use Rattle.meta_ops.specs.Steps.{IsRead, IsWritten};
 
 use crate::act::{Act, Then};
-use crate::failures::{kind_failure, text_value};
-use crate::handlers::{call_with, handler, is_function, is_nil};
-use lua_heap::Heap;
+use crate::failures::kind_failure;
+use crate::handlers::{call_with, handler, is_function};
+use lua_heap::{Heap, is_nil, text_value};
 use lua_model::{TableId, Value};
 use std::alloc::{AllocError, Global};
 
@@ -36,8 +36,7 @@ pub fn index(alloc: Global, heap: &mut Heap, on: Value, key: Value) -> Result<Ac
     ensures only_texts { OnlyTexts heap.old heap.new }
     ensures keeps { Keeps heap.old heap.new }
 {
-    let act = index_within(alloc, heap, on, key, CHAIN_LIMIT)?;
-    Ok(act)
+    index_within(alloc, heap, on, key, CHAIN_LIMIT)
 }
 
 /// Reads `on[key]`, where so many values may be tried.
@@ -108,8 +107,7 @@ pub fn set_index(
     ensures err { OnErr result (OnlyTexts heap.old heap.new) }
     ensures keeps { Keeps heap.old heap.new }
 {
-    let act = set_index_within(alloc, heap, on, key, value, CHAIN_LIMIT)?;
-    Ok(act)
+    set_index_within(alloc, heap, on, key, value, CHAIN_LIMIT)
 }
 
 /// Sets `on[key]`, where so many values may be tried.
@@ -199,6 +197,5 @@ fn index_failure(alloc: Global, heap: &mut Heap, v: Value) -> Result<Value, Allo
     ensures known { IfOk result (IsOf heap.new) }
     ensures grown { Grown heap.old heap.new }
 {
-    let failure = kind_failure(alloc, heap, b"attempt to index a ", v, b" value")?;
-    Ok(failure)
+    kind_failure(alloc, heap, b"attempt to index a ", v, b" value")
 }

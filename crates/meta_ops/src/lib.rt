@@ -8,7 +8,6 @@ mod comparison;
 mod failures;
 mod handlers;
 mod indexing;
-mod operands;
 mod texts;
 
 pub use act::{Act, Callee, Then};

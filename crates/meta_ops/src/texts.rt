@@ -3,15 +3,14 @@ ghost use Rattle.std.specs.Prelude.{◌≡◌, IfOk, IsOk, [], ◌∷◌, ◌++�
 ghost use Rattle.lua_model.specs.Datum.{kind_name as kind_name_of};
 ghost use Rattle.lua_model.specs.Operators.{join, size, ask_or, either_handler as either_handler_of};
 ghost use Rattle.lua_model.specs.Acts.{take, fail_text};
-ghost use Rattle.lua_heap.specs.State.{datum, IsOf, own_store, Keeps};
-ghost use Rattle.meta_ops.specs.Acts.{act_of, IsActOf, OnlyTexts};
-ghost use Rattle.meta_ops.specs.Grown.{Grown};
+ghost use Rattle.lua_heap.specs.State.{datum, IsOf, own_store, Keeps, OnlyTexts};
+ghost use Rattle.meta_ops.specs.Acts.{act_of, IsActOf};
+ghost use Rattle.lua_heap.specs.Grown.{Grown};
 
 use crate::act::{Act, Then};
-use crate::failures::{kind_failure, text_value};
-use crate::handlers::{call_with, either_handler, is_nil};
-use crate::operands::text_of;
-use lua_heap::Heap;
+use crate::failures::kind_failure;
+use crate::handlers::{call_with, either_handler};
+use lua_heap::{Heap, is_nil, text_of, text_value};
 use lua_model::{TableId, TextId, Value};
 use std::alloc::{AllocError, Global};
 

@@ -1,0 +1,4 @@
+pub mod Heard
+pub mod Script
+pub mod Hosts
+pub mod Views

@@ -1,0 +1,15 @@
+//! Functions of the outside that a Lua program may call: hosts, sets of hosts with a log of the calls, and a host of
+//! replies that are given in turn.
+#![tactic(auto)]
+
+mod copies;
+mod host;
+mod log;
+mod script;
+mod set;
+mod slot;
+
+pub use host::Host;
+pub use log::{HostLog, LogEntry};
+pub use script::ScriptHost;
+pub use set::HostSet;

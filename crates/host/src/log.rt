@@ -1,0 +1,56 @@
+// The log of the calls of hosts.
+ghost use Rattle.std.specs.Prelude.{◌≡◌, [], ◌∷◌, ◌++◌, OnOk, OnErr};
+
+use lua_model::{PlainList, Reply};
+use std::alloc::{AllocError, Global};
+use std::marker::Model;
+
+/// A call of a host, by the host's number, and its reply.
+#[derive(Debug, Drop)]
+pub struct LogEntry {
+    pub host: usize,
+    pub args: PlainList,
+    pub reply: Reply,
+}
+
+/// The calls so far, the first one first. Contracts see the list.
+#[derive(Debug, Drop)]
+pub struct HostLog {
+    pub(crate) entries: Vec<LogEntry>,
+}
+
+impl Model for HostLog {
+    ghost use Rattle.std.specs.Prelude.{List};
+    ghost use Rattle.host.specs.declared.log.LogEntry.{LogEntry};
+
+    ghost Value = { List LogEntry };
+
+    ghost view = { λ l. l.entries.items };
+}
+
+impl HostLog {
+    /// No calls, which takes no memory.
+    pub fn new(alloc: Global) -> Self
+        ensures { result ≡ [] }
+    {
+        Self {
+            entries: Vec::new(alloc),
+        }
+    }
+
+    /// Appends a call, in constant time on average.
+    pub fn push(&mut self, entry: LogEntry) -> Result<(), AllocError>
+        ensures ok { OnOk result (self.new ≡ self.old ++ entry ∷ []) }
+        ensures err { OnErr result (self.new ≡ self.old) }
+    {
+        self.entries.push(entry)?;
+        Ok(())
+    }
+
+    /// The calls.
+    pub fn items(&self) -> &[LogEntry]
+        ensures { result.now ≡ self.now }
+    {
+        self.entries.as_slice()
+    }
+}

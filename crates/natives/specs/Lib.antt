@@ -1,0 +1,4 @@
+pub mod Answers
+pub mod Refusals
+pub mod Shown
+pub mod HostAnswers
