@@ -1,5 +1,5 @@
 // The tables of a heap and their metatables.
-ghost use Rattle.std.specs.Prelude.{◌≡◌, ◌<◌, ◌++◌, ◌∷◌, ◌↔◌, [], true, false, pos, suc, length, option_map, IfOk, IfSome, OnOk, OnErr, Err, Some, None};
+ghost use Rattle.std.specs.Prelude.{◌≡◌, ◌<◌, ◌↔◌, true, false, pos, suc, length, option_map, IfOk, IfSome, OnOk, OnErr, Err, Some, None};
 ghost use Rattle.lua_model.specs.Datum.{is_nil};
 ghost use Rattle.lua_model.specs.Operators.{border};
 ghost use Rattle.lua_model.specs.Store.{table_at, raw_get, raw_set, new_table, with_metatable};

@@ -1,7 +1,7 @@
 // Failures, whose values are texts.
 ghost use Rattle.std.specs.Prelude.{◌≡◌, ◌++◌, IfOk};
 ghost use Rattle.lua_model.specs.Datum.{text, kind_name as kind_name_of};
-ghost use Rattle.lua_heap.specs.State.{HeapState, datum, IsOf};
+ghost use Rattle.lua_heap.specs.State.{datum, IsOf};
 ghost use Rattle.lua_heap.specs.Grown.{Grown};
 
 use lua_heap::{Heap, kind_name, text_value};

@@ -1,6 +1,6 @@
 // Handlers (manual 2.8).
 ghost use Rattle.std.specs.Prelude.{◌≡◌, IfOk};
-ghost use Rattle.lua_model.specs.Datum.{is_nil as is_nil_datum, is_function as is_function_datum};
+ghost use Rattle.lua_model.specs.Datum.{is_function as is_function_datum};
 ghost use Rattle.lua_model.specs.Operators.{handler as handler_of, either_handler as either_handler_of, common_handler as common_handler_of};
 ghost use Rattle.lua_heap.specs.State.{HeapState, datum, IsOf, own_store};
 ghost use Rattle.lua_heap.specs.Grown.{Grown};

@@ -1,5 +1,4 @@
 // Built-in functions that fail or are asked outside of the heap: error, assert, pcall and host_close (manual 5.1).
-ghost use Rattle.std.specs.Prelude.{◌≡◌};
 ghost use Rattle.lua_model.specs.Builtins.{error as error_in, assert as assert_in, pcall as pcall_in, host_close as host_close_in};
 ghost use Rattle.lua_heap.specs.Grown.{Grown};
 ghost use Rattle.natives.specs.Refusals.{Gives};

@@ -3,7 +3,6 @@ ghost use Rattle.std.specs.Prelude.{◌≡◌, ℕ, map, IfOk};
 ghost use Rattle.std.specs.Result.{OnErr, IfErr};
 ghost use Rattle.lua_model.specs.Store.{Store};
 ghost use Rattle.lua_model.specs.Builtins.{argument as argument_of, setmetatable as setmetatable_in, getmetatable as getmetatable_in, set_metatable_to, change_metatable, protection as protection_in, metatable_of as metatable_of_datum, table_or_nil as table_or_nil_datum};
-ghost use Rattle.lua_model.specs.Datum.{Datum};
 ghost use Rattle.lua_heap.specs.State.{HeapState, datum, IsOf, own_store, Keeps, meta_of, IsMetaOf, AreOf, OnlyTexts, OnlyTables};
 ghost use Rattle.lua_heap.specs.Grown.{Grown};
 ghost use Rattle.natives.specs.Refusals.{Gives, Refuses};

@@ -1,8 +1,8 @@
 // Built-in functions on the entries of tables (manual 5.1).
-ghost use Rattle.std.specs.Prelude.{◌≡◌, ℕ, ℤ, pos, ◌<◌, ◌+ℤ◌, ◌-ℤ◌, ◌<ℤ◌, ◌≤ℤ◌, length, map, IfOk, MatchOption};
+ghost use Rattle.std.specs.Prelude.{◌≡◌, pos, ◌<◌, ◌+ℤ◌, ◌-ℤ◌, ◌<ℤ◌, ◌≤ℤ◌, ◌^◌, length, map, IfOk, MatchOption};
 ghost use Rattle.std.specs.Result.{OnErr};
 ghost use Rattle.lua_model.specs.Builtins.{rawget as rawget_in, rawset as rawset_in, next as next_in, pairs as pairs_in, ipairs as ipairs_in, ipairs_next as ipairs_next_in, unpack as unpack_in, entries as entries_of, natural};
-ghost use Rattle.lua_heap.specs.State.{HeapState, datum, IsOf, own_store, Keeps, AreOf, OnlyTexts, OnlyTables};
+ghost use Rattle.lua_heap.specs.State.{HeapState, datum, own_store, Keeps, AreOf, OnlyTables};
 ghost use Rattle.natives.specs.Refusals.{Gives};
 
 use crate::arguments::{a_number, a_table, any_value, argument_or_nil, number_or};
@@ -137,7 +137,7 @@ fn entries(
     count: u16,
 ) -> Result<ValueList, AllocError>
     requires table { table.index < length heap.now.tables }
-    requires last { (first +ℤ pos count) ≤ℤ pos 9223372036854775808 }
+    requires last { (first +ℤ pos count) ≤ℤ pos (2 ^ 63) }
     ensures values { IfOk result (λ vs. map (datum heap.now) vs ≡ entries_of (own_store heap.now) table.index first count) }
     ensures known { IfOk result (AreOf heap.now) }
 {

@@ -1,5 +1,4 @@
 // The texts of answers.
-ghost use Rattle.std.specs.Prelude.{IfOk};
 ghost use Rattle.lua_heap.specs.State.{IsOf, AreOf};
 ghost use Rattle.meta_ops.specs.Acts.{IsActOf, IsCalleeOf};
 ghost use Rattle.natives.specs.Answers.{IsActOf as IsNativeActOf};
