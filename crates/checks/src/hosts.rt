@@ -1,5 +1,5 @@
 // Hosts in a set, and what calls of them come to, with ample memory.
-use host::{Host, HostSet, ScriptHost};
+use host::{Host, HostLog, HostSet, LogEntry, ScriptHost};
 use lua_heap::Heap;
 use lua_model::{Plain, PlainList, Reply, ReplyList, Value};
 use lua_num::ByteText;
@@ -81,5 +81,20 @@ fn a_host_takes_plain_values_while_it_is_live(rt: HostRuntime) -> Result<(), Fai
         }
         _ => panic!(rt; "no failure"),
     }
+    Ok(())
+}
+
+#[test]
+fn a_log_keeps_its_entries(rt: HostRuntime) -> Result<(), Fail> {
+    let alloc = rt.alloc();
+    let mut log = HostLog::new(alloc);
+    assert!(rt; log.items().is_empty());
+    log.push(LogEntry {
+        host: 2,
+        args: PlainList::new(alloc),
+        reply: Reply::OutOfMemory,
+    })?;
+    assert_eq!(rt; log.items().len(), 1);
+    assert_eq!(rt; log.items()[0].host, 2);
     Ok(())
 }
