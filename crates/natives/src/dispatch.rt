@@ -72,39 +72,3 @@ fn call(alloc: Global, heap: &mut Heap, id: u8, args: &[Value]) -> Result<Native
         _ => host_close(alloc, heap, args),
     }
 }
-
-#[cfg(test)]
-mod tests {
-    use super::*;
-    use std::test::Fail;
-
-    #[test]
-    fn prints_with_tabs(rt: HostRuntime) -> Result<(), Fail> {
-        let alloc = rt.alloc();
-        let mut heap = Heap::new(alloc);
-        let args = [Value::Nil, Value::Bool(true), Value::Number(-7)];
-        let act = native(alloc, &mut heap, 0, &args)?;
-        let piece = match act {
-            NativeAct::Print(piece) => Some(piece),
-            _ => None,
-        };
-        let piece = piece.ok_or("a piece is printed")?;
-        assert_eq!(rt; piece.bytes(), b"nil\ttrue\t-7\n".as_slice());
-        Ok(())
-    }
-
-    #[test]
-    fn selects_from_the_back(rt: HostRuntime) -> Result<(), Fail> {
-        let alloc = rt.alloc();
-        let mut heap = Heap::new(alloc);
-        let args = [Value::Number(-1), Value::Number(4), Value::Number(5)];
-        let act = native(alloc, &mut heap, 6, &args)?;
-        let values = match act {
-            NativeAct::Values(values) => Some(values),
-            _ => None,
-        };
-        let values = values.ok_or("there are results")?;
-        assert_eq!(rt; values.items(), [Value::Number(5)].as_slice());
-        Ok(())
-    }
-}
