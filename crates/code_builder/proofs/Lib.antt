@@ -1,0 +1,4 @@
+pub mod Places
+pub mod Activated
+pub mod DraftLists
+pub mod Encoded

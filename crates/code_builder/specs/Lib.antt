@@ -1,0 +1,5 @@
+pub mod Drafts
+pub mod Faults
+pub mod Made
+pub mod Places
+pub mod Locals
