@@ -1,0 +1,42 @@
+-- Lists by what is last in them.
+use Rattle.std.proofs.Common.{◌≡◌, ◌+◌, ◌-◌, ◌≤◌, List, [], ◌∷◌, ◌++◌, length, take, get_or, refl, sym, ap, ◌∙◌, arith}
+use Rattle.std.proofs.lemmas.List.{take_more, take_all}
+use Rattle.lua_tree.specs.View.{view_exp}
+use Rattle.lua_tree.specs.TreeLists.{expressions_of}
+use Rattle.lua_tree.specs.declared.tree.Exp.{Exp}
+use Rattle.opcode.specs.declared.op.Op.{Op}
+use Rattle.scheme.specs.Making.{Maker}
+use Rattle.scheme.specs.Expressions.{Want, is_multiple}
+use Rattle.scheme.specs.Lists.{all_next, all_multi, ends_open}
+use Rattle.scheme.specs.Scheme.{coded, all_coded}
+use Rattle.codegen.proofs.Parts.{coded_e}
+
+-- a list is its front and its last element
+pub split_last : {A : Type 0} (xs : List A) (d : A) → 1 ≤ length xs → take (length xs - 1) xs ++ get_or xs (length xs - 1) d ∷ [] ≡ xs
+split_last xs d h =
+    let more = take_more xs (length xs - 1) d (omega (arith, h)) in
+    let whole : length xs - 1 + 1 ≡ length xs = omega (arith, h) in
+    sym more ∙ ap (λ n. take n xs) whole ∙ take_all (length xs) xs (omega arith)
+
+-- the last expression of a list decides whether it is open
+ends_open-last : (front : List Exp) (e : Exp) → ends_open (all_coded (expressions_of (front ++ e ∷ []))) ≡ is_multiple (view_exp e)
+ends_open-last [] e = ap is_multiple (coded_e (view_exp e))
+ends_open-last (one ∷ []) e = ap is_multiple (coded_e (view_exp e))
+ends_open-last (one ∷ two ∷ front) e = ends_open-last (two ∷ front) e
+
+pub ends_open-by_last : (list : List Exp) (e : Exp) → 1 ≤ length list → e ≡ get_or list (length list - 1) e → ends_open (all_coded (expressions_of list)) ≡ is_multiple (view_exp e)
+ends_open-by_last list e h same =
+    sym (ap (λ xs. ends_open (all_coded (expressions_of xs))) (ap (λ x. take (length list - 1) list ++ x ∷ []) same ∙ split_last list e h))
+    ∙ ends_open-last (take (length list - 1) list) e
+
+all_multi-last : (op : Op) (want : Want) (front : List Exp) (e : Exp) (m : Maker) →
+    all_multi op want (all_coded (expressions_of (front ++ e ∷ []))) m ≡ (coded (view_exp e)).multi op want (all_next (all_coded (expressions_of front)) m)
+all_multi-last op want [] e m = refl
+all_multi-last op want (one ∷ []) e m = refl
+all_multi-last op want (one ∷ two ∷ front) e m = all_multi-last op want (two ∷ front) e _
+
+pub all_multi-by_last : (op : Op) (want : Want) (list : List Exp) (e : Exp) (m : Maker) → 1 ≤ length list → e ≡ get_or list (length list - 1) e →
+    all_multi op want (all_coded (expressions_of list)) m ≡ (coded (view_exp e)).multi op want (all_next (all_coded (expressions_of (take (length list - 1) list))) m)
+all_multi-by_last op want list e m h same =
+    sym (ap (λ xs. all_multi op want (all_coded (expressions_of xs)) m) (ap (λ x. take (length list - 1) list ++ x ∷ []) same ∙ split_last list e h))
+    ∙ all_multi-last op want (take (length list - 1) list) e m

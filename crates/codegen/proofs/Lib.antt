@@ -1,0 +1,12 @@
+pub mod Parts
+pub mod Endings
+pub mod Sizes
+pub mod FieldPaths
+pub mod StoredBack
+pub mod Operands
+pub mod Assigned
+pub mod Steps
+pub mod Constructed
+pub mod Fors
+pub mod Listed
+pub mod Looped
