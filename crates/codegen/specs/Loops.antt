@@ -1,4 +1,4 @@
--- To be believed. What the program hands on of a loop and of an `if`, in the words of the definitions.
+-- Serves the bodies. What the program hands on of a loop and of an `if`, in the words of the definitions.
 use Rattle.std.specs.Prelude.{ℕ, ◌+◌, Bool, List, length, Option, Some, None}
 use Rattle.lua_tree.specs.View.{view_block, view_exp, view_kind}
 use Rattle.lua_tree.specs.declared.tree.Exp.{Exp}

@@ -1,8 +1,8 @@
--- To be believed. Targets of assignments, in the words of the definitions.
+-- Serves the bodies. Targets of assignments, in the words of the definitions.
 use Rattle.std.specs.Prelude.{ℕ, List, [], ◌∷◌, map}
-use Rattle.scheme.specs.Making.{Maker, Part}
+use Rattle.scheme.specs.Making.{Part}
 use Rattle.scheme.specs.Expressions as parts
-use Rattle.scheme.specs.Expressions.{name_target, part_target, Coded, next_reg, coded_field}
+use Rattle.scheme.specs.Expressions.{name_target, part_target, Coded, coded_field}
 use Rattle.scheme.specs.Statements.{store_register, path_from}
 use Rattle.lua_num.specs.Bytes.{Text}
 use Rattle.lua_tree.specs.Syntax.{field_expression}
@@ -16,12 +16,7 @@ target_of (Target.Part on key on_local key_local) = part_target on key on_local 
 abbrev pub targets_of : List Target → List parts.Target
 targets_of targets = map target_of targets
 
--- the registers in which values come, one behind the other
-abbrev pub registers_of : List Coded → Maker → List ℕ
-registers_of [] m = []
-registers_of (c ∷ cs) m = m.free ∷ registers_of cs (next_reg c m)
-
--- targets are stored from these registers, from right to left
+-- targets are stored from registers, from right to left
 abbrev pub stored_back : (line : ℕ) → List parts.Target → List ℕ → Part
 stored_back line (target ∷ targets) (r ∷ rs) m = store_register line target r (stored_back line targets rs m)
 stored_back line targets rs m = m
