@@ -1,6 +1,5 @@
 // How far a source was gone through.
-ghost use Rattle.std.specs.Prelude.{◌≡◌, zero};
-ghost use Rattle.lua_tree.specs.Scoping.{Use};
+ghost use Rattle.std.specs.Prelude.{◌≡◌};
 ghost use Rattle.scheme.specs.Scheme as scheme;
 ghost use Rattle.code_builder.specs.Made.{ahead_of};
 

@@ -54,7 +54,7 @@ fn check_limit(limit: usize, reached: usize, fault: CodeFault) -> Result<(), Cod
     if reached > limit { Err(fault) } else { Ok(()) }
 }
 
-// Fails by the first limit that a function does not keep, where so many functions stand directly in it.
+// Fails by a limit that a function does not keep, where so many functions stand directly in it.
 fn check_limits(own: &OwnDraft, functions: usize) -> Result<(), CodeFault>
     ensures fits { (chunks : List Chunk) → length chunks ≡ functions → OnOk result (own_misfits own.now chunks ≡ []) }
     ensures fault { (chunks : List Chunk) → length chunks ≡ functions → IfErr result (λ fault. IsMisfitAmong fault (own_misfits own.now chunks)) }
@@ -113,7 +113,7 @@ fn own_proto(alloc: Global, own: OwnDraft, functions: Vec<Proto>) -> Result<Prot
 }
 
 /// The function of a chunk that a draft is, where it and every function in it keep the limits: at most 250 registers, 262,144 constants, 262,144 functions
-/// directly in it, and jumps of at most 131,071. Else the first limit that is not kept, in the order of the definitions. In linear time.
+/// directly in it, and jumps of at most 131,071. Else a limit that is not kept. In linear time.
 #[cycle(encoding)]
 pub fn encode(alloc: Global, draft: Draft) -> Result<Proto, CodeFault>
     ensures chunk { IfOk result (λ proto. view_proto proto ≡ draft_chunk draft) }

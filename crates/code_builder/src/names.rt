@@ -1,18 +1,12 @@
-// What names mean, and where upvalues come from.
-ghost use Rattle.std.specs.Prelude.{◌≡◌, [], IfOk, OnOk, get_or};
-ghost use Rattle.lua_tree.specs.Scoping.{Use};
-ghost use Rattle.scopes.specs.Uses.{use_of, source_use, source_uses};
+// What names mean.
+ghost use Rattle.std.specs.Prelude.{◌≡◌};
 ghost use Rattle.scheme.specs.Making as making;
-ghost use Rattle.scheme.specs.Functions as functions;
 ghost use Rattle.code_builder.specs.Made.{maker_of};
 ghost use Rattle.code_builder.specs.Places.{place_of};
 
-use crate::builder::{Builder, field};
-use lua_num::{ByteText, Names};
-use opcode::Op;
-use scheme::{Active, Piece};
-use scopes::{NameUse, Source};
-use std::alloc::{AllocError, Global};
+use crate::builder::Builder;
+use scheme::Active;
+use scopes::NameUse;
 
 /// Where what a name means is.
 #[derive(Clone, Copy, Debug, PartialEq, Eq)]

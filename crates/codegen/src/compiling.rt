@@ -17,7 +17,7 @@ use proto::Proto;
 use scopes::Scopes;
 use std::alloc::{AllocError, Global};
 
-/// The chunk that the code scheme has for a tree under a source name, by what the names of the tree mean; or the first limit of a
+/// The chunk that the code scheme has for a tree under a source name, by what the names of the tree mean; or a limit of a
 /// chunk that the scheme does not keep. The time is about linear in the tree: it is gone over once, and its words once more for their
 /// jumps. (A No-Frills Introduction to Lua 5.1 VM Instructions; at most 250 registers, 262,144 constants and 262,144 functions directly in
 /// a function, and jumps of at most 131,071.)

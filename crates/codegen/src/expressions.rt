@@ -14,13 +14,11 @@ use crate::folding::{arith_word, literal, numeral};
 use crate::functions::closure;
 use crate::kinds::unary_word;
 use crate::words::{
-    jump_to, load, local_register, moved, name_value, put_abc, rk_text, small_constant,
-    text_constant,
+    load, local_register, moved, name_value, put_abc, rk_text, small_constant, text_constant,
 };
 use code_builder::{Builder, field};
 use lua_tree::{BinaryOp, Exp, ExpKind, Items, UnaryOp};
 use opcode::Op;
-use proto::Constant;
 use std::alloc::{AllocError, Global};
 
 /// The value of an expression in the next free register, which is taken.
