@@ -43,12 +43,6 @@ tested i items kind b h e =
     let next : i + 1 ≡ suc i = omega arith in
     ap (λ n. is_open (ends (drop n items)) kind) next ∙ ap (λ last. is_open last kind) (ends-behind i items h) ∙ sym e
 
-pub entries_from-open : (line t done pending i : ℕ) (items : List Item) (item d : Item) (m : Maker) → i < length items → item ≡ get_or items i d → true ≡ is_open (i + 1 == length items) item.kind →
-    open_part line t done item.kind m ≡ entries_from line t done pending (entries (fields_of (drop i items))) m
-entries_from-open line t done pending i items item d m h same is =
-    by_open line t done pending item.kind item (drop (i + 1) items) m (tested i items item.kind true h is)
-    ∙ sym (ap (λ xs. entries_from line t done pending (entries (fields_of xs)) m) (from_place items i item d h same))
-
 pub entries_from-closed : (line t done pending i : ℕ) (items : List Item) (item d : Item) (m : Maker) → i < length items → item ≡ get_or items i d → false ≡ is_open (i + 1 == length items) item.kind →
     entries_from line t (done_behind item.kind done) (pending_behind item.kind pending) (entries (fields_of (drop (i + 1) items))) (closed_part line t done pending item.kind m)
     ≡ entries_from line t done pending (entries (fields_of (drop i items))) m

@@ -28,15 +28,3 @@ pub ends_open-by_last : (list : List Exp) (e : Exp) → 1 ≤ length list → e 
 ends_open-by_last list e h same =
     sym (ap (λ xs. ends_open (all_coded (expressions_of xs))) (ap (λ x. take (length list - 1) list ++ x ∷ []) same ∙ split_last list e h))
     ∙ ends_open-last (take (length list - 1) list) e
-
-all_multi-last : (op : Op) (want : Want) (front : List Exp) (e : Exp) (m : Maker) →
-    all_multi op want (all_coded (expressions_of (front ++ e ∷ []))) m ≡ (coded (view_exp e)).multi op want (all_next (all_coded (expressions_of front)) m)
-all_multi-last op want [] e m = refl
-all_multi-last op want (one ∷ []) e m = refl
-all_multi-last op want (one ∷ two ∷ front) e m = all_multi-last op want (two ∷ front) e _
-
-pub all_multi-by_last : (op : Op) (want : Want) (list : List Exp) (e : Exp) (m : Maker) → 1 ≤ length list → e ≡ get_or list (length list - 1) e →
-    all_multi op want (all_coded (expressions_of list)) m ≡ (coded (view_exp e)).multi op want (all_next (all_coded (expressions_of (take (length list - 1) list))) m)
-all_multi-by_last op want list e m h same =
-    sym (ap (λ xs. all_multi op want (all_coded (expressions_of xs)) m) (ap (λ x. take (length list - 1) list ++ x ∷ []) same ∙ split_last list e h))
-    ∙ all_multi-last op want (take (length list - 1) list) e m
