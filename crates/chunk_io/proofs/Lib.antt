@@ -15,3 +15,5 @@ pub mod Headers
 pub mod Offsets
 pub mod Whole
 pub mod OneAnswer
+pub mod Fitted
+pub mod FittedFunctions

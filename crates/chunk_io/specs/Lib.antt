@@ -2,3 +2,4 @@ pub mod Items
 pub mod Faults
 pub mod Reading
 pub mod Laws
+pub mod Fitting

@@ -13,7 +13,7 @@ use proto::{Code, ConstantList, Lines, LocVars, Proto, Protos};
 use std::alloc::Global;
 
 /// How deep functions may nest.
-const NESTINGS: usize = 200;
+pub const NESTINGS: usize = 200;
 
 #[tactic(auto, unfolding(crate::specs::Reading::debug_at))]
 fn debug_of(alloc: Global, layout: Layout, bytes: &[u8]) -> Result<(Debug, &[u8]), ReadError>

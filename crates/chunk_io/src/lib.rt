@@ -3,6 +3,7 @@
 
 mod dumping;
 mod fault;
+mod fitting;
 mod front;
 mod function;
 mod heading;
@@ -16,6 +17,7 @@ mod writing;
 
 pub use dumping::{dump, dump_as};
 pub use fault::ChunkFault;
+pub use fitting::fits;
 pub use laws::{chunk_or_fault, chunks_are_one, faults_are_one, layouts_are_one, never_both};
 pub use layout::Layout;
 pub use undumping::{read_layout, undump};

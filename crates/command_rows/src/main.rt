@@ -1,6 +1,7 @@
 // Reads rows such as `run a.lua: print(3)`: words, and what the file `a.lua` holds. Prints behind each row what the suite comes to
-// over files and sinks in memory: the status, what each sink took, and the calls of files. A row may begin with a put that
-// fails or finds no memory, as `out fails 3: ` or `err full 2: `. A row with no `: ` is a heading.
+// over files and sinks in memory: the status, what each sink took, the calls of files, and what the file `b` then holds, where it is
+// there. A row may begin with a put that fails or finds no memory, as `out fails 3: ` or `err full 2: `, or with a call of files that
+// fails, as `files fails 2: `. A row with no `: ` is a heading.
 #![tactic(auto)]
 
 mod full_sink;
@@ -25,12 +26,17 @@ fn main(rt: HostRuntime) -> io::Result<()> {
 }
 
 fn answer(alloc: Global, row: &Row) -> Result<String, AllocError> {
-    let mut files = MemoryFiles::new(alloc, &[])?;
+    let mut files = MemoryFiles::new(alloc, &[row.files_end])?;
     files.set(alloc, &String::from_str(alloc, "a.lua")?, &row.source)?;
-    match row.ending {
-        Ending::Full => over_full_sinks(alloc, row, &mut files),
-        Ending::Fails => over_memory(alloc, row, &mut files),
+    let mut text = match row.ending {
+        Ending::Full => over_full_sinks(alloc, row, &mut files)?,
+        Ending::Fails => over_memory(alloc, row, &mut files)?,
+    };
+    if let Some(stored) = files.get(&String::from_str(alloc, "b")?) {
+        let shown = stored.escape_ascii();
+        text.push_str(format!(in alloc; ", b <{shown}>")?.as_str())?;
     }
+    Ok(text)
 }
 
 fn over_memory(alloc: Global, row: &Row, files: &mut MemoryFiles) -> Result<String, AllocError> {

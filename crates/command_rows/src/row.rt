@@ -1,4 +1,4 @@
-// Rows: the words of a call, the source of `a.lua`, and which puts do not go well.
+// Rows: the words of a call, the source of `a.lua`, and which puts and calls of files do not go well.
 use row_source::read_source;
 use std::alloc::{AllocError, Global};
 use suite_io::Word;
@@ -10,7 +10,7 @@ pub enum Ending {
     Full,
 }
 
-/// A call of the suite. The puts of these numbers end as `ending` says; no put has the number 0.
+/// A call of the suite. The puts of these numbers end as `ending` says, and the call of files fails; no put or call has the number 0.
 #[derive(Drop)]
 pub struct Row {
     pub words: Vec<Word>,
@@ -18,6 +18,7 @@ pub struct Row {
     pub ending: Ending,
     pub out_ends: u64,
     pub err_ends: u64,
+    pub files_end: u64,
 }
 
 /// The row of a text; none where it has no `: `.
@@ -50,6 +51,7 @@ fn read_parts(
         },
         out_ends: if sink == "out" { number } else { 0 },
         err_ends: if sink == "err" { number } else { 0 },
+        files_end: if sink == "files" { number } else { 0 },
     }))
 }
 

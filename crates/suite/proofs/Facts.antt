@@ -1,5 +1,5 @@
 -- What the clauses of the top call rest on: which outcomes exclude each other, and what becomes of a status.
-use Rattle.std.proofs.Common.{◌≡◌, ℕ, suc, ◌+◌, Bool, true, false, List, [], ◌∷◌, ◌++◌, length, ◌⊎◌, inl, inr, Option, Some, None, IfSome, refl, sym, ap, subst, ◌∙◌, length-append, cond, arith}
+use Rattle.std.proofs.Common.{◌≡◌, ℕ, suc, ◌+◌, true, false, List, [], ◌∷◌, ◌++◌, ◌⊎◌, inl, inr, Option, Some, None, IfSome, Contains, refl, sym, ap, subst, ◌∙◌, cond, arith}
 use Rattle.std.specs.FinMap.{get}
 use Rattle.std.proofs.lemmas.List.{append-nil}
 use Rattle.std.proofs.lemmas.List.Sums.{sum_by-append}
@@ -9,8 +9,8 @@ use Rattle.chunk_io.specs.Items.{IsChunkOf}
 use Rattle.chunk_io.specs.Faults.{IsFault}
 use Rattle.suite_io.specs.declared.calls.FileCall.{FileCall}
 use Rattle.suite_io.specs.Contents.{Contents}
-use Rattle.suite_io.specs.Calls.{call_of, fault_count}
-use Rattle.suite_io.specs.Taken.{Takes}
+use Rattle.suite_io.specs.Calls.{fault_count}
+use Rattle.suite_io.specs.Taken.{Takes, Rises}
 use Rattle.lua_tree.specs.declared.token.Token.{Token}
 use Rattle.lua_tree.specs.Syntax.{Source}
 use Rattle.lua_tree.specs.Scoping.{Scoped, no_loop, no_vararg, too_many_locals, too_many_upvalues, breach_of}
@@ -28,12 +28,16 @@ use Rattle.suite.specs.declared.fault.Fault.{Fault}
 use Rattle.suite.specs.declared.status.Status.{Status}
 use Rattle.suite.specs.declared.outcome.Outcome.{Outcome}
 use Rattle.suite.specs.Output.{TakesPart}
-use Rattle.suite.specs.declared.words.Task.{Task}
-use Rattle.suite.specs.Words.{Words, Reads, NoCommand, command_of, texts, named, file_of, Fetched, Tells}
+use Rattle.scheme.specs.Scheme.{scheme, Fits}
+use Rattle.scheme.specs.Accepts.{Accepts}
+use Rattle.scheme.specs.Making.{too_many_registers, too_many_constants, jump_too_far, too_many_functions}
+use Rattle.code_builder.specs.declared.fault.CodeFault.{CodeFault}
+use Rattle.lua_num.specs.Bytes.{Text}
+use Rattle.suite.specs.Words.{Tells}
 use Rattle.suite.specs.Lines.{status_of, line_of, Refused, IsPut, Reported}
-use Rattle.suite.specs.Outcome.{IsBadSource, IsGoodSource, IsBadChunk, IsNotBuilt, IsFaultIn}
-use Rattle.suite.specs.Work.{IsFetched, HasOutput, FetchedDoes, FileDoes}
-use Rattle.suite.specs.Causes.{GrowsByOneFetch}
+use Rattle.suite.specs.Outcome.{IsGoodSource, IsFaultIn, IsEarlyFaultIn, IsLimitOf, HasNoChunk}
+use Rattle.suite.specs.Jobs.{IsCompiled, IsNotRun, HasOutput, source_name}
+use Rattle.suite.specs.Causes.{Becomes}
 use Rattle.suite.proofs.SourceLemmas.{TokensAreOne, form_is, list_scoped}
 
 abbrev pub TokensOrFault : Type 0
@@ -64,23 +68,6 @@ laws_of tokens_one tokens_never trees_one trees_never chunks_one chunks_never = 
   chunk_or_fault = chunks_never;
 }
 
-pub named_is : (words : Words) (task : Task) (file : List ℕ) → Reads words task file → named words ≡ file
-named_is words task file r = ap file_of r
-
-abbrev task_or : Task → Option (Task × List ℕ) → Task
-task_or task None = task
-task_or task (Some command) = command.0
-
--- words ask for one task
-pub task_is : (words : Words) (task other : Task) (file name : List ℕ) → Reads words task file → Reads words other name → other ≡ task
-task_is words task other file name r q = ap (task_or task) (sym q ∙ r)
-
-pub never_two : (words : Words) (file name : List ℕ) → Reads words Task.Run file → Reads words Task.List name → ⊥
-never_two words file name r q = let one : Task.List ≡ Task.Run = task_is words Task.Run Task.List file name r q in cc
-
-pub no_command : (words : Words) (task : Task) (file : List ℕ) → Reads words task file → NoCommand words → ⊥
-no_command words task file r none = let some : command_of (texts words) ≡ Some (task, file) = r in let both : command_of (texts words) ≡ None = none in cc
-
 -- two outputs of a source are one
 pub same_output : (source : Source) (a b : List ℕ) → HasOutput source a → HasOutput source b → a ≡ b
 same_output source a b h k = sym (h.output_is h.ends.0 h.ends.1) ∙ k.output_is h.ends.0 h.ends.1
@@ -90,14 +77,6 @@ count_snoc calls call e =
     let both = sum_by-append (λ (c : FileCall). cond c.failed 1 0) calls (call ∷ []) in
     let one : 0 + cond call.failed 1 0 ≡ 1 = rw e refl in
     omega (arith, both, one)
-
--- one list of calls does not grow in two ways
-pub not_both : (calls : List FileCall) (a b : FileCall) → calls ++ a ∷ [] ≡ calls ++ b ∷ [] → a ≡ b
-not_both [] a b e = cc
-not_both (c ∷ calls) a b e = not_both calls a b (cc)
-
-pub not_longer : (calls : List FileCall) (a : FileCall) → calls ≡ calls ++ a ∷ [] → ⊥
-not_longer calls a e = let h = ap length e in absurd (omega (arith, h, length-append calls (a ∷ [])))
 
 -- what was told of a file is what was fetched
 pub same_bytes : (contents : Option Contents) (file a b : List ℕ) → Tells contents file a → IfSome contents (λ held. get held file ≡ Some b) → a ≡ b
@@ -132,62 +111,71 @@ no_scope_fault whole (ScopeFault.TooManyLocals line reached) keeps is = let some
 no_scope_fault whole (ScopeFault.TooManyUpvalues line reached) keeps is = let some : breach_of whole ≡ Some (too_many_upvalues line reached) = is in cc
 no_scope_fault whole ScopeFault.OutOfMemory keeps is = is
 
--- nor do a tree that keeps the rules of scoping and a fault
-no_fault : Laws → (bytes : List ℕ) (tokens : List Token) (whole : Source) (fault : Fault) → Lexes bytes tokens → IsTreeOf tokens whole → Scoped whole → IsFaultIn bytes fault → ⊥
-no_fault laws bytes tokens whole (Fault.Scoping fault) lexed parsed keeps is =
+-- nor do a tree that keeps the rules of scoping and a fault that is told before the chunk is made
+pub no_early_fault : Laws → (bytes : List ℕ) (tokens : List Token) (whole : Source) (fault : Fault) → Lexes bytes tokens → IsTreeOf tokens whole → Scoped whole → IsEarlyFaultIn bytes fault → ⊥
+no_early_fault laws bytes tokens whole (Fault.Scoping fault) lexed parsed keeps is =
     let same_tokens : is.tokens ≡ tokens = laws.tokens_are_one bytes is.tokens tokens is.lexed lexed in
     let same : whole ≡ is.whole = laws.trees_are_one tokens whole is.whole parsed (subst (λ t. IsTreeOf t is.whole) same_tokens is.parsed) in
     no_scope_fault is.whole fault (subst Scoped same keeps) is.fault_is
-no_fault laws bytes tokens whole (Fault.Lexical fault) lexed parsed keeps is =
+no_early_fault laws bytes tokens whole (Fault.Lexical fault) lexed parsed keeps is =
     no_lexical_fault laws.tokens_or_fault bytes tokens fault lexed is
-no_fault laws bytes tokens whole (Fault.Unexpected offset) lexed parsed keeps is =
+no_early_fault laws bytes tokens whole (Fault.Unexpected offset) lexed parsed keeps is =
     no_syntax_fault laws bytes tokens is.tokens whole (SyntaxFault.Unexpected is.at) lexed parsed is.lexed is.fault
-no_fault laws bytes tokens whole (Fault.TooDeep offset) lexed parsed keeps is =
+no_early_fault laws bytes tokens whole (Fault.TooDeep offset) lexed parsed keeps is =
     no_syntax_fault laws bytes tokens is.tokens whole (SyntaxFault.TooDeep is.at) lexed parsed is.lexed is.fault
+no_early_fault laws bytes tokens whole (Fault.Code fault) lexed parsed keeps is = is
 
--- source of the first form, source with a fault and what is not built are three
-pub form_not_bad : Laws → (bytes : List ℕ) (source : Source) (fault : Fault) → IsFirstForm bytes source → IsBadSource bytes fault → ⊥
-form_not_bad laws bytes source fault form bad =
-    no_fault laws bytes form.tokens source fault form.lexed form.parsed (list_scoped source form.tree form.listed) bad.fault_is
+-- two trees of some bytes are one
+one_tree : Laws → (bytes : List ℕ) (tokens others : List Token) (whole other : Source) → Lexes bytes tokens → IsTreeOf tokens whole → Lexes bytes others → IsTreeOf others other → whole ≡ other
+one_tree laws bytes tokens others whole other lexed parsed lexed_too parsed_too =
+    let same_tokens : others ≡ tokens = laws.tokens_are_one bytes others tokens lexed_too lexed in
+    laws.trees_are_one tokens whole other parsed (subst (λ t. IsTreeOf t other) same_tokens parsed_too)
 
-pub form_not_unbuilt : Laws → (bytes : List ℕ) (source : Source) → IsFirstForm bytes source → IsNotBuilt Task.Run bytes → ⊥
-form_not_unbuilt laws bytes source form (inl chunk) = let no_chunk : is_chunk bytes ≡ false = form.no_chunk in cc
-form_not_unbuilt laws bytes source form (inr other) =
-    let good = other.1 in
-    let same : source ≡ other.0 = form_is laws.tokens_are_one laws.trees_are_one bytes good.tokens other.0 source good.lexed good.parsed form in
-    other.2 form.tree (subst (λ (w : Source). IsPrintList w.body form.tree) same form.listed)
+-- a chunk that keeps the limits breaks none
+no_limit : (whole : Source) (fault : CodeFault) → Fits whole → IsLimitOf whole fault → ⊥
+no_limit whole (CodeFault.TooManyRegisters line reached) fits is = let none : Contains [] (too_many_registers line reached) = subst (λ m. Contains m (too_many_registers line reached)) fits is in absurd (omega (arith, none.1))
+no_limit whole (CodeFault.TooManyConstants line reached) fits is = let none : Contains [] (too_many_constants line reached) = subst (λ m. Contains m (too_many_constants line reached)) fits is in absurd (omega (arith, none.1))
+no_limit whole (CodeFault.JumpTooFar line reached) fits is = let none : Contains [] (jump_too_far line reached) = subst (λ m. Contains m (jump_too_far line reached)) fits is in absurd (omega (arith, none.1))
+no_limit whole (CodeFault.TooManyFunctions line reached) fits is = let none : Contains [] (too_many_functions line reached) = subst (λ m. Contains m (too_many_functions line reached)) fits is in absurd (omega (arith, none.1))
+no_limit whole CodeFault.OutOfMemory fits is = is
 
-bad_not_good : Laws → (bytes : List ℕ) (fault : Fault) (whole : Source) → IsBadSource bytes fault → IsGoodSource bytes whole → ⊥
-bad_not_good laws bytes fault whole bad good =
-    no_fault laws bytes good.tokens whole fault good.lexed good.parsed good.scoped bad.fault_is
+-- an accepted source has no fault
+no_code_fault : Laws → (bytes : List ℕ) (source : Source) (fault : CodeFault) → Accepts bytes source → HasNoChunk bytes fault → ⊥
+no_code_fault laws bytes source fault accepts has =
+    let same = one_tree laws bytes accepts.tokens has.good.tokens source has.whole accepts.lexed accepts.parsed has.good.lexed has.good.parsed in
+    no_limit has.whole fault (subst Fits same accepts.fits) has.fault_is
 
-pub bad_not_unbuilt : Laws → (task : Task) (bytes : List ℕ) (fault : Fault) → IsBadSource bytes fault → IsNotBuilt task bytes → ⊥
-bad_not_unbuilt laws Task.Run bytes fault bad (inl chunk) = let source : is_chunk bytes ≡ false = bad.source in cc
-bad_not_unbuilt laws Task.Run bytes fault bad (inr other) = bad_not_good laws bytes fault other.0 bad other.1
-bad_not_unbuilt laws Task.List bytes fault bad good = bad_not_good laws bytes fault good.0 bad good.1
+pub no_fault : Laws → (bytes : List ℕ) (source : Source) (fault : Fault) → Accepts bytes source → IsFaultIn bytes fault → ⊥
+no_fault laws bytes source (Fault.Code fault) accepts is = no_code_fault laws bytes source fault accepts is
+no_fault laws bytes source (Fault.Scoping fault) accepts is = no_early_fault laws bytes accepts.tokens source (Fault.Scoping fault) accepts.lexed accepts.parsed accepts.scoped is
+no_fault laws bytes source (Fault.Lexical fault) accepts is = no_early_fault laws bytes accepts.tokens source (Fault.Lexical fault) accepts.lexed accepts.parsed accepts.scoped is
+no_fault laws bytes source (Fault.Unexpected offset) accepts is = no_early_fault laws bytes accepts.tokens source (Fault.Unexpected offset) accepts.lexed accepts.parsed accepts.scoped is
+no_fault laws bytes source (Fault.TooDeep offset) accepts is = no_early_fault laws bytes accepts.tokens source (Fault.TooDeep offset) accepts.lexed accepts.parsed accepts.scoped is
 
--- so are a chunk, a chunk with a fault, and source
-pub begins_chunk : (bytes : List ℕ) (c : Chunk) → IsChunkOf bytes c → is_chunk bytes ≡ true
-begins_chunk bytes c is = ap is_chunk is.1.is
+-- a source has one chunk
+pub one_chunk : Laws → (file : Text) (bytes : List ℕ) (c d : Chunk) → IsCompiled file bytes c → IsCompiled file bytes d → c ≡ d
+one_chunk laws file bytes c d one other =
+    let same : one.source ≡ other.source = one_tree laws bytes one.accepts.tokens other.accepts.tokens one.source other.source one.accepts.lexed one.accepts.parsed other.accepts.lexed other.accepts.parsed in
+    one.is ∙ ap (λ s. scheme s (source_name file)) same ∙ sym other.is
 
-pub chunk_not_bad : Laws → (bytes : List ℕ) (c : Chunk) (fault : ChunkFault) → IsChunkOf bytes c → IsBadChunk bytes fault → ⊥
-chunk_not_bad laws bytes c fault is bad = laws.chunk_or_fault bytes c fault is bad.fault_is
+-- source of the first form has no fault, and is run
+pub form_not_bad : Laws → (bytes : List ℕ) (source : Source) (fault : Fault) → IsFirstForm bytes source → IsEarlyFaultIn bytes fault → ⊥
+form_not_bad laws bytes source fault form is =
+    no_early_fault laws bytes form.tokens source fault form.lexed form.parsed (list_scoped source form.tree form.listed) is
 
-pub chunk_not_source : (bytes : List ℕ) (c : Chunk) (fault : Fault) → IsChunkOf bytes c → IsBadSource bytes fault → ⊥
-chunk_not_source bytes c fault is bad =
-    let chunk : is_chunk bytes ≡ true = begins_chunk bytes c is in let source : is_chunk bytes ≡ false = bad.source in cc
+pub form_is_run : Laws → (bytes : List ℕ) (source : Source) → IsFirstForm bytes source → IsNotRun bytes → ⊥
+form_is_run laws bytes source form (inl chunk) = let no_chunk : is_chunk bytes ≡ false = form.no_chunk in cc
+form_is_run laws bytes source form (inr other) =
+    let good : IsGoodSource bytes other.1 = other.2 in
+    let same : source ≡ other.1 = form_is laws.tokens_are_one laws.trees_are_one bytes good.tokens other.1 source good.lexed good.parsed form in
+    other.3 form.tree (subst (λ (w : Source). IsPrintList w.body form.tree) same form.listed)
 
-pub chunk_not_unbuilt : (bytes : List ℕ) (c : Chunk) → IsChunkOf bytes c → IsNotBuilt Task.List bytes → ⊥
-chunk_not_unbuilt bytes c is good =
-    let chunk : is_chunk bytes ≡ true = begins_chunk bytes c is in let source : is_chunk bytes ≡ false = good.1.source in cc
-
-pub broken_not_source : (bytes : List ℕ) (fault : Fault) (broken : ChunkFault) → IsBadSource bytes fault → IsBadChunk bytes broken → ⊥
-broken_not_source bytes fault broken bad is =
-    let chunk : is_chunk bytes ≡ true = is.chunk in let source : is_chunk bytes ≡ false = bad.source in cc
-
-pub broken_not_unbuilt : (bytes : List ℕ) (broken : ChunkFault) → IsNotBuilt Task.List bytes → IsBadChunk bytes broken → ⊥
-broken_not_unbuilt bytes broken good is =
-    let chunk : is_chunk bytes ≡ true = is.chunk in let source : is_chunk bytes ≡ false = good.1.source in cc
+-- what is not run has no fault
+pub fault_not_unbuilt : Laws → (bytes : List ℕ) (fault : Fault) → is_chunk bytes ≡ false → IsEarlyFaultIn bytes fault → IsNotRun bytes → ⊥
+fault_not_unbuilt laws bytes fault source is (inl chunk) = cc
+fault_not_unbuilt laws bytes fault source is (inr other) =
+    let good : IsGoodSource bytes other.1 = other.2 in
+    no_early_fault laws bytes good.tokens other.1 fault good.lexed good.parsed good.scoped is
 
 -- a status whose line was refused is then one of two
 refused_is : (status result : Status) (old new : ℕ) → Refused status result old new → (result ≡ Status.WriteFault) ⊎ (result ≡ Status.OutOfMemory)
@@ -213,6 +201,11 @@ module _ (err_before err_later : Option (List ℕ)) (err_old err_new : ℕ) wher
   put_is status line result (inr p) no_fault no_want =
       absurd (elim (refused_is status result err_old err_new p.0) [ inl e ↦ no_fault e | inr e ↦ no_want e ])
 
+  -- want of memory stays
+  pub no_memory_is : (line : List ℕ) (result : Status) → IsPut Status.OutOfMemory line result err_before err_later err_old err_new → result ≡ Status.OutOfMemory
+  no_memory_is line result (inl p) = p.0
+  no_memory_is line result (inr p) = p.0
+
   pub settled_is : (outcome : Outcome) (file : List ℕ) (result : Status) → Reported outcome file result err_before err_later err_old err_new → (result ≡ Status.WriteFault → ⊥) → (result ≡ Status.OutOfMemory → ⊥) → (result ≡ status_of outcome) × Takes err_before err_later (line_of outcome file)
   settled_is Outcome.Done file result r no_fault no_want = r
   settled_is Outcome.BadWords file result r no_fault no_want = put_is Status.BadWords _ result r no_fault no_want
@@ -227,35 +220,68 @@ module _ (err_before err_later : Option (List ℕ)) (err_old err_new : ℕ) wher
   settled_is Outcome.OutOfMemory file result r no_fault no_want = put_is Status.OutOfMemory _ result r no_fault no_want
   settled_is Outcome.Unbuilt file result r no_fault no_want = put_is Status.Unbuilt _ result r no_fault no_want
 
--- the line of the outcome was taken, for the file that the words name
-pub line_named : (words : Words) (task : Task) (file : List ℕ) (err_before err_later : Option (List ℕ)) → Reads words task file → (outcome : Outcome) → Takes err_before err_later (line_of outcome file) → Takes err_before err_later (line_of outcome (named words))
-line_named words task file err_before err_later reads outcome t =
-    subst (λ n. Takes err_before err_later (line_of outcome n)) (sym (named_is words task file reads)) t
+  -- where no count rose, the status is that of the outcome, or memory ran out
+  quiet_refused : (status result : Status) → Refused status result err_old err_new → (Rises err_old err_new → ⊥) → (result ≡ status) ⊎ (result ≡ Status.OutOfMemory)
+  quiet_refused Status.WriteFault result r quiet = inl r
+  quiet_refused Status.OutOfMemory result r quiet = inl r
+  quiet_refused Status.Done result (inl r) quiet = absurd (quiet r.1)
+  quiet_refused Status.Done result (inr r) quiet = inr r
+  quiet_refused Status.BadWords result (inl r) quiet = absurd (quiet r.1)
+  quiet_refused Status.BadWords result (inr r) quiet = inr r
+  quiet_refused Status.BadSource result (inl r) quiet = absurd (quiet r.1)
+  quiet_refused Status.BadSource result (inr r) quiet = inr r
+  quiet_refused Status.BadChunk result (inl r) quiet = absurd (quiet r.1)
+  quiet_refused Status.BadChunk result (inr r) quiet = inr r
+  quiet_refused Status.ReadFault result (inl r) quiet = absurd (quiet r.1)
+  quiet_refused Status.ReadFault result (inr r) quiet = inr r
+  quiet_refused Status.Unbuilt result (inl r) quiet = absurd (quiet r.1)
+  quiet_refused Status.Unbuilt result (inr r) quiet = inr r
 
-pub line_clause : (words : Words) (task : Task) (file : List ℕ) (err_before err_later : Option (List ℕ)) (err_old err_new : ℕ) → Reads words task file → (outcome : Outcome) (result : Status) → Reported outcome file result err_before err_later err_old err_new → (result ≡ Status.WriteFault → ⊥) → (result ≡ Status.OutOfMemory → ⊥) → (settled : Outcome) × (status_of settled ≡ result) × Takes err_before err_later (line_of settled (named words))
-line_clause words task file err_before err_later err_old err_new reads outcome result r no_fault no_want =
-    let settled = settled_is err_before err_later err_old err_new outcome file result r no_fault no_want in
-    (outcome, sym settled.0, line_named words task file err_before err_later reads outcome settled.1)
+  -- a status becomes a fault of writing only where the count rose
+  write_refused : (status result : Status) → Refused status result err_old err_new → result ≡ Status.WriteFault → (status ≡ Status.WriteFault) ⊎ Rises err_old err_new
+  write_refused Status.WriteFault result r e = inl refl
+  write_refused Status.OutOfMemory result r e = cc
+  write_refused Status.Done result (inl r) e = inr r.1
+  write_refused Status.Done result (inr r) e = cc
+  write_refused Status.BadWords result (inl r) e = inr r.1
+  write_refused Status.BadWords result (inr r) e = cc
+  write_refused Status.BadSource result (inl r) e = inr r.1
+  write_refused Status.BadSource result (inr r) e = cc
+  write_refused Status.BadChunk result (inl r) e = inr r.1
+  write_refused Status.BadChunk result (inr r) e = cc
+  write_refused Status.ReadFault result (inl r) e = inr r.1
+  write_refused Status.ReadFault result (inr r) e = cc
+  write_refused Status.Unbuilt result (inl r) e = inr r.1
+  write_refused Status.Unbuilt result (inr r) e = cc
 
--- one fetch of the file is one of that which the words name
-pub fetched_by : (words : Words) (task : Task) (file : List ℕ) (failed : Bool) (calls calls_after : List FileCall) → Reads words task file → IsFetched file failed calls calls_after → Fetched words failed calls calls_after
-fetched_by words task file failed calls calls_after reads f = record {
-  task = task;
-  reads = subst (Reads words task) (sym (named_is words task file reads)) reads;
-  listed = f ∙ ap (λ n. calls ++ call_of false n failed ∷ []) (sym (named_is words task file reads));
-}
+  pub put_becomes : (status : Status) (line : List ℕ) (result : Status) → IsPut status line result err_before err_later err_old err_new → Becomes status result err_old err_new
+  put_becomes status line result (inl p) = inl p.0
+  put_becomes status line result (inr p) = inr p.0
 
-module _ (words : Words) (task : Task) (file : List ℕ) (contents : Option Contents) (calls calls_after : List FileCall) (before later : Option (List ℕ)) (old new : ℕ) (reads : Reads words task file) where
-  grown : (outcome : Outcome) → FetchedDoes task file contents calls calls_after outcome before later old new → GrowsByOneFetch words calls calls_after
-  grown outcome f = inr (false, fetched_by words task file false calls calls_after reads f.fetched)
+  pub becomes : (outcome : Outcome) (file : List ℕ) (result : Status) → Reported outcome file result err_before err_later err_old err_new → Becomes (status_of outcome) result err_old err_new ⊎ (result ≡ Status.OutOfMemory)
+  becomes Outcome.Done file result r = inl (inl r.0)
+  becomes Outcome.BadWords file result r = inl (put_becomes Status.BadWords _ result r)
+  becomes (Outcome.BadSource fault) file result (inl p) = inl (put_becomes Status.BadSource _ result p)
+  becomes (Outcome.BadSource fault) file result (inr p) = inr (no_memory_is _ result p)
+  becomes (Outcome.BadChunk fault) file result (inl p) = inl (put_becomes Status.BadChunk _ result p)
+  becomes (Outcome.BadChunk fault) file result (inr p) = inr (no_memory_is _ result p)
+  becomes Outcome.ReadFault file result r = inl (put_becomes Status.ReadFault _ result r)
+  becomes Outcome.WriteFault file result r = inl (put_becomes Status.WriteFault _ result r)
+  becomes Outcome.OutOfMemory file result r = inr (no_memory_is _ result r)
+  becomes Outcome.Unbuilt file result r = inl (put_becomes Status.Unbuilt _ result r)
 
-  pub calls_clause : (outcome : Outcome) → FileDoes task file contents calls calls_after outcome before later old new → GrowsByOneFetch words calls calls_after
-  calls_clause Outcome.ReadFault f = inr (true, fetched_by words task file true calls calls_after reads f.0)
-  calls_clause Outcome.OutOfMemory (inl f) = inl f.0
-  calls_clause Outcome.OutOfMemory (inr f) = grown Outcome.OutOfMemory f
-  calls_clause Outcome.Done f = grown Outcome.Done f
-  calls_clause Outcome.BadWords f = grown Outcome.BadWords f
-  calls_clause (Outcome.BadSource fault) f = grown (Outcome.BadSource fault) f
-  calls_clause (Outcome.BadChunk fault) f = grown (Outcome.BadChunk fault) f
-  calls_clause Outcome.WriteFault f = grown Outcome.WriteFault f
-  calls_clause Outcome.Unbuilt f = grown Outcome.Unbuilt f
+  pub quiet_is : (outcome : Outcome) (file : List ℕ) (result : Status) → Reported outcome file result err_before err_later err_old err_new → (Rises err_old err_new → ⊥) → (result ≡ status_of outcome) ⊎ (result ≡ Status.OutOfMemory)
+  quiet_is outcome file result r quiet = by (becomes outcome file result r)
+    where
+      by : Becomes (status_of outcome) result err_old err_new ⊎ (result ≡ Status.OutOfMemory) → (result ≡ status_of outcome) ⊎ (result ≡ Status.OutOfMemory)
+      by (inl (inl e)) = inl e
+      by (inl (inr p)) = quiet_refused (status_of outcome) result p quiet
+      by (inr e) = inr e
+
+  pub write_cause : (outcome : Outcome) (file : List ℕ) (result : Status) → Reported outcome file result err_before err_later err_old err_new → result ≡ Status.WriteFault → (status_of outcome ≡ Status.WriteFault) ⊎ Rises err_old err_new
+  write_cause outcome file result r written = by (becomes outcome file result r)
+    where
+      by : Becomes (status_of outcome) result err_old err_new ⊎ (result ≡ Status.OutOfMemory) → (status_of outcome ≡ Status.WriteFault) ⊎ Rises err_old err_new
+      by (inl (inl e)) = inl (sym e ∙ written)
+      by (inl (inr p)) = write_refused (status_of outcome) result p written
+      by (inr e) = cc

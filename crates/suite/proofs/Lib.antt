@@ -9,6 +9,5 @@ pub mod WordLemmas
 pub mod Meant
 pub mod Working
 pub mod Facts
-pub mod RunClauses
-pub mod ListClauses
-pub mod TaskClauses
+pub mod Ends
+pub mod Clauses

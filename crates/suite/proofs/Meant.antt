@@ -11,10 +11,16 @@ use Rattle.first_form.specs.Meaning.{meaning}
 use Rattle.first_form.specs.Chunk.{Chunk}
 use Rattle.first_form.specs.Rules.{Conf, Running, Over, Stuck, run, start, ran, progress_of}
 use Rattle.first_form.specs.Agrees.{Agrees, IsSteady}
-use Rattle.suite_io.specs.Taken.{Takes}
+use Rattle.suite_io.specs.Taken.{Takes, Rises}
 use Rattle.suite.specs.Output.{TakesPart}
 use Rattle.suite.specs.Reading.{IsRead}
-use Rattle.suite.specs.Work.{HasOutput, Prints, PrintsPart}
+use Rattle.lua_num.specs.Bytes.{Text}
+use Rattle.suite_io.specs.declared.calls.FileCall.{FileCall}
+use Rattle.suite_io.specs.Contents.{Contents}
+use Rattle.suite.specs.declared.outcome.Outcome.{Outcome}
+use Rattle.suite.specs.Words.{run_file}
+use Rattle.suite.specs.Jobs.{HasOutput, IsOutputOf, put}
+use Rattle.suite.specs.Work.{Does, outside}
 use Rattle.std.proofs.lemmas.Bool.{cases_lt}
 use Rattle.suite.proofs.Runs.{over_later}
 
@@ -74,20 +80,15 @@ module _ (tree : List Statement) (chunk : Chunk) (agrees : Agrees tree chunk) (s
           ap (λ (c : Course). whole.output c.events) (is_early ticks) ∙ output-prints_of (meaning tree ticks).pieces ∙ ap output (same_end ticks early_ends ∙ sym source_ends);
     }
 
-    pub source_prints : (before later : Option (List ℕ)) → Takes before later (output (ran chunk 1000000000)) → Prints bytes before later
-    source_prints before later t = record {
-      source = read.source;
-      text = output (ran chunk 1000000000);
-      is_source = record { form = read.form; only = read.only };
-      outputs = source_output;
-      taken = t;
-    }
+    pub is_output : IsOutputOf bytes (output (ran chunk 1000000000))
+    is_output = record { source = read.source; form = read.form; outputs = source_output }
 
-    pub source_prints_part : (before later : Option (List ℕ)) → TakesPart before later (output (ran chunk 1000000000)) → PrintsPart bytes before later
-    source_prints_part before later t = record {
-      source = read.source;
-      text = output (ran chunk 1000000000);
-      is_source = record { form = read.form; only = read.only };
-      outputs = source_output;
-      taken = t;
-    }
+    -- it is put, whole or a first part of it
+    pub run_whole : (file : Text) (contents : Option Contents) (calls : List FileCall) (before later : Option (List ℕ)) (old new : ℕ) → Takes before later (output (ran chunk 1000000000)) → Does (run_file file) bytes Outcome.Done (outside contents calls before old) (outside contents calls later new)
+    run_whole file contents calls before later old new t = inl (record { end = put (output (ran chunk 1000000000)); comes = is_output; carried = (record { contents = refl; calls = refl }, t) })
+
+    pub run_part : (file : Text) (contents : Option Contents) (calls : List FileCall) (before later : Option (List ℕ)) (old new : ℕ) → TakesPart before later (output (ran chunk 1000000000)) → Rises old new → Does (run_file file) bytes Outcome.WriteFault (outside contents calls before old) (outside contents calls later new)
+    run_part file contents calls before later old new t risen = inl (record { end = put (output (ran chunk 1000000000)); comes = is_output; carried = (record { contents = refl; calls = refl }, t, risen) })
+
+    pub run_no_memory : (file : Text) (contents : Option Contents) (calls : List FileCall) (before later : Option (List ℕ)) (old new : ℕ) → TakesPart before later (output (ran chunk 1000000000)) → Does (run_file file) bytes Outcome.OutOfMemory (outside contents calls before old) (outside contents calls later new)
+    run_no_memory file contents calls before later old new t = inl (record { end = put (output (ran chunk 1000000000)); comes = is_output; carried = (record { contents = refl; calls = refl }, t) })

@@ -1,6 +1,6 @@
 -- Statements have one list of printed numbers at most, and then they keep the rules of scoping.
 use Rattle.std.specs.Prelude.{codes}
-use Rattle.std.proofs.Common.{◌≡◌, ◌≢◌, ℕ, ◌+◌, ◌<◌, ◌≤◌, ℤ, Bool, false, List, [], ◌∷◌, ◌++◌, length, get_or, drop, IfNone, Option, Some, None, refl, sym, ap, subst, ◌∙◌, append_assoc, append-nil, arith, length-append}
+use Rattle.std.proofs.Common.{◌≡◌, ◌≢◌, ℕ, ◌+◌, ◌<◌, ◌≤◌, ℤ, Bool, false, List, [], ◌∷◌, ◌++◌, length, get_or, drop, IfNone, Option, Some, None, refl, sym, ap, subst, inr, ◌∙◌, append_assoc, append-nil, arith, length-append}
 use Rattle.std.proofs.lemmas.List.{at_drop_more, at_drop_all}
 use Rattle.lua_tree.specs.Syntax as syntax
 use Rattle.lua_tree.specs.Syntax.{Statements, no_statements, call_statement, Expressions, Expression, call_expression, argument_list, Source}
@@ -19,8 +19,16 @@ use Rattle.first_form.specs.Source.{is_chunk, PrintsNumber, ArePrinted, IsPrintL
 use Rattle.first_form.specs.declared.tree.Statement.{Statement}
 use Rattle.first_form.specs.declared.tree.Statement.TheVariants.{Print}
 use Rattle.suite.specs.declared.fault.Fault.{Fault}
-use Rattle.suite.specs.Outcome.{IsBadSource, IsNoPrintList}
-use Rattle.suite.specs.Reading.{IsRead, IsScopingFault, IsNumber, IsNumberList}
+use Rattle.proto.specs.Chunk.{Chunk}
+use Rattle.scheme.specs.Scheme.{scheme, Fits}
+use Rattle.code_builder.specs.declared.fault.CodeFault.{CodeFault}
+use Rattle.codegen.specs.Compiled.{StopsBy}
+use Rattle.suite.specs.declared.source.SourceFault.{SourceFault}
+use Rattle.suite.specs.Outcome.{IsGoodSource, IsFaultIn, IsEarlyFaultIn, IsNoPrintList}
+use Rattle.suite.specs.Jobs.{IsCompiled, IsNotRun, source_name}
+use Rattle.suite.specs.declared.outcome.Outcome.{Outcome}
+use Rattle.suite.specs.Work.{Outside, StoresText}
+use Rattle.suite.specs.Reading.{IsRead, IsParsed, IsScopingFault, IsNumber, IsNumberList, code_fault_of}
 
 pub none_weaker : {A P Q : Type 0} (o : Option A) → (P → Q) → IfNone o P → IfNone o Q
 none_weaker (Some x) f h = tt
@@ -106,12 +114,11 @@ form_is tokens_one trees_one bytes tokens whole other lexed parsed form =
     let tokens_same : form.tokens ≡ tokens = tokens_one bytes form.tokens tokens form.lexed lexed in
     trees_one tokens other whole (subst (λ t. IsTreeOf t other) tokens_same form.parsed) parsed
 
-pub source_read : TokensAreOne → TreesAreOne → (bytes : List ℕ) (tokens : List Token) (whole : Source) (tree : List Statement) → is_chunk bytes ≡ false → Lexes bytes tokens → IsTreeOf tokens whole → IsPrintList whole.body tree → IsRead bytes tree
-source_read tokens_one trees_one bytes tokens whole tree no_chunk lexed parsed listed = record {
+pub source_read : (bytes : List ℕ) (whole : Source) (tree : List Statement) → is_chunk bytes ≡ false → IsParsed bytes whole → IsPrintList whole.body tree → IsRead bytes tree
+source_read bytes whole tree no_chunk parsed listed = record {
   source = whole;
-  form = record { no_chunk = no_chunk; tokens = tokens; lexed = lexed; parsed = parsed; tree = tree; listed = listed };
+  form = record { no_chunk = no_chunk; tokens = parsed.tokens; lexed = parsed.lexed; parsed = parsed.parsed; tree = tree; listed = listed };
   listed = listed;
-  only = λ other form. form_is tokens_one trees_one bytes tokens whole other lexed parsed form;
 }
 
 -- a printed number mentions `print` alone
@@ -130,9 +137,42 @@ pub list_scoped : (whole : Source) (tree : List Statement) → IsPrintList whole
 list_scoped whole tree listed = no_breach whole.body tree listed.printed beginning (λ name. refl) []
 
 -- a fault of scoping in the tree is one of the bytes
-pub scoping_bad : (bytes : List ℕ) (tokens : List Token) (whole : Source) (fault : Fault) → is_chunk bytes ≡ false → Lexes bytes tokens → IsTreeOf tokens whole → IsScopingFault whole fault → IsBadSource bytes fault
-scoping_bad bytes tokens whole (Fault.Scoping fault) source lexed parsed is =
-    record { source = source; fault_is = record { tokens = tokens; lexed = lexed; whole = whole; parsed = parsed; fault_is = is } }
-scoping_bad bytes tokens whole (Fault.Lexical fault) source lexed parsed is = absurd is
-scoping_bad bytes tokens whole (Fault.Unexpected offset) source lexed parsed is = absurd is
-scoping_bad bytes tokens whole (Fault.TooDeep offset) source lexed parsed is = absurd is
+pub scoping_bad : (bytes : List ℕ) (whole : Source) (fault : Fault) → IsParsed bytes whole → IsScopingFault whole fault → IsEarlyFaultIn bytes fault
+scoping_bad bytes whole (Fault.Scoping fault) parsed is =
+    record { tokens = parsed.tokens; lexed = parsed.lexed; whole = whole; parsed = parsed.parsed; fault_is = is }
+scoping_bad bytes whole (Fault.Lexical fault) parsed is = absurd is
+scoping_bad bytes whole (Fault.Unexpected offset) parsed is = absurd is
+scoping_bad bytes whole (Fault.TooDeep offset) parsed is = absurd is
+scoping_bad bytes whole (Fault.Code fault) parsed is = absurd is
+
+pub early_fault : (bytes : List ℕ) (fault : Fault) → IsEarlyFaultIn bytes fault → IsFaultIn bytes fault
+early_fault bytes (Fault.Scoping fault) is = is
+early_fault bytes (Fault.Lexical fault) is = is
+early_fault bytes (Fault.Unexpected offset) is = is
+early_fault bytes (Fault.TooDeep offset) is = is
+early_fault bytes (Fault.Code fault) is = absurd is
+
+pub good_source : (bytes : List ℕ) (whole : Source) → IsParsed bytes whole → Scoped whole → IsGoodSource bytes whole
+good_source bytes whole parsed scoped = record { tokens = parsed.tokens; lexed = parsed.lexed; parsed = parsed.parsed; scoped = scoped }
+
+pub not_run : (bytes : List ℕ) (whole : Source) → is_chunk bytes ≡ false → IsParsed bytes whole → Scoped whole → IsNoPrintList whole.body → IsNotRun bytes
+not_run bytes whole source parsed scoped none = inr (source, whole, good_source bytes whole parsed scoped, none)
+
+-- so is a limit that its chunk does not keep
+pub limit_bad : (bytes : List ℕ) (whole : Source) (fault : CodeFault) (given : Fault) → IsParsed bytes whole → Scoped whole → StopsBy whole fault → code_fault_of fault ≡ SourceFault.Bad given → IsFaultIn bytes given
+limit_bad bytes whole (CodeFault.TooManyRegisters line reached) given parsed scoped is e = let same : Fault.Code (CodeFault.TooManyRegisters line reached) ≡ given = cc in subst (IsFaultIn bytes) same (record { whole = whole; good = good_source bytes whole parsed scoped; fault_is = is })
+limit_bad bytes whole (CodeFault.TooManyConstants line reached) given parsed scoped is e = let same : Fault.Code (CodeFault.TooManyConstants line reached) ≡ given = cc in subst (IsFaultIn bytes) same (record { whole = whole; good = good_source bytes whole parsed scoped; fault_is = is })
+limit_bad bytes whole (CodeFault.JumpTooFar line reached) given parsed scoped is e = let same : Fault.Code (CodeFault.JumpTooFar line reached) ≡ given = cc in subst (IsFaultIn bytes) same (record { whole = whole; good = good_source bytes whole parsed scoped; fault_is = is })
+limit_bad bytes whole (CodeFault.TooManyFunctions line reached) given parsed scoped is e = let same : Fault.Code (CodeFault.TooManyFunctions line reached) ≡ given = cc in subst (IsFaultIn bytes) same (record { whole = whole; good = good_source bytes whole parsed scoped; fault_is = is })
+limit_bad bytes whole CodeFault.OutOfMemory given parsed scoped is e = absurd (cc)
+
+pub compiled : (file : Text) (bytes : List ℕ) (whole : Source) (chunk : Chunk) → IsParsed bytes whole → Scoped whole → Fits whole → chunk ≡ scheme whole (source_name file) → IsCompiled file bytes chunk
+compiled file bytes whole chunk parsed scoped fits is = record {
+  source = whole;
+  accepts = record { tokens = parsed.tokens; lexed = parsed.lexed; parsed = parsed.parsed; scoped = scoped; fits = fits };
+  is = is;
+}
+
+-- a text that is stored is the one that its bytes are
+pub compile_stored : (out text bytes : Text) (outcome : Outcome) (old new : Outside) → bytes ≡ text → StoresText out bytes outcome old new → StoresText out text outcome old new
+compile_stored out text bytes outcome old new e s = subst (λ t. StoresText out t outcome old new) e s

@@ -1,51 +1,70 @@
 -- Words as commands.
-use Rattle.std.proofs.Common.{◌≡◌, ℕ, suc, ◌<◌, ◌≤◌, Bool, true, false, List, [], ◌∷◌, length, None, Some, refl, sym, subst, ◌⊎◌, inl, inr, arith}
+use Rattle.std.proofs.Common.{◌≡◌, ℕ, zero, suc, ◌<◌, ◌≤◌, ◌+◌, Bool, true, false, List, [], ◌∷◌, length, None, Some, refl, subst, arith}
 use Rattle.std.proofs.lemmas.List.{length-map}
-use Rattle.std.specs.Prelude.{Option, option_map, codes, if◌then◌else◌}
+use Rattle.std.specs.Prelude.{Option, option_map, option_and_then, codes, if◌then◌else◌}
 use Rattle.std.specs.String.{string_bytes}
 use Rattle.std.specs.Str.{bytes_eq}
 use Rattle.lua_num.specs.Bytes.{Text}
-use Rattle.suite.specs.Words.{Words, is_flag, positional, one_file, texts}
+use Rattle.suite.specs.Words.{Words, Job, run_file, list_file, Arguments, is_flag, arguments, with_file, with_strip, files_alone, one_file, compilation, job_with, texts, NoCommand}
 
--- as many words as this are that many files but one or more, or none
-abbrev IsMore : ℕ → Option (List Text) → Type 0
+-- this many words are files and flags, but for one
+abbrev IsMore : ℕ → Option Arguments → Type 0
 IsMore n None = Unit {0}
-IsMore n (Some files) = n ≤ suc (length files)
+IsMore n (Some found) = n ≤ suc (length found.files + found.strips)
 
-more_front : (word : Text) (n : ℕ) (o : Option (List Text)) → IsMore n o → IsMore (suc n) (option_map (λ others. word ∷ others) o)
-more_front word n None h = tt
-more_front word n (Some files) h = omega arith
+more_file : (word : Text) (n : ℕ) (o : Option Arguments) → IsMore n o → IsMore (suc n) (option_map (with_file word) o)
+more_file word n None h = tt
+more_file word n (Some found) h = omega arith
 
-pub positional_more : (words : List Text) → IsMore (length words) (positional words)
-positional_more [] = omega arith
-positional_more (word ∷ []) = by_dashes (bytes_eq word (codes "--")) (is_flag word)
+more_strip : (n : ℕ) (o : Option Arguments) → IsMore n o → IsMore (suc n) (option_map with_strip o)
+more_strip n None h = tt
+more_strip n (Some found) h = omega arith
+
+arguments_more : (words : List Text) → IsMore (length words) (arguments words)
+arguments_more [] = omega arith
+arguments_more (word ∷ words) = by (bytes_eq word (codes "--")) (bytes_eq word (codes "--strip")) (is_flag word) (arguments_more words)
   where
-    by_dashes : (a b : Bool) → IsMore 1 (if a then Some [] else (if b then None else Some (word ∷ [])))
-    by_dashes true b = omega arith
-    by_dashes false true = tt
-    by_dashes false false = omega arith
-positional_more (word ∷ other ∷ words) = by_dashes (bytes_eq word (codes "--")) (is_flag word) (positional_more (other ∷ words))
+    by : (a b c : Bool) → IsMore (length words) (arguments words) → IsMore (suc (length words)) (if a then Some (files_alone words) else (if b then option_map with_strip (arguments words) else (if c then None else option_map (with_file word) (arguments words))))
+    by true b c h = omega arith
+    by false true c h = more_strip (length words) (arguments words) h
+    by false false true h = tt
+    by false false false h = more_file word (length words) (arguments words) h
+
+-- four files and flags are no command
+abbrev IsNone : Option Job → Type 0
+IsNone o = o ≡ None
+
+no_file : (f : Text → Job) (files : List Text) (strips : ℕ) → 4 ≤ length files + strips → option_map f (one_file files strips) ≡ None
+no_file f [] strips many = refl
+no_file f (file ∷ []) zero many = absurd (omega arith)
+no_file f (file ∷ []) (suc n) many = refl
+no_file f (file ∷ other ∷ files) strips many = refl
+
+no_compilation : (files : List Text) (strips : ℕ) → 4 ≤ length files + strips → compilation files strips ≡ None
+no_compilation [] strips many = refl
+no_compilation (file ∷ []) strips many = refl
+no_compilation (file ∷ out ∷ []) zero many = absurd (omega arith)
+no_compilation (file ∷ out ∷ []) (suc zero) many = absurd (omega arith)
+no_compilation (file ∷ out ∷ []) (suc (suc n)) many = refl
+no_compilation (file ∷ out ∷ more ∷ files) strips many = refl
+
+no_job : (first : Text) (found : Arguments) → 4 ≤ length found.files + found.strips → job_with first found ≡ None
+no_job first found many = by (bytes_eq first (codes "run")) (bytes_eq first (codes "list")) (bytes_eq first (codes "compile"))
   where
-    by_dashes : (a b : Bool) → IsMore (suc (length words)) (positional (other ∷ words)) → IsMore (suc (suc (length words))) (if a then Some (other ∷ words) else (if b then None else option_map (λ others. word ∷ others) (positional (other ∷ words))))
-    by_dashes true b h = omega arith
-    by_dashes false true h = tt
-    by_dashes false false h = more_front word (suc (length words)) (positional (other ∷ words)) h
+    by : (a b c : Bool) → (if a then option_map run_file (one_file found.files found.strips) else (if b then option_map list_file (one_file found.files found.strips) else (if c then compilation found.files found.strips else None))) ≡ None
+    by true b c = no_file run_file found.files found.strips many
+    by false true c = no_file list_file found.files found.strips many
+    by false false true = no_compilation found.files found.strips many
+    by false false false = refl
 
-more_none : (o : Option (List Text)) → IsMore 3 o → one_file o ≡ None
-more_none None h = refl
-more_none (Some []) h = absurd (omega arith)
-more_none (Some (f ∷ [])) h = absurd (omega arith)
-more_none (Some (f ∷ g ∷ files)) h = refl
-
-many_none : (words : List Text) → 3 ≤ length words → one_file (positional words) ≡ None
-many_none words many = more_none (positional words) (at_least (positional words) (positional_more words))
+-- nor are five words behind the first
+too_many_words : (first : Text) (words : Words) → 4 < length words → option_and_then (job_with first) (arguments (texts words)) ≡ None
+too_many_words first words many = by (arguments (texts words)) (subst (λ n. IsMore n (arguments (texts words))) (length-map words string_bytes) (arguments_more (texts words)))
   where
-    at_least : (o : Option (List Text)) → IsMore (length words) o → IsMore 3 o
-    at_least None more = tt
-    at_least (Some files) more = omega arith
+    by : (o : Option Arguments) → IsMore (length words) o → option_and_then (job_with first) o ≡ None
+    by None more = refl
+    by (Some found) more = no_job first found (omega arith)
 
--- neither one word nor two
-pub none_or_many : (words : Words) → (length words < 1) ⊎ (3 ≤ length words) → one_file (positional (texts words)) ≡ None
-none_or_many [] count = refl
-none_or_many (word ∷ words) (inl few) = absurd (omega arith)
-none_or_many (word ∷ words) (inr many) = many_none (texts (word ∷ words)) (subst (λ n. 3 ≤ n) (sym (length-map (word ∷ words) string_bytes)) many)
+pub too_long : (words : Words) → 5 < length words → NoCommand words
+too_long [] many = absurd (omega arith)
+too_long (first ∷ rest) many = too_many_words (string_bytes first) rest (omega arith)

@@ -1,43 +1,33 @@
--- From the parts of a call to the whole of it.
-use Rattle.std.proofs.Common.{◌≡◌, ℕ, false, List, Option, Some, IfSome, inl, inr, refl}
-use Rattle.std.specs.FinMap.{get}
-use Rattle.suite_io.specs.declared.calls.FileCall.{FileCall}
-use Rattle.suite_io.specs.Contents.{Contents}
+-- What is refused, and for which memory ran out, is carried out by putting and storing nothing.
+use Rattle.std.proofs.Common.{◌≡◌, ℕ, List, inl, inr, refl}
 use Rattle.suite.specs.declared.fault.Fault.{Fault}
-use Rattle.suite.specs.declared.source.SourceFault.{SourceFault}
 use Rattle.suite.specs.declared.outcome.Outcome.{Outcome}
-use Rattle.suite.specs.Reading.{outcome_of}
-use Rattle.suite.specs.Outcome.{IsBadSource, IsNotBuilt}
-use Rattle.suite.specs.declared.words.Task.{Task}
-use Rattle.suite.specs.Work.{SourceRuns, FileLists, Does, FetchedDoes, IsFetched, FileDoes}
+use Rattle.suite.specs.declared.source.SourceFault.{SourceFault}
+use Rattle.suite.specs.Words.{Job}
+use Rattle.suite.specs.Jobs.{put, bad_source, bad_chunk, unbuilt, Comes}
+use Rattle.suite.specs.Reading.{IsRefusal, outcome_of}
+use Rattle.suite.specs.Work.{Outside, Nothing, Does, PutsText}
 use Rattle.suite.proofs.Putting.{takes_none}
 
--- a source that is not read is not run
-pub refused_runs : (bytes : List ℕ) (fault : SourceFault) (taken : Option (List ℕ)) (faults : ℕ) → ((why : Fault) → fault ≡ SourceFault.Bad why → IsBadSource bytes why) → (fault ≡ SourceFault.Unbuilt → IsNotBuilt Task.Run bytes) → SourceRuns bytes (outcome_of fault) taken taken faults faults
-refused_runs bytes (SourceFault.Bad why) taken faults bad unbuilt = (bad why refl, takes_none taken)
-refused_runs bytes SourceFault.Unbuilt taken faults bad unbuilt = (unbuilt refl, takes_none taken)
-refused_runs bytes SourceFault.OutOfMemory taken faults bad unbuilt = inl (takes_none taken)
+pub nothing : (o : Outside) → Nothing o o
+nothing o = (record { contents = refl; calls = refl }, takes_none o.taken)
 
--- nor is it listed
-pub refused_lists : (bytes : List ℕ) (fault : SourceFault) (taken : Option (List ℕ)) (faults : ℕ) → ((why : Fault) → fault ≡ SourceFault.Bad why → IsBadSource bytes why) → (fault ≡ SourceFault.Unbuilt → ⊥) → FileLists bytes (outcome_of fault) taken taken faults faults
-refused_lists bytes (SourceFault.Bad why) taken faults bad built = (bad why refl, takes_none taken)
-refused_lists bytes SourceFault.Unbuilt taken faults bad built = absurd (built refl)
-refused_lists bytes SourceFault.OutOfMemory taken faults bad built = inl (takes_none taken)
+pub refusal : (job : Job) (bytes : List ℕ) (outcome : Outcome) (o : Outside) → IsRefusal job bytes outcome → Does job bytes outcome o o
+refusal job bytes (Outcome.BadSource fault) o is = inl (record { end = bad_source fault; comes = is; carried = (refl, nothing o) })
+refusal job bytes (Outcome.BadChunk fault) o is = inl (record { end = bad_chunk fault; comes = is; carried = (refl, nothing o) })
+refusal job bytes Outcome.Unbuilt o is = inl (record { end = unbuilt; comes = is; carried = (refl, nothing o) })
+refusal job bytes Outcome.OutOfMemory o is = inr (refl, nothing o)
+refusal job bytes Outcome.Done o is = absurd is
+refusal job bytes Outcome.BadWords o is = absurd is
+refusal job bytes Outcome.ReadFault o is = absurd is
+refusal job bytes Outcome.WriteFault o is = absurd is
 
-module _ (file : List ℕ) (contents : Option Contents) (calls calls_after : List FileCall) (before later : Option (List ℕ)) (old new : ℕ) (bytes : List ℕ) (fetched : IsFetched file false calls calls_after) (told : IfSome contents (λ held. get held file ≡ Some bytes)) where
-  fetched_does : (task : Task) (outcome : Outcome) → Does task bytes outcome before later old new → FetchedDoes task file contents calls calls_after outcome before later old new
-  fetched_does task outcome h = record { fetched = fetched; bytes = bytes; told = told; does = h }
+-- what a fault of reading comes to is a refusal
+pub fault_refused : (job : Job) (bytes : List ℕ) (fault : SourceFault) → ((why : Fault) → fault ≡ SourceFault.Bad why → Comes job bytes (bad_source why)) → (fault ≡ SourceFault.Unbuilt → Comes job bytes unbuilt) → IsRefusal job bytes (outcome_of fault)
+fault_refused job bytes (SourceFault.Bad why) bad not_built = bad why refl
+fault_refused job bytes SourceFault.Unbuilt bad not_built = not_built refl
+fault_refused job bytes SourceFault.OutOfMemory bad not_built = tt
 
-  never_read_fault : (task : Task) → Does task bytes Outcome.ReadFault before later old new → ⊥
-  never_read_fault Task.Run h = h
-  never_read_fault Task.List h = h
-
-  pub file_does : (task : Task) (outcome : Outcome) → Does task bytes outcome before later old new → FileDoes task file contents calls calls_after outcome before later old new
-  file_does task Outcome.Done h = fetched_does task Outcome.Done h
-  file_does task (Outcome.BadSource fault) h = fetched_does task (Outcome.BadSource fault) h
-  file_does task (Outcome.BadChunk fault) h = fetched_does task (Outcome.BadChunk fault) h
-  file_does task Outcome.Unbuilt h = fetched_does task Outcome.Unbuilt h
-  file_does task Outcome.WriteFault h = fetched_does task Outcome.WriteFault h
-  file_does task Outcome.OutOfMemory h = inr (fetched_does task Outcome.OutOfMemory h)
-  file_does task Outcome.BadWords h = fetched_does task Outcome.BadWords h
-  file_does task Outcome.ReadFault h = absurd (never_read_fault task h)
+-- what is put is what the job comes to
+pub put_does : (job : Job) (bytes text : List ℕ) (outcome : Outcome) (old new : Outside) → Comes job bytes (put text) → PutsText text outcome old new → Does job bytes outcome old new
+put_does job bytes text outcome old new comes puts = inl (record { end = put text; comes = comes; carried = puts })

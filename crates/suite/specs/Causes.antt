@@ -1,32 +1,55 @@
 -- To be believed. What the clauses of the top call speak of.
-use Rattle.std.specs.Prelude.{◌≡◌, ℕ, Bool, List, ◌⊎◌, Option}
-use Rattle.proto.specs.Chunk.{Chunk}
-use Rattle.chunk_io.specs.Items.{IsChunkOf}
+use Rattle.std.specs.Prelude.{◌≡◌, ℕ, Bool, false, true, List, [], ◌∷◌, ◌++◌, ◌⊎◌, Option, Some, None}
 use Rattle.suite_io.specs.declared.calls.FileCall.{FileCall}
-use Rattle.suite_io.specs.Contents.{Contents}
-use Rattle.suite_io.specs.Calls.{fault_count}
+use Rattle.suite_io.specs.Contents.{Stores, OthersStay}
+use Rattle.suite_io.specs.Calls.{call_of, fault_count}
+use Rattle.suite_io.specs.Taken.{Takes}
 use Rattle.suite.specs.declared.status.Status.{Status}
 use Rattle.suite.specs.Lines.{Refused}
-use Rattle.suite.specs.declared.words.Task.{Task}
-use Rattle.suite.specs.Words.{Words, Fetched, HasFile}
-use Rattle.suite.specs.Work.{IsNotFirstForm}
+use Rattle.suite.specs.Words.{Words, Job, Reads, file_of}
+use Rattle.suite.specs.Jobs.{End, stored, put, bad_source, bad_chunk, unbuilt}
+use Rattle.suite.specs.Work.{Outside, out_of}
 
 -- the status stays, or gives way where a put of its line was refused
 abbrev pub Becomes : Status → Status → ℕ → ℕ → Type 0
 Becomes status result old new = (result ≡ status) ⊎ Refused status result old new
 
--- the calls of files grew by nothing, or by one fetch of the file that the words name
-abbrev pub GrowsByOneFetch : Words → List FileCall → List FileCall → Type 0
-GrowsByOneFetch words calls calls_after = (calls_after ≡ calls) ⊎ ((failed : Bool) × Fetched words failed calls calls_after)
-
 -- the count of faults of files did not rise
 abbrev pub NoFault : List FileCall → List FileCall → Type 0
 NoFault calls calls_after = fault_count calls_after ≡ fault_count calls
 
--- the file is to be run, and is told to be no source of the first form
-abbrev pub HasNoSource : Words → Option Contents → Type 0
-HasNoSource words contents = (bytes : List ℕ) × HasFile words Task.Run contents bytes × IsNotFirstForm bytes
+-- the calls of files begin with one fetch, of the file that the words name
+pub record Fetched (words : Words) (failed : Bool) (old new : List FileCall) : Type 0 where
+  pub job : Job
+  pub reads : Reads words job
+  pub later : List FileCall
+  pub listed : new ≡ (old ++ call_of false (file_of job) failed ∷ []) ++ later
 
--- the file is to be listed, and is told to be no chunk
-abbrev pub HasNoChunk : Words → Option Contents → Type 0
-HasNoChunk words contents = (bytes : List ℕ) × HasFile words Task.List contents bytes × ((chunk : Chunk) → IsChunkOf bytes chunk → ⊥)
+-- behind the fetch stands a store that failed, of the file into which is compiled
+pub record StoreFailed (words : Words) (old new : List FileCall) : Type 0 where
+  pub job : Job
+  pub reads : Reads words job
+  pub listed : new ≡ (old ++ call_of false (file_of job) false ∷ []) ++ call_of true (out_of job) true ∷ []
+
+-- where words ask for a job, the calls of files grow by nothing, by one fetch of the file, or by that and one store of the file into which is
+-- compiled, which alone may change what that one file holds
+abbrev pub FilesFor : Option Job → Outside → Outside → Type 0
+FilesFor None old new = (new.calls ≡ old.calls) × (new.contents ≡ old.contents)
+FilesFor (Some job) old new =
+    ((new.calls ≡ old.calls) × (new.contents ≡ old.contents))
+    ⊎ ((failed : Bool) × (new.calls ≡ old.calls ++ call_of false (file_of job) failed ∷ []) × (new.contents ≡ old.contents))
+    ⊎ ((failed : Bool) × (new.calls ≡ (old.calls ++ call_of false (file_of job) false ∷ []) ++ call_of true (out_of job) failed ∷ []) × OthersStay old.contents new.contents (out_of job))
+
+-- the status at which what a job comes to is carried out
+abbrev pub status_at : End → Status
+status_at (stored text) = Status.Done
+status_at (put text) = Status.Done
+status_at (bad_source fault) = Status.BadSource
+status_at (bad_chunk fault) = Status.BadChunk
+status_at unbuilt = Status.Unbuilt
+
+-- what then stands outside
+abbrev pub Leaves : Job → End → Outside → Outside → Type 0
+Leaves job (stored text) old new = Stores old.contents new.contents (out_of job) text × Takes old.taken new.taken []
+Leaves job (put text) old new = (new.contents ≡ old.contents) × Takes old.taken new.taken text
+Leaves job end old new = (new.contents ≡ old.contents) × Takes old.taken new.taken []

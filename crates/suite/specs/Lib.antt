@@ -5,7 +5,9 @@ pub mod Frame
 pub mod Effects
 pub mod Running
 pub mod Words
+pub mod Arguments
 pub mod Lines
 pub mod Outcome
+pub mod Jobs
 pub mod Work
 pub mod Causes

@@ -3,6 +3,7 @@ use Rattle.std.specs.Prelude.{◌≡◌, ℕ, List, [], ◌∷◌, ◌++◌, ◌
 use Rattle.std.specs.Fmt.{decimal}
 use Rattle.lexer.specs.declared.fault.LexFault.{LexFault}
 use Rattle.scopes.specs.declared.fault.ScopeFault.{ScopeFault}
+use Rattle.code_builder.specs.declared.fault.CodeFault.{CodeFault}
 use Rattle.chunk_io.specs.declared.fault.ChunkFault.{ChunkFault}
 use Rattle.suite_io.specs.Taken.{Takes, Rises}
 use Rattle.suite.specs.declared.fault.Fault.{Fault}
@@ -49,12 +50,21 @@ scope_text (ScopeFault.TooManyLocals line reached) = codes ": TooManyLocals at l
 scope_text (ScopeFault.TooManyUpvalues line reached) = codes ": TooManyUpvalues at line " ++ decimal line
 scope_text ScopeFault.OutOfMemory = codes ": OutOfMemory"
 
+-- the name of a limit that a chunk does not keep, and the first line of the function; want of memory is no such limit
+abbrev pub code_text : CodeFault → List ℕ
+code_text (CodeFault.TooManyRegisters line reached) = codes ": TooManyRegisters at line " ++ decimal line
+code_text (CodeFault.TooManyConstants line reached) = codes ": TooManyConstants at line " ++ decimal line
+code_text (CodeFault.JumpTooFar line reached) = codes ": JumpTooFar at line " ++ decimal line
+code_text (CodeFault.TooManyFunctions line reached) = codes ": TooManyFunctions at line " ++ decimal line
+code_text CodeFault.OutOfMemory = codes ": OutOfMemory"
+
 -- the name of a fault of a source, and its offset or its line
 abbrev pub fault_text : Fault → List ℕ
 fault_text (Fault.Lexical fault) = lexical_text fault
 fault_text (Fault.Unexpected offset) = codes ": Unexpected at offset " ++ decimal offset
 fault_text (Fault.TooDeep offset) = codes ": TooDeep at offset " ++ decimal offset
 fault_text (Fault.Scoping fault) = scope_text fault
+fault_text (Fault.Code fault) = code_text fault
 
 -- the name of a fault of a chunk, and its offset, where it has one; want of memory is no such fault
 abbrev pub chunk_text : ChunkFault → List ℕ

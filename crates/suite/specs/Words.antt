@@ -1,75 +1,107 @@
--- To be believed. How the words are read, and what they have fetched.
-use Rattle.std.specs.Prelude.{◌≡◌, ◌==◌, ◌&&◌, ℕ, Bool, false, nat_lt, List, [], ◌∷◌, ◌++◌, length, map, Option, Some, None, option_map, codes, String, if◌then◌else◌}
+-- To be believed. How the words are read, and what they ask for.
+use Rattle.std.specs.Prelude.{◌≡◌, ◌==◌, ◌&&◌, ℕ, zero, suc, Bool, true, false, nat_lt, List, [], ◌∷◌, length, map, Option, Some, None, option_map, option_and_then, codes, String, if◌then◌else◌}
 use Rattle.std.specs.Str.{bytes_eq}
 use Rattle.std.specs.String.{string_bytes}
 use Rattle.std.specs.declared.alloc.Global.{Global}
 use Rattle.std.specs.FinMap.{get}
 use Rattle.lua_num.specs.Bytes.{Text}
-use Rattle.suite_io.specs.declared.calls.FileCall.{FileCall}
-use Rattle.suite_io.specs.Calls.{call_of}
 use Rattle.suite_io.specs.Contents.{Contents}
-use Rattle.suite.specs.declared.words.Task.{Task}
+use Rattle.suite.specs.declared.words.Command.{Command}
 
 abbrev pub Words : Type 0
 Words = List (String Global)
 
--- what the first word asks for
-abbrev pub task_of : Text → Option Task
-task_of word = if bytes_eq word (codes "run") then Some Task.Run else (if bytes_eq word (codes "list") then Some Task.List else None)
+abbrev pub texts : Words → List Text
+texts words = map string_bytes words
+
+-- what words ask for: to run a file, to list it, or to compile it into another, stripped or not
+pub data Job : Type 0 where
+  run_file : (file : Text) → Job
+  list_file : (file : Text) → Job
+  compile_file : (file out : Text) (strip : Bool) → Job
+
+-- the file that is fetched
+abbrev pub file_of : Job → Text
+file_of (run_file file) = file
+file_of (list_file file) = file
+file_of (compile_file file out strip) = file
+
+-- what a command asks for
+abbrev pub job_of : Command → Job
+job_of (Command.Run file) = run_file (string_bytes file.now)
+job_of (Command.List file) = list_file (string_bytes file.now)
+job_of (Command.Compile file out strip) = compile_file (string_bytes file.now) (string_bytes out.now) strip
 
 -- a word that begins with `-` and is longer
 abbrev pub is_flag : Text → Bool
 is_flag [] = false
 is_flag (byte ∷ text) = (byte == 45) && nat_lt 0 (length text)
 
--- The words behind the first one that stand for files. Behind `--` all do; before it a flag stands in no command.
-abbrev pub positional : List Text → Option (List Text)
-positional [] = Some []
-positional (word ∷ words) =
-    if bytes_eq word (codes "--") then Some words else (if is_flag word then None else option_map (λ others. word ∷ others) (positional words))
+-- the words behind the first one: those that stand for files, in order, and how many of the others are `--strip`
+pub record Arguments : Type 0 where
+  pub files : List Text
+  pub strips : ℕ
 
-abbrev pub one_file : Option (List Text) → Option Text
-one_file (Some (file ∷ [])) = Some file
-one_file files = None
+abbrev pub with_file : Text → Arguments → Arguments
+with_file word found = record { files = word ∷ found.files; strips = found.strips }
 
-abbrev pub with_task : Option Task → Option Text → Option (Task × Text)
-with_task (Some task) (Some file) = Some (task, file)
-with_task task file = None
+abbrev pub with_strip : Arguments → Arguments
+with_strip found = record { files = found.files; strips = suc found.strips }
 
--- the words are `run` or `list`, and one file
-abbrev pub command_of : List Text → Option (Task × Text)
-command_of [] = None
-command_of (first ∷ rest) = with_task (task_of first) (one_file (positional rest))
+abbrev pub files_alone : List Text → Arguments
+files_alone words = record { files = words; strips = 0 }
 
-abbrev pub texts : Words → List Text
-texts words = map string_bytes words
+-- Behind `--` all words stand for files. Before it no flag but `--strip` stands in a command.
+abbrev pub arguments : List Text → Option Arguments
+arguments [] = Some (files_alone [])
+arguments (word ∷ words) =
+    if bytes_eq word (codes "--") then Some (files_alone words)
+    else (if bytes_eq word (codes "--strip") then option_map with_strip (arguments words)
+    else (if is_flag word then None else option_map (with_file word) (arguments words)))
 
-abbrev pub Reads : Words → Task → Text → Type 0
-Reads words task file = command_of (texts words) ≡ Some (task, file)
+-- one file, and no flag
+abbrev pub one_file : List Text → ℕ → Option Text
+one_file (file ∷ []) zero = Some file
+one_file files strips = None
+
+-- two files, and `--strip` once or not at all
+abbrev pub compilation : List Text → ℕ → Option Job
+compilation (file ∷ out ∷ []) zero = Some (compile_file file out false)
+compilation (file ∷ out ∷ []) (suc zero) = Some (compile_file file out true)
+compilation files strips = None
+
+-- what the first word asks for, with the words behind it
+abbrev pub job_with : Text → Arguments → Option Job
+job_with first found =
+    if bytes_eq first (codes "run") then option_map run_file (one_file found.files found.strips)
+    else (if bytes_eq first (codes "list") then option_map list_file (one_file found.files found.strips)
+    else (if bytes_eq first (codes "compile") then compilation found.files found.strips else None))
+
+-- what words ask for, where they are a command
+abbrev pub job_in : List Text → Option Job
+job_in [] = None
+job_in (first ∷ rest) = option_and_then (job_with first) (arguments rest)
+
+abbrev pub Reads : Words → Job → Type 0
+Reads words job = job_in (texts words) ≡ Some job
 
 abbrev pub NoCommand : Words → Type 0
-NoCommand words = command_of (texts words) ≡ None
+NoCommand words = job_in (texts words) ≡ None
 
-abbrev pub file_of : Option (Task × Text) → Text
-file_of (Some command) = command.1
-file_of None = []
+abbrev pub file_or_none : Option Job → Text
+file_or_none (Some job) = file_of job
+file_or_none None = []
 
 -- the file that the words name, where they are a command
 abbrev pub named : Words → Text
-named words = file_of (command_of (texts words))
+named words = file_or_none (job_in (texts words))
 
--- the calls of files grew by one fetch, of the file that the words name
-pub record Fetched (words : Words) (failed : Bool) (old new : List FileCall) : Type 0 where
-  pub task : Task
-  pub reads : Reads words task (named words)
-  pub listed : new ≡ old ++ call_of false (named words) failed ∷ []
-
--- the file that the words name has these bytes, where that is told
+-- the file has these bytes, where that is told
 abbrev pub Tells : Option Contents → Text → List ℕ → Type 0
 Tells (Some held) file bytes = get held file ≡ Some bytes
 Tells None file bytes = ⊥
 
--- the words ask for this of a file that is told to have these bytes
-pub record HasFile (words : Words) (task : Task) (contents : Option Contents) (bytes : List ℕ) : Type 0 where
-  pub reads : Reads words task (named words)
-  pub told : Tells contents (named words) bytes
+-- the words ask for this, of a file that is told to have these bytes
+pub record Asks (words : Words) (contents : Option Contents) (job : Job) (bytes : List ℕ) : Type 0 where
+  pub reads : Reads words job
+  pub told : Tells contents (file_of job) bytes

@@ -1,114 +1,95 @@
--- To be believed. What a call of the suite does before the line for the sink of errors: its outcome, the calls of
--- files, and the output.
-use Rattle.std.specs.Prelude.{◌≡◌, ℕ, Bool, true, false, List, [], ◌∷◌, ◌++◌, ◌⊎◌, Option, Some, IfSome}
+-- To be believed. What a call of the suite does before the line for the sink of errors.
+use Rattle.std.specs.Prelude.{◌≡◌, ℕ, Bool, true, false, List, [], ◌∷◌, ◌++◌, ◌⊎◌, Option, Some, None, IfSome}
 use Rattle.std.specs.FinMap.{get}
+use Rattle.lua_num.specs.Bytes.{Text}
 use Rattle.suite_io.specs.declared.calls.FileCall.{FileCall}
 use Rattle.suite_io.specs.Calls.{call_of}
-use Rattle.suite_io.specs.Contents.{Contents}
+use Rattle.suite_io.specs.Contents.{Contents, Stores, OthersStay}
 use Rattle.suite_io.specs.Taken.{Takes, Rises}
-use Rattle.lua_tree.specs.Syntax.{Source}
-use Rattle.lua_model.specs.Store.{output}
-use Rattle.lua_model.specs.Endings.{Ended}
-use Rattle.source_meaning.specs.Meaning.{meaning}
-use Rattle.proto.specs.Chunk.{Chunk}
-use Rattle.chunk_io.specs.Items.{IsChunkOf}
-use Rattle.lister.specs.Listing.{listing}
-use Rattle.first_form.specs.Source.{IsFirstForm}
 use Rattle.suite.specs.declared.outcome.Outcome.{Outcome}
 use Rattle.suite.specs.Output.{TakesPart}
-use Rattle.suite.specs.Words.{Words, Reads, NoCommand, named}
-use Rattle.suite.specs.declared.words.Task.{Task}
-use Rattle.suite.specs.Outcome.{IsBadSource, IsNotBuilt, IsBadChunk}
+use Rattle.suite.specs.Words.{Job, run_file, list_file, compile_file, file_of}
+use Rattle.suite.specs.Jobs.{End, stored, put, bad_source, bad_chunk, unbuilt, Comes}
 
--- the bytes are this source alone, and it is of the first form
-pub record IsSource (bytes : List ℕ) (source : Source) : Type 0 where
-  pub form : IsFirstForm bytes source
-  pub only : (other : Source) → IsFirstForm bytes other → other ≡ source
+-- what is seen of the outside: what files hold and the calls of them, what the sink took and its count of faults
+pub record Outside : Type 0 where
+  pub contents : Option Contents
+  pub calls : List FileCall
+  pub taken : Option (List ℕ)
+  pub faults : ℕ
 
--- the meaning of the source ends, with this output
-pub record HasOutput (source : Source) (text : List ℕ) : Type 0 where
-  pub ends : (ticks : ℕ) × ((meaning source [] [] ticks).ending ≡ Ended)
-  pub output_is : (ticks : ℕ) → (meaning source [] [] ticks).ending ≡ Ended → output (meaning source [] [] ticks).events ≡ text
+-- one call of files more, which changes nothing else
+abbrev pub with_call : FileCall → Outside → Outside
+with_call call old = record { contents = old.contents; calls = old.calls ++ call ∷ []; taken = old.taken; faults = old.faults }
 
--- the bytes are no source of the first form
-abbrev pub IsNotFirstForm : List ℕ → Type 0
-IsNotFirstForm bytes = (source : Source) → IsFirstForm bytes source → ⊥
+-- a fetch of the file
+abbrev pub fetched : Job → (failed : Bool) → Outside → Outside
+fetched job failed old = with_call (call_of false (file_of job) failed) old
 
--- the sink took the output of the source
-pub record Prints (bytes : List ℕ) (before after : Option (List ℕ)) : Type 0 where
-  pub source : Source
-  pub text : List ℕ
-  pub is_source : IsSource bytes source
-  pub outputs : HasOutput source text
-  pub taken : Takes before after text
+-- only the sink is another
+pub record FilesStay (old new : Outside) : Type 0 where
+  pub contents : new.contents ≡ old.contents
+  pub calls : new.calls ≡ old.calls
 
--- the sink took a first part of it
-pub record PrintsPart (bytes : List ℕ) (before after : Option (List ℕ)) : Type 0 where
-  pub source : Source
-  pub text : List ℕ
-  pub is_source : IsSource bytes source
-  pub outputs : HasOutput source text
-  pub taken : TakesPart before after text
+-- only files are other: one store, of this name
+pub record StoresTo (out : Text) (failed : Bool) (old new : Outside) : Type 0 where
+  pub calls : new.calls ≡ old.calls ++ call_of true out failed ∷ []
+  pub taken : Takes old.taken new.taken []
 
--- what the bytes of a source come to: the outcome, what the sink took, and its count of faults
-abbrev pub SourceRuns : List ℕ → Outcome → Option (List ℕ) → Option (List ℕ) → ℕ → ℕ → Type 0
-SourceRuns bytes Outcome.Done before after old new = Prints bytes before after
-SourceRuns bytes (Outcome.BadSource fault) before after old new = IsBadSource bytes fault × Takes before after []
-SourceRuns bytes Outcome.Unbuilt before after old new = IsNotBuilt Task.Run bytes × Takes before after []
-SourceRuns bytes Outcome.WriteFault before after old new = PrintsPart bytes before after × Rises old new
-SourceRuns bytes Outcome.OutOfMemory before after old new = Takes before after [] ⊎ PrintsPart bytes before after
-SourceRuns bytes _ before after old new = ⊥
+-- a text is put: whole, or a first part of it where the sink failed or memory ran out
+abbrev pub PutsText : List ℕ → Outcome → Outside → Outside → Type 0
+PutsText text Outcome.Done old new = FilesStay old new × Takes old.taken new.taken text
+PutsText text Outcome.WriteFault old new = FilesStay old new × TakesPart old.taken new.taken text × Rises old.faults new.faults
+PutsText text Outcome.OutOfMemory old new = FilesStay old new × TakesPart old.taken new.taken text
+PutsText text outcome old new = ⊥
 
--- the sink took the listing of the chunk that the bytes spell
-pub record Lists (bytes : List ℕ) (before after : Option (List ℕ)) : Type 0 where
-  pub chunk : Chunk
-  pub is_chunk_of : IsChunkOf bytes chunk
-  pub taken : Takes before after (listing chunk)
+-- a text is stored under a name: whole, or the name has any bytes where the store failed, or nothing is stored where memory ran out
+abbrev pub StoresText : Text → List ℕ → Outcome → Outside → Outside → Type 0
+StoresText out text Outcome.Done old new = StoresTo out false old new × Stores old.contents new.contents out text × OthersStay old.contents new.contents out
+StoresText out text Outcome.WriteFault old new = StoresTo out true old new × OthersStay old.contents new.contents out
+StoresText out text Outcome.OutOfMemory old new = FilesStay old new × Takes old.taken new.taken []
+StoresText out text outcome old new = ⊥
 
--- the sink took a first part of it
-pub record ListsPart (bytes : List ℕ) (before after : Option (List ℕ)) : Type 0 where
-  pub chunk : Chunk
-  pub is_chunk_of : IsChunkOf bytes chunk
-  pub taken : TakesPart before after (listing chunk)
+-- nothing is put or stored
+abbrev pub Nothing : Outside → Outside → Type 0
+Nothing old new = FilesStay old new × Takes old.taken new.taken []
 
--- what the bytes of a file come to where it is listed
-abbrev pub FileLists : List ℕ → Outcome → Option (List ℕ) → Option (List ℕ) → ℕ → ℕ → Type 0
-FileLists bytes Outcome.Done before after old new = Lists bytes before after
-FileLists bytes (Outcome.BadSource fault) before after old new = IsBadSource bytes fault × Takes before after []
-FileLists bytes (Outcome.BadChunk fault) before after old new = IsBadChunk bytes fault × Takes before after []
-FileLists bytes Outcome.Unbuilt before after old new = IsNotBuilt Task.List bytes × Takes before after []
-FileLists bytes Outcome.WriteFault before after old new = ListsPart bytes before after × Rises old new
-FileLists bytes Outcome.OutOfMemory before after old new = Takes before after [] ⊎ ListsPart bytes before after
-FileLists bytes _ before after old new = ⊥
+-- the file into which a job compiles
+abbrev pub out_of : Job → Text
+out_of (run_file file) = []
+out_of (list_file file) = []
+out_of (compile_file file out strip) = out
 
-abbrev pub Does : Task → List ℕ → Outcome → Option (List ℕ) → Option (List ℕ) → ℕ → ℕ → Type 0
-Does Task.Run bytes outcome before after old new = SourceRuns bytes outcome before after old new
-Does Task.List bytes outcome before after old new = FileLists bytes outcome before after old new
+-- how what a job comes to is carried out
+abbrev pub CarriesOut : Job → End → Outcome → Outside → Outside → Type 0
+CarriesOut job (stored text) outcome old new = StoresText (out_of job) text outcome old new
+CarriesOut job (put text) outcome old new = PutsText text outcome old new
+CarriesOut job (bad_source fault) outcome old new = (outcome ≡ Outcome.BadSource fault) × Nothing old new
+CarriesOut job (bad_chunk fault) outcome old new = (outcome ≡ Outcome.BadChunk fault) × Nothing old new
+CarriesOut job unbuilt outcome old new = (outcome ≡ Outcome.Unbuilt) × Nothing old new
 
--- the calls of files grew by one fetch of this file
-abbrev pub IsFetched : List ℕ → Bool → List FileCall → List FileCall → Type 0
-IsFetched file failed calls calls_after = calls_after ≡ calls ++ call_of false file failed ∷ []
+-- a job with the bytes that were fetched
+pub record Carried (job : Job) (bytes : List ℕ) (outcome : Outcome) (old new : Outside) : Type 0 where
+  pub end : End
+  pub comes : Comes job bytes end
+  pub carried : CarriesOut job end outcome old new
 
--- the file was fetched, and its bytes come to this
-pub record FetchedDoes (task : Task) (file : List ℕ) (contents : Option Contents) (calls calls_after : List FileCall) (outcome : Outcome) (before after : Option (List ℕ)) (old new : ℕ) : Type 0 where
-  pub fetched : IsFetched file false calls calls_after
+-- it is carried out, or memory ran out before it was known what it comes to
+abbrev pub Does : Job → List ℕ → Outcome → Outside → Outside → Type 0
+Does job bytes outcome old new = Carried job bytes outcome old new ⊎ ((outcome ≡ Outcome.OutOfMemory) × Nothing old new)
+
+pub record DoesFetched (job : Job) (outcome : Outcome) (old new : Outside) : Type 0 where
   pub bytes : List ℕ
-  pub told : IfSome contents (λ held. get held file ≡ Some bytes)
-  pub does : Does task bytes outcome before after old new
+  pub told : IfSome old.contents (λ held. get held (file_of job) ≡ Some bytes)
+  pub does : Does job bytes outcome (fetched job false old) new
 
--- what a file comes to: the order is fetch, reading, and then the run or the listing
-abbrev pub FileDoes : Task → List ℕ → Option Contents → List FileCall → List FileCall → Outcome → Option (List ℕ) → Option (List ℕ) → ℕ → ℕ → Type 0
-FileDoes task file contents calls calls_after Outcome.ReadFault before after old new =
-    IsFetched file true calls calls_after × Takes before after []
-FileDoes task file contents calls calls_after Outcome.OutOfMemory before after old new =
-    ((calls_after ≡ calls) × Takes before after [])
-    ⊎ FetchedDoes task file contents calls calls_after Outcome.OutOfMemory before after old new
-FileDoes task file contents calls calls_after outcome before after old new =
-    FetchedDoes task file contents calls calls_after outcome before after old new
+-- what words come to that ask for a job, or for none: the order is words, the fetch of their file, and then the job
+abbrev pub Works : Option Job → Outcome → Outside → Outside → Type 0
+Works None outcome old new = (outcome ≡ Outcome.BadWords) × (new ≡ old)
+Works (Some job) outcome old new =
+    ((outcome ≡ Outcome.ReadFault) × (new ≡ fetched job true old))
+    ⊎ ((outcome ≡ Outcome.OutOfMemory) × (new ≡ old))
+    ⊎ DoesFetched job outcome old new
 
--- what words come to before the line for the sink of errors is put: the order is words, and then their file
-abbrev pub Works : Words → Option Contents → List FileCall → List FileCall → Outcome → Option (List ℕ) → Option (List ℕ) → ℕ → ℕ → Type 0
-Works words contents calls calls_after Outcome.BadWords before after old new =
-    NoCommand words × (calls_after ≡ calls) × Takes before after []
-Works words contents calls calls_after outcome before after old new =
-    (task : Task) × Reads words task (named words) × FileDoes task (named words) contents calls calls_after outcome before after old new
+abbrev pub outside : Option Contents → List FileCall → Option (List ℕ) → ℕ → Outside
+outside contents calls taken faults = record { contents = contents; calls = calls; taken = taken; faults = faults }

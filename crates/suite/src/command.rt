@@ -1,14 +1,18 @@
-// Running and listing a file.
-ghost use Rattle.std.specs.Prelude.{◌≡◌, ◌≤◌};
-ghost use Rattle.std.specs.String.{string_bytes};
-ghost use Rattle.suite.specs.Work.{SourceRuns, Does, FileDoes};
+// Carrying out a command.
+ghost use Rattle.std.specs.Prelude.{◌≤◌, Some, Option, List};
+ghost use Rattle.lua_num.specs.Bytes.{Text};
+ghost use Rattle.suite_io.specs.declared.calls.FileCall.{FileCall};
+ghost use Rattle.suite_io.specs.Contents.{Contents};
+ghost use Rattle.suite.specs.Words.{job_of, run_file};
+ghost use Rattle.suite.specs.Work.{Works, Does, outside};
 
 use crate::compile::compile;
+use crate::compiling::compile_file;
 use crate::listing::list_bytes;
 use crate::machine::{RunEnd, run};
 use crate::outcome::Outcome;
 use crate::source::read_source;
-use crate::words::Task;
+use crate::words::Command;
 use agrees::printed_meaning;
 use first_form::meaning_is_steady;
 use std::alloc::Global;
@@ -17,38 +21,47 @@ use suite_io::{FileFault, Files, Sink, Word};
 /// A run ends within this many steps.
 const MAX_STEPS: u64 = 1_000_000_000;
 
-/// Fetches a file, and runs it as a source of the first form or lists it.
-pub fn do_file<F: Files, O: Sink>(
+/// Fetches the file of a command, and does with its bytes what the command asks for.
+pub fn do_command<F: Files, O: Sink>(
     alloc: Global,
-    task: Task,
-    file: &Word,
+    command: Command<'_>,
     files: &mut F,
     out: &mut O,
 ) -> Outcome
-    ensures does { FileDoes task (string_bytes file.now) (F.contents files.old) (F.calls files.old) (F.calls files.new) result (O.taken out.old) (O.taken out.new) (O.faults out.old) (O.faults out.new) }
-    ensures contents { F.contents files.new ≡ F.contents files.old }
+    ensures works { Works (Some (job_of command.entry)) result (outside (F.contents files.old) (F.calls files.old) (O.taken out.old) (O.faults out.old)) (outside (F.contents files.new) (F.calls files.new) (O.taken out.new) (O.faults out.new)) }
     ensures never_falls { O.faults out.old ≤ O.faults out.new }
 {
-    match files.fetch(alloc, file) {
-        Ok(bytes) => do_bytes(alloc, task, bytes.bytes(), out),
+    match files.fetch(alloc, command.file()) {
+        Ok(bytes) => do_bytes(alloc, command, bytes.bytes(), files, out),
         Err(FileFault::Failed) => Outcome::ReadFault,
         Err(FileFault::OutOfMemory) => Outcome::OutOfMemory,
     }
 }
 
-fn do_bytes<O: Sink>(alloc: Global, task: Task, bytes: &[u8], out: &mut O) -> Outcome
-    ensures does { Does task bytes.now result (O.taken out.old) (O.taken out.new) (O.faults out.old) (O.faults out.new) }
+fn do_bytes<F: Files, O: Sink>(
+    alloc: Global,
+    command: Command<'_>,
+    bytes: &[u8],
+    files: &mut F,
+    out: &mut O,
+) -> Outcome
+    ensures does { Does (job_of command.entry) bytes.now result (outside (F.contents files.old) (F.calls files.old) (O.taken out.old) (O.faults out.old)) (outside (F.contents files.new) (F.calls files.new) (O.taken out.new) (O.faults out.new)) }
     ensures never_falls { O.faults out.old ≤ O.faults out.new }
 {
-    match task {
-        Task::Run => run_source(alloc, bytes, out),
-        Task::List => list_bytes(alloc, bytes, out),
+    match command {
+        Command::Run { .. } => run_source(alloc, bytes, out),
+        Command::List { file } => list_bytes(alloc, bytes, file, out),
+        Command::Compile {
+            source,
+            out: name,
+            strip,
+        } => compile_file(alloc, bytes, source, name, strip, files),
     }
 }
 
 // Reads, compiles and runs a source.
 fn run_source<O: Sink>(alloc: Global, source: &[u8], out: &mut O) -> Outcome
-    ensures runs { SourceRuns source.now result (O.taken out.old) (O.taken out.new) (O.faults out.old) (O.faults out.new) }
+    ensures does { (file : Text) (contents : Option Contents) (calls : List FileCall) → Does (run_file file) source.now result (outside contents calls (O.taken out.old) (O.faults out.old)) (outside contents calls (O.taken out.new) (O.faults out.new)) }
     ensures never_falls { O.faults out.old ≤ O.faults out.new }
 {
     let tree = match read_source(alloc, source) {

@@ -2,6 +2,7 @@
 ghost use Rattle.std.specs.Prelude.{◌≡◌, slice_get};
 ghost use Rattle.suite.specs.Outcome.{offset_of as the_offset};
 
+use code_builder::CodeFault;
 use lexer::LexFault;
 use lua_tree::Token;
 use scopes::ScopeFault;
@@ -14,6 +15,8 @@ pub enum Fault {
     Unexpected { offset: usize },
     TooDeep { offset: usize },
     Scoping(ScopeFault),
+    /// A limit that the chunk of the source does not keep.
+    Code(CodeFault),
 }
 
 /// The offset of the token at an index, or the length of the source at the end of the tokens.

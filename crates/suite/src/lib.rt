@@ -4,6 +4,7 @@
 mod chunk;
 mod command;
 mod compile;
+mod compiling;
 mod effects;
 mod fault;
 mod listing;

@@ -1,50 +1,67 @@
 // Listing a file.
-ghost use Rattle.std.specs.Prelude.{◌≡◌, ◌≤◌, true};
+ghost use Rattle.std.specs.Prelude.{◌≡◌, ◌≤◌, List, Option, true, IfOk, IfErr};
+ghost use Rattle.std.specs.String.{string_bytes};
+ghost use Rattle.lua_num.specs.Bytes.{Text};
 ghost use Rattle.proto.specs.View.{view_proto};
 ghost use Rattle.lister.specs.Listing.{listing};
 ghost use Rattle.first_form.specs.Source.{is_chunk as the_is_chunk};
-ghost use Rattle.suite_io.specs.Taken.{Takes, Rises};
-ghost use Rattle.suite.specs.Output.{TakesPart};
-ghost use Rattle.suite.specs.Reading.{PutsText};
-ghost use Rattle.suite.specs.Work.{FileLists};
+ghost use Rattle.suite_io.specs.declared.calls.FileCall.{FileCall};
+ghost use Rattle.suite_io.specs.Contents.{Contents};
+ghost use Rattle.suite.specs.Words.{list_file};
+ghost use Rattle.suite.specs.Jobs.{HasChunk};
+ghost use Rattle.suite.specs.Reading.{IsRefusal};
+ghost use Rattle.suite.specs.Work.{Does, PutsText, outside};
 
+use crate::compiling::compiled_chunk;
 use crate::outcome::Outcome;
 use crate::output::put_all;
-use crate::source::{good_tree, is_chunk};
+use crate::source::is_chunk;
 use chunk_io::{ChunkFault, undump};
 use lister::list;
 use proto::Proto;
 use std::alloc::Global;
-use suite_io::{Sink, SinkFault};
+use suite_io::{Sink, SinkFault, Word};
 
-/// Puts the listing of a chunk. Source is not listed yet.
-pub fn list_bytes<O: Sink>(alloc: Global, bytes: &[u8], out: &mut O) -> Outcome
-    ensures lists { FileLists bytes.now result (O.taken out.old) (O.taken out.new) (O.faults out.old) (O.faults out.new) }
+/// Puts the listing of the chunk of a file: the one that its bytes spell, or that of the source.
+pub fn list_bytes<O: Sink>(alloc: Global, bytes: &[u8], file: &Word, out: &mut O) -> Outcome
+    ensures does { (contents : Option Contents) (calls : List FileCall) → Does (list_file (string_bytes file.now)) bytes.now result (outside contents calls (O.taken out.old) (O.faults out.old)) (outside contents calls (O.taken out.new) (O.faults out.new)) }
     ensures never_falls { O.faults out.old ≤ O.faults out.new }
 {
-    if is_chunk(bytes) {
-        return list_chunk(alloc, bytes, out);
-    }
-    match good_tree(alloc, bytes) {
-        Ok(_) => Outcome::Unbuilt,
-        Err(fault) => fault.outcome(),
+    match chunk_of(alloc, bytes, file) {
+        Ok(proto) => put_listing(alloc, &proto, out),
+        Err(outcome) => outcome,
     }
 }
 
-fn list_chunk<O: Sink>(alloc: Global, bytes: &[u8], out: &mut O) -> Outcome
+// The chunk of a file, or what the work comes to where it has none.
+fn chunk_of(alloc: Global, bytes: &[u8], file: &Word) -> Result<Proto, Outcome>
+    ensures chunk { IfOk result (λ proto. HasChunk (string_bytes file.now) bytes.now (view_proto proto)) }
+    ensures refused { IfErr result (IsRefusal (list_file (string_bytes file.now)) bytes.now) }
+{
+    if is_chunk(bytes) {
+        return spelled_chunk(alloc, bytes);
+    }
+    match compiled_chunk(alloc, bytes, file) {
+        Ok(proto) => Ok(proto),
+        Err(fault) => Err(fault.outcome()),
+    }
+}
+
+// The chunk that the bytes spell, or their fault.
+fn spelled_chunk(alloc: Global, bytes: &[u8]) -> Result<Proto, Outcome>
     requires { the_is_chunk bytes.now ≡ true }
-    ensures lists { FileLists bytes.now result (O.taken out.old) (O.taken out.new) (O.faults out.old) (O.faults out.new) }
-    ensures never_falls { O.faults out.old ≤ O.faults out.new }
+    ensures chunk { IfOk result (λ proto. (file : Text) → HasChunk file bytes.now (view_proto proto)) }
+    ensures refused { IfErr result (λ outcome. (file : Text) → IsRefusal (list_file file) bytes.now outcome) }
 {
     match undump(alloc, bytes) {
-        Ok(proto) => put_listing(alloc, &proto, out),
-        Err(ChunkFault::OutOfMemory) => Outcome::OutOfMemory,
-        Err(fault) => Outcome::BadChunk(fault),
+        Ok(proto) => Ok(proto),
+        Err(ChunkFault::OutOfMemory) => Err(Outcome::OutOfMemory),
+        Err(fault) => Err(Outcome::BadChunk(fault)),
     }
 }
 
 fn put_listing<O: Sink>(alloc: Global, proto: &Proto, out: &mut O) -> Outcome
-    ensures puts { PutsText (listing (view_proto proto.now)) result (O.taken out.old) (O.taken out.new) (O.faults out.old) (O.faults out.new) }
+    ensures puts { (contents : Option Contents) (calls : List FileCall) → PutsText (listing (view_proto proto.now)) result (outside contents calls (O.taken out.old) (O.faults out.old)) (outside contents calls (O.taken out.new) (O.faults out.new)) }
     ensures never_falls { O.faults out.old ≤ O.faults out.new }
 {
     let Ok(text) = list(alloc, proto) else {

@@ -2,7 +2,7 @@
 ghost use Rattle.std.specs.Prelude.{◌≡◌, ◌≤◌, ℕ, IfOk, OnOk, OnErr, IsErrOf};
 ghost use Rattle.std.specs.String.{string_bytes};
 ghost use Rattle.suite_io.specs.Taken.{Takes, Rises};
-ghost use Rattle.suite.specs.Lines.{Reported, IsPut, Refused, line_with, fault_text as the_text, lexical_text as the_lexical_text, scope_text as the_scope_text, chunk_text as the_chunk_text};
+ghost use Rattle.suite.specs.Lines.{Reported, IsPut, Refused, line_with, fault_text as the_text, lexical_text as the_lexical_text, scope_text as the_scope_text, code_text as the_code_text, chunk_text as the_chunk_text};
 ghost use Rattle.suite.specs.Output.{TakesPart};
 
 use crate::fault::Fault;
@@ -10,6 +10,7 @@ use crate::outcome::Outcome;
 use crate::output::put_all;
 use crate::status::Status;
 use chunk_io::ChunkFault;
+use code_builder::CodeFault;
 use lexer::LexFault;
 use scopes::ScopeFault;
 use std::alloc::{AllocError, Global};
@@ -83,6 +84,7 @@ fn fault_text(alloc: Global, fault: Fault) -> Result<String, AllocError>
         Fault::Unexpected { offset } => format!(in alloc; ": Unexpected at offset {offset}"),
         Fault::TooDeep { offset } => format!(in alloc; ": TooDeep at offset {offset}"),
         Fault::Scoping(fault) => scope_text(alloc, fault),
+        Fault::Code(fault) => code_text(alloc, fault),
     }
 }
 
@@ -117,6 +119,25 @@ fn scope_text(alloc: Global, fault: ScopeFault) -> Result<String, AllocError>
             format!(in alloc; ": TooManyUpvalues at line {line}")
         }
         ScopeFault::OutOfMemory => String::from_str(alloc, ": OutOfMemory"),
+    }
+}
+
+// The name of a limit that a chunk does not keep, and its line.
+fn code_text(alloc: Global, fault: CodeFault) -> Result<String, AllocError>
+    ensures { IfOk result (λ text. string_bytes text ≡ the_code_text fault) }
+{
+    match fault {
+        CodeFault::TooManyRegisters { line, .. } => {
+            format!(in alloc; ": TooManyRegisters at line {line}")
+        }
+        CodeFault::TooManyConstants { line, .. } => {
+            format!(in alloc; ": TooManyConstants at line {line}")
+        }
+        CodeFault::JumpTooFar { line, .. } => format!(in alloc; ": JumpTooFar at line {line}"),
+        CodeFault::TooManyFunctions { line, .. } => {
+            format!(in alloc; ": TooManyFunctions at line {line}")
+        }
+        CodeFault::OutOfMemory => String::from_str(alloc, ": OutOfMemory"),
     }
 }
 

@@ -3,27 +3,29 @@ ghost use Rattle.std.specs.Prelude.{◌≡◌, ℤ, List, false, IfOk, IsOk, IsE
 ghost use Rattle.lua_tree.specs.View.{view_block, view_tree, view_statement, view_exp};
 ghost use Rattle.lua_tree.specs.TreeLists.{expressions_of};
 ghost use Rattle.lua_tree.specs.Scoping.{Scoped};
+ghost use Rattle.lua_tree.specs.Resolved.{resolved};
 ghost use Rattle.lua_tree.specs.Tiling.{Lexes};
 ghost use Rattle.parser.specs.Places.{StopsBy};
 ghost use Rattle.first_form.specs.Source.{IsPrintList, PrintsNumber, is_chunk as the_is_chunk};
 ghost use Rattle.suite.specs.declared.fault.Fault.{Fault as OneFault};
-ghost use Rattle.suite.specs.Outcome.{IsBadSource, IsGoodSource, IsNotBuilt, IsFaultIn, IsNoPrintList};
-ghost use Rattle.suite.specs.Reading.{IsRead, outcome_of, IsScopingFault, IsPrintName, IsNumber, IsNumberList};
+ghost use Rattle.suite.specs.Outcome.{IsEarlyFaultIn, IsNoPrintList};
+ghost use Rattle.suite.specs.Jobs.{IsNotRun};
+ghost use Rattle.suite.specs.Reading.{IsRead, IsParsed, outcome_of, IsScopingFault, IsPrintName, IsNumber, IsNumberList};
 
 use crate::fault::{Fault, offset_of};
 use crate::outcome::Outcome;
-use crate::words::Task;
+use code_builder::CodeFault;
 use first_form::tree::Statement;
 use lexer::{LexFault, lex};
-use lua_tree::{Args, Block, Exp, ExpKind, StatKind, Token, Tree, tokens_are_one};
-use parser::{SyntaxFault, parse, trees_are_one};
-use scopes::{ScopeFault, resolve};
-use std::alloc::Global;
+use lua_tree::{Args, Block, Exp, ExpKind, StatKind, Token, Tree};
+use parser::{SyntaxFault, parse};
+use scopes::{ScopeFault, Scopes, resolve};
+use std::alloc::{AllocError, Global};
 
 /// Why a source was not read.
 #[derive(Clone, Copy, Debug, PartialEq, Eq)]
 pub enum SourceFault {
-    /// The source has a lexical, a syntax or a scope fault.
+    /// The source has a lexical, a syntax, a scope or a code fault.
     Bad(Fault),
     /// The file is a chunk, or source of another form.
     Unbuilt,
@@ -71,6 +73,31 @@ impl From<ScopeFault> for SourceFault {
     }
 }
 
+impl From<CodeFault> for SourceFault {
+    ghost use Rattle.std.specs.Prelude.{◌≡◌};
+    ghost use Rattle.suite.specs.Reading.{code_fault_of};
+
+    ghost from_gives = { λ fault given. given ≡ code_fault_of fault };
+
+    fn from(fault: CodeFault) -> Self {
+        match fault {
+            CodeFault::OutOfMemory => SourceFault::OutOfMemory,
+            _ => SourceFault::Bad(Fault::Code(fault)),
+        }
+    }
+}
+
+impl From<AllocError> for SourceFault {
+    ghost use Rattle.std.specs.Prelude.{◌≡◌};
+    ghost use Rattle.suite.specs.declared.source.SourceFault.TheVariants.{OutOfMemory};
+
+    ghost from_gives = { λ _ fault. fault ≡ OutOfMemory };
+
+    fn from(_error: AllocError) -> Self {
+        SourceFault::OutOfMemory
+    }
+}
+
 /// A file whose first byte is this one is a chunk.
 const CHUNK_MARK: u8 = 0x1b;
 
@@ -81,31 +108,39 @@ const MAX_STATEMENTS: usize = 200;
 /// bytes.
 pub fn read_source(alloc: Global, bytes: &[u8]) -> Result<Vec<Statement>, SourceFault>
     ensures tree { IfOk result (λ tree. IsRead bytes.now tree.items) }
-    ensures bad { (fault : OneFault) → result ≡ Err (SourceFault.Bad fault) → IsBadSource bytes.now fault }
-    ensures unbuilt { IsErrOf result SourceFault.Unbuilt → IsNotBuilt Task.Run bytes.now }
+    ensures bad { (fault : OneFault) → result ≡ Err (SourceFault.Bad fault) → (the_is_chunk bytes.now ≡ false) × IsEarlyFaultIn bytes.now fault }
+    ensures unbuilt { IsErrOf result SourceFault.Unbuilt → IsNotRun bytes.now }
 {
     if is_chunk(bytes) {
         return Err(SourceFault::Unbuilt);
     }
-    // Laws: these are the only tokens of the source, and they have one tree.
-    tokens_are_one();
-    trees_are_one();
-    let tree = good_tree(alloc, bytes)?;
+    let tree = parsed_tree(alloc, bytes)?;
+    scopes_of(alloc, &tree)?;
     read_block(alloc, &tree.body)
 }
 
-/// The tree of a source, which keeps the rules of scoping, or its fault. The time is linear in the bytes.
-pub fn good_tree(alloc: Global, bytes: &[u8]) -> Result<Tree, SourceFault>
-    requires { the_is_chunk bytes.now ≡ false }
-    ensures tree { IfOk result (λ tree. IsGoodSource bytes.now (view_tree tree)) }
-    ensures bad { (fault : OneFault) → result ≡ Err (SourceFault.Bad fault) → IsBadSource bytes.now fault }
+/// The tree of a source, or its fault. The tokens are given back. The time is linear in the bytes.
+pub fn parsed_tree(alloc: Global, bytes: &[u8]) -> Result<Tree, SourceFault>
+    ensures tree { IfOk result (λ tree. IsParsed bytes.now (view_tree tree)) }
+    ensures bad { (fault : OneFault) → result ≡ Err (SourceFault.Bad fault) → IsEarlyFaultIn bytes.now fault }
     ensures built { IsErrOf result SourceFault.Unbuilt → ⊥ }
 {
     let tokens = lex(alloc, bytes)?;
     match parse(alloc, &tokens) {
-        Ok(tree) => scoped_tree(alloc, tree),
+        Ok(tree) => Ok(tree),
         Err(fault) => Err(syntax_fault(fault, tokens.items(), bytes)),
     }
+}
+
+/// What the names of a tree mean, where it keeps the rules of scoping, or the first break of them.
+pub fn scopes_of(alloc: Global, tree: &Tree) -> Result<Scopes, SourceFault>
+    ensures scopes { IfOk result (λ scopes. scopes ≡ resolved (view_tree tree.now)) }
+    ensures scoped { IsOk result → Scoped (view_tree tree.now) }
+    ensures bad { (fault : OneFault) → result ≡ Err (SourceFault.Bad fault) → IsScopingFault (view_tree tree.now) fault }
+    ensures built { IsErrOf result SourceFault.Unbuilt → ⊥ }
+{
+    let scopes = resolve(alloc, tree)?;
+    Ok(scopes)
 }
 
 /// Whether a file is read as a chunk.
@@ -122,7 +157,7 @@ pub fn is_chunk(bytes: &[u8]) -> bool
 fn syntax_fault(fault: SyntaxFault, tokens: &[Token], bytes: &[u8]) -> SourceFault
     requires lexed { Lexes bytes.now tokens.now }
     requires fault { StopsBy tokens.now fault }
-    ensures bad { (found : OneFault) → result ≡ SourceFault.Bad found → IsFaultIn bytes.now found }
+    ensures bad { (found : OneFault) → result ≡ SourceFault.Bad found → IsEarlyFaultIn bytes.now found }
     ensures built { result ≡ SourceFault.Unbuilt → ⊥ }
 {
     match fault {
@@ -134,17 +169,6 @@ fn syntax_fault(fault: SyntaxFault, tokens: &[Token], bytes: &[u8]) -> SourceFau
         }),
         SyntaxFault::OutOfMemory => SourceFault::OutOfMemory,
     }
-}
-
-// The tree, where it keeps the rules of scoping.
-fn scoped_tree(alloc: Global, tree: Tree) -> Result<Tree, SourceFault>
-    ensures tree { IfOk result (λ kept. kept ≡ tree) }
-    ensures scoped { IsOk result → Scoped (view_tree tree) }
-    ensures bad { (fault : OneFault) → result ≡ Err (SourceFault.Bad fault) → IsScopingFault (view_tree tree) fault }
-    ensures built { IsErrOf result SourceFault.Unbuilt → ⊥ }
-{
-    resolve(alloc, &tree)?;
-    Ok(tree)
 }
 
 // The numbers that these statements print.

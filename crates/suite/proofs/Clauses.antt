@@ -1,0 +1,546 @@
+-- The clauses of the top call, for words that ask for a job.
+use Rattle.std.proofs.Common.{◌≡◌, ◌≢◌, ℕ, suc, ◌+◌, Bool, true, false, List, [], ◌∷◌, ◌++◌, length, ◌⊎◌, inl, inr, Option, Some, None, refl, sym, ap, subst, ◌∙◌, append-nil, length-append, cond, arith}
+use Rattle.std.proofs.lemmas.List.Sums.{sum_by-append}
+use Rattle.suite_io.specs.declared.calls.FileCall.{FileCall}
+use Rattle.suite_io.specs.Contents.{OthersStay}
+use Rattle.suite_io.specs.Calls.{call_of, fault_count}
+use Rattle.suite_io.specs.Taken.{Takes, Rises}
+use Rattle.chunk_io.specs.declared.fault.ChunkFault.{ChunkFault}
+use Rattle.suite.specs.declared.fault.Fault.{Fault}
+use Rattle.suite.specs.declared.status.Status.{Status}
+use Rattle.suite.specs.declared.outcome.Outcome.{Outcome}
+use Rattle.suite.specs.Output.{TakesPart}
+use Rattle.suite.specs.Words.{Words, Job, job_in, texts, Reads, NoCommand, Asks, file_of, file_or_none, named}
+use Rattle.suite.specs.Lines.{status_of, line_of, Reported}
+use Rattle.suite.specs.Jobs.{End, stored, put, bad_source, bad_chunk, unbuilt, Comes}
+use Rattle.suite.specs.Work.{Outside, fetched, FilesStay, CarriesOut, Carried, Does, DoesFetched, Works, out_of}
+use Rattle.suite.specs.Causes.{Becomes, Fetched, StoreFailed, FilesFor, NoFault, Leaves, status_at}
+use Rattle.suite.proofs.Putting.{takes_none}
+use Rattle.suite.proofs.Facts.{Laws, count_snoc, same_bytes, whole_part, settled_is, becomes, put_becomes, no_memory_is, quiet_is, write_cause}
+use Rattle.suite.proofs.Ends.{alike, alike_status, alike_leaves}
+
+-- the list of calls behind two others is not told apart by what comes later
+later_both : (calls : List FileCall) (a b : FileCall) (xs ys : List FileCall) → (calls ++ a ∷ []) ++ xs ≡ (calls ++ b ∷ []) ++ ys → a ≡ b
+later_both [] a b xs ys e = cc
+later_both (c ∷ calls) a b xs ys e = later_both calls a b xs ys (cc)
+
+-- how a job is carried out
+module _ (job : Job) (old new : Outside) where
+  -- what is called behind the fetch
+  pub called_later : (end : End) (outcome : Outcome) → CarriesOut job end outcome old new → (later : List FileCall) × (new.calls ≡ old.calls ++ later)
+  called_later (put text) Outcome.Done c = ([], c.0.calls ∙ sym (append-nil old.calls))
+  called_later (put text) Outcome.WriteFault c = ([], c.0.calls ∙ sym (append-nil old.calls))
+  called_later (put text) Outcome.OutOfMemory c = ([], c.0.calls ∙ sym (append-nil old.calls))
+  called_later (put text) outcome c = absurd c
+  called_later (stored text) Outcome.Done c = (call_of true (out_of job) false ∷ [], c.0.calls)
+  called_later (stored text) Outcome.WriteFault c = (call_of true (out_of job) true ∷ [], c.0.calls)
+  called_later (stored text) Outcome.OutOfMemory c = ([], c.0.calls ∙ sym (append-nil old.calls))
+  called_later (stored text) outcome c = absurd c
+  called_later (bad_source fault) outcome c = ([], c.1.0.calls ∙ sym (append-nil old.calls))
+  called_later (bad_chunk fault) outcome c = ([], c.1.0.calls ∙ sym (append-nil old.calls))
+  called_later unbuilt outcome c = ([], c.1.0.calls ∙ sym (append-nil old.calls))
+
+  -- what files come to behind the fetch
+  abbrev FilesBehind : Type 0
+  FilesBehind =
+      ((new.calls ≡ old.calls) × (new.contents ≡ old.contents))
+      ⊎ ((failed : Bool) × (new.calls ≡ old.calls ++ call_of true (out_of job) failed ∷ []) × OthersStay old.contents new.contents (out_of job))
+
+  same_files : FilesStay old new → FilesBehind
+  same_files stay = inl (stay.calls, stay.contents)
+
+  pub files_behind : (end : End) (outcome : Outcome) → CarriesOut job end outcome old new → FilesBehind
+  files_behind (put text) Outcome.Done c = same_files c.0
+  files_behind (put text) Outcome.WriteFault c = same_files c.0
+  files_behind (put text) Outcome.OutOfMemory c = same_files c.0
+  files_behind (put text) outcome c = absurd c
+  files_behind (stored text) Outcome.Done c = inr (false, c.0.calls, c.2)
+  files_behind (stored text) Outcome.WriteFault c = inr (true, c.0.calls, c.1)
+  files_behind (stored text) Outcome.OutOfMemory c = same_files c.0
+  files_behind (stored text) outcome c = absurd c
+  files_behind (bad_source fault) outcome c = same_files c.1.0
+  files_behind (bad_chunk fault) outcome c = same_files c.1.0
+  files_behind unbuilt outcome c = same_files c.1.0
+
+  -- at success all of it was put or stored
+  pub done_leaves : (end : End) → CarriesOut job end Outcome.Done old new → (status_at end ≡ Status.Done) × Leaves job end old new
+  done_leaves (put text) c = (refl, (c.0.contents, c.1))
+  done_leaves (stored text) c = (refl, (c.1, c.0.taken))
+  done_leaves (bad_source fault) c = let differ = c.0 in cc
+  done_leaves (bad_chunk fault) c = let differ = c.0 in cc
+  done_leaves unbuilt c = let differ = c.0 in cc
+
+  -- where no count rose, all of it was, or memory ran out
+  pub quiet_leaves : (end : End) (outcome : Outcome) → CarriesOut job end outcome old new → (Rises old.faults new.faults → ⊥) → fault_count new.calls ≡ fault_count old.calls → ((status_of outcome ≡ status_at end) × Leaves job end old new) ⊎ (outcome ≡ Outcome.OutOfMemory)
+  quiet_leaves (put text) Outcome.Done c quiet files = inl (refl, (c.0.contents, c.1))
+  quiet_leaves (put text) Outcome.WriteFault c quiet files = absurd (quiet c.2)
+  quiet_leaves (put text) Outcome.OutOfMemory c quiet files = inr refl
+  quiet_leaves (put text) outcome c quiet files = absurd c
+  quiet_leaves (stored text) Outcome.Done c quiet files = inl (refl, (c.1, c.0.taken))
+  quiet_leaves (stored text) Outcome.WriteFault c quiet files =
+      let grown = count_snoc old.calls (call_of true (out_of job) true) refl in
+      let count : fault_count new.calls ≡ suc (fault_count old.calls) = ap fault_count c.0.calls ∙ grown in
+      absurd (omega (arith, files, count))
+  quiet_leaves (stored text) Outcome.OutOfMemory c quiet files = inr refl
+  quiet_leaves (stored text) outcome c quiet files = absurd c
+  quiet_leaves (bad_source fault) outcome c quiet files = inl (ap status_of c.0, (c.1.0.contents, c.1.1))
+  quiet_leaves (bad_chunk fault) outcome c quiet files = inl (ap status_of c.0, (c.1.0.contents, c.1.1))
+  quiet_leaves unbuilt outcome c quiet files = inl (ap status_of c.0, (c.1.0.contents, c.1.1))
+
+  -- what was put is a first part of what is to be put
+  pub part_put : (bytes : List ℕ) (end : End) (outcome : Outcome) → Comes job bytes end → CarriesOut job end outcome old new → Takes old.taken new.taken [] ⊎ ((text : List ℕ) × Comes job bytes (put text) × TakesPart old.taken new.taken text)
+  part_put bytes (put text) Outcome.Done comes c = inr (text, comes, whole_part old.taken new.taken text c.1)
+  part_put bytes (put text) Outcome.WriteFault comes c = inr (text, comes, c.1)
+  part_put bytes (put text) Outcome.OutOfMemory comes c = inr (text, comes, c.1)
+  part_put bytes (put text) outcome comes c = absurd c
+  part_put bytes (stored text) Outcome.Done comes c = inl c.0.taken
+  part_put bytes (stored text) Outcome.WriteFault comes c = inl c.0.taken
+  part_put bytes (stored text) Outcome.OutOfMemory comes c = inl c.1
+  part_put bytes (stored text) outcome comes c = absurd c
+  part_put bytes (bad_source fault) outcome comes c = inl c.1.1
+  part_put bytes (bad_chunk fault) outcome comes c = inl c.1.1
+  part_put bytes unbuilt outcome comes c = inl c.1.1
+
+  -- a fault of writing: the sink's count rose, or the store failed
+  pub written : (end : End) → CarriesOut job end Outcome.WriteFault old new → Rises old.faults new.faults ⊎ (new.calls ≡ old.calls ++ call_of true (out_of job) true ∷ [])
+  written (put text) c = inl c.2
+  written (stored text) c = inr c.0.calls
+  written (bad_source fault) c = let differ = c.0 in cc
+  written (bad_chunk fault) c = let differ = c.0 in cc
+  written unbuilt c = let differ = c.0 in cc
+
+  -- what is refused is refused as that
+  pub refused_as : (end : End) (outcome : Outcome) → CarriesOut job end outcome old new → status_at end ≢ Status.Done → status_of outcome ≡ status_at end
+  refused_as (put text) outcome c other = absurd (other refl)
+  refused_as (stored text) outcome c other = absurd (other refl)
+  refused_as (bad_source fault) outcome c other = ap status_of c.0
+  refused_as (bad_chunk fault) outcome c other = ap status_of c.0
+  refused_as unbuilt outcome c other = ap status_of c.0
+
+  -- the other way round
+  pub source_refused : (end : End) (fault : Fault) → CarriesOut job end (Outcome.BadSource fault) old new → end ≡ bad_source fault
+  source_refused (put text) fault c = absurd c
+  source_refused (stored text) fault c = absurd c
+  source_refused (bad_source other) fault c = let same = c.0 in cc
+  source_refused (bad_chunk other) fault c = let same = c.0 in cc
+  source_refused unbuilt fault c = let same = c.0 in cc
+
+  pub chunk_refused : (end : End) (fault : ChunkFault) → CarriesOut job end (Outcome.BadChunk fault) old new → end ≡ bad_chunk fault
+  chunk_refused (put text) fault c = absurd c
+  chunk_refused (stored text) fault c = absurd c
+  chunk_refused (bad_source other) fault c = let same = c.0 in cc
+  chunk_refused (bad_chunk other) fault c = let same = c.0 in cc
+  chunk_refused unbuilt fault c = let same = c.0 in cc
+
+  pub unbuilt_refused : (end : End) → CarriesOut job end Outcome.Unbuilt old new → end ≡ unbuilt
+  unbuilt_refused (put text) c = absurd c
+  unbuilt_refused (stored text) c = absurd c
+  unbuilt_refused (bad_source other) c = let same = c.0 in cc
+  unbuilt_refused (bad_chunk other) c = let same = c.0 in cc
+  unbuilt_refused unbuilt c = refl
+
+  pub never_bad_words : (end : End) → CarriesOut job end Outcome.BadWords old new → ⊥
+  never_bad_words (put text) c = c
+  never_bad_words (stored text) c = c
+  never_bad_words (bad_source other) c = let same = c.0 in cc
+  never_bad_words (bad_chunk other) c = let same = c.0 in cc
+  never_bad_words unbuilt c = let same = c.0 in cc
+
+  pub never_read_fault : (end : End) → CarriesOut job end Outcome.ReadFault old new → ⊥
+  never_read_fault (put text) c = c
+  never_read_fault (stored text) c = c
+  never_read_fault (bad_source other) c = let same = c.0 in cc
+  never_read_fault (bad_chunk other) c = let same = c.0 in cc
+  never_read_fault unbuilt c = let same = c.0 in cc
+
+-- a fetch that succeeds changes neither what files hold nor what the sink took
+pub leaves_before : (job : Job) (old new : Outside) (end : End) → Leaves job end (fetched job false old) new → Leaves job end old new
+leaves_before job old new (stored text) l = l
+leaves_before job old new (put text) l = l
+leaves_before job old new (bad_source fault) l = l
+leaves_before job old new (bad_chunk fault) l = l
+leaves_before job old new unbuilt l = l
+
+count_same : (calls : List FileCall) (call : FileCall) → call.failed ≡ false → fault_count (calls ++ call ∷ []) ≡ fault_count calls
+count_same calls call e =
+    let both = sum_by-append (λ (c : FileCall). cond c.failed 1 0) calls (call ∷ []) in
+    let none : 0 + cond call.failed 1 0 ≡ 0 = rw e refl in
+    omega (arith, both, none)
+
+-- the outcome of a status
+done_of : (outcome : Outcome) → status_of outcome ≡ Status.Done → outcome ≡ Outcome.Done
+done_of Outcome.Done e = refl
+done_of Outcome.BadWords e = cc
+done_of (Outcome.BadSource fault) e = cc
+done_of (Outcome.BadChunk fault) e = cc
+done_of Outcome.ReadFault e = cc
+done_of Outcome.WriteFault e = cc
+done_of Outcome.OutOfMemory e = cc
+done_of Outcome.Unbuilt e = cc
+
+bad_source_of : (outcome : Outcome) → status_of outcome ≡ Status.BadSource → (fault : Fault) × (outcome ≡ Outcome.BadSource fault)
+bad_source_of (Outcome.BadSource fault) e = (fault, refl)
+bad_source_of Outcome.Done e = absurd (cc)
+bad_source_of Outcome.BadWords e = absurd (cc)
+bad_source_of (Outcome.BadChunk fault) e = absurd (cc)
+bad_source_of Outcome.ReadFault e = absurd (cc)
+bad_source_of Outcome.WriteFault e = absurd (cc)
+bad_source_of Outcome.OutOfMemory e = absurd (cc)
+bad_source_of Outcome.Unbuilt e = absurd (cc)
+
+bad_chunk_of : (outcome : Outcome) → status_of outcome ≡ Status.BadChunk → (fault : ChunkFault) × (outcome ≡ Outcome.BadChunk fault)
+bad_chunk_of (Outcome.BadChunk fault) e = (fault, refl)
+bad_chunk_of Outcome.Done e = absurd (cc)
+bad_chunk_of Outcome.BadWords e = absurd (cc)
+bad_chunk_of (Outcome.BadSource fault) e = absurd (cc)
+bad_chunk_of Outcome.ReadFault e = absurd (cc)
+bad_chunk_of Outcome.WriteFault e = absurd (cc)
+bad_chunk_of Outcome.OutOfMemory e = absurd (cc)
+bad_chunk_of Outcome.Unbuilt e = absurd (cc)
+
+unbuilt_of : (outcome : Outcome) → status_of outcome ≡ Status.Unbuilt → outcome ≡ Outcome.Unbuilt
+unbuilt_of Outcome.Unbuilt e = refl
+unbuilt_of Outcome.Done e = cc
+unbuilt_of Outcome.BadWords e = cc
+unbuilt_of (Outcome.BadSource fault) e = cc
+unbuilt_of (Outcome.BadChunk fault) e = cc
+unbuilt_of Outcome.ReadFault e = cc
+unbuilt_of Outcome.WriteFault e = cc
+unbuilt_of Outcome.OutOfMemory e = cc
+
+write_fault_of : (outcome : Outcome) → status_of outcome ≡ Status.WriteFault → outcome ≡ Outcome.WriteFault
+write_fault_of Outcome.WriteFault e = refl
+write_fault_of Outcome.Done e = cc
+write_fault_of Outcome.BadWords e = cc
+write_fault_of (Outcome.BadSource fault) e = cc
+write_fault_of (Outcome.BadChunk fault) e = cc
+write_fault_of Outcome.ReadFault e = cc
+write_fault_of Outcome.OutOfMemory e = cc
+write_fault_of Outcome.Unbuilt e = cc
+
+read_fault_of : (outcome : Outcome) → status_of outcome ≡ Status.ReadFault → outcome ≡ Outcome.ReadFault
+read_fault_of Outcome.ReadFault e = refl
+read_fault_of Outcome.Done e = cc
+read_fault_of Outcome.BadWords e = cc
+read_fault_of (Outcome.BadSource fault) e = cc
+read_fault_of (Outcome.BadChunk fault) e = cc
+read_fault_of Outcome.WriteFault e = cc
+read_fault_of Outcome.OutOfMemory e = cc
+read_fault_of Outcome.Unbuilt e = cc
+
+bad_words_of : (outcome : Outcome) → status_of outcome ≡ Status.BadWords → outcome ≡ Outcome.BadWords
+bad_words_of Outcome.BadWords e = refl
+bad_words_of Outcome.Done e = cc
+bad_words_of (Outcome.BadSource fault) e = cc
+bad_words_of (Outcome.BadChunk fault) e = cc
+bad_words_of Outcome.ReadFault e = cc
+bad_words_of Outcome.WriteFault e = cc
+bad_words_of Outcome.OutOfMemory e = cc
+bad_words_of Outcome.Unbuilt e = cc
+
+module _ (laws : Laws) (words : Words) (job : Job) (reads : Reads words job) (old new : Outside) (outcome : Outcome) (works : Works (Some job) outcome old new) where
+  pub named_is : named words ≡ file_of job
+  named_is = ap file_or_none reads
+
+  -- the words ask for one job, and what is told of its file was fetched
+  asked : (other : Job) → Reads words other → other ≡ job
+  asked other r = let one : job_in (texts words) ≡ Some job = reads in let two : job_in (texts words) ≡ Some other = r in cc
+
+  told_job : (other : Job) (bytes : List ℕ) → Asks words old.contents other bytes → Asks words old.contents job bytes
+  told_job other bytes asks = subst (λ j. Asks words old.contents j bytes) (asked other asks.reads) asks
+
+  same_told : (bytes : List ℕ) → Asks words old.contents job bytes → (f : DoesFetched job outcome old new) → f.bytes ≡ bytes
+  same_told bytes asks f = sym (same_bytes old.contents (file_of job) bytes f.bytes asks.told f.told)
+
+  -- the job was done with the bytes that are told of its file
+  does_told : (bytes : List ℕ) → Asks words old.contents job bytes → (f : DoesFetched job outcome old new) → Does job bytes outcome (fetched job false old) new
+  does_told bytes asks f = subst (λ b. Does job b outcome (fetched job false old) new) (same_told bytes asks f) f.does
+
+  -- the fetch succeeded
+  fetched_calls : DoesFetched job outcome old new → Fetched words false old.calls new.calls
+  fetched_calls f = by f.does
+    where
+      by : Does job f.bytes outcome (fetched job false old) new → Fetched words false old.calls new.calls
+      by (inl c) =
+          let later = called_later job (fetched job false old) new c.end outcome c.carried in
+          record { job = job; reads = reads; later = later.0; listed = later.1 }
+      by (inr none) = record { job = job; reads = reads; later = []; listed = none.1.0.calls ∙ sym (append-nil (old.calls ++ call_of false (file_of job) false ∷ [])) }
+
+  failed_calls : new ≡ fetched job true old → Fetched words true old.calls new.calls
+  failed_calls e = record { job = job; reads = reads; later = []; listed = ap (λ (o : Outside). o.calls) e ∙ sym (append-nil (old.calls ++ call_of false (file_of job) true ∷ [])) }
+
+  -- it does not succeed and fail
+  fetch_is_one : (a b : Bool) → Fetched words a old.calls new.calls → Fetched words b old.calls new.calls → a ≡ b
+  fetch_is_one a b one other =
+      ap (λ (c : FileCall). c.failed) (later_both old.calls (call_of false (file_of one.job) a) (call_of false (file_of other.job) b) one.later other.later (sym one.listed ∙ other.listed))
+
+  not_fetched : new ≡ old → (failed : Bool) → Fetched words failed old.calls new.calls → ⊥
+  not_fetched e failed f =
+      let calls : old.calls ≡ (old.calls ++ call_of false (file_of f.job) failed ∷ []) ++ f.later = sym (ap (λ (o : Outside). o.calls) e) ∙ f.listed in
+      let more = ap length calls in
+      absurd (omega (arith, more, length-append (old.calls ++ call_of false (file_of f.job) failed ∷ []) f.later, length-append old.calls (call_of false (file_of f.job) failed ∷ [])))
+
+  pub nothing_clause : NoCommand words ⊎ Fetched words true old.calls new.calls → Takes old.taken new.taken []
+  nothing_clause (inl none) = let one : job_in (texts words) ≡ Some job = reads in let no : job_in (texts words) ≡ None = none in cc
+  nothing_clause (inr failed) = by works
+    where
+      by : Works (Some job) outcome old new → Takes old.taken new.taken []
+      by (inl w) = subst (λ o. Takes old.taken o []) (sym (ap (λ (o : Outside). o.taken) w.1)) (takes_none old.taken)
+      by (inr (inl w)) = subst (λ o. Takes old.taken o []) (sym (ap (λ (o : Outside). o.taken) w.1)) (takes_none old.taken)
+      by (inr (inr f)) = let differ : true ≡ false = fetch_is_one true false failed (fetched_calls f) in cc
+
+  pub part_clause : (other : Job) (bytes : List ℕ) → Asks words old.contents other bytes → Takes old.taken new.taken [] ⊎ ((text : List ℕ) × Comes other bytes (put text) × TakesPart old.taken new.taken text)
+  part_clause other bytes asks = subst (λ j. Takes old.taken new.taken [] ⊎ ((text : List ℕ) × Comes j bytes (put text) × TakesPart old.taken new.taken text)) (sym (asked other asks.reads)) (by works)
+    where
+      carried : Does job bytes outcome (fetched job false old) new → Takes old.taken new.taken [] ⊎ ((text : List ℕ) × Comes job bytes (put text) × TakesPart old.taken new.taken text)
+      carried (inl c) = part_put job (fetched job false old) new bytes c.end outcome c.comes c.carried
+      carried (inr none) = inl none.1.1
+
+      by : Works (Some job) outcome old new → Takes old.taken new.taken [] ⊎ ((text : List ℕ) × Comes job bytes (put text) × TakesPart old.taken new.taken text)
+      by (inl w) = inl (subst (λ o. Takes old.taken o []) (sym (ap (λ (o : Outside). o.taken) w.1)) (takes_none old.taken))
+      by (inr (inl w)) = inl (subst (λ o. Takes old.taken o []) (sym (ap (λ (o : Outside). o.taken) w.1)) (takes_none old.taken))
+      by (inr (inr f)) = carried (does_told bytes (told_job other bytes asks) f)
+
+  pub files_clause : FilesFor (job_in (texts words)) old new
+  files_clause = subst (λ o. FilesFor o old new) (sym reads) (by works)
+    where
+      behind : (end : End) → CarriesOut job end outcome (fetched job false old) new → FilesFor (Some job) old new
+      behind end c = elim (files_behind job (fetched job false old) new end outcome c) [
+        | inl same ↦ inr (inl (false, same.0, same.1))
+        | inr stores ↦ inr (inr (stores.0, stores.1, stores.2))
+      ]
+
+      carried : (bytes : List ℕ) → Does job bytes outcome (fetched job false old) new → FilesFor (Some job) old new
+      carried bytes (inl c) = behind c.end c.carried
+      carried bytes (inr none) = inr (inl (false, none.1.0.calls, none.1.0.contents))
+
+      by : Works (Some job) outcome old new → FilesFor (Some job) old new
+      by (inl w) = inr (inl (true, ap (λ (o : Outside). o.calls) w.1, ap (λ (o : Outside). o.contents) w.1))
+      by (inr (inl w)) = inl (ap (λ (o : Outside). o.calls) w.1, ap (λ (o : Outside). o.contents) w.1)
+      by (inr (inr f)) = carried f.bytes f.does
+
+  -- the job that was carried out with this outcome, unless that is one of the fetch or want of memory
+  job_done : outcome ≢ Outcome.ReadFault → outcome ≢ Outcome.OutOfMemory → DoesFetched job outcome old new
+  job_done no_fault no_want = by works
+    where
+      by : Works (Some job) outcome old new → DoesFetched job outcome old new
+      by (inl w) = absurd (no_fault w.0)
+      by (inr (inl w)) = absurd (no_want w.0)
+      by (inr (inr f)) = f
+
+  job_carried : (bytes : List ℕ) → outcome ≢ Outcome.OutOfMemory → Does job bytes outcome (fetched job false old) new → Carried job bytes outcome (fetched job false old) new
+  job_carried bytes no_want (inl c) = c
+  job_carried bytes no_want (inr none) = absurd (no_want none.0)
+
+  module _ (err_before err_later : Option (List ℕ)) (err_old err_new : ℕ) (result : Status) (reported : Reported outcome (file_of job) result err_before err_later err_old err_new) where
+    settled : (status : Status) → result ≡ status → status ≢ Status.WriteFault → status ≢ Status.OutOfMemory → (status_of outcome ≡ status) × Takes err_before err_later (line_of outcome (named words))
+    settled status e no_fault no_want =
+        let s = settled_is err_before err_later err_old err_new outcome (file_of job) result reported (λ w. no_fault (sym e ∙ w)) (λ w. no_want (sym e ∙ w)) in
+        (sym s.0 ∙ e, subst (λ n. Takes err_before err_later (line_of outcome n)) (sym named_is) s.1)
+
+    pub line_clause : result ≢ Status.WriteFault → result ≢ Status.OutOfMemory → (o : Outcome) × (status_of o ≡ result) × Takes err_before err_later (line_of o (named words))
+    line_clause no_fault no_want = let s = settled result refl no_fault no_want in (outcome, s.0, s.1)
+
+    pub carried_out_clause : (other : Job) (bytes : List ℕ) (end : End) → Asks words old.contents other bytes → Comes other bytes end → NoFault old.calls new.calls → (Rises old.faults new.faults → ⊥) → (Rises err_old err_new → ⊥) → ((result ≡ status_at end) × Leaves other end old new) ⊎ (result ≡ Status.OutOfMemory)
+    carried_out_clause other bytes end asks comes files quiet err = by works
+      where
+        same : other ≡ job
+        same = asked other asks.reads
+
+        as_asked : Leaves job end old new → Leaves other end old new
+        as_asked l = subst (λ j. Leaves j end old new) (sym same) l
+
+        no_memory : outcome ≡ Outcome.OutOfMemory → result ≡ Status.OutOfMemory
+        no_memory e = elim (quiet_is err_before err_later err_old err_new outcome (file_of job) result reported err) [
+          | inl s ↦ s ∙ ap status_of e
+          | inr s ↦ s
+        ]
+
+        ended : (c : End) → Comes job bytes c → (status_of outcome ≡ status_at c) → Leaves job c (fetched job false old) new → ((result ≡ status_at end) × Leaves other end old new) ⊎ (result ≡ Status.OutOfMemory)
+        ended c is e l =
+            let one = alike laws job bytes c end is (subst (λ j. Comes j bytes end) same comes) in
+            elim (quiet_is err_before err_later err_old err_new outcome (file_of job) result reported err) [
+              | inl s ↦ inl (s ∙ e ∙ alike_status c end one, as_asked (leaves_before job old new end (alike_leaves job c end (fetched job false old) new one l)))
+              | inr s ↦ inr s
+            ]
+
+        faults_same : fault_count new.calls ≡ fault_count (fetched job false old).calls
+        faults_same = files ∙ sym (count_same old.calls (call_of false (file_of job) false) refl)
+
+        carried : Does job bytes outcome (fetched job false old) new → ((result ≡ status_at end) × Leaves other end old new) ⊎ (result ≡ Status.OutOfMemory)
+        carried (inl c) = elim (quiet_leaves job (fetched job false old) new c.end outcome c.carried quiet faults_same) [
+          | inl l ↦ ended c.end c.comes l.0 l.1
+          | inr e ↦ inr (no_memory e)
+        ]
+        carried (inr none) = inr (no_memory none.0)
+
+        by : Works (Some job) outcome old new → ((result ≡ status_at end) × Leaves other end old new) ⊎ (result ≡ Status.OutOfMemory)
+        by (inl w) =
+            let grown = count_snoc old.calls (call_of false (file_of job) true) refl in
+            let count : fault_count new.calls ≡ suc (fault_count old.calls) = ap (λ (o : Outside). fault_count o.calls) w.1 ∙ grown in
+            absurd (omega (arith, files, count))
+        by (inr (inl w)) = inr (no_memory w.0)
+        by (inr (inr f)) = carried (does_told bytes (told_job other bytes asks) f)
+
+    pub done_clause : result ≡ Status.Done → Fetched words false old.calls new.calls × Takes err_before err_later [] × ((other : Job) (bytes : List ℕ) → Asks words old.contents other bytes → (end : End) × Comes other bytes end × (status_at end ≡ Status.Done) × Leaves other end old new)
+    done_clause e = (
+      fetched_calls f,
+      subst (λ o. Takes err_before err_later (line_of o (named words))) done s.1,
+      λ other bytes asks.
+          subst (λ j. (end : End) × Comes j bytes end × (status_at end ≡ Status.Done) × Leaves j end old new) (sym (asked other asks.reads)) (carried bytes (does_told bytes (told_job other bytes asks) f)),
+    )
+      where
+        s : (status_of outcome ≡ Status.Done) × Takes err_before err_later (line_of outcome (named words))
+        s = settled Status.Done e (λ w. cc) (λ w. cc)
+
+        done : outcome ≡ Outcome.Done
+        done = done_of outcome s.0
+
+        f : DoesFetched job outcome old new
+        f = job_done (λ w. cc (done)) (λ w. cc (done))
+
+        carried : (bytes : List ℕ) → Does job bytes outcome (fetched job false old) new → (end : End) × Comes job bytes end × (status_at end ≡ Status.Done) × Leaves job end old new
+        carried bytes d =
+            let c = job_carried bytes (λ w. cc (done)) d in
+            let l = done_leaves job (fetched job false old) new c.end (subst (λ o. CarriesOut job c.end o (fetched job false old) new) done c.carried) in
+            (c.end, c.comes, l.0, leaves_before job old new c.end l.1)
+
+    pub bad_source_clause : result ≡ Status.BadSource → Fetched words false old.calls new.calls × (fault : Fault) × ((other : Job) (bytes : List ℕ) → Asks words old.contents other bytes → Comes other bytes (bad_source fault)) × Takes err_before err_later (line_of (Outcome.BadSource fault) (named words))
+    bad_source_clause e = (
+      fetched_calls f,
+      bad.0,
+      λ other bytes asks. subst (λ j. Comes j bytes (bad_source bad.0)) (sym (asked other asks.reads)) (carried bytes (does_told bytes (told_job other bytes asks) f)),
+      subst (λ o. Takes err_before err_later (line_of o (named words))) bad.1 s.1,
+    )
+      where
+        s : (status_of outcome ≡ Status.BadSource) × Takes err_before err_later (line_of outcome (named words))
+        s = settled Status.BadSource e (λ w. cc) (λ w. cc)
+
+        bad : (fault : Fault) × (outcome ≡ Outcome.BadSource fault)
+        bad = bad_source_of outcome s.0
+
+        f : DoesFetched job outcome old new
+        f = job_done (λ w. cc (bad.1)) (λ w. cc (bad.1))
+
+        carried : (bytes : List ℕ) → Does job bytes outcome (fetched job false old) new → Comes job bytes (bad_source bad.0)
+        carried bytes d =
+            let c = job_carried bytes (λ w. cc (bad.1)) d in
+            subst (Comes job bytes) (source_refused job (fetched job false old) new c.end bad.0 (subst (λ o. CarriesOut job c.end o (fetched job false old) new) bad.1 c.carried)) c.comes
+
+    pub bad_chunk_clause : result ≡ Status.BadChunk → Fetched words false old.calls new.calls × (fault : ChunkFault) × ((other : Job) (bytes : List ℕ) → Asks words old.contents other bytes → Comes other bytes (bad_chunk fault)) × Takes err_before err_later (line_of (Outcome.BadChunk fault) (named words))
+    bad_chunk_clause e = (
+      fetched_calls f,
+      bad.0,
+      λ other bytes asks. subst (λ j. Comes j bytes (bad_chunk bad.0)) (sym (asked other asks.reads)) (carried bytes (does_told bytes (told_job other bytes asks) f)),
+      subst (λ o. Takes err_before err_later (line_of o (named words))) bad.1 s.1,
+    )
+      where
+        s : (status_of outcome ≡ Status.BadChunk) × Takes err_before err_later (line_of outcome (named words))
+        s = settled Status.BadChunk e (λ w. cc) (λ w. cc)
+
+        bad : (fault : ChunkFault) × (outcome ≡ Outcome.BadChunk fault)
+        bad = bad_chunk_of outcome s.0
+
+        f : DoesFetched job outcome old new
+        f = job_done (λ w. cc (bad.1)) (λ w. cc (bad.1))
+
+        carried : (bytes : List ℕ) → Does job bytes outcome (fetched job false old) new → Comes job bytes (bad_chunk bad.0)
+        carried bytes d =
+            let c = job_carried bytes (λ w. cc (bad.1)) d in
+            subst (Comes job bytes) (chunk_refused job (fetched job false old) new c.end bad.0 (subst (λ o. CarriesOut job c.end o (fetched job false old) new) bad.1 c.carried)) c.comes
+
+    pub unbuilt_clause : result ≡ Status.Unbuilt → Fetched words false old.calls new.calls × ((other : Job) (bytes : List ℕ) → Asks words old.contents other bytes → Comes other bytes unbuilt)
+    unbuilt_clause e = (
+      fetched_calls f,
+      λ other bytes asks. subst (λ j. Comes j bytes unbuilt) (sym (asked other asks.reads)) (carried bytes (does_told bytes (told_job other bytes asks) f)),
+    )
+      where
+        is : outcome ≡ Outcome.Unbuilt
+        is = unbuilt_of outcome (settled Status.Unbuilt e (λ w. cc) (λ w. cc)).0
+
+        f : DoesFetched job outcome old new
+        f = job_done (λ w. cc (is)) (λ w. cc (is))
+
+        carried : (bytes : List ℕ) → Does job bytes outcome (fetched job false old) new → Comes job bytes unbuilt
+        carried bytes d =
+            let c = job_carried bytes (λ w. cc (is)) d in
+            subst (Comes job bytes) (unbuilt_refused job (fetched job false old) new c.end (subst (λ o. CarriesOut job c.end o (fetched job false old) new) is c.carried)) c.comes
+
+    pub bad_words_clause : result ≡ Status.BadWords → ⊥
+    bad_words_clause e = never (job_carried f.bytes (λ w. cc (is)) f.does)
+      where
+        is : outcome ≡ Outcome.BadWords
+        is = bad_words_of outcome (settled Status.BadWords e (λ w. cc) (λ w. cc)).0
+
+        f : DoesFetched job outcome old new
+        f = job_done (λ w. cc (is)) (λ w. cc (is))
+
+        never : Carried job f.bytes outcome (fetched job false old) new → ⊥
+        never c = never_bad_words job (fetched job false old) new c.end (subst (λ o. CarriesOut job c.end o (fetched job false old) new) is c.carried)
+
+    pub read_fault_clause : result ≡ Status.ReadFault → Fetched words true old.calls new.calls
+    read_fault_clause e = by works
+      where
+        is : outcome ≡ Outcome.ReadFault
+        is = read_fault_of outcome (settled Status.ReadFault e (λ w. cc) (λ w. cc)).0
+
+        never : (bytes : List ℕ) → Carried job bytes outcome (fetched job false old) new → ⊥
+        never bytes c = never_read_fault job (fetched job false old) new c.end (subst (λ o. CarriesOut job c.end o (fetched job false old) new) is c.carried)
+
+        by : Works (Some job) outcome old new → Fetched words true old.calls new.calls
+        by (inl w) = failed_calls w.1
+        by (inr (inl w)) = let other = w.0 in absurd (cc (is))
+        by (inr (inr f)) = absurd (never f.bytes (job_carried f.bytes (λ w. cc (is)) f.does))
+
+    become : (status : Status) → status_of outcome ≡ status → Becomes status result err_old err_new ⊎ (result ≡ Status.OutOfMemory)
+    become status e = subst (λ s. Becomes s result err_old err_new ⊎ (result ≡ Status.OutOfMemory)) e (becomes err_before err_later err_old err_new outcome (file_of job) result reported)
+
+    pub fetch_failed_clause : Fetched words true old.calls new.calls → Becomes Status.ReadFault result err_old err_new
+    fetch_failed_clause failed = by works
+      where
+        never : outcome ≡ Outcome.ReadFault → Reported Outcome.ReadFault (file_of job) result err_before err_later err_old err_new
+        never e = subst (λ o. Reported o (file_of job) result err_before err_later err_old err_new) e reported
+
+        by : Works (Some job) outcome old new → Becomes Status.ReadFault result err_old err_new
+        by (inl w) = put_becomes err_before err_later err_old err_new Status.ReadFault _ result (never w.0)
+        by (inr (inl w)) = absurd (not_fetched w.1 true failed)
+        by (inr (inr f)) = let differ : true ≡ false = fetch_is_one true false failed (fetched_calls f) in absurd (cc)
+
+    pub refused_clause : (other : Job) (bytes : List ℕ) (end : End) → Asks words old.contents other bytes → Comes other bytes end → status_at end ≢ Status.Done → Fetched words false old.calls new.calls → Becomes (status_at end) result err_old err_new ⊎ (result ≡ Status.OutOfMemory)
+    refused_clause other bytes end asks comes differs fetch = by works
+      where
+        carried : Does job bytes outcome (fetched job false old) new → Becomes (status_at end) result err_old err_new ⊎ (result ≡ Status.OutOfMemory)
+        carried (inl c) =
+            let one = alike_status c.end end (alike laws job bytes c.end end c.comes (subst (λ j. Comes j bytes end) (asked other asks.reads) comes)) in
+            become (status_at end) (refused_as job (fetched job false old) new c.end outcome c.carried (λ d. differs (sym one ∙ d)) ∙ one)
+        carried (inr none) = inr (no_memory none.0)
+          where
+            no_memory : outcome ≡ Outcome.OutOfMemory → result ≡ Status.OutOfMemory
+            no_memory e = no_memory_is err_before err_later err_old err_new _ result (subst (λ o. Reported o (file_of job) result err_before err_later err_old err_new) e reported)
+
+        by : Works (Some job) outcome old new → Becomes (status_at end) result err_old err_new ⊎ (result ≡ Status.OutOfMemory)
+        by (inl w) = let differ : true ≡ false = fetch_is_one true false (failed_calls w.1) fetch in absurd (cc)
+        by (inr (inl w)) = absurd (not_fetched w.1 false fetch)
+        by (inr (inr f)) = carried (does_told bytes (told_job other bytes asks) f)
+
+    pub write_fault_clause : result ≡ Status.WriteFault → Rises old.faults new.faults ⊎ Rises err_old err_new ⊎ StoreFailed words old.calls new.calls
+    write_fault_clause e = elim (write_cause err_before err_later err_old err_new outcome (file_of job) result reported e) [
+      | inl s ↦ by_outcome (write_fault_of outcome s)
+      | inr risen ↦ inr (inl risen)
+    ]
+      where
+        by_end : (end : End) → CarriesOut job end Outcome.WriteFault (fetched job false old) new → Rises old.faults new.faults ⊎ Rises err_old err_new ⊎ StoreFailed words old.calls new.calls
+        by_end end c = elim (written job (fetched job false old) new end c) [
+          | inl risen ↦ inl risen
+          | inr listed ↦ inr (inr (record { job = job; reads = reads; listed = listed }))
+        ]
+
+        by_outcome : outcome ≡ Outcome.WriteFault → Rises old.faults new.faults ⊎ Rises err_old err_new ⊎ StoreFailed words old.calls new.calls
+        by_outcome is =
+            let f = job_done (λ w. cc (is)) (λ w. cc (is)) in
+            let c = job_carried f.bytes (λ w. cc (is)) f.does in
+            by_end c.end (subst (λ o. CarriesOut job c.end o (fetched job false old) new) is c.carried)
+
+-- words that ask for nothing
+pub no_job : (words : Words) (o : Outside) → NoCommand words → Works (job_in (texts words)) Outcome.BadWords o o
+no_job words o none = subst (λ j. Works j Outcome.BadWords o o) (sym none) (refl, refl)
