@@ -1,4 +1,5 @@
 pub mod Pool
+pub mod Early
 pub mod Putting
 pub mod Joins
 pub mod Registers

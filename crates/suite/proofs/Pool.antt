@@ -1,20 +1,15 @@
--- How the pool of constants grows as statements are compiled.
-use Rattle.std.proofs.Common.{◌≡◌, ℕ, suc, ◌+◌, ◌≤◌, ◌<◌, Bool, true, false, not, cond, ◌||◌, ◌&&◌, List, [], ◌∷◌, ◌++◌, length, drop, append_assoc, get_or, add-one, subst, ℤ, refl, sym, ap, ◌∙◌, arith}
+-- How the early pool of constants grows as the constants of statements are taken.
+use Rattle.std.proofs.Common.{◌≡◌, suc, ◌+◌, Bool, true, false, not, cond, ◌||◌, ◌&&◌, List, [], ◌∷◌, ◌++◌, append_assoc, ℤ, refl, sym, ap, ◌∙◌, arith}
 use Rattle.std.specs.Prelude.{filter}
-use Rattle.std.proofs.lemmas.List.{append-nil, drop_all}
+use Rattle.std.proofs.lemmas.List.{append-nil}
 use Rattle.std.specs.List.{list_any, position_or_len}
 use Rattle.std.specs.Bool.{Decides}
 use Rattle.std.proofs.lemmas.Bool.Decides.{Decides-int_eq}
 use Rattle.std.proofs.lemmas.Slice.Eq.{bytes_eq-Decides}
-use Rattle.std.proofs.Math.Seq.{drop-cons}
-use Rattle.suite.specs.Compiling.{number_constant}
-use Rattle.indexmap.specs.IndexSet.{insert_key}
 use Rattle.first_form.specs.declared.tree.Statement.{Statement}
 use Rattle.first_form.specs.declared.tree.Statement.TheVariants.{Print}
-use Rattle.first_form.specs.declared.chunk.Instruction.{Instruction}
-use Rattle.first_form.specs.declared.chunk.Instruction.TheVariants.{GetGlobal, LoadK, Call, Return}
 use Rattle.first_form.specs.declared.chunk.Constant.{Constant}
-use Rattle.first_form.specs.Scheme.{print_name, taken, same, distinct, constants, number_of, words}
+use Rattle.first_form.specs.Scheme.{print_name, taken, same, distinct, constants, number_of}
 
 pub same-Decides : (j k : Constant) → Decides (same j k) (j ≡ k)
 same-Decides (Constant.Text a) (Constant.Text b) =
@@ -84,8 +79,12 @@ take_by pool k ks false e =
     ap (λ l. pool ++ k ∷ l) (filter_two (λ j. not (list_any (same j) pool)) (λ other. not (same k other)) (λ j. not (list_any (same j) (pool ++ k ∷ []))) (distinct ks) (λ other. neither (same k other) (list_any (same other) pool) ∙ ap not (ap (λ b. list_any (same other) pool || b) (same-sym k other) ∙ sym (any_snoc (same other) pool k))))
     ∙ sym (append_assoc pool (k ∷ []) (new_of (pool ++ k ∷ []) ks))
 
+-- the pool, when a constant has been taken: it goes last where the pool lacks it
+abbrev pub with_one : List Constant → Constant → List Constant
+with_one pool k = cond (list_any (same k) pool) pool (pool ++ k ∷ [])
+
 -- one constant is taken
-pub take_one : (pool : List Constant) (k : Constant) (ks : List Constant) → pool ++ new_of pool (k ∷ ks) ≡ insert_key same pool k ++ new_of (insert_key same pool k) ks
+pub take_one : (pool : List Constant) (k : Constant) (ks : List Constant) → pool ++ new_of pool (k ∷ ks) ≡ with_one pool k ++ new_of (with_one pool k) ks
 take_one pool k ks = take_by pool k ks (list_any (same k) pool) refl
 
 pub new_of_none : (ks : List Constant) → new_of [] ks ≡ distinct ks
@@ -115,7 +114,7 @@ number_by k (x ∷ pool) later b e =
     ∙ number_at k x pool (cond b pool (pool ++ k ∷ []) ++ later) (same k x) refl (λ s. number_by k pool later b (sym (ap (λ t. t || list_any (same k) pool) s) ∙ e))
 
 -- the number of a constant that was taken stays, whatever is taken later
-pub number_in : (pool : List Constant) (k : Constant) (later : List Constant) → number_of (insert_key same pool k ++ later) k ≡ position_or_len (same k) pool
+pub number_in : (pool : List Constant) (k : Constant) (later : List Constant) → number_of (with_one pool k ++ later) k ≡ position_or_len (same k) pool
 number_in pool k later = number_by k pool later (list_any (same k) pool) refl
 
 -- a pool keeps what it has
@@ -123,46 +122,34 @@ pub kept_by : (pool : List Constant) (k : Constant) (b : Bool) → (more : List 
 kept_by pool k true = ([], sym (append-nil pool))
 kept_by pool k false = (k ∷ [], refl)
 
--- what one statement adds: the pool and the code so far, and what is left to take and to write
-pub record Compiling (tree : List Statement) (pool : List Constant) (code : List Instruction) (rest : List Statement) : Type 0 where
-  pub pool_is : pool ++ new_of pool (taken rest) ≡ constants tree
-  pub code_is : code ++ words (constants tree) rest ≡ words (constants tree) tree
+-- the pool, when a statement has taken its constants
+abbrev pub with_two : List Constant → ℤ → List Constant
+with_two pool n = with_one (with_one pool print_name) (Constant.Number n)
 
-pub compiling_start : (tree : List Statement) → Compiling tree [] [] tree
-compiling_start tree = record { pool_is = new_of_none (taken tree); code_is = refl }
+-- with what the statements that are left take, the pool becomes that of the whole
+pub record Grows (tree : List Statement) (pool : List Constant) (rest : List Statement) : Type 0 where
+  pub is : pool ++ new_of pool (taken rest) ≡ constants tree
 
-pub compiling_end : (tree : List Statement) (pool : List Constant) (code : List Instruction) → Compiling tree pool code [] → (pool ≡ constants tree) × (code ++ Return 0 1 ∷ [] ≡ words (constants tree) tree)
-compiling_end tree pool code c = (sym (append-nil pool) ∙ c.pool_is, c.code_is)
+pub grows_start : (tree : List Statement) → Grows tree [] tree
+grows_start tree = record { is = new_of_none (taken tree) }
 
--- the numbers that the two constants of a statement got are those of the scheme
-pub compiling_next : (tree : List Statement) (pool : List Constant) (code : List Instruction) (n : ℤ) (rest : List Statement) → Compiling tree pool code (Print n ∷ rest) → Compiling tree (insert_key same (insert_key same pool print_name) (Constant.Number n)) (code ++ GetGlobal 0 (position_or_len (same print_name) pool) ∷ LoadK 1 (position_or_len (same (Constant.Number n)) (insert_key same pool print_name)) ∷ Call 0 2 1 ∷ []) rest
-compiling_next tree pool code n rest c =
-    let pool1 = insert_key same pool print_name in
-    let pool2 = insert_key same pool1 (Constant.Number n) in
-    let pool_is2 : pool2 ++ new_of pool2 (taken rest) ≡ constants tree =
-    sym (take_one pool1 (Constant.Number n) (taken rest)) ∙ sym (take_one pool print_name (Constant.Number n ∷ taken rest)) ∙ c.pool_is in
-    let more = kept_by pool1 (Constant.Number n) (list_any (same (Constant.Number n)) pool1) in
-    let first : number_of (constants tree) print_name ≡ position_or_len (same print_name) pool =
-    ap (λ l. number_of l print_name) (sym pool_is2 ∙ ap (λ l. l ++ new_of pool2 (taken rest)) more.1 ∙ append_assoc pool1 more.0 (new_of pool2 (taken rest)))
-    ∙ number_in pool print_name (more.0 ++ new_of pool2 (taken rest)) in
-    let second : number_of (constants tree) (Constant.Number n) ≡ position_or_len (same (Constant.Number n)) pool1 =
-    ap (λ l. number_of l (Constant.Number n)) (sym pool_is2) ∙ number_in pool1 (Constant.Number n) (new_of pool2 (taken rest)) in
-    record {
-      pool_is = pool_is2;
-      code_is =
-          append_assoc code (GetGlobal 0 (position_or_len (same print_name) pool) ∷ LoadK 1 (position_or_len (same (Constant.Number n)) pool1) ∷ Call 0 2 1 ∷ []) (words (constants tree) rest)
-          ∙ ap (λ i. code ++ GetGlobal 0 i ∷ LoadK 1 (position_or_len (same (Constant.Number n)) pool1) ∷ Call 0 2 1 ∷ words (constants tree) rest) (sym first)
-          ∙ ap (λ j. code ++ GetGlobal 0 (number_of (constants tree) print_name) ∷ LoadK 1 j ∷ Call 0 2 1 ∷ words (constants tree) rest) (sym second)
-          ∙ c.code_is;
-    }
+pub grows_end : (tree : List Statement) (pool : List Constant) → Grows tree pool [] → pool ≡ constants tree
+grows_end tree pool g = sym (append-nil pool) ∙ g.is
 
--- the same, for the statement at a place of the tree
-pub compiling_at : (tree : List Statement) (pool pool2 : List Constant) (code code2 : List Instruction) (i : ℕ) (d : Statement) → i < length tree → Compiling tree pool code (drop i tree) → pool2 ≡ insert_key same (insert_key same pool print_name) (number_constant (get_or tree i d)) → code2 ≡ code ++ GetGlobal 0 (position_or_len (same print_name) pool) ∷ LoadK 1 (position_or_len (same (number_constant (get_or tree i d))) (insert_key same pool print_name)) ∷ Call 0 2 1 ∷ [] → Compiling tree pool2 code2 (drop (i + 1) tree)
-compiling_at tree pool pool2 code code2 i d l c ep ec =
-    rw (ep, ec, add-one) (at (get_or tree i d) (subst (λ r. Compiling tree pool code r) (drop-cons tree i d l) c))
-  where
-    at : (s : Statement) → Compiling tree pool code (s ∷ drop (suc i) tree) → Compiling tree (insert_key same (insert_key same pool print_name) (number_constant s)) (code ++ GetGlobal 0 (position_or_len (same print_name) pool) ∷ LoadK 1 (position_or_len (same (number_constant s)) (insert_key same pool print_name)) ∷ Call 0 2 1 ∷ []) (drop (suc i) tree)
-    at (Print n) h = compiling_next tree pool code n (drop (suc i) tree) h
+pub grows_next : (tree : List Statement) (pool : List Constant) (n : ℤ) (rest : List Statement) → Grows tree pool (Print n ∷ rest) → Grows tree (with_two pool n) rest
+grows_next tree pool n rest g = record {
+  is = sym (take_one (with_one pool print_name) (Constant.Number n) (taken rest)) ∙ sym (take_one pool print_name (Constant.Number n ∷ taken rest)) ∙ g.is;
+}
 
-pub compiling_over : (tree : List Statement) (pool : List Constant) (code : List Instruction) (i : ℕ) → length tree ≤ i → Compiling tree pool code (drop i tree) → (pool ≡ constants tree) × (code ++ Return 0 1 ∷ [] ≡ words (constants tree) tree)
-compiling_over tree pool code i l c = compiling_end tree pool code (subst (λ r. Compiling tree pool code r) (drop_all i tree l) c)
+-- the numbers that the two constants of a statement got are those of the whole
+pub name_stays : (tree : List Statement) (pool : List Constant) (n : ℤ) (rest : List Statement) → Grows tree pool (Print n ∷ rest) → number_of (constants tree) print_name ≡ position_or_len (same print_name) pool
+name_stays tree pool n rest g =
+    let one = with_one pool print_name in
+    let two = with_two pool n in
+    let more = kept_by one (Constant.Number n) (list_any (same (Constant.Number n)) one) in
+    ap (λ l. number_of l print_name) (sym (grows_next tree pool n rest g).is ∙ ap (λ l. l ++ new_of two (taken rest)) more.1 ∙ append_assoc one more.0 (new_of two (taken rest)))
+    ∙ number_in pool print_name (more.0 ++ new_of two (taken rest))
+
+pub number_stays : (tree : List Statement) (pool : List Constant) (n : ℤ) (rest : List Statement) → Grows tree pool (Print n ∷ rest) → number_of (constants tree) (Constant.Number n) ≡ position_or_len (same (Constant.Number n)) (with_one pool print_name)
+number_stays tree pool n rest g =
+    ap (λ l. number_of l (Constant.Number n)) (sym (grows_next tree pool n rest g).is) ∙ number_in (with_one pool print_name) (Constant.Number n) (new_of (with_two pool n) (taken rest))

@@ -2,14 +2,13 @@
 ghost use Rattle.std.specs.Prelude.{◌≡◌, slice_get, option_copied};
 
 use first_form::chunk::{Constant, Instruction};
-use indexmap::IndexSet;
 use std::marker::Model;
 
 /// The code and the constants of a source. Contracts see the plain value.
 #[derive(Drop)]
 pub struct Chunk {
     code: Vec<Instruction>,
-    constants: IndexSet<Constant>,
+    constants: Vec<Constant>,
     registers: u8,
 }
 
@@ -18,13 +17,13 @@ impl Model for Chunk {
 
     ghost Value = { plain.Chunk };
 
-    ghost view = { λ c. record { code = c.code.items; constants = c.constants.keys; registers = c.registers } };
+    ghost view = { λ c. record { code = c.code.items; constants = c.constants.items; registers = c.registers } };
 }
 
 impl Chunk {
     /// The chunk of this code, these constants in the order of their numbers, and this many registers.
-    pub fn new(code: Vec<Instruction>, constants: IndexSet<Constant>, registers: u8) -> Self
-        ensures { result ≡ record { code = code.items; constants = constants.keys; registers = registers } }
+    pub fn new(code: Vec<Instruction>, constants: Vec<Constant>, registers: u8) -> Self
+        ensures { result ≡ record { code = code.items; constants = constants.items; registers = registers } }
     {
         Self {
             code,
@@ -44,7 +43,7 @@ impl Chunk {
     pub fn constant(&self, number: u32) -> Option<&Constant>
         ensures { option_copied result ≡ slice_get self.now.constants number }
     {
-        self.constants.get_index(number as usize)
+        self.constants.get(number as usize)
     }
 
     /// How many registers the code takes.

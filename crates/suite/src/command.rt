@@ -64,11 +64,11 @@ fn run_source<O: Sink>(alloc: Global, source: &[u8], out: &mut O) -> Outcome
     ensures does { (file : Text) (contents : Option Contents) (calls : List FileCall) → Does (run_file file) source.now result (outside contents calls (O.taken out.old) (O.faults out.old)) (outside contents calls (O.taken out.new) (O.faults out.new)) }
     ensures never_falls { O.faults out.old ≤ O.faults out.new }
 {
-    let tree = match read_source(alloc, source) {
-        Ok(tree) => tree,
+    let read = match read_source(alloc, source) {
+        Ok(read) => read,
         Err(fault) => return fault.outcome(),
     };
-    let Ok(chunk) = compile(alloc, &tree) else {
+    let Ok(chunk) = compile(alloc, &read.tree, &read.scopes) else {
         return Outcome::OutOfMemory;
     };
     // Laws: the source means what its statements do, and these end, so that its code does within the steps.

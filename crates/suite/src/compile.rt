@@ -1,97 +1,109 @@
-// From statements to code and constants.
-ghost use Rattle.std.specs.Prelude.{◌≡◌, ◌+◌, ◌<◌, ◌≤◌, ◌^◌, [], ◌∷◌, ◌++◌, length, IfOk, OnOk};
-ghost use Rattle.std.specs.List.{position_or_len};
-ghost use Rattle.indexmap.specs.IndexSet.{insert_key, index_set_len};
+// From a tree to the code and constants that the machine runs.
+ghost use Rattle.std.specs.Prelude.{◌≡◌, List, map, Some, IfOk};
+ghost use Rattle.lua_tree.specs.View.{view_tree};
+ghost use Rattle.lua_tree.specs.Resolved.{resolved};
+ghost use Rattle.proto.specs.Chunk.{own};
+ghost use Rattle.proto.specs.View.{view_proto};
+ghost use Rattle.first_form.specs.declared.chunk.Constant.{Constant as OneConstant};
+ghost use Rattle.first_form.specs.declared.chunk.Instruction.{Instruction as OneInstruction};
+ghost use Rattle.first_form.specs.declared.tree.Statement.{Statement};
 ghost use Rattle.first_form.specs.Agrees.{Agrees};
-ghost use Rattle.first_form.specs.Scheme.{scheme, same, print_name as the_name};
-ghost use Rattle.first_form.specs.declared.chunk.Instruction.TheVariants.{GetGlobal, LoadK, Call};
-ghost use Rattle.suite.specs.Compiling.{number_constant};
+ghost use Rattle.first_form.specs.Chunk.{Chunk as PlainChunk};
+ghost use Rattle.first_form.specs.Scheme.{scheme};
+ghost use Rattle.first_form.specs.Source.{IsPrintList};
+ghost use Rattle.suite.specs.Compiling.{IsRunAs, instruction_of, constant_of};
 
 use crate::chunk::Chunk;
 use first_form::agreement;
 use first_form::chunk::{Constant, Instruction};
-use first_form::tree::Statement;
-use indexmap::IndexSet;
 use lua_num::ByteText;
+use lua_tree::Tree;
+use opcode::{Op, decode, words_are_read};
+use proto::Proto;
+use scopes::Scopes;
 use std::alloc::{AllocError, Global};
 
-/// The register of the called function, and that of its argument.
-const FUNCTION: u8 = 0;
-
-const ARGUMENT: u8 = 1;
-
-/// The count of registers of the code of each source.
-const REGISTERS: u8 = 2;
-
-/// The code of a source. The time is linear in the statements.
-pub fn compile(alloc: Global, tree: &[Statement]) -> Result<Chunk, AllocError>
-    requires { length tree.now ≤ 200 }
-    ensures scheme { IfOk result (λ chunk. chunk ≡ scheme tree.now) }
-    ensures agrees { IfOk result (λ chunk. Agrees tree.now chunk) }
+/// The chunk that the compiler makes of a list of printed numbers, in the form that the machine of this crate runs. The time
+/// is linear in the statements.
+pub fn compile(alloc: Global, tree: &Tree, scopes: &Scopes) -> Result<Chunk, AllocError>
+    requires scopes { scopes.now ≡ resolved (view_tree tree.now) }
+    requires prints { (statements : List Statement) × IsPrintList (view_tree tree.now).body statements }
+    ensures scheme { (statements : List Statement) → IsPrintList (view_tree tree.now).body statements → IfOk result (λ chunk. chunk ≡ scheme statements) }
+    ensures agrees { (statements : List Statement) → IsPrintList (view_tree tree.now).body statements → IfOk result (λ chunk. Agrees statements chunk) }
 {
-    // A law: the code of the scheme does what the source means.
+    // A law: the code of the early scheme does what the statements mean.
     agreement();
+    // A list of printed numbers keeps the limits of a chunk, so that only want of memory is left.
+    let Ok(proto) = codegen::compile(alloc, tree, scopes, &ByteText::new(alloc)) else {
+        return Err(AllocError);
+    };
+    chunk_of(alloc, proto)
+}
+
+// The chunk of a function that the machine can run.
+fn chunk_of(alloc: Global, proto: Proto) -> Result<Chunk, AllocError>
+    requires { (chunk : PlainChunk) × IsRunAs (own (view_proto proto)) chunk }
+    ensures { IfOk result (IsRunAs (own (view_proto proto))) }
+{
+    let code = instructions(alloc, proto.code.items())?;
+    let constants = constants(alloc, proto.constants.items())?;
+    Ok(Chunk::new(code, constants, proto.registers))
+}
+
+// The instructions of words that the machine has.
+fn instructions(alloc: Global, words: &[u32]) -> Result<Vec<Instruction>, AllocError>
+    requires { (code : List OneInstruction) × (map instruction_of words.now ≡ map Some code) }
+    ensures { IfOk result (λ code. map instruction_of words.now ≡ map Some code.items) }
+{
     let mut code = Vec::new(alloc);
-    let mut constants = IndexSet::new(alloc);
-    for statement in tree {
-        compile_statement(alloc, &mut constants, &mut code, statement)?;
+    for word in words {
+        let Some(instruction) = instruction(*word) else {
+            unreachable!()
+        };
+        code.push(instruction)?;
     }
-    code.push(Instruction::Return { a: 0, b: 1 })?;
-    Ok(Chunk::new(code, constants, REGISTERS))
+    Ok(code)
 }
 
-// A call of `print` with a number.
-fn compile_statement(
-    alloc: Global,
-    constants: &mut IndexSet<Constant>,
-    code: &mut Vec<Instruction>,
-    statement: &Statement,
-) -> Result<(), AllocError>
-    requires { index_set_len constants.old < 2 ^ 15 }
-    ensures constants { OnOk result (constants.new.keys ≡ insert_key same (insert_key same constants.old.keys the_name) (number_constant statement.now)) }
-    ensures few { OnOk result (index_set_len constants.new ≤ index_set_len constants.old + 2) }
-    ensures code { OnOk result (code.new.items ≡ code.old.items ++ GetGlobal 0 (position_or_len (same the_name) constants.old.keys) ∷ LoadK 1 (position_or_len (same (number_constant statement.now)) (insert_key same constants.old.keys the_name)) ∷ Call 0 2 1 ∷ []) }
+// The instruction of a word, if the machine has it.
+fn instruction(word: u32) -> Option<Instruction>
+    ensures { result ≡ instruction_of word }
 {
-    let name = take_constant(constants, print_name(alloc)?)?;
-    let Statement::Print(n) = statement;
-    let number = take_constant(constants, Constant::Number(*n))?;
-    push_call(code, name, number)
+    // A law: the fields of a word are in range.
+    words_are_read();
+    let instr = decode(word)?;
+    let a = instr.a as u8;
+    match instr.op {
+        Op::GetGlobal => Some(Instruction::GetGlobal { a, bx: instr.bx }),
+        Op::LoadK => Some(Instruction::LoadK { a, bx: instr.bx }),
+        Op::Call => Some(Instruction::Call {
+            a,
+            b: instr.b as u16,
+            c: instr.c as u16,
+        }),
+        Op::Return => Some(Instruction::Return {
+            a,
+            b: instr.b as u16,
+        }),
+        _ => None,
+    }
 }
 
-// The name `print`, as a constant.
-fn print_name(alloc: Global) -> Result<Constant, AllocError>
-    ensures { IfOk result (λ k. k ≡ the_name) }
+// Copies of constants that the machine has.
+fn constants(alloc: Global, pool: &[proto::Constant]) -> Result<Vec<Constant>, AllocError>
+    requires { (constants : List OneConstant) × (map constant_of pool.now ≡ map Some constants) }
+    ensures { IfOk result (λ constants. map constant_of pool.now ≡ map Some constants.items) }
 {
-    Ok(Constant::Text(ByteText::from_slice(alloc, b"print")?))
-}
-
-// The number of a constant, which goes to the end of the pool where it is new.
-fn take_constant(pool: &mut IndexSet<Constant>, constant: Constant) -> Result<u32, AllocError>
-    requires { index_set_len pool.old < 2 ^ 16 }
-    ensures pool { OnOk result (pool.new.keys ≡ insert_key same pool.old.keys constant) }
-    ensures number { IfOk result (λ n. n ≡ position_or_len (same constant) pool.old.keys) }
-    ensures len { OnOk result (index_set_len pool.new ≤ index_set_len pool.old + 1) }
-{
-    let (number, _) = pool.insert_full(constant)?;
-    Ok(number as u32)
-}
-
-// The call of a function in the first register with a number in the second.
-fn push_call(code: &mut Vec<Instruction>, name: u32, number: u32) -> Result<(), AllocError>
-    ensures { OnOk result (code.new.items ≡ code.old.items ++ GetGlobal 0 name ∷ LoadK 1 number ∷ Call 0 2 1 ∷ []) }
-{
-    code.push(Instruction::GetGlobal {
-        a: FUNCTION,
-        bx: name,
-    })?;
-    code.push(Instruction::LoadK {
-        a: ARGUMENT,
-        bx: number,
-    })?;
-    code.push(Instruction::Call {
-        a: FUNCTION,
-        b: 2,
-        c: 1,
-    })?;
-    Ok(())
+    let mut constants = Vec::new(alloc);
+    for constant in pool {
+        let copy = match constant {
+            proto::Constant::Text(text) => {
+                Constant::Text(ByteText::from_slice(alloc, text.bytes())?)
+            }
+            proto::Constant::Number(number) => Constant::Number(*number),
+            _ => unreachable!(),
+        };
+        constants.push(copy)?;
+    }
+    Ok(constants)
 }

@@ -104,10 +104,19 @@ const CHUNK_MARK: u8 = 0x1b;
 /// At most this many statements are read.
 const MAX_STATEMENTS: usize = 200;
 
-/// The statements of a source of the first form. A chunk is not lexed. The time is linear in the
-/// bytes.
-pub fn read_source(alloc: Global, bytes: &[u8]) -> Result<Vec<Statement>, SourceFault>
-    ensures tree { IfOk result (λ tree. IsRead bytes.now tree.items) }
+/// A source of the first form: its statements, its tree, and what the names of the tree mean.
+#[derive(Drop)]
+pub struct PrintedSource {
+    pub statements: Vec<Statement>,
+    pub tree: Tree,
+    pub scopes: Scopes,
+}
+
+/// Reads a source of the first form. A chunk is not lexed. The time is linear in the bytes.
+pub fn read_source(alloc: Global, bytes: &[u8]) -> Result<PrintedSource, SourceFault>
+    ensures read { IfOk result (λ read. IsRead bytes.now read.statements.items) }
+    ensures listed { IfOk result (λ read. IsPrintList (view_tree read.tree).body read.statements.items) }
+    ensures scopes { IfOk result (λ read. read.scopes ≡ resolved (view_tree read.tree)) }
     ensures bad { (fault : OneFault) → result ≡ Err (SourceFault.Bad fault) → (the_is_chunk bytes.now ≡ false) × IsEarlyFaultIn bytes.now fault }
     ensures unbuilt { IsErrOf result SourceFault.Unbuilt → IsNotRun bytes.now }
 {
@@ -115,8 +124,13 @@ pub fn read_source(alloc: Global, bytes: &[u8]) -> Result<Vec<Statement>, Source
         return Err(SourceFault::Unbuilt);
     }
     let tree = parsed_tree(alloc, bytes)?;
-    scopes_of(alloc, &tree)?;
-    read_block(alloc, &tree.body)
+    let scopes = scopes_of(alloc, &tree)?;
+    let statements = read_block(alloc, &tree.body)?;
+    Ok(PrintedSource {
+        statements,
+        tree,
+        scopes,
+    })
 }
 
 /// The tree of a source, or its fault. The tokens are given back. The time is linear in the bytes.
