@@ -37,6 +37,9 @@ impl Names {
         ensures ok { OnOk result (self.new ≡ self.old ++ name ∷ []) }
         ensures err { OnErr result (self.new ≡ self.old) }
     {
+        if self.names.is_empty() {
+            self.names.reserve_exact(1)?;
+        }
         self.names.push(name)?;
         Ok(())
     }

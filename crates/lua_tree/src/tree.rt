@@ -273,6 +273,9 @@ impl Block {
         ensures ok { OnOk result ((out-Block self.new).stats.items ≡ (out-Block self.old).stats.items ++ statement ∷ []) }
         ensures err { OnErr result ((out-Block self.new).stats.items ≡ (out-Block self.old).stats.items) }
     {
+        if self.stats.is_empty() {
+            self.stats.reserve_exact(1)?;
+        }
         self.stats.push(statement)?;
         Ok(())
     }
@@ -317,6 +320,9 @@ impl Exps {
         ensures ok { OnOk result ((out-Exps self.new).exps.items ≡ (out-Exps self.old).exps.items ++ expression ∷ []) }
         ensures err { OnErr result ((out-Exps self.new).exps.items ≡ (out-Exps self.old).exps.items) }
     {
+        if self.exps.is_empty() {
+            self.exps.reserve_exact(1)?;
+        }
         self.exps.push(expression)?;
         Ok(())
     }
@@ -361,6 +367,9 @@ impl Arms {
         ensures ok { OnOk result ((out-Arms self.new).arms.items ≡ (out-Arms self.old).arms.items ++ arm ∷ []) }
         ensures err { OnErr result ((out-Arms self.new).arms.items ≡ (out-Arms self.old).arms.items) }
     {
+        if self.arms.is_empty() {
+            self.arms.reserve_exact(1)?;
+        }
         self.arms.push(arm)?;
         Ok(())
     }
@@ -405,6 +414,9 @@ impl Items {
         ensures ok { OnOk result ((out-Items self.new).items.items ≡ (out-Items self.old).items.items ++ item ∷ []) }
         ensures err { OnErr result ((out-Items self.new).items.items ≡ (out-Items self.old).items.items) }
     {
+        if self.items.is_empty() {
+            self.items.reserve_exact(1)?;
+        }
         self.items.push(item)?;
         Ok(())
     }
