@@ -1,5 +1,5 @@
 // The lists of a function. Contracts see each as a list.
-ghost use Rattle.std.specs.Prelude.{◌≡◌, [], ◌∷◌, ◌++◌, OnOk, OnErr};
+ghost use Rattle.std.specs.Prelude.{◌≡◌, [], ◌∷◌, ◌++◌, OnOk, OnErr, IfSome, IfNone};
 
 use crate::parts::{Constant, LocVar};
 use std::alloc::{AllocError, Global};
@@ -224,5 +224,55 @@ impl LocVars {
         ensures { result.items ≡ self }
     {
         self.locals
+    }
+}
+
+/// The numbers of the functions from the main function down to one: each in the list of the one
+/// before it. Of the main function none.
+#[derive(Debug, Drop)]
+pub struct Path {
+    numbers: Vec<u32>,
+}
+
+impl Model for Path {
+    ghost use Rattle.std.specs.Prelude.{List, ℕ};
+
+    ghost Value = { List ℕ };
+
+    ghost view = { λ l. l.numbers.items };
+}
+
+impl Path {
+    /// No numbers, which takes no memory.
+    pub fn new(alloc: Global) -> Self
+        ensures { result ≡ [] }
+    {
+        Self {
+            numbers: Vec::new(alloc),
+        }
+    }
+
+    /// Appends a number.
+    pub fn push(&mut self, number: u32) -> Result<(), AllocError>
+        ensures ok { OnOk result (self.new ≡ self.old ++ number ∷ []) }
+        ensures err { OnErr result (self.new ≡ self.old) }
+    {
+        self.numbers.push(number)?;
+        Ok(())
+    }
+
+    /// Takes the last number away, where there is one.
+    pub fn pop(&mut self) -> Option<u32>
+        ensures some { IfSome result (λ number. self.old ≡ self.new ++ number ∷ []) }
+        ensures none { IfNone result ((self.old ≡ []) × (self.new ≡ [])) }
+    {
+        self.numbers.pop()
+    }
+
+    /// The numbers.
+    pub fn items(&self) -> &[u32]
+        ensures { result.now ≡ self.now }
+    {
+        self.numbers.as_slice()
     }
 }
