@@ -1,0 +1,9 @@
+pub mod After
+pub mod Bits
+pub mod Broken
+pub mod Hits
+pub mod Inner
+pub mod Moving
+pub mod Reading
+pub mod Scans
+pub mod Tables
