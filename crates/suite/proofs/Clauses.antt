@@ -7,13 +7,14 @@ use Rattle.suite_io.specs.Calls.{call_of, fault_count}
 use Rattle.suite_io.specs.Taken.{Takes, Rises}
 use Rattle.chunk_io.specs.declared.fault.ChunkFault.{ChunkFault}
 use Rattle.suite.specs.declared.fault.Fault.{Fault}
+use Rattle.suite.specs.declared.fault.Rejection.{Rejection}
 use Rattle.suite.specs.declared.status.Status.{Status}
 use Rattle.suite.specs.declared.outcome.Outcome.{Outcome}
 use Rattle.suite.specs.Output.{TakesPart}
-use Rattle.suite.specs.Words.{Words, Job, job_in, texts, Reads, NoCommand, Asks, file_of, file_or_none, named}
+use Rattle.suite.specs.Words.{Words, Job, run_file, list_file, verify_file, compile_file, job_in, texts, Reads, NoCommand, Asks, file_of, file_or_none, named}
 use Rattle.suite.specs.Lines.{status_of, line_of, Reported}
-use Rattle.suite.specs.Jobs.{End, stored, put, bad_source, bad_chunk, unbuilt, Comes}
-use Rattle.suite.specs.Work.{Outside, fetched, FilesStay, CarriesOut, Carried, Does, DoesFetched, Works, out_of}
+use Rattle.suite.specs.Jobs.{End, stored, put, bad_source, bad_chunk, rejected, unbuilt, Comes}
+use Rattle.suite.specs.Work.{Outside, IsCompilation, fetched, FilesStay, CarriesOut, Carried, Does, DoesFetched, Works, out_of}
 use Rattle.suite.specs.Causes.{Becomes, Fetched, StoreFailed, FilesFor, NoFault, Leaves, status_at}
 use Rattle.suite.proofs.Putting.{takes_none}
 use Rattle.suite.proofs.Facts.{Laws, count_snoc, same_bytes, whole_part, settled_is, becomes, put_becomes, no_memory_is, quiet_is, write_cause}
@@ -23,6 +24,13 @@ use Rattle.suite.proofs.Ends.{alike, alike_status, alike_leaves}
 later_both : (calls : List FileCall) (a b : FileCall) (xs ys : List FileCall) → (calls ++ a ∷ []) ++ xs ≡ (calls ++ b ∷ []) ++ ys → a ≡ b
 later_both [] a b xs ys e = cc
 later_both (c ∷ calls) a b xs ys e = later_both calls a b xs ys (cc)
+
+-- only a compilation comes to a text that is stored
+stores_in : (job : Job) (bytes text : List ℕ) → Comes job bytes (stored text) → IsCompilation job
+stores_in (run_file file) bytes text comes = comes
+stores_in (list_file file) bytes text comes = comes
+stores_in (verify_file file) bytes text comes = comes
+stores_in (compile_file file out strip) bytes text comes = tt
 
 -- how a job is carried out
 module _ (job : Job) (old new : Outside) where
@@ -38,29 +46,31 @@ module _ (job : Job) (old new : Outside) where
   called_later (stored text) outcome c = absurd c
   called_later (bad_source fault) outcome c = ([], c.1.0.calls ∙ sym (append-nil old.calls))
   called_later (bad_chunk fault) outcome c = ([], c.1.0.calls ∙ sym (append-nil old.calls))
+  called_later (rejected rejection) outcome c = ([], c.1.0.calls ∙ sym (append-nil old.calls))
   called_later unbuilt outcome c = ([], c.1.0.calls ∙ sym (append-nil old.calls))
 
   -- what files come to behind the fetch
   abbrev FilesBehind : Type 0
   FilesBehind =
       ((new.calls ≡ old.calls) × (new.contents ≡ old.contents))
-      ⊎ ((failed : Bool) × (new.calls ≡ old.calls ++ call_of true (out_of job) failed ∷ []) × OthersStay old.contents new.contents (out_of job))
+      ⊎ (IsCompilation job × (failed : Bool) × (new.calls ≡ old.calls ++ call_of true (out_of job) failed ∷ []) × OthersStay old.contents new.contents (out_of job))
 
   same_files : FilesStay old new → FilesBehind
   same_files stay = inl (stay.calls, stay.contents)
 
-  pub files_behind : (end : End) (outcome : Outcome) → CarriesOut job end outcome old new → FilesBehind
-  files_behind (put text) Outcome.Done c = same_files c.0
-  files_behind (put text) Outcome.WriteFault c = same_files c.0
-  files_behind (put text) Outcome.OutOfMemory c = same_files c.0
-  files_behind (put text) outcome c = absurd c
-  files_behind (stored text) Outcome.Done c = inr (false, c.0.calls, c.2)
-  files_behind (stored text) Outcome.WriteFault c = inr (true, c.0.calls, c.1)
-  files_behind (stored text) Outcome.OutOfMemory c = same_files c.0
-  files_behind (stored text) outcome c = absurd c
-  files_behind (bad_source fault) outcome c = same_files c.1.0
-  files_behind (bad_chunk fault) outcome c = same_files c.1.0
-  files_behind unbuilt outcome c = same_files c.1.0
+  pub files_behind : (bytes : List ℕ) (end : End) (outcome : Outcome) → Comes job bytes end → CarriesOut job end outcome old new → FilesBehind
+  files_behind bytes (put text) Outcome.Done comes c = same_files c.0
+  files_behind bytes (put text) Outcome.WriteFault comes c = same_files c.0
+  files_behind bytes (put text) Outcome.OutOfMemory comes c = same_files c.0
+  files_behind bytes (put text) outcome comes c = absurd c
+  files_behind bytes (stored text) Outcome.Done comes c = inr (stores_in job bytes text comes, false, c.0.calls, c.2)
+  files_behind bytes (stored text) Outcome.WriteFault comes c = inr (stores_in job bytes text comes, true, c.0.calls, c.1)
+  files_behind bytes (stored text) Outcome.OutOfMemory comes c = same_files c.0
+  files_behind bytes (stored text) outcome comes c = absurd c
+  files_behind bytes (bad_source fault) outcome comes c = same_files c.1.0
+  files_behind bytes (bad_chunk fault) outcome comes c = same_files c.1.0
+  files_behind bytes (rejected rejection) outcome comes c = same_files c.1.0
+  files_behind bytes unbuilt outcome comes c = same_files c.1.0
 
   -- at success all of it was put or stored
   pub done_leaves : (end : End) → CarriesOut job end Outcome.Done old new → (status_at end ≡ Status.Done) × Leaves job end old new
@@ -68,6 +78,7 @@ module _ (job : Job) (old new : Outside) where
   done_leaves (stored text) c = (refl, (c.1, c.0.taken))
   done_leaves (bad_source fault) c = let differ = c.0 in cc
   done_leaves (bad_chunk fault) c = let differ = c.0 in cc
+  done_leaves (rejected rejection) c = let differ = c.0 in cc
   done_leaves unbuilt c = let differ = c.0 in cc
 
   -- where no count rose, all of it was, or memory ran out
@@ -85,6 +96,7 @@ module _ (job : Job) (old new : Outside) where
   quiet_leaves (stored text) outcome c quiet files = absurd c
   quiet_leaves (bad_source fault) outcome c quiet files = inl (ap status_of c.0, (c.1.0.contents, c.1.1))
   quiet_leaves (bad_chunk fault) outcome c quiet files = inl (ap status_of c.0, (c.1.0.contents, c.1.1))
+  quiet_leaves (rejected rejection) outcome c quiet files = inl (ap status_of c.0, (c.1.0.contents, c.1.1))
   quiet_leaves unbuilt outcome c quiet files = inl (ap status_of c.0, (c.1.0.contents, c.1.1))
 
   -- what was put is a first part of what is to be put
@@ -99,15 +111,17 @@ module _ (job : Job) (old new : Outside) where
   part_put bytes (stored text) outcome comes c = absurd c
   part_put bytes (bad_source fault) outcome comes c = inl c.1.1
   part_put bytes (bad_chunk fault) outcome comes c = inl c.1.1
+  part_put bytes (rejected rejection) outcome comes c = inl c.1.1
   part_put bytes unbuilt outcome comes c = inl c.1.1
 
   -- a fault of writing: the sink's count rose, or the store failed
-  pub written : (end : End) → CarriesOut job end Outcome.WriteFault old new → Rises old.faults new.faults ⊎ (new.calls ≡ old.calls ++ call_of true (out_of job) true ∷ [])
-  written (put text) c = inl c.2
-  written (stored text) c = inr c.0.calls
-  written (bad_source fault) c = let differ = c.0 in cc
-  written (bad_chunk fault) c = let differ = c.0 in cc
-  written unbuilt c = let differ = c.0 in cc
+  pub written : (bytes : List ℕ) (end : End) → Comes job bytes end → CarriesOut job end Outcome.WriteFault old new → Rises old.faults new.faults ⊎ (IsCompilation job × (new.calls ≡ old.calls ++ call_of true (out_of job) true ∷ []))
+  written bytes (put text) comes c = inl c.2
+  written bytes (stored text) comes c = inr (stores_in job bytes text comes, c.0.calls)
+  written bytes (bad_source fault) comes c = let differ = c.0 in cc
+  written bytes (bad_chunk fault) comes c = let differ = c.0 in cc
+  written bytes (rejected rejection) comes c = let differ = c.0 in cc
+  written bytes unbuilt comes c = let differ = c.0 in cc
 
   -- what is refused is refused as that
   pub refused_as : (end : End) (outcome : Outcome) → CarriesOut job end outcome old new → status_at end ≢ Status.Done → status_of outcome ≡ status_at end
@@ -115,6 +129,7 @@ module _ (job : Job) (old new : Outside) where
   refused_as (stored text) outcome c other = absurd (other refl)
   refused_as (bad_source fault) outcome c other = ap status_of c.0
   refused_as (bad_chunk fault) outcome c other = ap status_of c.0
+  refused_as (rejected rejection) outcome c other = ap status_of c.0
   refused_as unbuilt outcome c other = ap status_of c.0
 
   -- the other way round
@@ -123,6 +138,7 @@ module _ (job : Job) (old new : Outside) where
   source_refused (stored text) fault c = absurd c
   source_refused (bad_source other) fault c = let same = c.0 in cc
   source_refused (bad_chunk other) fault c = let same = c.0 in cc
+  source_refused (rejected rejection) fault c = let same = c.0 in cc
   source_refused unbuilt fault c = let same = c.0 in cc
 
   pub chunk_refused : (end : End) (fault : ChunkFault) → CarriesOut job end (Outcome.BadChunk fault) old new → end ≡ bad_chunk fault
@@ -130,13 +146,23 @@ module _ (job : Job) (old new : Outside) where
   chunk_refused (stored text) fault c = absurd c
   chunk_refused (bad_source other) fault c = let same = c.0 in cc
   chunk_refused (bad_chunk other) fault c = let same = c.0 in cc
+  chunk_refused (rejected other) fault c = let same = c.0 in cc
   chunk_refused unbuilt fault c = let same = c.0 in cc
+
+  pub rejected_as : (end : End) (rejection : Rejection) → CarriesOut job end (Outcome.Rejected rejection) old new → end ≡ rejected rejection
+  rejected_as (put text) rejection c = absurd c
+  rejected_as (stored text) rejection c = absurd c
+  rejected_as (bad_source other) rejection c = let same = c.0 in cc
+  rejected_as (bad_chunk other) rejection c = let same = c.0 in cc
+  rejected_as (rejected other) rejection c = let same = c.0 in cc
+  rejected_as unbuilt rejection c = let same = c.0 in cc
 
   pub unbuilt_refused : (end : End) → CarriesOut job end Outcome.Unbuilt old new → end ≡ unbuilt
   unbuilt_refused (put text) c = absurd c
   unbuilt_refused (stored text) c = absurd c
   unbuilt_refused (bad_source other) c = let same = c.0 in cc
   unbuilt_refused (bad_chunk other) c = let same = c.0 in cc
+  unbuilt_refused (rejected rejection) c = let same = c.0 in cc
   unbuilt_refused unbuilt c = refl
 
   pub never_bad_words : (end : End) → CarriesOut job end Outcome.BadWords old new → ⊥
@@ -144,6 +170,7 @@ module _ (job : Job) (old new : Outside) where
   never_bad_words (stored text) c = c
   never_bad_words (bad_source other) c = let same = c.0 in cc
   never_bad_words (bad_chunk other) c = let same = c.0 in cc
+  never_bad_words (rejected rejection) c = let same = c.0 in cc
   never_bad_words unbuilt c = let same = c.0 in cc
 
   pub never_read_fault : (end : End) → CarriesOut job end Outcome.ReadFault old new → ⊥
@@ -151,6 +178,7 @@ module _ (job : Job) (old new : Outside) where
   never_read_fault (stored text) c = c
   never_read_fault (bad_source other) c = let same = c.0 in cc
   never_read_fault (bad_chunk other) c = let same = c.0 in cc
+  never_read_fault (rejected rejection) c = let same = c.0 in cc
   never_read_fault unbuilt c = let same = c.0 in cc
 
 -- a fetch that succeeds changes neither what files hold nor what the sink took
@@ -159,6 +187,7 @@ leaves_before job old new (stored text) l = l
 leaves_before job old new (put text) l = l
 leaves_before job old new (bad_source fault) l = l
 leaves_before job old new (bad_chunk fault) l = l
+leaves_before job old new (rejected rejection) l = l
 leaves_before job old new unbuilt l = l
 
 count_same : (calls : List FileCall) (call : FileCall) → call.failed ≡ false → fault_count (calls ++ call ∷ []) ≡ fault_count calls
@@ -167,76 +196,31 @@ count_same calls call e =
     let none : 0 + cond call.failed 1 0 ≡ 0 = rw e refl in
     omega (arith, both, none)
 
--- the outcome of a status
-done_of : (outcome : Outcome) → status_of outcome ≡ Status.Done → outcome ≡ Outcome.Done
-done_of Outcome.Done e = refl
-done_of Outcome.BadWords e = cc
-done_of (Outcome.BadSource fault) e = cc
-done_of (Outcome.BadChunk fault) e = cc
-done_of Outcome.ReadFault e = cc
-done_of Outcome.WriteFault e = cc
-done_of Outcome.OutOfMemory e = cc
-done_of Outcome.Unbuilt e = cc
+-- What an outcome of a status is.
+abbrev OfStatus : Status → Outcome → Type 0
+OfStatus Status.Done outcome = outcome ≡ Outcome.Done
+OfStatus Status.BadWords outcome = outcome ≡ Outcome.BadWords
+OfStatus Status.BadSource outcome = (fault : Fault) × (outcome ≡ Outcome.BadSource fault)
+OfStatus Status.BadChunk outcome = (fault : ChunkFault) × (outcome ≡ Outcome.BadChunk fault)
+OfStatus Status.Rejected outcome = (rejection : Rejection) × (outcome ≡ Outcome.Rejected rejection)
+OfStatus Status.ReadFault outcome = outcome ≡ Outcome.ReadFault
+OfStatus Status.WriteFault outcome = outcome ≡ Outcome.WriteFault
+OfStatus Status.OutOfMemory outcome = outcome ≡ Outcome.OutOfMemory
+OfStatus Status.Unbuilt outcome = outcome ≡ Outcome.Unbuilt
 
-bad_source_of : (outcome : Outcome) → status_of outcome ≡ Status.BadSource → (fault : Fault) × (outcome ≡ Outcome.BadSource fault)
-bad_source_of (Outcome.BadSource fault) e = (fault, refl)
-bad_source_of Outcome.Done e = absurd (cc)
-bad_source_of Outcome.BadWords e = absurd (cc)
-bad_source_of (Outcome.BadChunk fault) e = absurd (cc)
-bad_source_of Outcome.ReadFault e = absurd (cc)
-bad_source_of Outcome.WriteFault e = absurd (cc)
-bad_source_of Outcome.OutOfMemory e = absurd (cc)
-bad_source_of Outcome.Unbuilt e = absurd (cc)
+its_own : (outcome : Outcome) → OfStatus (status_of outcome) outcome
+its_own Outcome.Done = refl
+its_own Outcome.BadWords = refl
+its_own (Outcome.BadSource fault) = (fault, refl)
+its_own (Outcome.BadChunk fault) = (fault, refl)
+its_own (Outcome.Rejected rejection) = (rejection, refl)
+its_own Outcome.ReadFault = refl
+its_own Outcome.WriteFault = refl
+its_own Outcome.OutOfMemory = refl
+its_own Outcome.Unbuilt = refl
 
-bad_chunk_of : (outcome : Outcome) → status_of outcome ≡ Status.BadChunk → (fault : ChunkFault) × (outcome ≡ Outcome.BadChunk fault)
-bad_chunk_of (Outcome.BadChunk fault) e = (fault, refl)
-bad_chunk_of Outcome.Done e = absurd (cc)
-bad_chunk_of Outcome.BadWords e = absurd (cc)
-bad_chunk_of (Outcome.BadSource fault) e = absurd (cc)
-bad_chunk_of Outcome.ReadFault e = absurd (cc)
-bad_chunk_of Outcome.WriteFault e = absurd (cc)
-bad_chunk_of Outcome.OutOfMemory e = absurd (cc)
-bad_chunk_of Outcome.Unbuilt e = absurd (cc)
-
-unbuilt_of : (outcome : Outcome) → status_of outcome ≡ Status.Unbuilt → outcome ≡ Outcome.Unbuilt
-unbuilt_of Outcome.Unbuilt e = refl
-unbuilt_of Outcome.Done e = cc
-unbuilt_of Outcome.BadWords e = cc
-unbuilt_of (Outcome.BadSource fault) e = cc
-unbuilt_of (Outcome.BadChunk fault) e = cc
-unbuilt_of Outcome.ReadFault e = cc
-unbuilt_of Outcome.WriteFault e = cc
-unbuilt_of Outcome.OutOfMemory e = cc
-
-write_fault_of : (outcome : Outcome) → status_of outcome ≡ Status.WriteFault → outcome ≡ Outcome.WriteFault
-write_fault_of Outcome.WriteFault e = refl
-write_fault_of Outcome.Done e = cc
-write_fault_of Outcome.BadWords e = cc
-write_fault_of (Outcome.BadSource fault) e = cc
-write_fault_of (Outcome.BadChunk fault) e = cc
-write_fault_of Outcome.ReadFault e = cc
-write_fault_of Outcome.OutOfMemory e = cc
-write_fault_of Outcome.Unbuilt e = cc
-
-read_fault_of : (outcome : Outcome) → status_of outcome ≡ Status.ReadFault → outcome ≡ Outcome.ReadFault
-read_fault_of Outcome.ReadFault e = refl
-read_fault_of Outcome.Done e = cc
-read_fault_of Outcome.BadWords e = cc
-read_fault_of (Outcome.BadSource fault) e = cc
-read_fault_of (Outcome.BadChunk fault) e = cc
-read_fault_of Outcome.WriteFault e = cc
-read_fault_of Outcome.OutOfMemory e = cc
-read_fault_of Outcome.Unbuilt e = cc
-
-bad_words_of : (outcome : Outcome) → status_of outcome ≡ Status.BadWords → outcome ≡ Outcome.BadWords
-bad_words_of Outcome.BadWords e = refl
-bad_words_of Outcome.Done e = cc
-bad_words_of (Outcome.BadSource fault) e = cc
-bad_words_of (Outcome.BadChunk fault) e = cc
-bad_words_of Outcome.ReadFault e = cc
-bad_words_of Outcome.WriteFault e = cc
-bad_words_of Outcome.OutOfMemory e = cc
-bad_words_of Outcome.Unbuilt e = cc
+of_status : (outcome : Outcome) (status : Status) → status_of outcome ≡ status → OfStatus status outcome
+of_status outcome status e = subst (λ s. OfStatus s outcome) e (its_own outcome)
 
 module _ (laws : Laws) (words : Words) (job : Job) (reads : Reads words job) (old new : Outside) (outcome : Outcome) (works : Works (Some job) outcome old new) where
   pub named_is : named words ≡ file_of job
@@ -304,14 +288,14 @@ module _ (laws : Laws) (words : Words) (job : Job) (reads : Reads words job) (ol
   pub files_clause : FilesFor (job_in (texts words)) old new
   files_clause = subst (λ o. FilesFor o old new) (sym reads) (by works)
     where
-      behind : (end : End) → CarriesOut job end outcome (fetched job false old) new → FilesFor (Some job) old new
-      behind end c = elim (files_behind job (fetched job false old) new end outcome c) [
+      behind : (bytes : List ℕ) (end : End) → Comes job bytes end → CarriesOut job end outcome (fetched job false old) new → FilesFor (Some job) old new
+      behind bytes end comes c = elim (files_behind job (fetched job false old) new bytes end outcome comes c) [
         | inl same ↦ inr (inl (false, same.0, same.1))
-        | inr stores ↦ inr (inr (stores.0, stores.1, stores.2))
+        | inr stores ↦ inr (inr stores)
       ]
 
       carried : (bytes : List ℕ) → Does job bytes outcome (fetched job false old) new → FilesFor (Some job) old new
-      carried bytes (inl c) = behind c.end c.carried
+      carried bytes (inl c) = behind bytes c.end c.comes c.carried
       carried bytes (inr none) = inr (inl (false, none.1.0.calls, none.1.0.contents))
 
       by : Works (Some job) outcome old new → FilesFor (Some job) old new
@@ -394,7 +378,7 @@ module _ (laws : Laws) (words : Words) (job : Job) (reads : Reads words job) (ol
         s = settled Status.Done e (λ w. cc) (λ w. cc)
 
         done : outcome ≡ Outcome.Done
-        done = done_of outcome s.0
+        done = of_status outcome Status.Done s.0
 
         f : DoesFetched job outcome old new
         f = job_done (λ w. cc (done)) (λ w. cc (done))
@@ -417,7 +401,7 @@ module _ (laws : Laws) (words : Words) (job : Job) (reads : Reads words job) (ol
         s = settled Status.BadSource e (λ w. cc) (λ w. cc)
 
         bad : (fault : Fault) × (outcome ≡ Outcome.BadSource fault)
-        bad = bad_source_of outcome s.0
+        bad = of_status outcome Status.BadSource s.0
 
         f : DoesFetched job outcome old new
         f = job_done (λ w. cc (bad.1)) (λ w. cc (bad.1))
@@ -439,7 +423,7 @@ module _ (laws : Laws) (words : Words) (job : Job) (reads : Reads words job) (ol
         s = settled Status.BadChunk e (λ w. cc) (λ w. cc)
 
         bad : (fault : ChunkFault) × (outcome ≡ Outcome.BadChunk fault)
-        bad = bad_chunk_of outcome s.0
+        bad = of_status outcome Status.BadChunk s.0
 
         f : DoesFetched job outcome old new
         f = job_done (λ w. cc (bad.1)) (λ w. cc (bad.1))
@@ -449,6 +433,28 @@ module _ (laws : Laws) (words : Words) (job : Job) (reads : Reads words job) (ol
             let c = job_carried bytes (λ w. cc (bad.1)) d in
             subst (Comes job bytes) (chunk_refused job (fetched job false old) new c.end bad.0 (subst (λ o. CarriesOut job c.end o (fetched job false old) new) bad.1 c.carried)) c.comes
 
+    pub rejected_clause : result ≡ Status.Rejected → Fetched words false old.calls new.calls × (rejection : Rejection) × ((other : Job) (bytes : List ℕ) → Asks words old.contents other bytes → Comes other bytes (rejected rejection)) × Takes err_before err_later (line_of (Outcome.Rejected rejection) (named words))
+    rejected_clause e = (
+      fetched_calls f,
+      bad.0,
+      λ other bytes asks. subst (λ j. Comes j bytes (rejected bad.0)) (sym (asked other asks.reads)) (carried bytes (does_told bytes (told_job other bytes asks) f)),
+      subst (λ o. Takes err_before err_later (line_of o (named words))) bad.1 s.1,
+    )
+      where
+        s : (status_of outcome ≡ Status.Rejected) × Takes err_before err_later (line_of outcome (named words))
+        s = settled Status.Rejected e (λ w. cc) (λ w. cc)
+
+        bad : (rejection : Rejection) × (outcome ≡ Outcome.Rejected rejection)
+        bad = of_status outcome Status.Rejected s.0
+
+        f : DoesFetched job outcome old new
+        f = job_done (λ w. cc (bad.1)) (λ w. cc (bad.1))
+
+        carried : (bytes : List ℕ) → Does job bytes outcome (fetched job false old) new → Comes job bytes (rejected bad.0)
+        carried bytes d =
+            let c = job_carried bytes (λ w. cc (bad.1)) d in
+            subst (Comes job bytes) (rejected_as job (fetched job false old) new c.end bad.0 (subst (λ o. CarriesOut job c.end o (fetched job false old) new) bad.1 c.carried)) c.comes
+
     pub unbuilt_clause : result ≡ Status.Unbuilt → Fetched words false old.calls new.calls × ((other : Job) (bytes : List ℕ) → Asks words old.contents other bytes → Comes other bytes unbuilt)
     unbuilt_clause e = (
       fetched_calls f,
@@ -456,7 +462,7 @@ module _ (laws : Laws) (words : Words) (job : Job) (reads : Reads words job) (ol
     )
       where
         is : outcome ≡ Outcome.Unbuilt
-        is = unbuilt_of outcome (settled Status.Unbuilt e (λ w. cc) (λ w. cc)).0
+        is = of_status outcome Status.Unbuilt (settled Status.Unbuilt e (λ w. cc) (λ w. cc)).0
 
         f : DoesFetched job outcome old new
         f = job_done (λ w. cc (is)) (λ w. cc (is))
@@ -470,7 +476,7 @@ module _ (laws : Laws) (words : Words) (job : Job) (reads : Reads words job) (ol
     bad_words_clause e = never (job_carried f.bytes (λ w. cc (is)) f.does)
       where
         is : outcome ≡ Outcome.BadWords
-        is = bad_words_of outcome (settled Status.BadWords e (λ w. cc) (λ w. cc)).0
+        is = of_status outcome Status.BadWords (settled Status.BadWords e (λ w. cc) (λ w. cc)).0
 
         f : DoesFetched job outcome old new
         f = job_done (λ w. cc (is)) (λ w. cc (is))
@@ -482,7 +488,7 @@ module _ (laws : Laws) (words : Words) (job : Job) (reads : Reads words job) (ol
     read_fault_clause e = by works
       where
         is : outcome ≡ Outcome.ReadFault
-        is = read_fault_of outcome (settled Status.ReadFault e (λ w. cc) (λ w. cc)).0
+        is = of_status outcome Status.ReadFault (settled Status.ReadFault e (λ w. cc) (λ w. cc)).0
 
         never : (bytes : List ℕ) → Carried job bytes outcome (fetched job false old) new → ⊥
         never bytes c = never_read_fault job (fetched job false old) new c.end (subst (λ o. CarriesOut job c.end o (fetched job false old) new) is c.carried)
@@ -525,21 +531,21 @@ module _ (laws : Laws) (words : Words) (job : Job) (reads : Reads words job) (ol
 
     pub write_fault_clause : result ≡ Status.WriteFault → Rises old.faults new.faults ⊎ Rises err_old err_new ⊎ StoreFailed words old.calls new.calls
     write_fault_clause e = elim (write_cause err_before err_later err_old err_new outcome (file_of job) result reported e) [
-      | inl s ↦ by_outcome (write_fault_of outcome s)
+      | inl s ↦ by_outcome (of_status outcome Status.WriteFault s)
       | inr risen ↦ inr (inl risen)
     ]
       where
-        by_end : (end : End) → CarriesOut job end Outcome.WriteFault (fetched job false old) new → Rises old.faults new.faults ⊎ Rises err_old err_new ⊎ StoreFailed words old.calls new.calls
-        by_end end c = elim (written job (fetched job false old) new end c) [
+        by_end : (bytes : List ℕ) (end : End) → Comes job bytes end → CarriesOut job end Outcome.WriteFault (fetched job false old) new → Rises old.faults new.faults ⊎ Rises err_old err_new ⊎ StoreFailed words old.calls new.calls
+        by_end bytes end comes c = elim (written job (fetched job false old) new bytes end comes c) [
           | inl risen ↦ inl risen
-          | inr listed ↦ inr (inr (record { job = job; reads = reads; listed = listed }))
+          | inr listed ↦ inr (inr (record { job = job; reads = reads; compiles = listed.0; listed = listed.1 }))
         ]
 
         by_outcome : outcome ≡ Outcome.WriteFault → Rises old.faults new.faults ⊎ Rises err_old err_new ⊎ StoreFailed words old.calls new.calls
         by_outcome is =
             let f = job_done (λ w. cc (is)) (λ w. cc (is)) in
             let c = job_carried f.bytes (λ w. cc (is)) f.does in
-            by_end c.end (subst (λ o. CarriesOut job c.end o (fetched job false old) new) is c.carried)
+            by_end f.bytes c.end c.comes (subst (λ o. CarriesOut job c.end o (fetched job false old) new) is c.carried)
 
 -- words that ask for nothing
 pub no_job : (words : Words) (o : Outside) → NoCommand words → Works (job_in (texts words)) Outcome.BadWords o o

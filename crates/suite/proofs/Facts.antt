@@ -83,12 +83,9 @@ pub same_bytes : (contents : Option Contents) (file a b : List ℕ) → Tells co
 same_bytes (Some held) file a b h k = cc
 same_bytes None file a b h k = absurd h
 
--- the whole output is a first part of itself, and so is nothing
+-- the whole output is a first part of itself
 pub whole_part : (before later : Option (List ℕ)) (text : List ℕ) → Takes before later text → TakesPart before later text
 whole_part before later text t = (text, ([], append-nil text), t)
-
-pub none_part : (before later : Option (List ℕ)) (text : List ℕ) → Takes before later [] → TakesPart before later text
-none_part before later text t = ([], (text, refl), t)
 
 -- tokens and a fault of one text never stand together, for each fault
 no_lexical_fault : TokensOrFault → (bytes : List ℕ) (tokens : List Token) (fault : LexFault) → Lexes bytes tokens → lexical.IsFaultOf bytes fault → ⊥
@@ -188,7 +185,9 @@ refused_is Status.BadWords result old new (inr r) = inr r
 refused_is Status.BadSource result old new (inl r) = inl r.0
 refused_is Status.BadSource result old new (inr r) = inr r
 refused_is Status.BadChunk result old new (inl r) = inl r.0
+refused_is Status.Rejected result old new (inl r) = inl r.0
 refused_is Status.BadChunk result old new (inr r) = inr r
+refused_is Status.Rejected result old new (inr r) = inr r
 refused_is Status.ReadFault result old new (inl r) = inl r.0
 refused_is Status.ReadFault result old new (inr r) = inr r
 refused_is Status.Unbuilt result old new (inl r) = inl r.0
@@ -215,6 +214,9 @@ module _ (err_before err_later : Option (List ℕ)) (err_old err_new : ℕ) wher
   settled_is (Outcome.BadChunk fault) file result (inl p) no_fault no_want = put_is Status.BadChunk _ result p no_fault no_want
   settled_is (Outcome.BadChunk fault) file result (inr p) no_fault no_want =
       absurd (no_want (put_is Status.OutOfMemory _ result p no_fault no_want).0)
+  settled_is (Outcome.Rejected rejection) file result (inl p) no_fault no_want = put_is Status.Rejected _ result p no_fault no_want
+  settled_is (Outcome.Rejected rejection) file result (inr p) no_fault no_want =
+      absurd (no_want (put_is Status.OutOfMemory _ result p no_fault no_want).0)
   settled_is Outcome.ReadFault file result r no_fault no_want = put_is Status.ReadFault _ result r no_fault no_want
   settled_is Outcome.WriteFault file result r no_fault no_want = put_is Status.WriteFault _ result r no_fault no_want
   settled_is Outcome.OutOfMemory file result r no_fault no_want = put_is Status.OutOfMemory _ result r no_fault no_want
@@ -231,7 +233,9 @@ module _ (err_before err_later : Option (List ℕ)) (err_old err_new : ℕ) wher
   quiet_refused Status.BadSource result (inl r) quiet = absurd (quiet r.1)
   quiet_refused Status.BadSource result (inr r) quiet = inr r
   quiet_refused Status.BadChunk result (inl r) quiet = absurd (quiet r.1)
+  quiet_refused Status.Rejected result (inl r) quiet = absurd (quiet r.1)
   quiet_refused Status.BadChunk result (inr r) quiet = inr r
+  quiet_refused Status.Rejected result (inr r) quiet = inr r
   quiet_refused Status.ReadFault result (inl r) quiet = absurd (quiet r.1)
   quiet_refused Status.ReadFault result (inr r) quiet = inr r
   quiet_refused Status.Unbuilt result (inl r) quiet = absurd (quiet r.1)
@@ -248,7 +252,9 @@ module _ (err_before err_later : Option (List ℕ)) (err_old err_new : ℕ) wher
   write_refused Status.BadSource result (inl r) e = inr r.1
   write_refused Status.BadSource result (inr r) e = cc
   write_refused Status.BadChunk result (inl r) e = inr r.1
+  write_refused Status.Rejected result (inl r) e = inr r.1
   write_refused Status.BadChunk result (inr r) e = cc
+  write_refused Status.Rejected result (inr r) e = cc
   write_refused Status.ReadFault result (inl r) e = inr r.1
   write_refused Status.ReadFault result (inr r) e = cc
   write_refused Status.Unbuilt result (inl r) e = inr r.1
@@ -265,6 +271,8 @@ module _ (err_before err_later : Option (List ℕ)) (err_old err_new : ℕ) wher
   becomes (Outcome.BadSource fault) file result (inr p) = inr (no_memory_is _ result p)
   becomes (Outcome.BadChunk fault) file result (inl p) = inl (put_becomes Status.BadChunk _ result p)
   becomes (Outcome.BadChunk fault) file result (inr p) = inr (no_memory_is _ result p)
+  becomes (Outcome.Rejected rejection) file result (inl p) = inl (put_becomes Status.Rejected _ result p)
+  becomes (Outcome.Rejected rejection) file result (inr p) = inr (no_memory_is _ result p)
   becomes Outcome.ReadFault file result r = inl (put_becomes Status.ReadFault _ result r)
   becomes Outcome.WriteFault file result r = inl (put_becomes Status.WriteFault _ result r)
   becomes Outcome.OutOfMemory file result r = inr (no_memory_is _ result r)

@@ -6,7 +6,8 @@ pub mod Registers
 pub mod Steps
 pub mod Runs
 pub mod SourceLemmas
-pub mod WordLemmas
+pub mod Verified
+mod WordLemmas
 pub mod Meant
 pub mod Working
 pub mod Facts

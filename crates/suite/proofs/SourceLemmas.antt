@@ -155,9 +155,6 @@ early_fault bytes (Fault.Code fault) is = absurd is
 pub good_source : (bytes : List ℕ) (whole : Source) → IsParsed bytes whole → Scoped whole → IsGoodSource bytes whole
 good_source bytes whole parsed scoped = record { tokens = parsed.tokens; lexed = parsed.lexed; parsed = parsed.parsed; scoped = scoped }
 
-pub not_run : (bytes : List ℕ) (whole : Source) → is_chunk bytes ≡ false → IsParsed bytes whole → Scoped whole → IsNoPrintList whole.body → IsNotRun bytes
-not_run bytes whole source parsed scoped none = inr (source, whole, good_source bytes whole parsed scoped, none)
-
 -- so is a limit that its chunk does not keep
 pub limit_bad : (bytes : List ℕ) (whole : Source) (fault : CodeFault) (given : Fault) → IsParsed bytes whole → Scoped whole → StopsBy whole fault → code_fault_of fault ≡ SourceFault.Bad given → IsFaultIn bytes given
 limit_bad bytes whole (CodeFault.TooManyRegisters line reached) given parsed scoped is e = let same : Fault.Code (CodeFault.TooManyRegisters line reached) ≡ given = cc in subst (IsFaultIn bytes) same (record { whole = whole; good = good_source bytes whole parsed scoped; fault_is = is })

@@ -5,7 +5,7 @@ use Rattle.std.specs.Prelude.{Option, option_map, option_and_then, codes, if◌t
 use Rattle.std.specs.String.{string_bytes}
 use Rattle.std.specs.Str.{bytes_eq}
 use Rattle.lua_num.specs.Bytes.{Text}
-use Rattle.suite.specs.Words.{Words, Job, run_file, list_file, Arguments, is_flag, arguments, with_file, with_strip, files_alone, one_file, compilation, job_with, texts, NoCommand}
+use Rattle.suite.specs.Words.{Words, Job, run_file, list_file, verify_file, Arguments, is_flag, arguments, with_file, with_strip, files_alone, one_file, compilation, job_with, texts, NoCommand}
 
 -- this many words are files and flags, but for one
 abbrev IsMore : ℕ → Option Arguments → Type 0
@@ -30,10 +30,6 @@ arguments_more (word ∷ words) = by (bytes_eq word (codes "--")) (bytes_eq word
     by false false true h = tt
     by false false false h = more_file word (length words) (arguments words) h
 
--- four files and flags are no command
-abbrev IsNone : Option Job → Type 0
-IsNone o = o ≡ None
-
 no_file : (f : Text → Job) (files : List Text) (strips : ℕ) → 4 ≤ length files + strips → option_map f (one_file files strips) ≡ None
 no_file f [] strips many = refl
 no_file f (file ∷ []) zero many = absurd (omega arith)
@@ -49,13 +45,14 @@ no_compilation (file ∷ out ∷ []) (suc (suc n)) many = refl
 no_compilation (file ∷ out ∷ more ∷ files) strips many = refl
 
 no_job : (first : Text) (found : Arguments) → 4 ≤ length found.files + found.strips → job_with first found ≡ None
-no_job first found many = by (bytes_eq first (codes "run")) (bytes_eq first (codes "list")) (bytes_eq first (codes "compile"))
+no_job first found many = by (bytes_eq first (codes "run")) (bytes_eq first (codes "list")) (bytes_eq first (codes "verify")) (bytes_eq first (codes "compile"))
   where
-    by : (a b c : Bool) → (if a then option_map run_file (one_file found.files found.strips) else (if b then option_map list_file (one_file found.files found.strips) else (if c then compilation found.files found.strips else None))) ≡ None
-    by true b c = no_file run_file found.files found.strips many
-    by false true c = no_file list_file found.files found.strips many
-    by false false true = no_compilation found.files found.strips many
-    by false false false = refl
+    by : (a b c d : Bool) → (if a then option_map run_file (one_file found.files found.strips) else (if b then option_map list_file (one_file found.files found.strips) else (if c then option_map verify_file (one_file found.files found.strips) else (if d then compilation found.files found.strips else None)))) ≡ None
+    by true b c d = no_file run_file found.files found.strips many
+    by false true c d = no_file list_file found.files found.strips many
+    by false false true d = no_file verify_file found.files found.strips many
+    by false false false true = no_compilation found.files found.strips many
+    by false false false false = refl
 
 -- nor are five words behind the first
 too_many_words : (first : Text) (words : Words) → 4 < length words → option_and_then (job_with first) (arguments (texts words)) ≡ None

@@ -4,7 +4,7 @@ use Rattle.suite.specs.declared.fault.Fault.{Fault}
 use Rattle.suite.specs.declared.outcome.Outcome.{Outcome}
 use Rattle.suite.specs.declared.source.SourceFault.{SourceFault}
 use Rattle.suite.specs.Words.{Job}
-use Rattle.suite.specs.Jobs.{put, bad_source, bad_chunk, unbuilt, Comes}
+use Rattle.suite.specs.Jobs.{put, bad_source, bad_chunk, rejected, unbuilt, Comes}
 use Rattle.suite.specs.Reading.{IsRefusal, outcome_of}
 use Rattle.suite.specs.Work.{Outside, Nothing, Does, PutsText}
 use Rattle.suite.proofs.Putting.{takes_none}
@@ -15,6 +15,7 @@ nothing o = (record { contents = refl; calls = refl }, takes_none o.taken)
 pub refusal : (job : Job) (bytes : List ℕ) (outcome : Outcome) (o : Outside) → IsRefusal job bytes outcome → Does job bytes outcome o o
 refusal job bytes (Outcome.BadSource fault) o is = inl (record { end = bad_source fault; comes = is; carried = (refl, nothing o) })
 refusal job bytes (Outcome.BadChunk fault) o is = inl (record { end = bad_chunk fault; comes = is; carried = (refl, nothing o) })
+refusal job bytes (Outcome.Rejected rejection) o is = inl (record { end = rejected rejection; comes = is; carried = (refl, nothing o) })
 refusal job bytes Outcome.Unbuilt o is = inl (record { end = unbuilt; comes = is; carried = (refl, nothing o) })
 refusal job bytes Outcome.OutOfMemory o is = inr (refl, nothing o)
 refusal job bytes Outcome.Done o is = absurd is

@@ -7,8 +7,8 @@ use Rattle.suite_io.specs.Taken.{Takes}
 use Rattle.suite.specs.declared.status.Status.{Status}
 use Rattle.suite.specs.Lines.{Refused}
 use Rattle.suite.specs.Words.{Words, Job, Reads, file_of}
-use Rattle.suite.specs.Jobs.{End, stored, put, bad_source, bad_chunk, unbuilt}
-use Rattle.suite.specs.Work.{Outside, out_of}
+use Rattle.suite.specs.Jobs.{End, stored, put, bad_source, bad_chunk, rejected, unbuilt}
+use Rattle.suite.specs.Work.{Outside, out_of, IsCompilation}
 
 -- the status stays, or gives way where a put of its line was refused
 abbrev pub Becomes : Status → Status → ℕ → ℕ → Type 0
@@ -29,16 +29,17 @@ pub record Fetched (words : Words) (failed : Bool) (old new : List FileCall) : T
 pub record StoreFailed (words : Words) (old new : List FileCall) : Type 0 where
   pub job : Job
   pub reads : Reads words job
+  pub compiles : IsCompilation job
   pub listed : new ≡ (old ++ call_of false (file_of job) false ∷ []) ++ call_of true (out_of job) true ∷ []
 
--- where words ask for a job, the calls of files grow by nothing, by one fetch of the file, or by that and one store of the file into which is
--- compiled, which alone may change what that one file holds
+-- Where words ask for a job, the calls of files grow by nothing, by one fetch of the file, or, of a compilation, by that and one store of the
+-- file into which is compiled, which alone may change what that one file holds.
 abbrev pub FilesFor : Option Job → Outside → Outside → Type 0
 FilesFor None old new = (new.calls ≡ old.calls) × (new.contents ≡ old.contents)
 FilesFor (Some job) old new =
     ((new.calls ≡ old.calls) × (new.contents ≡ old.contents))
     ⊎ ((failed : Bool) × (new.calls ≡ old.calls ++ call_of false (file_of job) failed ∷ []) × (new.contents ≡ old.contents))
-    ⊎ ((failed : Bool) × (new.calls ≡ (old.calls ++ call_of false (file_of job) false ∷ []) ++ call_of true (out_of job) failed ∷ []) × OthersStay old.contents new.contents (out_of job))
+    ⊎ (IsCompilation job × (failed : Bool) × (new.calls ≡ (old.calls ++ call_of false (file_of job) false ∷ []) ++ call_of true (out_of job) failed ∷ []) × OthersStay old.contents new.contents (out_of job))
 
 -- the status at which what a job comes to is carried out
 abbrev pub status_at : End → Status
@@ -46,6 +47,7 @@ status_at (stored text) = Status.Done
 status_at (put text) = Status.Done
 status_at (bad_source fault) = Status.BadSource
 status_at (bad_chunk fault) = Status.BadChunk
+status_at (rejected rejection) = Status.Rejected
 status_at unbuilt = Status.Unbuilt
 
 -- what then stands outside

@@ -1,5 +1,5 @@
 -- To be believed. What is done with the bytes of a file.
-use Rattle.std.specs.Prelude.{◌≡◌, ◌⊎◌, ℕ, Bool, true, false, List, [], ◌∷◌, if◌then◌else◌}
+use Rattle.std.specs.Prelude.{◌≡◌, ◌⊎◌, ℕ, Bool, true, false, List, [], ◌∷◌, ◌++◌, codes, if◌then◌else◌}
 use Rattle.lua_num.specs.Bytes.{Text}
 use Rattle.lua_tree.specs.Syntax.{Source}
 use Rattle.lua_model.specs.Store.{output}
@@ -13,16 +13,19 @@ use Rattle.lister.specs.Listing.{listing}
 use Rattle.scheme.specs.Scheme.{scheme}
 use Rattle.scheme.specs.Accepts.{Accepts}
 use Rattle.first_form.specs.Source.{IsFirstForm, is_chunk}
+use Rattle.rules.specs.Sound.{Sound, Rejected}
 use Rattle.suite.specs.declared.fault.Fault.{Fault}
-use Rattle.suite.specs.Words.{Job, run_file, list_file, compile_file}
+use Rattle.suite.specs.declared.fault.Rejection.{Rejection}
+use Rattle.suite.specs.Words.{Job, run_file, list_file, verify_file, compile_file}
 use Rattle.suite.specs.Outcome.{IsFaultIn, IsEarlyFaultIn, IsGoodSource, IsNoPrintList}
 
--- what a job comes to: a text is stored or put, or the bytes have a fault, or what is asked for is not built
+-- what a job comes to: a text is stored or put, or the bytes have a fault, or their chunk is rejected, or what is asked for is not built
 pub data End : Type 0 where
   stored : (text : List ℕ) → End
   put : (text : List ℕ) → End
   bad_source : Fault → End
   bad_chunk : ChunkFault → End
+  rejected : Rejection → End
   unbuilt : End
 
 -- the source name of a file: `@` and its name
@@ -53,6 +56,19 @@ pub record IsListingOf (file : Text) (bytes : List ℕ) (text : List ℕ) : Type
   pub has : HasChunk file bytes chunk
   pub is : text ≡ listing chunk
 
+-- the chunk is sound, and the text says so
+pub record IsVerified (file : Text) (bytes : List ℕ) (text : List ℕ) : Type 0 where
+  pub chunk : Chunk
+  pub has : HasChunk file bytes chunk
+  pub sound : Sound chunk
+  pub is : text ≡ codes "ok" ++ 10 ∷ []
+
+-- the chunk is rejected there
+pub record IsRejectedAt (file : Text) (bytes : List ℕ) (rejection : Rejection) : Type 0 where
+  pub chunk : Chunk
+  pub has : HasChunk file bytes chunk
+  pub rejected : Rejected chunk rejection.path rejection.pc rejection.rule
+
 -- the meaning of the source ends, with this output
 pub record HasOutput (source : Source) (text : List ℕ) : Type 0 where
   pub ends : (ticks : ℕ) × ((meaning source [] [] ticks).ending ≡ Ended)
@@ -77,6 +93,10 @@ Comes (run_file file) bytes unbuilt = IsNotRun bytes
 Comes (list_file file) bytes (put text) = IsListingOf file bytes text
 Comes (list_file file) bytes (bad_source fault) = (is_chunk bytes ≡ false) × IsFaultIn bytes fault
 Comes (list_file file) bytes (bad_chunk fault) = (is_chunk bytes ≡ true) × IsFault bytes fault
+Comes (verify_file file) bytes (put text) = IsVerified file bytes text
+Comes (verify_file file) bytes (bad_source fault) = (is_chunk bytes ≡ false) × IsFaultIn bytes fault
+Comes (verify_file file) bytes (bad_chunk fault) = (is_chunk bytes ≡ true) × IsFault bytes fault
+Comes (verify_file file) bytes (rejected rejection) = IsRejectedAt file bytes rejection
 Comes (compile_file file out stripped) bytes (stored text) = IsSpellingOf file stripped bytes text
 Comes (compile_file file out stripped) bytes (bad_source fault) = IsFaultIn bytes fault
 Comes job bytes end = ⊥

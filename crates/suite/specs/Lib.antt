@@ -4,6 +4,7 @@ pub mod Output
 pub mod Frame
 pub mod Effects
 pub mod Running
+pub mod Verifying
 pub mod Words
 pub mod Arguments
 pub mod Lines

@@ -6,7 +6,9 @@ use Rattle.scopes.specs.declared.fault.ScopeFault.{ScopeFault}
 use Rattle.code_builder.specs.declared.fault.CodeFault.{CodeFault}
 use Rattle.chunk_io.specs.declared.fault.ChunkFault.{ChunkFault}
 use Rattle.suite_io.specs.Taken.{Takes, Rises}
+use Rattle.rules.specs.declared.rule.Rule.{Rule}
 use Rattle.suite.specs.declared.fault.Fault.{Fault}
+use Rattle.suite.specs.declared.fault.Rejection.{Rejection}
 use Rattle.suite.specs.declared.status.Status.{Status}
 use Rattle.suite.specs.declared.outcome.Outcome.{Outcome}
 use Rattle.suite.specs.Output.{TakesPart}
@@ -16,6 +18,7 @@ number_of Status.Done = 0
 number_of Status.BadWords = 2
 number_of Status.BadSource = 4
 number_of Status.BadChunk = 5
+number_of Status.Rejected = 6
 number_of Status.ReadFault = 8
 number_of Status.WriteFault = 9
 number_of Status.OutOfMemory = 10
@@ -27,6 +30,7 @@ status_of Outcome.Done = Status.Done
 status_of Outcome.BadWords = Status.BadWords
 status_of (Outcome.BadSource fault) = Status.BadSource
 status_of (Outcome.BadChunk fault) = Status.BadChunk
+status_of (Outcome.Rejected rejection) = Status.Rejected
 status_of Outcome.ReadFault = Status.ReadFault
 status_of Outcome.WriteFault = Status.WriteFault
 status_of Outcome.OutOfMemory = Status.OutOfMemory
@@ -78,6 +82,35 @@ chunk_text ChunkFault.TooDeep = codes ": TooDeep"
 chunk_text (ChunkFault.Trailing at) = codes ": Trailing at offset " ++ decimal at
 chunk_text ChunkFault.OutOfMemory = codes ": OutOfMemory"
 
+-- a path: `main`, or the numbers of the functions with points between them
+abbrev pub behind_points : List ℕ → List ℕ
+behind_points [] = []
+behind_points (number ∷ path) = 46 ∷ (decimal number ++ behind_points path)
+
+abbrev pub path_text : List ℕ → List ℕ
+path_text [] = codes "main"
+path_text (number ∷ path) = decimal number ++ behind_points path
+
+abbrev pub rule_name : Rule → List ℕ
+rule_name Rule.BadWord = codes "BadWord"
+rule_name Rule.Register = codes "Register"
+rule_name Rule.Constant = codes "Constant"
+rule_name Rule.Function = codes "Function"
+rule_name Rule.Upvalue = codes "Upvalue"
+rule_name Rule.JumpTarget = codes "JumpTarget"
+rule_name Rule.NameConstant = codes "NameConstant"
+rule_name Rule.OpenResults = codes "OpenResults"
+rule_name Rule.LoopNumbers = codes "LoopNumbers"
+rule_name Rule.LoopCaptured = codes "LoopCaptured"
+rule_name Rule.FurtherWord = codes "FurtherWord"
+rule_name Rule.NoJump = codes "NoJump"
+rule_name Rule.Shape = codes "Shape"
+rule_name Rule.FallsOff = codes "FallsOff"
+
+-- where a chunk is rejected
+abbrev pub rejection_text : Rejection → List ℕ
+rejection_text rejection = codes ": rejected: function " ++ (path_text rejection.path ++ (codes " pc " ++ (decimal rejection.pc ++ (codes ": " ++ rule_name rejection.rule))))
+
 -- a line that speaks of a file of this name: `luasuite: `, the name, the text, and a line end
 abbrev pub line_with : List ℕ → List ℕ → List ℕ
 line_with name text = codes "luasuite: " ++ (name ++ (text ++ 10 ∷ []))
@@ -87,6 +120,7 @@ line_of Outcome.Done name = []
 line_of Outcome.BadWords name = line_with [] (codes "bad words")
 line_of (Outcome.BadSource fault) name = line_with name (fault_text fault)
 line_of (Outcome.BadChunk fault) name = line_with name (chunk_text fault)
+line_of (Outcome.Rejected rejection) name = line_with name (rejection_text rejection)
 line_of Outcome.ReadFault name = line_with name (codes ": read failed")
 line_of Outcome.WriteFault name = line_with [] (codes "write failed")
 line_of Outcome.OutOfMemory name = line_with [] (codes "out of memory")
@@ -113,6 +147,9 @@ Reported (Outcome.BadSource fault) name result before after old new =
     ⊎ IsPut Status.OutOfMemory (line_of Outcome.OutOfMemory name) result before after old new
 Reported (Outcome.BadChunk fault) name result before after old new =
     IsPut Status.BadChunk (line_of (Outcome.BadChunk fault) name) result before after old new
+    ⊎ IsPut Status.OutOfMemory (line_of Outcome.OutOfMemory name) result before after old new
+Reported (Outcome.Rejected rejection) name result before after old new =
+    IsPut Status.Rejected (line_of (Outcome.Rejected rejection) name) result before after old new
     ⊎ IsPut Status.OutOfMemory (line_of Outcome.OutOfMemory name) result before after old new
 Reported outcome name result before after old new =
     IsPut (status_of outcome) (line_of outcome name) result before after old new

@@ -11,7 +11,7 @@ use Rattle.lua_tree.specs.Tiling.{Lexes}
 use Rattle.lua_tree.specs.Trees.{IsTreeOf}
 use Rattle.code_builder.specs.declared.fault.CodeFault.{CodeFault}
 use Rattle.suite.specs.Words.{Job}
-use Rattle.suite.specs.Jobs.{Comes, bad_source, bad_chunk, unbuilt}
+use Rattle.suite.specs.Jobs.{Comes, bad_source, bad_chunk, rejected, unbuilt}
 use Rattle.suite.specs.declared.fault.Fault.{Fault}
 use Rattle.suite.specs.declared.outcome.Outcome.{Outcome}
 use Rattle.suite.specs.declared.source.SourceFault.{SourceFault}
@@ -73,6 +73,7 @@ pub record IsNumberList (es : Expressions) (n : ℤ) : Type 0 where
 abbrev pub IsRefusal : Job → List ℕ → Outcome → Type 0
 IsRefusal job bytes (Outcome.BadSource fault) = Comes job bytes (bad_source fault)
 IsRefusal job bytes (Outcome.BadChunk fault) = Comes job bytes (bad_chunk fault)
+IsRefusal job bytes (Outcome.Rejected rejection) = Comes job bytes (rejected rejection)
 IsRefusal job bytes Outcome.Unbuilt = Comes job bytes unbuilt
 IsRefusal job bytes Outcome.OutOfMemory = Unit {0}
 IsRefusal job bytes outcome = ⊥

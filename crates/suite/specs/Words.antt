@@ -14,22 +14,25 @@ Words = List (String Global)
 abbrev pub texts : Words → List Text
 texts words = map string_bytes words
 
--- what words ask for: to run a file, to list it, or to compile it into another, stripped or not
+-- what words ask for: to run a file, to list it, to verify it, or to compile it into another, stripped or not
 pub data Job : Type 0 where
   run_file : (file : Text) → Job
   list_file : (file : Text) → Job
+  verify_file : (file : Text) → Job
   compile_file : (file out : Text) (strip : Bool) → Job
 
 -- the file that is fetched
 abbrev pub file_of : Job → Text
 file_of (run_file file) = file
 file_of (list_file file) = file
+file_of (verify_file file) = file
 file_of (compile_file file out strip) = file
 
 -- what a command asks for
 abbrev pub job_of : Command → Job
 job_of (Command.Run file) = run_file (string_bytes file.now)
 job_of (Command.List file) = list_file (string_bytes file.now)
+job_of (Command.Verify file) = verify_file (string_bytes file.now)
 job_of (Command.Compile file out strip) = compile_file (string_bytes file.now) (string_bytes out.now) strip
 
 -- a word that begins with `-` and is longer
@@ -75,7 +78,8 @@ abbrev pub job_with : Text → Arguments → Option Job
 job_with first found =
     if bytes_eq first (codes "run") then option_map run_file (one_file found.files found.strips)
     else (if bytes_eq first (codes "list") then option_map list_file (one_file found.files found.strips)
-    else (if bytes_eq first (codes "compile") then compilation found.files found.strips else None))
+    else (if bytes_eq first (codes "verify") then option_map verify_file (one_file found.files found.strips)
+    else (if bytes_eq first (codes "compile") then compilation found.files found.strips else None)))
 
 -- what words ask for, where they are a command
 abbrev pub job_in : List Text → Option Job

@@ -8,8 +8,8 @@ use Rattle.suite_io.specs.Contents.{Contents, Stores, OthersStay}
 use Rattle.suite_io.specs.Taken.{Takes, Rises}
 use Rattle.suite.specs.declared.outcome.Outcome.{Outcome}
 use Rattle.suite.specs.Output.{TakesPart}
-use Rattle.suite.specs.Words.{Job, run_file, list_file, compile_file, file_of}
-use Rattle.suite.specs.Jobs.{End, stored, put, bad_source, bad_chunk, unbuilt, Comes}
+use Rattle.suite.specs.Words.{Job, run_file, list_file, verify_file, compile_file, file_of}
+use Rattle.suite.specs.Jobs.{End, stored, put, bad_source, bad_chunk, rejected, unbuilt, Comes}
 
 -- what is seen of the outside: what files hold and the calls of them, what the sink took and its count of faults
 pub record Outside : Type 0 where
@@ -58,7 +58,12 @@ Nothing old new = FilesStay old new × Takes old.taken new.taken []
 abbrev pub out_of : Job → Text
 out_of (run_file file) = []
 out_of (list_file file) = []
+out_of (verify_file file) = []
 out_of (compile_file file out strip) = out
+
+abbrev pub IsCompilation : Job → Type 0
+IsCompilation (compile_file file out strip) = Unit {0}
+IsCompilation job = ⊥
 
 -- how what a job comes to is carried out
 abbrev pub CarriesOut : Job → End → Outcome → Outside → Outside → Type 0
@@ -66,6 +71,7 @@ CarriesOut job (stored text) outcome old new = StoresText (out_of job) text outc
 CarriesOut job (put text) outcome old new = PutsText text outcome old new
 CarriesOut job (bad_source fault) outcome old new = (outcome ≡ Outcome.BadSource fault) × Nothing old new
 CarriesOut job (bad_chunk fault) outcome old new = (outcome ≡ Outcome.BadChunk fault) × Nothing old new
+CarriesOut job (rejected rejection) outcome old new = (outcome ≡ Outcome.Rejected rejection) × Nothing old new
 CarriesOut job unbuilt outcome old new = (outcome ≡ Outcome.Unbuilt) × Nothing old new
 
 -- a job with the bytes that were fetched

@@ -12,6 +12,7 @@ use crate::listing::list_bytes;
 use crate::machine::{RunEnd, run};
 use crate::outcome::Outcome;
 use crate::source::read_source;
+use crate::verifying::verify_bytes;
 use crate::words::Command;
 use agrees::printed_meaning;
 use first_form::meaning_is_steady;
@@ -51,6 +52,7 @@ fn do_bytes<F: Files, O: Sink>(
     match command {
         Command::Run { .. } => run_source(alloc, bytes, out),
         Command::List { file } => list_bytes(alloc, bytes, file, out),
+        Command::Verify { file } => verify_bytes(alloc, bytes, file, out),
         Command::Compile {
             source,
             out: name,

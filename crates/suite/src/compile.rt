@@ -33,7 +33,7 @@ pub fn compile(alloc: Global, tree: &Tree, scopes: &Scopes) -> Result<Chunk, All
 {
     // A law: the code of the early scheme does what the statements mean.
     agreement();
-    // A list of printed numbers keeps the limits of a chunk, so that only want of memory is left.
+    // A fault is answered as want of memory, whichever it is.
     let Ok(proto) = codegen::compile(alloc, tree, scopes, &ByteText::new(alloc)) else {
         return Err(AllocError);
     };

@@ -16,6 +16,7 @@ mod show;
 mod source;
 mod status;
 mod top;
+mod verifying;
 mod words;
 
 pub use status::Status;

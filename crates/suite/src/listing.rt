@@ -7,7 +7,7 @@ ghost use Rattle.lister.specs.Listing.{listing};
 ghost use Rattle.first_form.specs.Source.{is_chunk as the_is_chunk};
 ghost use Rattle.suite_io.specs.declared.calls.FileCall.{FileCall};
 ghost use Rattle.suite_io.specs.Contents.{Contents};
-ghost use Rattle.suite.specs.Words.{list_file};
+ghost use Rattle.suite.specs.Words.{list_file, verify_file};
 ghost use Rattle.suite.specs.Jobs.{HasChunk};
 ghost use Rattle.suite.specs.Reading.{IsRefusal};
 ghost use Rattle.suite.specs.Work.{Does, PutsText, outside};
@@ -33,10 +33,11 @@ pub fn list_bytes<O: Sink>(alloc: Global, bytes: &[u8], file: &Word, out: &mut O
     }
 }
 
-// The chunk of a file, or what the work comes to where it has none.
-fn chunk_of(alloc: Global, bytes: &[u8], file: &Word) -> Result<Proto, Outcome>
+/// The chunk of a file, or what the work comes to where it has none.
+pub fn chunk_of(alloc: Global, bytes: &[u8], file: &Word) -> Result<Proto, Outcome>
     ensures chunk { IfOk result (λ proto. HasChunk (string_bytes file.now) bytes.now (view_proto proto)) }
     ensures refused { IfErr result (IsRefusal (list_file (string_bytes file.now)) bytes.now) }
+    ensures not_verified { IfErr result (IsRefusal (verify_file (string_bytes file.now)) bytes.now) }
 {
     if is_chunk(bytes) {
         return spelled_chunk(alloc, bytes);
@@ -52,6 +53,7 @@ fn spelled_chunk(alloc: Global, bytes: &[u8]) -> Result<Proto, Outcome>
     requires { the_is_chunk bytes.now ≡ true }
     ensures chunk { IfOk result (λ proto. (file : Text) → HasChunk file bytes.now (view_proto proto)) }
     ensures refused { IfErr result (λ outcome. (file : Text) → IsRefusal (list_file file) bytes.now outcome) }
+    ensures not_verified { IfErr result (λ outcome. (file : Text) → IsRefusal (verify_file file) bytes.now outcome) }
 {
     match undump(alloc, bytes) {
         Ok(proto) => Ok(proto),

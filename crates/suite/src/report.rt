@@ -1,17 +1,19 @@
 // The line that says why a call did not succeed.
-ghost use Rattle.std.specs.Prelude.{◌≡◌, ◌≤◌, ℕ, IfOk, OnOk, OnErr, IsErrOf};
+ghost use Rattle.std.specs.Prelude.{◌≡◌, ◌++◌, ◌∷◌, ◌≤◌, ℕ, IfOk, OnOk, OnErr, IsErrOf};
+ghost use Rattle.std.specs.Fmt.{decimal};
 ghost use Rattle.std.specs.String.{string_bytes};
 ghost use Rattle.suite_io.specs.Taken.{Takes, Rises};
-ghost use Rattle.suite.specs.Lines.{Reported, IsPut, Refused, line_with, fault_text as the_text, lexical_text as the_lexical_text, scope_text as the_scope_text, code_text as the_code_text, chunk_text as the_chunk_text};
+ghost use Rattle.suite.specs.Lines.{Reported, IsPut, Refused, line_with, fault_text as the_text, lexical_text as the_lexical_text, scope_text as the_scope_text, code_text as the_code_text, chunk_text as the_chunk_text, rejection_text as the_rejection_text, path_text as the_path_text, rule_name as the_rule_name};
 ghost use Rattle.suite.specs.Output.{TakesPart};
 
-use crate::fault::Fault;
+use crate::fault::{Fault, Rejection};
 use crate::outcome::Outcome;
 use crate::output::put_all;
 use crate::status::Status;
 use chunk_io::ChunkFault;
 use code_builder::CodeFault;
 use lexer::LexFault;
+use rules::Rule;
 use scopes::ScopeFault;
 use std::alloc::{AllocError, Global};
 use suite_io::{Sink, SinkFault};
@@ -28,6 +30,7 @@ pub fn report<E: Sink>(alloc: Global, err: &mut E, outcome: Outcome, name: &str)
         Outcome::BadWords => put_line(err, status, "", "bad words"),
         Outcome::BadSource(fault) => report_fault(alloc, err, fault, name),
         Outcome::BadChunk(fault) => report_chunk(alloc, err, fault, name),
+        Outcome::Rejected(rejection) => report_rejection(alloc, err, &rejection, name),
         Outcome::ReadFault => put_line(err, status, name, ": read failed"),
         Outcome::WriteFault => put_line(err, status, "", "write failed"),
         Outcome::OutOfMemory => put_line(err, status, "", "out of memory"),
@@ -55,6 +58,77 @@ fn report_chunk<E: Sink>(alloc: Global, err: &mut E, fault: ChunkFault, name: &s
     match chunk_text(alloc, fault) {
         Ok(text) => put_line(err, Status::BadChunk, name, text.as_str()),
         Err(_) => put_line(err, Status::OutOfMemory, "", "out of memory"),
+    }
+}
+
+// Puts the line of a chunk that is rejected, in the same way.
+fn report_rejection<E: Sink>(
+    alloc: Global,
+    err: &mut E,
+    rejection: &Rejection,
+    name: &str,
+) -> Status
+    ensures reported { Reported (Outcome.Rejected rejection.now) name.now result (E.taken err.old) (E.taken err.new) (E.faults err.old) (E.faults err.new) }
+    ensures never_falls { E.faults err.old ≤ E.faults err.new }
+{
+    match rejection_text(alloc, rejection) {
+        Ok(text) => put_line(err, Status::Rejected, name, text.as_str()),
+        Err(_) => put_line(err, Status::OutOfMemory, "", "out of memory"),
+    }
+}
+
+// The function, the pc and the rule of a chunk that is rejected.
+fn rejection_text(alloc: Global, rejection: &Rejection) -> Result<String, AllocError>
+    ensures { IfOk result (λ text. string_bytes text ≡ the_rejection_text rejection.now) }
+{
+    let path = path_text(alloc, rejection.path.items())?;
+    let path = path.as_str();
+    let pc = rejection.pc;
+    let rule = rule_name(rejection.rule);
+    format!(in alloc; ": rejected: function {path} pc {pc}: {rule}")
+}
+
+// `main`, or the numbers of functions with points between them.
+fn path_text(alloc: Global, path: &[u32]) -> Result<String, AllocError>
+    ensures { IfOk result (λ text. string_bytes text ≡ the_path_text path.now) }
+{
+    let [first, rest @ ..] = path else {
+        return String::from_str(alloc, "main");
+    };
+    let mut text = format!(in alloc; "{first}")?;
+    for number in rest {
+        push_number(alloc, &mut text, *number)?;
+    }
+    Ok(text)
+}
+
+// Appends a point and a number.
+fn push_number(alloc: Global, text: &mut String, number: u32) -> Result<(), AllocError>
+    ensures { OnOk result (string_bytes text.new ≡ string_bytes text.old ++ 46 ∷ decimal number) }
+{
+    let next = format!(in alloc; ".{number}")?;
+    text.push_str(next.as_str())?;
+    Ok(())
+}
+
+fn rule_name(rule: Rule) -> &'static str
+    ensures { result.now ≡ the_rule_name rule }
+{
+    match rule {
+        Rule::BadWord => "BadWord",
+        Rule::Register => "Register",
+        Rule::Constant => "Constant",
+        Rule::Function => "Function",
+        Rule::Upvalue => "Upvalue",
+        Rule::JumpTarget => "JumpTarget",
+        Rule::NameConstant => "NameConstant",
+        Rule::OpenResults => "OpenResults",
+        Rule::LoopNumbers => "LoopNumbers",
+        Rule::LoopCaptured => "LoopCaptured",
+        Rule::FurtherWord => "FurtherWord",
+        Rule::NoJump => "NoJump",
+        Rule::Shape => "Shape",
+        Rule::FallsOff => "FallsOff",
     }
 }
 

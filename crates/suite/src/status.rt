@@ -13,6 +13,8 @@ pub enum Status {
     BadSource = 4,
     /// The bytes are no chunk.
     BadChunk = 5,
+    /// The chunk is not sound.
+    Rejected = 6,
     /// The file could not be read.
     ReadFault = 8,
     /// Output, or the line that says why, could not be written.

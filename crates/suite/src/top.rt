@@ -3,11 +3,12 @@ ghost use Rattle.std.specs.Prelude.{◌≡◌, ◌≢◌, ◌⊎◌, true, false
 ghost use Rattle.suite_io.specs.Taken.{Takes, Rises};
 ghost use Rattle.chunk_io.specs.declared.fault.ChunkFault.{ChunkFault};
 ghost use Rattle.suite.specs.declared.fault.Fault.{Fault};
+ghost use Rattle.suite.specs.declared.fault.Rejection.{Rejection};
 ghost use Rattle.suite.specs.declared.outcome.Outcome.{Outcome};
 ghost use Rattle.suite.specs.Output.{TakesPart};
 ghost use Rattle.suite.specs.Words.{Job, job_in, texts, NoCommand, Asks, named};
 ghost use Rattle.suite.specs.Lines.{Reported, status_of, line_of};
-ghost use Rattle.suite.specs.Jobs.{End, Comes, put, bad_source, bad_chunk, unbuilt};
+ghost use Rattle.suite.specs.Jobs.{End, Comes, put, bad_source, bad_chunk, rejected, unbuilt};
 ghost use Rattle.suite.specs.Work.{Works, outside};
 ghost use Rattle.suite.specs.Causes.{Becomes, Fetched, FilesFor, StoreFailed, NoFault, Leaves, status_at};
 
@@ -20,9 +21,9 @@ use std::alloc::Global;
 use suite_io::{Files, Sink, Word};
 
 /// Carries out the command that the words say: `run FILE` reads the file to a tree and runs a list of printed numbers,
-/// `list FILE` puts the listing of the chunk that the file spells or that the compiler makes of its source, and
+/// `list FILE` puts the listing of the chunk that the file spells or that the compiler makes of its source, `verify FILE` puts `ok` where that chunk is sound, and
 /// `compile SRC OUT [--strip]` stores that chunk as OUT. Every other list of words is refused. The work goes in the order words,
-/// fetch, reading (of source: tokens, tree, scopes, statements or chunk), run or listing or store, and the line for `err` that every status
+/// fetch, reading (of source: tokens, tree, scopes, statements or chunk), run or listing or verification or store, and the line for `err` that every status
 /// but `Done` has; the first refusal gives the status. What was put to `out` before a refusal stays. Want of memory is a free answer.
 pub fn suite<F: Files, O: Sink, E: Sink>(
     alloc: Global,
@@ -69,6 +70,9 @@ pub fn suite<F: Files, O: Sink, E: Sink>(
     ensures bad_chunk { result ≡ Status.BadChunk → Fetched words.now false (F.calls files.old) (F.calls files.new)
         × (fault : ChunkFault) × ((job : Job) (bytes : List ℕ) → Asks words.now (F.contents files.old) job bytes → Comes job bytes (bad_chunk fault))
         × Takes (E.taken err.old) (E.taken err.new) (line_of (Outcome.BadChunk fault) (named words.now)) }
+    ensures rejected { result ≡ Status.Rejected → Fetched words.now false (F.calls files.old) (F.calls files.new)
+        × (rejection : Rejection) × ((job : Job) (bytes : List ℕ) → Asks words.now (F.contents files.old) job bytes → Comes job bytes (rejected rejection))
+        × Takes (E.taken err.old) (E.taken err.new) (line_of (Outcome.Rejected rejection) (named words.now)) }
     ensures unbuilt { result ≡ Status.Unbuilt → Fetched words.now false (F.calls files.old) (F.calls files.new)
         × ((job : Job) (bytes : List ℕ) → Asks words.now (F.contents files.old) job bytes → Comes job bytes unbuilt) }
     ensures write_fault { result ≡ Status.WriteFault

@@ -15,6 +15,9 @@ pub enum Command<'a> {
     List {
         file: &'a Word,
     },
+    Verify {
+        file: &'a Word,
+    },
     /// The chunk of the source goes to `out`, stripped or not.
     Compile {
         source: &'a Word,
@@ -31,7 +34,7 @@ impl<'a> Command<'a> {
         ensures { string_bytes result.now ≡ file_of (job_of self.entry) }
     {
         match self {
-            Command::Run { file } | Command::List { file } => file,
+            Command::Run { file } | Command::List { file } | Command::Verify { file } => file,
             Command::Compile { source, .. } => source,
         }
     }
@@ -56,7 +59,7 @@ enum FileWords<'a> {
 /// No command has more words than these behind the first: two files, `--strip` and `--`.
 const MOST_ARGUMENTS: usize = 4;
 
-/// The command of the words `run FILE`, `list FILE` or `compile SRC OUT [--strip]`; `None` for all other words. Flags may stand
+/// The command of the words `run FILE`, `list FILE`, `verify FILE` or `compile SRC OUT [--strip]`; `None` for all other words. Flags may stand
 /// at any place behind the first word. Behind `--` all words stand for files; before it a word for a file begins with `-` only where
 /// that is the whole word.
 pub fn read_words(words: &[Word]) -> Option<Command<'_>>
@@ -139,6 +142,9 @@ fn command_of<'a>(first: &str, found: Arguments<'a>) -> Option<Command<'a>>
             file: one_file(found)?,
         }),
         "list" => Some(Command::List {
+            file: one_file(found)?,
+        }),
+        "verify" => Some(Command::Verify {
             file: one_file(found)?,
         }),
         "compile" => compilation(found),

@@ -38,6 +38,14 @@ returns-in-Some-clause-bad_chunk g c =
     let reported = subst (λ n. Reported c.do_command-outcome.result n c.report.result (g.E.Sink.taken c.args.err.now) (g.E.Sink.taken c.report.new.err) (g.E.Sink.faults c.args.err.now) (g.E.Sink.faults c.report.new.err)) (c.as_str.ensures.value ∙ c.file.ensures) c.report.ensures.reported in
     job.bad_chunk_clause laws c.args.words.now _ c.in-Some.ensures.command old new c.do_command-outcome.result c.do_command-outcome.ensures.works _ _ _ _ c.report.result reported
 
+pub returns-in-Some-clause-rejected : goal.returns-in-Some-clause-rejected
+returns-in-Some-clause-rejected g c =
+    let old = outside (g.F.Files.contents c.args.files.now) (g.F.Files.calls c.args.files.now) (g.O.Sink.taken c.args.out.now) (g.O.Sink.faults c.args.out.now) in
+    let new = outside (g.F.Files.contents c.do_command-outcome.new.files) (g.F.Files.calls c.do_command-outcome.new.files) (g.O.Sink.taken c.do_command-outcome.new.out) (g.O.Sink.faults c.do_command-outcome.new.out) in
+    let laws = laws_of c.tokens_are_one.ensures c.never_both.ensures c.trees_are_one.ensures c.never_both-2.ensures c.chunks_are_one.ensures c.never_both-3.ensures in
+    let reported = subst (λ n. Reported c.do_command-outcome.result n c.report.result (g.E.Sink.taken c.args.err.now) (g.E.Sink.taken c.report.new.err) (g.E.Sink.faults c.args.err.now) (g.E.Sink.faults c.report.new.err)) (c.as_str.ensures.value ∙ c.file.ensures) c.report.ensures.reported in
+    job.rejected_clause laws c.args.words.now _ c.in-Some.ensures.command old new c.do_command-outcome.result c.do_command-outcome.ensures.works _ _ _ _ c.report.result reported
+
 pub returns-in-Some-clause-unbuilt : goal.returns-in-Some-clause-unbuilt
 returns-in-Some-clause-unbuilt g c =
     let old = outside (g.F.Files.contents c.args.files.now) (g.F.Files.calls c.args.files.now) (g.O.Sink.taken c.args.out.now) (g.O.Sink.faults c.args.out.now) in

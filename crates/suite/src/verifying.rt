@@ -1,0 +1,59 @@
+// Verifying a file.
+ghost use Rattle.std.specs.Prelude.{◌≤◌, List, ℕ, Option, codes, ◌++◌, [], ◌∷◌, IfErr, IsOk};
+ghost use Rattle.std.specs.String.{string_bytes};
+ghost use Rattle.proto.specs.View.{view_proto};
+ghost use Rattle.rules.specs.Sound.{Sound};
+ghost use Rattle.suite_io.specs.declared.calls.FileCall.{FileCall};
+ghost use Rattle.suite_io.specs.Contents.{Contents};
+ghost use Rattle.suite.specs.Words.{verify_file};
+ghost use Rattle.suite.specs.Verifying.{IsRefused};
+ghost use Rattle.suite.specs.Work.{Does, PutsText, outside};
+
+use crate::fault::Rejection;
+use crate::listing::chunk_of;
+use crate::outcome::Outcome;
+use crate::output::put_all;
+use proto::Proto;
+use std::alloc::Global;
+use suite_io::{Sink, SinkFault, Word};
+use verifier::{Refusal, verify};
+
+/// Puts `ok` and a line end where the chunk of a file is sound: the one that its bytes spell, or that of the source.
+pub fn verify_bytes<O: Sink>(alloc: Global, bytes: &[u8], file: &Word, out: &mut O) -> Outcome
+    ensures does { (contents : Option Contents) (calls : List FileCall) → Does (verify_file (string_bytes file.now)) bytes.now result (outside contents calls (O.taken out.old) (O.faults out.old)) (outside contents calls (O.taken out.new) (O.faults out.new)) }
+    ensures never_falls { O.faults out.old ≤ O.faults out.new }
+{
+    let proto = match chunk_of(alloc, bytes, file) {
+        Ok(proto) => proto,
+        Err(outcome) => return outcome,
+    };
+    match sound(alloc, proto) {
+        Ok(()) => put_ok(out),
+        Err(outcome) => outcome,
+    }
+}
+
+// What the work comes to where a chunk is not sound.
+fn sound(alloc: Global, proto: Proto) -> Result<(), Outcome>
+    ensures sound { IsOk result → Sound (view_proto proto) }
+    ensures refused { IfErr result (IsRefused (view_proto proto)) }
+{
+    match verify(alloc, proto) {
+        Ok(_) => Ok(()),
+        Err(Refusal::Rejected { path, pc, rule, .. }) => {
+            Err(Outcome::Rejected(Rejection { path, pc, rule }))
+        }
+        Err(Refusal::OutOfMemory { .. }) => Err(Outcome::OutOfMemory),
+    }
+}
+
+fn put_ok<O: Sink>(out: &mut O) -> Outcome
+    ensures puts { (contents : Option Contents) (calls : List FileCall) → PutsText (codes "ok" ++ 10 ∷ []) result (outside contents calls (O.taken out.old) (O.faults out.old)) (outside contents calls (O.taken out.new) (O.faults out.new)) }
+    ensures never_falls { O.faults out.old ≤ O.faults out.new }
+{
+    match put_all(out, b"ok\n") {
+        Ok(()) => Outcome::Done,
+        Err(SinkFault::Failed) => Outcome::WriteFault,
+        Err(SinkFault::OutOfMemory) => Outcome::OutOfMemory,
+    }
+}
