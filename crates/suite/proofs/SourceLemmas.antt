@@ -1,6 +1,6 @@
 -- Statements have one list of printed numbers at most, and then they keep the rules of scoping.
 use Rattle.std.specs.Prelude.{codes}
-use Rattle.std.proofs.Common.{◌≡◌, ◌≢◌, ℕ, ◌+◌, ◌<◌, ◌≤◌, ℤ, Bool, false, List, [], ◌∷◌, ◌++◌, length, get_or, drop, IfNone, Option, Some, None, refl, sym, ap, subst, inr, ◌∙◌, append_assoc, append-nil, arith, length-append}
+use Rattle.std.proofs.Common.{◌≡◌, ◌≢◌, ℕ, ◌+◌, ◌<◌, ◌≤◌, ℤ, Bool, false, List, [], ◌∷◌, ◌++◌, length, get_or, drop, IfNone, Option, Some, None, refl, sym, ap, subst, ◌∙◌, append_assoc, append-nil, arith, length-append}
 use Rattle.std.proofs.lemmas.List.{at_drop_more, at_drop_all}
 use Rattle.lua_tree.specs.Syntax as syntax
 use Rattle.lua_tree.specs.Syntax.{Statements, no_statements, call_statement, Expressions, Expression, call_expression, argument_list, Source}
@@ -25,7 +25,7 @@ use Rattle.code_builder.specs.declared.fault.CodeFault.{CodeFault}
 use Rattle.codegen.specs.Compiled.{StopsBy}
 use Rattle.suite.specs.declared.source.SourceFault.{SourceFault}
 use Rattle.suite.specs.Outcome.{IsGoodSource, IsFaultIn, IsEarlyFaultIn, IsNoPrintList}
-use Rattle.suite.specs.Jobs.{IsCompiled, IsNotRun, source_name}
+use Rattle.suite.specs.Jobs.{IsCompiled, source_name}
 use Rattle.suite.specs.declared.outcome.Outcome.{Outcome}
 use Rattle.suite.specs.Work.{Outside, StoresText}
 use Rattle.suite.specs.Reading.{IsRead, IsParsed, IsScopingFault, IsNumber, IsNumberList, code_fault_of}

@@ -1,5 +1,5 @@
 -- Bits of sets that are made and joined.
-use Rattle.std.proofs.Common.{◌∙◌, ◌≡◌, ℕ, zero, suc, ◌+◌, ◌-◌, ◌*◌, ◌^◌, ◌<◌, ◌≤◌, Bool, true, false, cond, ◌&&◌, ◌||◌, not, refl, sym, ap, subst, arith, true≢false, min, max, not-suc-le-zero, le_of_suc-le-suc}
+use Rattle.std.proofs.Common.{◌∙◌, ◌≡◌, ℕ, zero, suc, ◌+◌, ◌-◌, ◌*◌, ◌^◌, ◌<◌, ◌≤◌, Bool, true, false, cond, ◌&&◌, ◌||◌, not, refl, sym, ap, arith, true≢false, min, max, not-suc-le-zero, le_of_suc-le-suc}
 use Rattle.std.specs.Prelude.{◌==◌, ◌/◌, ◌%◌, bit_and, bit_or, nat_lt}
 use Rattle.std.specs.Int.{bit_at}
 use Rattle.std.proofs.lemmas.Bool.{lt-ltb, ltb-true, ltb-false, eqb-true}
@@ -7,7 +7,7 @@ use Rattle.std.proofs.Math.Pow.{pow-lt}
 use Rattle.std.proofs.Math.Nat.{pow-suc}
 use Rattle.std.proofs.lemmas.Nat.Bits.{bit_at_and, bit_at_or, bit_at-lt, bit_at-zero, bit_at-suc, bit_at_lowest, bit_at_ones, bit_at_ones_above, shr_and_one}
 use Rattle.verifier.specs.declared.registers.RegisterSet.{RegisterSet}
-use Rattle.verifier.specs.Registers.{bits_at, has, total}
+use Rattle.verifier.specs.Registers.{bits_at, has}
 
 low_and : (p q : ℕ) → p < 2 → q < 2 → (min p q == 1) ≡ ((p == 1) && (q == 1))
 low_and zero zero h k = refl

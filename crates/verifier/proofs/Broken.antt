@@ -1,5 +1,5 @@
 -- The first rule that is broken at a place, and the first place.
-use Rattle.std.proofs.Common.{◌∙◌, ◌≡◌, ◌⊎◌, inl, inr, ℕ, zero, suc, ◌+◌, ◌-◌, ◌<◌, ◌≤◌, Bool, true, false, ◌&&◌, ◌||◌, not, List, [], ◌∷◌, ◌++◌, length, None, Some, refl, sym, ap, subst, arith, true≢false}
+use Rattle.std.proofs.Common.{◌∙◌, ◌≡◌, inl, inr, ℕ, suc, ◌+◌, ◌-◌, ◌<◌, ◌≤◌, Bool, true, false, ◌&&◌, ◌||◌, not, List, [], ◌∷◌, ◌++◌, length, None, Some, refl, sym, ap, subst, arith, true≢false}
 use Rattle.std.specs.Prelude.{Option, slice_get, option_and_then, if◌then◌else◌, ◌==◌, nat_lt}
 use Rattle.std.specs.List.{list_any}
 use Rattle.std.proofs.lemmas.Option.{slice_get_past}

@@ -1,12 +1,12 @@
 -- What is found of the functions in one, one after the other.
-use Rattle.std.proofs.Common.{◌∙◌, ◌≡◌, ℕ, zero, suc, ◌+◌, ◌<◌, ◌≤◌, Bool, true, false, List, [], ◌∷◌, ◌++◌, length, length-append, map, drop, None, Some, refl, sym, ap, subst, arith, append_assoc, true≢false}
+use Rattle.std.proofs.Common.{◌∙◌, ◌≡◌, ℕ, suc, ◌+◌, ◌<◌, ◌≤◌, false, List, [], ◌∷◌, ◌++◌, length, length-append, map, drop, None, Some, refl, sym, ap, subst, arith, append_assoc}
 use Rattle.std.specs.Prelude.{Option, IfSome, IfNone, get_or}
 use Rattle.std.proofs.Math.Seq.{drop-cons, drop-length}
-use Rattle.proto.specs.Chunk.{Chunk, function, Functions, no_functions, and_function, functions, functions_of}
+use Rattle.proto.specs.Chunk.{Functions, no_functions, and_function, functions, functions_of}
 use Rattle.proto.specs.View.{view_proto}
 use Rattle.proto.specs.declared.proto.Proto.{Proto}
 use Rattle.rules.specs.declared.rule.Rule.{Rule}
-use Rattle.rules.specs.Sound.{IsSound, AreSound, IsRejected, AreRejected, HasNotes, RejectedAt}
+use Rattle.rules.specs.Sound.{IsSound, AreSound, IsRejected, AreRejected}
 use Rattle.verifier.specs.Verify.{AllJudged}
 use Rattle.verifier.specs.declared.scan.Broken.{Broken}
 

@@ -1,20 +1,20 @@
 -- Joining notes along edges keeps them least, and at the end they are consistent.
-use Rattle.std.proofs.Common.{◌∙◌, ◌≡◌, ◌⊎◌, inl, inr, ℕ, zero, suc, ◌+◌, ◌<◌, ◌≤◌, Bool, true, false, ◌&&◌, ◌||◌, not, List, [], ◌∷◌, ◌++◌, length, length-append, None, Some, refl, sym, ap, subst, arith, true≢false, not-suc-le-zero, le_of_suc-le-suc}
-use Rattle.std.specs.Prelude.{Option, get_or, slice_set, nat_eq}
+use Rattle.std.proofs.Common.{◌∙◌, ◌≡◌, ◌⊎◌, inl, inr, ℕ, zero, suc, ◌+◌, ◌<◌, ◌≤◌, Bool, true, false, ◌||◌, List, [], ◌∷◌, ◌++◌, length, length-append, None, Some, refl, sym, ap, subst, arith, true≢false, not-suc-le-zero}
+use Rattle.std.specs.Prelude.{Option, get_or, nat_eq}
 use Rattle.std.specs.List.{Contains}
 use Rattle.opcode.specs.declared.word.Instr.{Instr}
 use Rattle.proto.specs.Chunk.{Chunk}
 use Rattle.rules.specs.Words.{instr_at}
 use Rattle.rules.specs.Places.{is_edge, is_pc}
-use Rattle.rules.specs.Notes.{Note as Meant, Notes, Consistent, FollowsIn, IsStart, AsksLess, after}
+use Rattle.rules.specs.Notes.{Note as Meant, Notes, FollowsIn, IsStart, AsksLess, after}
 use Rattle.rules.specs.Common.{AsksLessAt, AskLess}
 use Rattle.std.proofs.lemmas.List.Elements.{Contains-push, Contains-push_cases, Contains-append_left}
 use Rattle.std.proofs.lemmas.Bool.{eqb-true, eqb-false}
 use Rattle.rules.proofs.Lists.{none_some, some_one}
 use Rattle.rules.proofs.LeastNotes.{edge_asks_less}
 use Rattle.verifier.specs.declared.note.Note.{Note}
-use Rattle.verifier.specs.Registers.{Alike, AreEdges, Followed, meant, meant_in, notes_of, room_in, rooms}
-use Rattle.verifier.specs.Least.{AsksLeast, LeastAt, FollowedFrom, Flowing, Joins, JoinsIn, Moves, AreLeast}
+use Rattle.verifier.specs.Registers.{Alike, AreEdges, Followed, meant, meant_in, notes_of, rooms}
+use Rattle.verifier.specs.Least.{AsksLeast, LeastAt, FollowedFrom, Flowing, JoinsIn, Moves, AreLeast}
 
 less_by : (a b c : Meant) → AsksLess a b → AsksLess b c → AsksLess a c
 less_by a b c one two = record { captured = λ r e. two.captured r (one.captured r e); loops = λ l e. one.loops l (two.loops l e) }

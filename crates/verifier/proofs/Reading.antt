@@ -1,5 +1,5 @@
 -- The words of a function.
-use Rattle.std.proofs.Common.{◌∙◌, ◌≡◌, ℕ, zero, suc, ◌+◌, ◌<◌, ◌≤◌, ◌-◌, ◌^◌, ◌%◌, drop, append_assoc, Bool, true, false, List, [], ◌∷◌, ◌++◌, length, map, Some, None, refl, sym, ap, arith, true≢false, not-suc-le-zero, le_of_suc-le-suc}
+use Rattle.std.proofs.Common.{◌∙◌, ◌≡◌, ℕ, zero, suc, ◌+◌, ◌<◌, ◌≤◌, ◌-◌, ◌^◌, ◌%◌, drop, append_assoc, Bool, true, false, List, [], ◌∷◌, ◌++◌, length, map, Some, None, refl, sym, ap, arith, not-suc-le-zero, le_of_suc-le-suc}
 use Rattle.std.specs.Prelude.{Option, IfSome, nat_lt, get_or, slice_get, option_map, option_and_then}
 use Rattle.rules.specs.Words.{instr_at}
 use Rattle.std.proofs.Math.Seq.{drop-cons}

@@ -1,12 +1,11 @@
 -- Loops over the words of a function.
-use Rattle.std.proofs.Common.{◌∙◌, ◌≡◌, ℕ, zero, suc, ◌+◌, ◌<◌, ◌≤◌, Bool, true, false, ◌&&◌, ◌||◌, not, List, [], ◌∷◌, ◌++◌, length, drop, Some, None, refl, sym, ap, subst, arith, true≢false, not-suc-le-zero, le_of_suc-le-suc}
-use Rattle.std.specs.Prelude.{Option, get_or, slice_get, nat_lt, nat_le, option_and_then, if◌then◌else◌, ◌==◌}
+use Rattle.std.proofs.Common.{◌∙◌, ◌≡◌, ℕ, zero, suc, ◌+◌, ◌<◌, ◌≤◌, Bool, true, false, ◌&&◌, ◌||◌, not, List, [], ◌∷◌, ◌++◌, length, drop, None, refl, sym, ap, arith, not-suc-le-zero, le_of_suc-le-suc}
+use Rattle.std.specs.Prelude.{get_or, slice_get, nat_le, option_and_then, if◌then◌else◌}
 use Rattle.std.specs.List.{list_any}
 use Rattle.std.proofs.Math.Seq.{drop-cons, drop-length}
 use Rattle.opcode.specs.declared.op.Op.{Op}
-use Rattle.opcode.specs.declared.word.Instr.{Instr}
 use Rattle.opcode.specs.Reading.{instr_of}
-use Rattle.proto.specs.Chunk.{Chunk, Functions, own}
+use Rattle.proto.specs.Chunk.{Chunk, Functions}
 use Rattle.rules.specs.Words.{instr_at}
 use Rattle.rules.specs.Places.{further_from, is_further, belonging, named_by, named_by_all}
 use Rattle.rules.specs.Breaks.{reaches, has_vararg, is_vararg_word, leaves, left_before}

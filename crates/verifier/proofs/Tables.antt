@@ -1,9 +1,9 @@
 -- Tables of notes, with one note joined in.
-use Rattle.std.proofs.Common.{◌∙◌, ◌≡◌, ◌⊎◌, inl, inr, ℕ, zero, suc, ◌+◌, ◌<◌, ◌≤◌, Bool, true, false, List, [], ◌∷◌, ◌++◌, length, None, Some, refl, sym, ap, subst, arith, true≢false, not-suc-le-zero, le_of_suc-le-suc}
+use Rattle.std.proofs.Common.{◌∙◌, ◌≡◌, inl, inr, ℕ, zero, suc, ◌+◌, ◌<◌, true, false, List, [], ◌∷◌, ◌++◌, length, None, Some, refl, sym, ap, subst, arith, true≢false, not-suc-le-zero, le_of_suc-le-suc}
 use Rattle.std.specs.Prelude.{Option, get_or, slice_set}
 use Rattle.std.specs.List.{Contains}
 use Rattle.proto.specs.Chunk.{Chunk}
-use Rattle.rules.specs.Notes.{Note as Meant, Notes, Consistent, IsStart, AsksLess}
+use Rattle.rules.specs.Notes.{Note as Meant, Notes, Consistent, IsStart}
 use Rattle.rules.specs.Common.{AsksLessAt}
 use Rattle.rules.proofs.Lists.{none_some}
 use Rattle.rules.proofs.LeastNotes.{start_asks_less, empty_note}

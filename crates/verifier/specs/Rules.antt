@@ -1,12 +1,9 @@
 -- Serves the bodies: the first rule that is broken at a place.
-use Rattle.std.specs.Prelude.{◌≡◌, ℕ, ◌<◌, Bool, true, false, ◌++◌, List, [], ◌∷◌, Option, None, Some, if◌then◌else◌}
-use Rattle.opcode.specs.declared.op.Op.{Op}
-use Rattle.opcode.specs.declared.word.Instr.{Instr}
+use Rattle.std.specs.Prelude.{ℕ, Bool, ◌++◌, List, [], ◌∷◌, Option, None, Some, if◌then◌else◌}
 use Rattle.proto.specs.Chunk.{Chunk}
 use Rattle.rules.specs.declared.rule.Rule.{Rule}
-use Rattle.rules.specs.Notes.{Notes, Note, Consistent}
-use Rattle.rules.specs.Breaks.{breaks, instr_breaks, word_breaks, operands, jumps}
-use Rattle.rules.specs.Sound.{IsEarlier, HasNotes, RejectedAt}
+use Rattle.rules.specs.Breaks.{operands}
+use Rattle.rules.specs.Sound.{HasNotes, RejectedAt}
 use Rattle.verifier.specs.declared.operands.Operands.{Operands}
 use Rattle.verifier.specs.declared.jumps.Jump.{Jump}
 use Rattle.verifier.specs.declared.scan.Broken.{Broken}

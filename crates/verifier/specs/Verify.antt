@@ -1,5 +1,5 @@
 -- Serves the bodies: what is found of a function and those in it, and where a path then leads.
-use Rattle.std.specs.Prelude.{◌≡◌, ℕ, ◌+◌, Bool, true, List, [], ◌∷◌, ◌++◌, Option, None, Some}
+use Rattle.std.specs.Prelude.{◌≡◌, ℕ, ◌+◌, Bool, List, ◌∷◌, ◌++◌, Option, None, Some}
 use Rattle.proto.specs.Chunk.{Chunk, Functions}
 use Rattle.proto.specs.View.{view_proto}
 use Rattle.proto.specs.declared.proto.Proto.{Proto}

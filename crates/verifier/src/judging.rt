@@ -1,5 +1,5 @@
 // Chunks that are verified.
-ghost use Rattle.std.specs.Prelude.{◌≡◌, ◌+◌, ◌++◌, List, ℕ, Bool, true, false, IfOk, IfErr, [], ◌∷◌, map};
+ghost use Rattle.std.specs.Prelude.{◌≡◌, ◌+◌, true, false, IfOk, IfErr, map};
 ghost use Rattle.proto.specs.Chunk.{functions_of};
 ghost use Rattle.proto.specs.View.{view_proto};
 ghost use Rattle.rules.specs.Sound.{Sound};

@@ -1,7 +1,7 @@
 // The registers, constants and upvalues that an instruction names.
 ghost use Rattle.proto.specs.View.{view_proto};
-ghost use Rattle.std.specs.Prelude.{◌^◌, ◌≡◌, ◌<◌, ◌-◌, filter, map, nat_lt, nat_le, length, List, ℕ};
-ghost use Rattle.rules.specs.Breaks.{reaches, names, operands as operands_of, has_order, constants_of, upvalues_of, breaks_register as breaks_register_of, breaks_constant as breaks_constant_of, breaks_function as breaks_function_of, breaks_upvalue as breaks_upvalue_of, breaks_name as breaks_name_of};
+ghost use Rattle.std.specs.Prelude.{◌^◌, ◌≡◌, ◌<◌, ◌-◌, filter, map, nat_lt, nat_le};
+ghost use Rattle.rules.specs.Breaks.{reaches, names, operands as operands_of, has_order, breaks_register as breaks_register_of, breaks_constant as breaks_constant_of, breaks_function as breaks_function_of, breaks_upvalue as breaks_upvalue_of, breaks_name as breaks_name_of};
 ghost use Rattle.rules.specs.Places.{named_by, named_by_all, named_further, words_of};
 ghost use Rattle.opcode.specs.Reading.{instr_of};
 ghost use Rattle.verifier.specs.Functions.{HasFields};

@@ -1,5 +1,5 @@
 // Sets of registers.
-ghost use Rattle.std.specs.Prelude.{ℕ, ◌≡◌, ◌≤◌, ◌<◌, ◌&&◌, ◌||◌, ◌==◌, nat_lt, nat_le, true, false, not};
+ghost use Rattle.std.specs.Prelude.{ℕ, ◌≡◌, ◌≤◌, ◌<◌, ◌&&◌, ◌||◌, ◌==◌, nat_lt, not};
 ghost use Rattle.std.specs.Int.{bit_at};
 ghost use Rattle.verifier.specs.Registers.{bits_at, has, total, is_in};
 

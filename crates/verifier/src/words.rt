@@ -1,5 +1,5 @@
 // The words of a function, and which of them belong to others.
-ghost use Rattle.std.specs.Prelude.{◌-◌, IfSome, is_some, ◌^◌, ◌≡◌, ℕ, ◌<◌, ◌≤◌, ◌+◌, suc, length, get_or, false, Some, None, IfOk, map, option_map};
+ghost use Rattle.std.specs.Prelude.{◌-◌, IfSome, is_some, ◌^◌, ◌≡◌, ℕ, ◌<◌, ◌+◌, suc, length, Some, None, IfOk, map, option_map};
 ghost use Rattle.proto.specs.Chunk.{own, functions, functions_of, function_at};
 ghost use Rattle.proto.specs.View.{view_proto};
 ghost use Rattle.rules.specs.Words.{instr_at};
