@@ -190,8 +190,8 @@ fn set_entry(heap: &mut Heap, table: TableId, key: Value, value: Value) -> Resul
     heap.raw_set(table, key, value).map_err(|_| AllocError)
 }
 
-/// The failure of a read or a write at a value that is no table.
-fn index_failure(alloc: Global, heap: &mut Heap, v: Value) -> Result<Value, AllocError>
+/// The failure of a read or a write at a value that is no table. Where memory runs out only texts of the heap changed.
+pub fn index_failure(alloc: Global, heap: &mut Heap, v: Value) -> Result<Value, AllocError>
     requires { IsOf heap.old v }
     ensures value { IfOk result (λ r. datum heap.new r ≡ index_fault (datum heap.old v)) }
     ensures known { IfOk result (IsOf heap.new) }

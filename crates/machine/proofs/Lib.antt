@@ -1,0 +1,10 @@
+pub mod Showing
+pub mod Beside
+pub mod Loops
+pub mod Stores
+pub mod Rows
+pub mod Listed
+pub mod Joins
+pub mod Landings
+pub mod Items
+pub mod Loading

@@ -1,0 +1,16 @@
+use Rattle.std.proofs.Common.{◌≡◌, ◌∙◌, ◌<◌, ◌^◌, length, map, refl, sym, ap, arith}
+use Rattle.proto.specs.declared.proto.Proto.{out-Proto}
+use Rattle.rules.specs.State.{value_of}
+use Rattle.machine.specs.Frames.{data_of}
+use Rattle.machine.proofs.Loading.{made_is}
+use Rattle.machine.proofs.load.made.Goals as goal
+
+pub returns-clause-made : goal.returns-clause-made
+returns-clause-made c =
+    let h = c.constant_values.new.heap in
+    let p = c.args.proto.now in
+    let words = c.in_ok-code.code.items in
+    let code : words ≡ (out-Proto p).code = c.in_ok-code.ensures.items_if_clones_equal (λ x y same. same) ∙ c.items-2.ensures in
+    let room : length words < 2 ^ 32 = omega arith in
+    let constants : map value_of (out-Proto p).constants ≡ data_of h c.in_ok-constants.constants.items = ap (map value_of) (sym c.items.ensures) ∙ c.in_ok-constants.ensures.values in
+    λ all lead. made_is h all p _ code room constants c.in_ok-constants.ensures.known lead refl refl refl refl

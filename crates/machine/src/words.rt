@@ -1,0 +1,14 @@
+// The words, one function or more each, over the registers of the running frame.
+mod arithmetic;
+mod calls;
+mod giving;
+mod joining;
+mod jumps;
+mod landing;
+mod lists;
+mod loops;
+mod rows;
+mod setting;
+mod straight;
+mod tables;
+mod tests;

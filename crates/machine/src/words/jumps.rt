@@ -1,0 +1,49 @@
+// Jumps of words.
+ghost use Rattle.std.specs.Prelude.{◌≡◌, ◌<◌, ◌^◌, ◌+ℤ◌, pos, suc, None, Some, slice_get, option_and_then};
+ghost use Rattle.opcode.specs.Reading.{instr_of};
+ghost use Rattle.lua_heap.specs.State.{HeapState};
+ghost use Rattle.rules.specs.State.{State};
+ghost use Rattle.rules.specs.Places.{jmp_of, as_pc};
+ghost use Rattle.rules.specs.Calls.{branch as branch_of};
+ghost use Rattle.machine.specs.Frames.{effect_of};
+ghost use Rattle.machine.specs.Words.{Runs, IsTest, IsDidOf};
+
+use crate::did::Did;
+use crate::function::Function;
+use opcode::{Instr, Op, decode};
+
+/// The distance of the JMP at this pc.
+fn distance(function: &Function, pc: usize) -> i32
+    requires jmp { IsTest function.now pc }
+    ensures { jmp_of (option_and_then instr_of (slice_get function.now.code.items pc)) ≡ Some result }
+{
+    match decode(function.code[pc]) {
+        Some(Instr {
+            op: Op::Jmp, sbx, ..
+        }) => sbx,
+        _ => unreachable!(),
+    }
+}
+
+/// The pc that a jump by this distance goes to, from the pc after its word.
+pub fn jump(pc: usize, s: i32) -> usize
+    requires goes { as_pc (pos pc +ℤ s) ≡ None → ⊥ }
+    requires room { pc < 2 ^ 33 }
+    ensures { as_pc (pos pc +ℤ s) ≡ Some result }
+{
+    (pc as i64 + i64::from(s)) as usize
+}
+
+/// The next JMP is done, or skipped.
+pub fn branch(function: &Function, pc: usize, takes: bool) -> Did
+    requires jmp { IsTest function.now pc }
+    ensures did { (h : HeapState) (m : State) → Runs m h function.now pc → branch_of m takes ≡ effect_of h result m }
+    ensures known { (h : HeapState) → IsDidOf h result }
+{
+    let behind = pc + 1;
+    if takes {
+        Did::Jumps(jump(behind, distance(function, pc)))
+    } else {
+        Did::Jumps(behind)
+    }
+}

@@ -1,0 +1,11 @@
+pub mod Lists
+pub mod Rows
+pub mod Lent
+pub mod Places
+pub mod Closing
+pub mod Cells
+pub mod Pushed
+pub mod Popped
+pub mod Written
+pub mod Finding
+pub mod Inserted
