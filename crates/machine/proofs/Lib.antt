@@ -8,3 +8,4 @@ pub mod Joins
 pub mod Landings
 pub mod Items
 pub mod Loading
+pub mod LentRegisters

@@ -1,4 +1,5 @@
 pub mod Frames
 pub mod Words
+pub mod Fits
 pub mod Loaded
 pub mod Loading

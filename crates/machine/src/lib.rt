@@ -2,7 +2,10 @@
 #![tactic(auto)]
 
 mod did;
+mod frame;
 mod function;
 mod load;
 mod operands;
+mod running;
+mod topmost;
 mod words;

@@ -7,8 +7,11 @@ mod jumps;
 mod landing;
 mod lists;
 mod loops;
+mod performing;
 mod rows;
 mod setting;
 mod straight;
 mod tables;
 mod tests;
+
+pub use performing::perform;
