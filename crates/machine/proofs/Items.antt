@@ -79,7 +79,8 @@ first_key block above = omega (arith, ints)
 pub results_are_kept : (old new : HeapState) → Keeps old new → (results : Option OpenResults) → AreResultsOf old results → AreResultsOf new results × (option_map (results_of new) results ≡ option_map (results_of old) results)
 results_are_kept old new keeps None known = (tt, refl)
 results_are_kept old new keeps (Some results) known = (
-    values_are_kept old new keeps results.values known, λ i. Some (record { first = results.first; values = data_are_kept old new keeps results.values known i })
+  values_are_kept old new keeps results.values known,
+  λ i. Some (record { first = results.first; values = data_are_kept old new keeps results.values known i }),
 )
 
 -- ---- SETLIST at a value
@@ -101,9 +102,9 @@ sets_all m old new values list results t block above keeps known results_known i
     let s = showing m old values in
     let taken = option_map (results_of old) results in
     let stored : with_items (store_of old hosts) t ((pos block -ℤ pos 1) *ℤ pos 50 +ℤ pos 1) (data_of old list) ≡ store_of new hosts =
-        ap (λ k. with_items (store_of old hosts) t k (data_of old list)) (first_key block above)
-        ∙ with_items_beside hosts (own_store old) t (pos ((block - 1) * 50 + 1)) (data_of old list)
-        ∙ ap (λ (w : Store). record w { hosts = hosts }) (sym items) in
+    ap (λ k. with_items (store_of old hosts) t k (data_of old list)) (first_key block above)
+    ∙ with_items_beside hosts (own_store old) t (pos ((block - 1) * 50 + 1)) (data_of old list)
+    ∙ ap (λ (w : Store). record w { hosts = hosts }) (sym items) in
     ap (λ w. Goes (with_store (with_results s taken) w)) stored
     ∙ ap (λ z. Goes (with_results z taken)) (shown_store m old new values (store_of new hosts) keeps known refl)
     ∙ ap (λ r. Goes (with_results (showing m new values) r)) (sym (results_are_kept old new keeps results results_known).1)

@@ -35,7 +35,8 @@ constant_is m h f pc k v runs at =
 -- a register that is there
 pub there : (m : State) (h : HeapState) (values : List Value) (r : ℕ) → r < length values → (d : Datum) × (register (showing m h values) r ≡ Some d)
 there m h values r within = (
-    _, slice_get-map (datum h) values r ∙ ap (option_map (datum h)) (slice_get-get_or values r Nil within)
+  _,
+  slice_get-map (datum h) values r ∙ ap (option_map (datum h)) (slice_get-get_or values r Nil within),
 )
 
 -- a value to a register

@@ -14,14 +14,15 @@ use Rattle.upvalue.proofs.Cells.{cells_under}
 
 pub pushed_keeps : (self : StackState) (registers : ℕ) → KeepsShares self (record self { frames = replicate registers Nil ∷ self.frames })
 pushed_keeps self registers h shares = (
-    record {
-      known = All-append (IsOf h) (in_a_row self.frames) (replicate registers Nil) shares.known (All-replicate (IsOf h) registers Nil tt);
-      stands = shares.stands;
-      there = λ i o e. let low = shares.there i o e in omega (arith, low, length-append (in_a_row self.frames) (replicate registers Nil));
-      all = shares.all;
-      in_order = shares.in_order;
-    },
-    cells_under (replicate registers Nil) self.frames h (stands_there self h shares))
+  record {
+    known = All-append (IsOf h) (in_a_row self.frames) (replicate registers Nil) shares.known (All-replicate (IsOf h) registers Nil tt);
+    stands = shares.stands;
+    there = λ i o e. let low = shares.there i o e in omega (arith, low, length-append (in_a_row self.frames) (replicate registers Nil));
+    all = shares.all;
+    in_order = shares.in_order;
+  },
+  cells_under (replicate registers Nil) self.frames h (stands_there self h shares),
+)
 
 -- the fields, before and then
 module _ (bases bases' : List ℕ) (values values' : List Value) (shared shared' : List OpenCell) (self : StackState) (is : stack_of bases values shared ≡ self) where

@@ -73,10 +73,7 @@ pub fn call_iterator(
     let control = register(registers, i.a + 2);
     let args = ValueList::from_slice(alloc, &[state, control])?;
     Ok(Did::Calls {
-        landing: Landing::Turn {
-            a: i.a,
-            count: i.c,
-        },
+        landing: Landing::Turn { a: i.a, count: i.c },
         callee,
         args,
     })

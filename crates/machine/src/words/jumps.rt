@@ -18,9 +18,13 @@ fn distance(function: &Function, pc: usize) -> i32
     ensures { jmp_of (option_and_then instr_of (slice_get function.now.code.items pc)) ≡ Some result }
 {
     match decode(function.code[pc]) {
-        Some(Instr {
-            op: Op::Jmp, sbx, ..
-        }) => sbx,
+        Some(
+            Instr {
+                op: Op::Jmp,
+                sbx,
+                ..
+            },
+        ) => sbx,
         _ => unreachable!(),
     }
 }

@@ -87,7 +87,11 @@ pub fn land(
             let value = first(&values);
             Ok(land_test(function, pc, a, negated, value))
         }
-        Landing::Pairs { a, first: low, count } => {
+        Landing::Pairs {
+            a,
+            first: low,
+            count,
+        } => {
             let value = first(&values);
             join(alloc, heap, registers, a, low, count, value)
         }

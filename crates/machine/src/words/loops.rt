@@ -102,11 +102,7 @@ pub fn for_prepare(
 }
 
 /// The initial value, the limit and the step as numbers, or the text of a failure.
-fn loop_numbers(
-    heap: &Heap,
-    registers: &[Value],
-    a: u32,
-) -> Result<(i64, i64, i64), &'static [u8]>
+fn loop_numbers(heap: &Heap, registers: &[Value], a: u32) -> Result<(i64, i64, i64), &'static [u8]>
     requires known { AreOf heap.now registers.now }
     requires field { a < 256 }
     requires there { a + 2 < length registers.now }

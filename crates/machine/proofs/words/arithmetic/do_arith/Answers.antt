@@ -24,6 +24,6 @@ returns c pc =
     give_does (λ m. do_arith op m i) old c.arith.new.heap c.args.function.now values c.give.new.registers pc i.a c.in_ok-act.act c.give.result (λ s. arith s op x y) c.requires.known.registers c.arith.ensures.only_texts c.arith.ensures.keeps c.in_ok-act.ensures.act c.in_ok-act.ensures.known
     (λ hosts. arith_beside old hosts op x y)
     (λ m runs.
-      let s = showing m old values in
-      two_needs (operand s i.b) (operand s i.c) x y (λ x y. give s i.a (arith s.store op x y)) (c.operand-x.ensures.value old m pc runs) (c.operand-y.ensures.value old m pc runs))
+    let s = showing m old values in
+    two_needs (operand s i.b) (operand s i.c) x y (λ x y. give s i.a (arith s.store op x y)) (c.operand-x.ensures.value old m pc runs) (c.operand-y.ensures.value old m pc runs))
     c.give.ensures.did c.give.ensures.known c.give.ensures.registers c.give.ensures.length_is

@@ -20,6 +20,6 @@ returns c f pc =
     give_does (λ m. effect op.Len m i) old c.length.new.heap f values c.give.new.registers pc i.a c.in_ok-act.act c.give.result (λ s. size s x) c.requires.known c.length.ensures.only_texts c.length.ensures.keeps c.in_ok-act.ensures.act c.in_ok-act.ensures.known
     (λ hosts. size_beside old hosts x)
     (λ m runs.
-      let s = showing m old values in
-      one_need (register s i.b) x (λ x. give s i.a (size s.store x)) (c.register-x.ensures.value old))
+    let s = showing m old values in
+    one_need (register s i.b) x (λ x. give s i.a (size s.store x)) (c.register-x.ensures.value old))
     c.give.ensures.did c.give.ensures.known c.give.ensures.registers c.give.ensures.length_is

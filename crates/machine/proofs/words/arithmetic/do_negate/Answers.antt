@@ -20,6 +20,6 @@ returns c f pc =
     give_does (λ m. effect op.Unm m i) old c.negate.new.heap f values c.give.new.registers pc i.a c.in_ok-act.act c.give.result (λ s. negate s x) c.requires.known c.negate.ensures.only_texts c.negate.ensures.keeps c.in_ok-act.ensures.act c.in_ok-act.ensures.known
     (λ hosts. negate_beside old hosts x)
     (λ m runs.
-      let s = showing m old values in
-      one_need (register s i.b) x (λ x. give s i.a (negate s.store x)) (c.register-x.ensures.value old))
+    let s = showing m old values in
+    one_need (register s i.b) x (λ x. give s i.a (negate s.store x)) (c.register-x.ensures.value old))
     c.give.ensures.did c.give.ensures.known c.give.ensures.registers c.give.ensures.length_is

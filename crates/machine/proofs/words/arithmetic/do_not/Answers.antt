@@ -17,6 +17,6 @@ returns c h f pc known =
     let x = c.register-x.result in
     set_does (λ m. effect op.Not m i) h f values pc i.a (Value.Bool (not c.is_true.result)) known tt c.requires.a
     (λ m runs.
-      let s = showing m h values in
-      one_need (register s i.b) (datum h x) (λ x. set s i.a (boolean (not (is_true x)))) (c.register-x.ensures.value h)
-      ∙ ap (λ b. set s i.a (boolean (not b))) (sym (is_true_is h x) ∙ sym c.is_true.ensures))
+    let s = showing m h values in
+    one_need (register s i.b) (datum h x) (λ x. set s i.a (boolean (not (is_true x)))) (c.register-x.ensures.value h)
+    ∙ ap (λ b. set s i.a (boolean (not b))) (sym (is_true_is h x) ∙ sym c.is_true.ensures))

@@ -18,9 +18,9 @@ returns c =
     let last = datum old c.register-last.result in
     let next : State → Effect = λ s. join_of s i.a i.b (i.c - i.b) last in
     IfOk-weaker c.join.result _ _ (λ did does f pc.
-      does_from (λ m. effect op.Concat m i) next old c.join.new.heap f values values c.join.new.registers pc did refl
-      (λ m runs.
-        let s = showing m old values in
-        ap (λ b. check b (need (register s i.c) (λ v. join_of s i.a i.b (i.c - i.b) v))) (lt-ltb i.b i.c c.requires.order)
-        ∙ one_need (register s i.c) last (λ v. join_of s i.a i.b (i.c - i.b) v) (c.register-last.ensures.value old))
-      (does f pc)) c.join.ensures
+    does_from (λ m. effect op.Concat m i) next old c.join.new.heap f values values c.join.new.registers pc did refl
+    (λ m runs.
+    let s = showing m old values in
+    ap (λ b. check b (need (register s i.c) (λ v. join_of s i.a i.b (i.c - i.b) v))) (lt-ltb i.b i.c c.requires.order)
+    ∙ one_need (register s i.c) last (λ v. join_of s i.a i.b (i.c - i.b) v) (c.register-last.ensures.value old))
+    (does f pc)) c.join.ensures

@@ -36,7 +36,7 @@ returns-in-Into c =
     let within = subst (IsLanding f values pc) c.in-Into.is c.requires.landing in
     for_landing c.args.landing (Landing.Into a) h h f values _ pc vs Did.Next c.in-Into.is
     (set_does (λ m. set m a (first_of vs)) h f values pc a c.first.result c.requires.known (c.first.ensures.known h c.requires.values) within
-      (λ m runs. ap (set (showing m h values) a) (sym (c.first.ensures.value h))))
+    (λ m runs. ap (set (showing m h values) a) (sym (c.first.ensures.value h))))
 
 pub returns-in-Test : goal.returns-in-Test
 returns-in-Test c =
@@ -49,10 +49,10 @@ returns-in-Test c =
     let vs = data_of h c.args.values in
     for_landing c.args.landing (Landing.Test a negated) h h f values values pc vs c.land_test.result c.in-Test.is
     (same_does (λ m. land_in (landing_of (Landing.Test a negated)) m vs) h f values pc c.land_test.result c.requires.known (c.land_test.ensures.known h)
-      (λ m runs.
-        let s = showing m h values in
-        ap (λ v. branch s (nat_eq (truth_field (negated_as negated (is_true v))) a)) (sym (c.first-value.ensures.value h))
-        ∙ c.land_test.ensures.did h s (shown_runs m h f values pc runs)))
+    (λ m runs.
+    let s = showing m h values in
+    ap (λ v. branch s (nat_eq (truth_field (negated_as negated (is_true v))) a)) (sym (c.first-value.ensures.value h))
+    ∙ c.land_test.ensures.did h s (shown_runs m h f values pc runs)))
 
 pub returns-in-Pairs : goal.returns-in-Pairs
 returns-in-Pairs c =
@@ -65,9 +65,9 @@ returns-in-Pairs c =
     let count = c.in-Pairs.count in
     let vs = data_of old c.args.values in
     IfOk-weaker c.join.result _ _ (λ did does.
-      for_landing c.args.landing (Landing.Pairs a low count) old c.join.new.heap f values c.join.new.registers pc vs did c.in-Pairs.is
-      (let P : Datum → Type 0 = λ v. Does (λ m. join m a low count v) old c.join.new.heap f values c.join.new.registers pc did in
-      subst P (c.first-value-in-Pairs.ensures.value old) (does f pc))) c.join.ensures
+    for_landing c.args.landing (Landing.Pairs a low count) old c.join.new.heap f values c.join.new.registers pc vs did c.in-Pairs.is
+    (let P : Datum → Type 0 = λ v. Does (λ m. join m a low count v) old c.join.new.heap f values c.join.new.registers pc did in
+    subst P (c.first-value-in-Pairs.ensures.value old) (does f pc))) c.join.ensures
 
 pub returns-in-Fixed : goal.returns-in-Fixed
 returns-in-Fixed c =

@@ -35,7 +35,7 @@ returns-in-Ok c f =
     let three = simp to_z-of_z at c.put_number-in-Ok-2.ensures in
     let behind = three_numbers_in values i.a now limit step in
     let is_behind : c.put_number-in-Ok-2.new.registers ≡ behind =
-        three ∙ ap (λ (vs : List Value). slice_set vs (i.a + 2) (Number step)) (two ∙ ap (λ (vs : List Value). slice_set vs (i.a + 1) (Number limit)) one) in
+    three ∙ ap (λ (vs : List Value). slice_set vs (i.a + 2) (Number step)) (two ∙ ap (λ (vs : List Value). slice_set vs (i.a + 1) (Number limit)) one) in
     let does : Does (λ m. effect op.ForPrep m i) h h f values behind c.args.pc (Did.Jumps c.jump.result) = record {
       is = λ m runs.
           prepares m h values i c.requires.there

@@ -15,6 +15,6 @@ returns c pc =
     let i = c.args.i in
     set_does (λ m. effect op.GetGlobal m i) h f values pc i.a c.global.result c.requires.known.registers c.global.ensures.known c.requires.a
     (λ m runs.
-      let s = showing m h values in
-      name_need s h f pc i.bx c.name.result (shown_runs m h f values pc runs) c.name.ensures (λ name. set s i.a (global s.store name))
-      ∙ ap (set s i.a) (sym c.global.ensures.value))
+    let s = showing m h values in
+    name_need s h f pc i.bx c.name.result (shown_runs m h f values pc runs) c.name.ensures (λ name. set s i.a (global s.store name))
+    ∙ ap (set s i.a) (sym c.global.ensures.value))

@@ -50,17 +50,17 @@ returns c pc =
     let within : i.a + 1 < length values = omega (arith, c.requires.a) in
     does_from (λ m. effect op.Self_ m i) next old c.index.new.heap c.args.function.now values between c.give.new.registers pc c.give.result (length-set values (i.a + 1) object)
     (λ m runs.
-      let s = showing m old values in
-      let behind : suc i.a ≡ i.a + 1 = omega arith in
-      ap (selfed s i) behind
-      ∙ one_need (register s i.b) on (λ on. need (register s (i.a + 1)) (λ before.
-      let t = with_registers s (slice_set s.top.registers (i.a + 1) on) in
-      need (operand t i.c) (λ key. give t i.a (index t.store on key)))) (c.register-on.ensures.value old)
-      ∙ ap (λ (o : Option Datum). need o (λ before. next (with_registers s (slice_set s.top.registers (i.a + 1) on)))) (there m old values (i.a + 1) within).1
-      ∙ ap (λ ds. next (with_registers s ds)) (sym (map-set (datum old) values (i.a + 1) object)))
+    let s = showing m old values in
+    let behind : suc i.a ≡ i.a + 1 = omega arith in
+    ap (selfed s i) behind
+    ∙ one_need (register s i.b) on (λ on. need (register s (i.a + 1)) (λ before.
+    let t = with_registers s (slice_set s.top.registers (i.a + 1) on) in
+    need (operand t i.c) (λ key. give t i.a (index t.store on key)))) (c.register-on.ensures.value old)
+    ∙ ap (λ (o : Option Datum). need o (λ before. next (with_registers s (slice_set s.top.registers (i.a + 1) on)))) (there m old values (i.a + 1) within).1
+    ∙ ap (λ ds. next (with_registers s ds)) (sym (map-set (datum old) values (i.a + 1) object)))
     (give_does next old c.index.new.heap c.args.function.now between c.give.new.registers pc i.a c.in_ok-act.act c.give.result (λ s. index s on key) known.registers c.index.ensures.only_texts c.index.ensures.keeps c.in_ok-act.ensures.act c.in_ok-act.ensures.known
-      (λ hosts. index_beside old hosts on key)
-      (λ m runs.
-        let s = showing m old between in
-        one_need (operand s i.c) key (λ key. give s i.a (index s.store on key)) (c.operand-key.ensures.value old m pc runs))
-      c.give.ensures.did c.give.ensures.known c.give.ensures.registers c.give.ensures.length_is)
+    (λ hosts. index_beside old hosts on key)
+    (λ m runs.
+    let s = showing m old between in
+    one_need (operand s i.c) key (λ key. give s i.a (index s.store on key)) (c.operand-key.ensures.value old m pc runs))
+    c.give.ensures.did c.give.ensures.known c.give.ensures.registers c.give.ensures.length_is)

@@ -24,6 +24,6 @@ returns c pc =
     give_does (λ m. effect op.GetTable m i) old c.index.new.heap c.args.function.now values c.give.new.registers pc i.a c.in_ok-act.act c.give.result (λ s. index s on key) c.requires.known.registers c.index.ensures.only_texts c.index.ensures.keeps c.in_ok-act.ensures.act c.in_ok-act.ensures.known
     (λ hosts. index_beside old hosts on key)
     (λ m runs.
-      let s = showing m old values in
-      two_needs (register s i.b) (operand s i.c) on key (λ on key. give s i.a (index s.store on key)) (c.register-on.ensures.value old) (c.operand-key.ensures.value old m pc runs))
+    let s = showing m old values in
+    two_needs (register s i.b) (operand s i.c) on key (λ on key. give s i.a (index s.store on key)) (c.register-on.ensures.value old) (c.operand-key.ensures.value old m pc runs))
     c.give.ensures.did c.give.ensures.known c.give.ensures.registers c.give.ensures.length_is

@@ -23,6 +23,6 @@ returns c pc =
     (only_this_store old new (with_global (own_store old) name v) state)
     (λ hosts. ap (λ h. store_of h hosts) state)
     (λ m runs.
-      let s = showing m old values in
-      name_need s old f pc i.bx c.name.result (shown_runs m old f values pc runs) c.name.ensures (λ name. need (register s i.a) (λ v. Goes (with_store s (with_global s.store name v))))
-      ∙ one_need (register s i.a) v (λ v. Goes (with_store s (with_global s.store name v))) (c.register.ensures.value old))
+    let s = showing m old values in
+    name_need s old f pc i.bx c.name.result (shown_runs m old f values pc runs) c.name.ensures (λ name. need (register s i.a) (λ v. Goes (with_store s (with_global s.store name v))))
+    ∙ one_need (register s i.a) v (λ v. Goes (with_store s (with_global s.store name v))) (c.register.ensures.value old))

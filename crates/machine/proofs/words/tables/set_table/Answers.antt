@@ -29,6 +29,6 @@ returns c pc =
     write_does (λ m. effect op.SetTable m i) old c.set_index.new.heap c.args.function.now values pc c.in_ok-act.act c.give_nowhere.result (λ s. set_index s on key v) c.requires.known.registers c.in_ok-act.ensures.only_tables c.set_index.ensures.keeps c.in_ok-act.ensures.act c.in_ok-act.ensures.known
     (λ hosts. set_index_beside old hosts on key v)
     (λ m runs.
-      let s = showing m old values in
-      three_needs (register s i.a) (operand s i.b) (operand s i.c) on key v (λ on key v. give_write s (set_index s.store on key v)) (c.register-on.ensures.value old) (c.operand-key.ensures.value old m pc runs) (c.operand-value.ensures.value old m pc runs))
+    let s = showing m old values in
+    three_needs (register s i.a) (operand s i.b) (operand s i.c) on key v (λ on key v. give_write s (set_index s.store on key v)) (c.register-on.ensures.value old) (c.operand-key.ensures.value old m pc runs) (c.operand-value.ensures.value old m pc runs))
     c.give_nowhere.ensures.did c.give_nowhere.ensures.known

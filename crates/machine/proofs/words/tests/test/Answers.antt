@@ -17,7 +17,7 @@ returns c h known =
     let i = c.args.i in
     same_does (λ m. effect op.Test m i) h f values c.args.pc c.branch-function.result known (c.branch-function.ensures.known h)
     (λ m runs.
-      let s = showing m h values in
-      one_need (register s i.a) (datum h c.register.result) (λ v. branch s (not (truth_field (not (is_true v)) == i.c))) (c.register.ensures.value h)
-      ∙ ap (λ n. branch s (not (n == i.c))) (sym (c.false_field.ensures h))
-      ∙ c.branch-function.ensures.did h s (shown_runs m h f values c.args.pc runs))
+    let s = showing m h values in
+    one_need (register s i.a) (datum h c.register.result) (λ v. branch s (not (truth_field (not (is_true v)) == i.c))) (c.register.ensures.value h)
+    ∙ ap (λ n. branch s (not (n == i.c))) (sym (c.false_field.ensures h))
+    ∙ c.branch-function.ensures.did h s (shown_runs m h f values c.args.pc runs))

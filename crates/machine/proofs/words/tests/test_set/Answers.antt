@@ -28,13 +28,13 @@ returns-then-false_field-i c h known =
     let v = datum h c.register-v.result in
     same_does (λ m. effect op.TestSet m i) h f values c.args.pc c.branch-function.result known (c.branch-function.ensures.known h)
     (λ m runs.
-      let s = showing m h values in
-      let on = shown_runs m h f values c.args.pc runs in
-      jmp_need s h f c.args.pc c.requires.jmp on (λ d. need (register s i.b) (λ v. rest s i.a v (truth_field (not (is_true v)) == i.c)))
-      ∙ one_need (register s i.b) v (λ v. rest s i.a v (truth_field (not (is_true v)) == i.c)) (c.register-v.ensures.value h)
-      ∙ ap (λ n. rest s i.a v (n == i.c)) (sym (c.false_field.ensures h))
-      ∙ ap (rest s i.a v) (eq-eqb c.false_field.result i.c c.if-false_field-i.true)
-      ∙ c.branch-function.ensures.did h s on)
+    let s = showing m h values in
+    let on = shown_runs m h f values c.args.pc runs in
+    jmp_need s h f c.args.pc c.requires.jmp on (λ d. need (register s i.b) (λ v. rest s i.a v (truth_field (not (is_true v)) == i.c)))
+    ∙ one_need (register s i.b) v (λ v. rest s i.a v (truth_field (not (is_true v)) == i.c)) (c.register-v.ensures.value h)
+    ∙ ap (λ n. rest s i.a v (n == i.c)) (sym (c.false_field.ensures h))
+    ∙ ap (rest s i.a v) (eq-eqb c.false_field.result i.c c.if-false_field-i.true)
+    ∙ c.branch-function.ensures.did h s on)
 
 pub returns : goal.returns
 returns c h known =

@@ -6,9 +6,9 @@ abbrev pub invariant-loop : goal.invariant-loop
 invariant-loop l =
     let s = l.self-inside in
     let first = l.initial.self-inside in record {
-  values : s.values.items ≡ first.values.items ++ replicate l.counter Nil;
-  base : s.base ≡ first.base;
-  bases : s.bases ≡ first.bases;
-  shared : s.shared ≡ first.shared;
-  room : length first.values.items + l.registers ≤ vec_capacity s.values;
-}
+      values : s.values.items ≡ first.values.items ++ replicate l.counter Nil;
+      base : s.base ≡ first.base;
+      bases : s.bases ≡ first.bases;
+      shared : s.shared ≡ first.shared;
+      room : length first.values.items + l.registers ≤ vec_capacity s.values;
+    }
