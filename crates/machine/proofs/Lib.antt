@@ -9,3 +9,5 @@ pub mod Landings
 pub mod Items
 pub mod Loading
 pub mod LentRegisters
+pub mod SeenStates
+pub mod Ranges

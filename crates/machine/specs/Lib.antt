@@ -3,3 +3,5 @@ pub mod Words
 pub mod Fits
 pub mod Loaded
 pub mod Loading
+pub mod Seen
+pub mod Whole
