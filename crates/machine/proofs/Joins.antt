@@ -17,7 +17,7 @@ use Rattle.rules.specs.Calls.{answer, join}
 use Rattle.machine.specs.declared.function.Function.{Function}
 use Rattle.machine.specs.declared.did.Did.{Did}
 use Rattle.machine.specs.Frames.{showing, effect_of}
-use Rattle.machine.specs.Words.{IsDidOf, Does}
+use Rattle.machine.specs.Words.{IsDidOf, IsAwaited, Does}
 use Rattle.machine.proofs.Beside.{join_beside}
 use Rattle.machine.proofs.Showing.{one_need, shown_alike, set_is, only_store_by}
 
@@ -65,12 +65,13 @@ module _ (first_heap now new : HeapState) (values : List Value) (a first count l
   }
 
   -- where a handler is asked, or the pair is not joined
-  pub stops : (did : Did) (f : Function) (pc : ℕ) → ((m : State) → answered (showing m new values) (act_of new act) ≡ effect_of new did (showing m new values)) → IsDidOf new did → Does (λ m. join m a first count (datum first_heap start)) first_heap new f values values pc did
-  stops did f pc is did_known =
+  pub stops : (did : Did) (f : Function) (pc : ℕ) → ((m : State) → answered (showing m new values) (act_of new act) ≡ effect_of new did (showing m new values)) → IsDidOf new did → IsAwaited f values pc did → Does (λ m. join m a first count (datum first_heap start)) first_heap new f values values pc did
+  stops did f pc is did_known awaited =
       let all = grown_both first_heap now new joining.grown grown in
       record {
         is = λ m runs. one_pair m ∙ is m;
         known = did_known;
+        awaited = awaited;
         registers = values_are_kept first_heap new all.keeps values joining.known;
         length_is = refl;
         keeps = all.keeps;
@@ -85,6 +86,7 @@ joined_all first_heap now values a first count left start value f pc joining non
       ∙ ap (λ k. join s a first k (datum now value)) none
       ∙ set_is m now values a value within;
   known = tt;
+  awaited = tt;
   registers = All-set (IsOf now) values a value joining.value_known (values_are_kept first_heap now joining.grown.keeps values joining.known);
   length_is = length-set values a value;
   keeps = joining.grown.keeps;

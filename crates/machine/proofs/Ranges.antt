@@ -29,7 +29,7 @@ use Rattle.machine.specs.declared.function.Function.{Function}
 use Rattle.machine.specs.declared.did.Landing.{Landing}
 use Rattle.machine.specs.declared.did.OpenResults.{OpenResults}
 use Rattle.machine.specs.Frames.{data_of, results_of, landing_of}
-use Rattle.machine.specs.Words.{IsOperand, number_of, IsNumber, text_of, IsName, AreThere, IsListed, IsTest, IsLanding}
+use Rattle.machine.specs.Words.{IsOperand, number_of, IsNumber, text_of, IsName, AreThere, AreResultsThere, IsListed, IsTest, IsLanding}
 use Rattle.machine.specs.Fits.{Jumps, Fits, FitsFrame}
 
 -- ---- numbers below a limit
@@ -290,7 +290,8 @@ module _ (m0 : State) (base : BaseOf m0) (h : HeapState) (f : Function) (values 
       (omega (arith, few), far, jump_fits (word Op.ForPrep a b c bx sbx) d refl)
   word_fits Op.TForLoop a b c bx sbx d =
       let far : a + 5 < length values = (names_fit (word Op.TForLoop a b c bx sbx) d).0 in
-      (omega arith, omega (arith, few), test_fits _ (test_ways_of m0 base (word Op.TForLoop a b c bx sbx) d (λ r. refl) (λ x. refl) refl refl refl refl))
+      let last : a + 2 + c < length values = (names_fit (word Op.TForLoop a b c bx sbx) d).1.0 in
+      (omega arith, omega arith, omega (arith, few), test_fits _ (test_ways_of m0 base (word Op.TForLoop a b c bx sbx) d (λ r. refl) (λ x. refl) refl refl refl refl))
   word_fits _ a b c bx sbx d = tt
 
   -- ---- each word that works on more than the registers
@@ -303,6 +304,11 @@ module _ (m0 : State) (base : BaseOf m0) (h : HeapState) (f : Function) (values 
   called_fits : (results : Option OpenResults) (a b : ℕ) → a + pred b < length values → Met (length values) (cond (b == 0) (Some (suc a)) None) (left_in h results) → (a < length values) × (a < 256) × IsListed values results (a + 1) (count_of b)
   called_fits results a b far met =
       (omega arith, omega (arith, few), counted_listed h values results (suc a) (a + 1) b (omega arith) (λ n e some. let same : pred b ≡ n = ap pred e in omega arith) (λ e. subst (λ k. Met (length values) (cond (k == 0) (Some (suc a)) None) (left_in h results)) e met))
+
+  -- where the results of a CALL go
+  results_fit : (a c : ℕ) → a + (c - 2) < length values → AreResultsThere values a (count_of c)
+  results_fit a zero far = tt
+  results_fit a (suc n) far = λ some. omega (arith, far, some)
 
   -- the block number behind a SETLIST whose C is 0
   block_fits : (a b c bx : ℕ) (sbx : ℤ) → DoingOf m0 base (word Op.SetList a b c bx sbx) → c ≡ 0 → (suc m0.top.pc < length f.code.items) × (0 < get_or f.code.items (suc m0.top.pc) 0)
@@ -323,7 +329,10 @@ module _ (m0 : State) (base : BaseOf m0) (h : HeapState) (f : Function) (values 
   frame_fits : (results : Option OpenResults) (all : List Chunk) → ((n : ℕ) → option_and_then (slice_get all) (slice_get f.inner.items n) ≡ function_at (functions m0.top.function) n) → (op : Op) (a b c bx : ℕ) (sbx : ℤ) → DoingOf m0 base (word op a b c bx sbx) → Met (length values) (wants op (word op a b c bx sbx)) (left_in h results) → FitsFrame op f values results (length m0.top.cells) (suc m0.top.pc) (word op a b c bx sbx)
   frame_fits results all inner Op.GetUpval a b c bx sbx d met = ((names_fit (word Op.GetUpval a b c bx sbx) d).0, (upvalues_fit (word Op.GetUpval a b c bx sbx) d).0)
   frame_fits results all inner Op.SetUpval a b c bx sbx d met = ((names_fit (word Op.SetUpval a b c bx sbx) d).0, (upvalues_fit (word Op.SetUpval a b c bx sbx) d).0)
-  frame_fits results all inner Op.Call a b c bx sbx d met = called_fits results a b (names_fit (word Op.Call a b c bx sbx) d).0 met
+  frame_fits results all inner Op.Call a b c bx sbx d met =
+      let far = names_fit (word Op.Call a b c bx sbx) d in
+      let args = called_fits results a b far.0 met in
+      (args.0, args.1, args.2, results_fit a c far.1.0)
   frame_fits results all inner Op.TailCall a b c bx sbx d met = called_fits results a b (names_fit (word Op.TailCall a b c bx sbx) d).0 met
   frame_fits results all inner Op.Return a b c bx sbx d met =
       let far : a + (b - 2) < length values = (names_fit (word Op.Return a b c bx sbx) d).0 in

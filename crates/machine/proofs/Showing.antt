@@ -23,7 +23,7 @@ use Rattle.rules.specs.State.{State, Effect, Goes, need, value_of, name_of, glob
 use Rattle.machine.specs.declared.function.Function.{Function}
 use Rattle.machine.specs.declared.did.Did.{Did}
 use Rattle.machine.specs.Frames.{showing, effect_of}
-use Rattle.machine.specs.Words.{Runs, IsTest, text_of, text_at, IsDidOf, OnlyStore, Does}
+use Rattle.machine.specs.Words.{Runs, IsTest, text_of, text_at, IsDidOf, IsAwaited, OnlyStore, Does}
 
 pub constant_is : (m : State) (h : HeapState) (f : Function) (pc k : ℕ) (v : Value) → Runs m h f pc → slice_get f.constants.items k ≡ Some v → constant m k ≡ Some (datum h v)
 constant_is m h f pc k v runs at =
@@ -52,6 +52,7 @@ pub set_does : (effect : State → Effect) (h : HeapState) (f : Function) (value
 set_does effect h f values pc a v known is_of within is = record {
   is = λ m runs. is m runs ∙ set_is m h values a v within;
   known = tt;
+  awaited = tt;
   registers = All-set (IsOf h) values a v is_of known;
   length_is = length-set values a v;
   keeps = keeps_itself h;
@@ -82,14 +83,15 @@ only_store_by old new only = only ∙ (λ i. record old { texts = new.texts; tab
     same_globals = sym (ap (λ (h : HeapState). h.globals) only)
 
 -- a word whose operator's answer goes to a register
-pub give_does : (effect : State → Effect) (old new : HeapState) (f : Function) (before behind : List Value) (pc a : ℕ) (act : Act) (did : Did) (answer : Store → model.Act) → AreOf old before → OnlyTexts old new → Keeps old new → act_of new act ≡ answer (own_store old) → IsActOf new act → ((hosts : List Host) → answer (store_of old hosts) ≡ answer (own_store old)) → ((m : State) → Runs m old f pc → effect (showing m old before) ≡ give (showing m old before) a (answer (store_of old m.store.hosts))) → ((h : HeapState) (m : State) → give (showing m h before) a (act_of h act) ≡ effect_of h did (showing m h behind)) → ((h : HeapState) → IsActOf h act → IsDidOf h did) → ((h : HeapState) → IsActOf h act → AreOf h before → AreOf h behind) → length behind ≡ length before → Does effect old new f before behind pc did
-give_does effect old new f before behind pc a act did answer known only keeps acts act_known beside is gives did_known registers length_is = record {
+pub give_does : (effect : State → Effect) (old new : HeapState) (f : Function) (before behind : List Value) (pc a : ℕ) (act : Act) (did : Did) (answer : Store → model.Act) → AreOf old before → OnlyTexts old new → Keeps old new → act_of new act ≡ answer (own_store old) → IsActOf new act → ((hosts : List Host) → answer (store_of old hosts) ≡ answer (own_store old)) → ((m : State) → Runs m old f pc → effect (showing m old before) ≡ give (showing m old before) a (answer (store_of old m.store.hosts))) → ((h : HeapState) (m : State) → give (showing m h before) a (act_of h act) ≡ effect_of h did (showing m h behind)) → ((h : HeapState) → IsActOf h act → IsDidOf h did) → ((h : HeapState) → IsActOf h act → AreOf h before → AreOf h behind) → length behind ≡ length before → IsAwaited f behind pc did → Does effect old new f before behind pc did
+give_does effect old new f before behind pc a act did answer known only keeps acts act_known beside is gives did_known registers length_is awaited = record {
   is = λ m runs.
       is m runs
       ∙ ap (give (showing m old before) a) (beside m.store.hosts ∙ sym acts)
       ∙ ap (λ s. give s a (act_of new act)) (sym (shown_alike m old new before only keeps known))
       ∙ gives new m;
   known = did_known new act_known;
+  awaited = awaited;
   registers = registers new act_known (values_are_kept old new keeps before known);
   length_is = length_is;
   keeps = keeps;
@@ -108,10 +110,11 @@ runs_on old new f keeps known m pc runs = record { pc_is = runs.pc_is; code = ru
 
 -- ---- words that change nothing but the pc
 
-pub same_does : (effect : State → Effect) (h : HeapState) (f : Function) (values : List Value) (pc : ℕ) (did : Did) → AreOf h values → IsDidOf h did → ((m : State) → Runs m h f pc → effect (showing m h values) ≡ effect_of h did (showing m h values)) → Does effect h h f values values pc did
-same_does effect h f values pc did known did_known is = record {
+pub same_does : (effect : State → Effect) (h : HeapState) (f : Function) (values : List Value) (pc : ℕ) (did : Did) → AreOf h values → IsDidOf h did → IsAwaited f values pc did → ((m : State) → Runs m h f pc → effect (showing m h values) ≡ effect_of h did (showing m h values)) → Does effect h h f values values pc did
+same_does effect h f values pc did known did_known awaited is = record {
   is = is;
   known = did_known;
+  awaited = awaited;
   registers = known;
   length_is = refl;
   keeps = keeps_itself h;
@@ -119,14 +122,15 @@ same_does effect h f values pc did known did_known is = record {
 }
 
 -- a test whose operator's answer is given to it
-pub test_does : (effect : State → Effect) (old new : HeapState) (f : Function) (values : List Value) (pc a : ℕ) (act : Act) (did : Did) (answer : Store → model.Act) → AreOf old values → OnlyTexts old new → Keeps old new → act_of new act ≡ answer (own_store old) → IsActOf new act → ((hosts : List Host) → answer (store_of old hosts) ≡ answer (own_store old)) → ((m : State) → Runs m old f pc → effect (showing m old values) ≡ give_test (showing m old values) a (answer (store_of old m.store.hosts))) → ((m : State) (pc : ℕ) → Runs m old f pc → Runs m new f pc) → ((h : HeapState) (m : State) → Runs m h f pc → give_test m a (act_of h act) ≡ effect_of h did m) → ((h : HeapState) → IsActOf h act → IsDidOf h did) → Does effect old new f values values pc did
-test_does effect old new f values pc a act did answer known only keeps acts act_known beside is kept gives did_known = record {
+pub test_does : (effect : State → Effect) (old new : HeapState) (f : Function) (values : List Value) (pc a : ℕ) (act : Act) (did : Did) (answer : Store → model.Act) → AreOf old values → OnlyTexts old new → Keeps old new → act_of new act ≡ answer (own_store old) → IsActOf new act → ((hosts : List Host) → answer (store_of old hosts) ≡ answer (own_store old)) → ((m : State) → Runs m old f pc → effect (showing m old values) ≡ give_test (showing m old values) a (answer (store_of old m.store.hosts))) → ((m : State) (pc : ℕ) → Runs m old f pc → Runs m new f pc) → ((h : HeapState) (m : State) → Runs m h f pc → give_test m a (act_of h act) ≡ effect_of h did m) → ((h : HeapState) → IsActOf h act → IsDidOf h did) → IsAwaited f values pc did → Does effect old new f values values pc did
+test_does effect old new f values pc a act did answer known only keeps acts act_known beside is kept gives did_known awaited = record {
   is = λ m runs.
       is m runs
       ∙ ap (give_test (showing m old values) a) (beside m.store.hosts ∙ sym acts)
       ∙ ap (λ s. give_test s a (act_of new act)) (sym (shown_alike m old new values only keeps known))
       ∙ gives new (showing m new values) (shown_runs m new f values pc (kept m pc runs));
   known = did_known new act_known;
+  awaited = awaited;
   registers = values_are_kept old new keeps values known;
   length_is = refl;
   keeps = keeps;
@@ -150,6 +154,7 @@ pub does_from : (effect next : State → Effect) (old new : HeapState) (f : Func
 does_from effect next old new f before between behind pc did same leads does = record {
   is = λ m runs. leads m runs ∙ does.is m runs;
   known = does.known;
+  awaited = does.awaited;
   registers = does.registers;
   length_is = does.length_is ∙ same;
   keeps = does.keeps;

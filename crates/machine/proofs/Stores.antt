@@ -14,7 +14,7 @@ use Rattle.rules.specs.Step.{give_nowhere, give_write}
 use Rattle.machine.specs.declared.function.Function.{Function}
 use Rattle.machine.specs.declared.did.Did.{Did}
 use Rattle.machine.specs.Frames.{showing, effect_of}
-use Rattle.machine.specs.Words.{Runs, IsDidOf, OnlyStore, Does}
+use Rattle.machine.specs.Words.{Runs, IsDidOf, IsAwaited, OnlyStore, Does}
 use Rattle.machine.proofs.Showing.{set_is}
 
 -- the heap behind has this store
@@ -33,6 +33,7 @@ pub store_does : (effect : State → Effect) (old new : HeapState) (f : Function
 store_does effect old new f values pc store known keeps only stores is = record {
   is = λ m runs. is m runs ∙ ap Goes (shown_store m old new values (store (store_of old m.store.hosts)) keeps known (stores m.store.hosts));
   known = tt;
+  awaited = tt;
   registers = values_are_kept old new keeps values known;
   length_is = refl;
   keeps = keeps;
@@ -47,6 +48,7 @@ store_and_set_does effect old new f values pc a v store known v_known within kee
       ∙ ap (λ s. set s a (datum new v)) (shown_store m old new values (store (store_of old m.store.hosts)) keeps known (stores m.store.hosts))
       ∙ set_is m new values a v within;
   known = tt;
+  awaited = tt;
   registers = All-set (IsOf new) values a v v_known (values_are_kept old new keeps values known);
   length_is = length-set values a v;
   keeps = keeps;
@@ -54,8 +56,8 @@ store_and_set_does effect old new f values pc a v store known v_known within kee
 }
 
 -- a word whose write is answered
-pub write_does : (effect : State → Effect) (old new : HeapState) (f : Function) (values : List Value) (pc : ℕ) (act : Act) (did : Did) (answer : Store → model.Act × Store) → AreOf old values → OnlyTables old new → Keeps old new → (act_of new act, own_store new) ≡ answer (own_store old) → IsActOf new act → ((hosts : List Host) → answer (store_of old hosts) ≡ ((answer (own_store old)).0, record (answer (own_store old)).1 { hosts = hosts })) → ((m : State) → Runs m old f pc → effect (showing m old values) ≡ give_write (showing m old values) (answer (store_of old m.store.hosts))) → ((h : HeapState) (m : State) → give_nowhere m (act_of h act) ≡ effect_of h did m) → ((h : HeapState) → IsActOf h act → IsDidOf h did) → Does effect old new f values values pc did
-write_does effect old new f values pc act did answer known only keeps acts act_known beside is gives did_known = record {
+pub write_does : (effect : State → Effect) (old new : HeapState) (f : Function) (values : List Value) (pc : ℕ) (act : Act) (did : Did) (answer : Store → model.Act × Store) → AreOf old values → OnlyTables old new → Keeps old new → (act_of new act, own_store new) ≡ answer (own_store old) → IsActOf new act → ((hosts : List Host) → answer (store_of old hosts) ≡ ((answer (own_store old)).0, record (answer (own_store old)).1 { hosts = hosts })) → ((m : State) → Runs m old f pc → effect (showing m old values) ≡ give_write (showing m old values) (answer (store_of old m.store.hosts))) → ((h : HeapState) (m : State) → give_nowhere m (act_of h act) ≡ effect_of h did m) → ((h : HeapState) → IsActOf h act → IsDidOf h did) → IsAwaited f values pc did → Does effect old new f values values pc did
+write_does effect old new f values pc act did answer known only keeps acts act_known beside is gives did_known awaited = record {
   is = λ m runs.
       let s = showing m old values in
       let written : answer (store_of old m.store.hosts) ≡ (act_of new act, store_of new m.store.hosts) = beside m.store.hosts ∙ (λ i. ((acts' i).0, record (acts' i).1 { hosts = m.store.hosts })) in
@@ -64,6 +66,7 @@ write_does effect old new f values pc act did answer known only keeps acts act_k
       ∙ ap (λ t. give_nowhere t (act_of new act)) (shown_store m old new values (store_of new m.store.hosts) keeps known refl)
       ∙ gives new (showing m new values);
   known = did_known new act_known;
+  awaited = awaited;
   registers = values_are_kept old new keeps values known;
   length_is = refl;
   keeps = keeps;

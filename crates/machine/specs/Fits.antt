@@ -1,5 +1,5 @@
 -- Serves the words: what each asks of the frame, as the verifier's rules give it.
-use Rattle.std.specs.Prelude.{◌≡◌, ℕ, suc, ◌+◌, ◌-◌, ◌<◌, ◌^◌, pos, ◌+ℤ◌, List, length, get_or, Option, None, Some}
+use Rattle.std.specs.Prelude.{◌≡◌, ℕ, suc, ◌+◌, ◌-◌, ◌<◌, ◌≤◌, ◌^◌, pos, ◌+ℤ◌, List, length, get_or, Option, None, Some}
 use Rattle.opcode.specs.declared.op.Op.{Op}
 use Rattle.opcode.specs.declared.word.Instr.{Instr}
 use Rattle.lua_model.specs.declared.Value.{Value}
@@ -7,7 +7,7 @@ use Rattle.rules.specs.Places.{as_pc}
 use Rattle.machine.specs.declared.function.Function.{Function}
 use Rattle.rules.specs.Step.{count_of, list_of}
 use Rattle.machine.specs.declared.did.OpenResults.{OpenResults}
-use Rattle.machine.specs.Words.{IsOperand, IsName, IsNumber, IsTest, AreThere, IsListed}
+use Rattle.machine.specs.Words.{IsOperand, IsName, IsNumber, IsTest, AreThere, AreResultsThere, IsListed}
 
 -- a jump from a pc leads to a pc
 pub record Jumps (pc : ℕ) (i : Instr) : Type 0 where
@@ -44,7 +44,7 @@ Fits Op.Test f registers pc i = (i.a < length registers) × IsTest f pc
 Fits Op.TestSet f registers pc i = (i.a < length registers) × (i.b < length registers) × IsTest f pc
 Fits Op.ForLoop f registers pc i = (i.a < 256) × IsNumber registers i.a × IsNumber registers (i.a + 1) × IsNumber registers (i.a + 2) × (i.a + 3 < length registers) × Jumps pc i
 Fits Op.ForPrep f registers pc i = (i.a < 256) × (i.a + 2 < length registers) × Jumps pc i
-Fits Op.TForLoop f registers pc i = (i.a + 2 < length registers) × (i.a < 256) × IsTest f pc
+Fits Op.TForLoop f registers pc i = (i.a + 3 < length registers) × (i.a + 3 + i.c ≤ length registers) × (i.a < 256) × IsTest f pc
 Fits _ f registers pc i = Unit {0}
 
 -- words that work on nothing but the registers, the function and the heap
@@ -64,7 +64,7 @@ IsPlain _ = Unit {0}
 abbrev pub FitsFrame : Op → Function → List Value → Option OpenResults → (cells : ℕ) → ℕ → Instr → Type 0
 FitsFrame Op.GetUpval f registers results cells pc i = (i.a < length registers) × (i.b < cells)
 FitsFrame Op.SetUpval f registers results cells pc i = (i.a < length registers) × (i.b < cells)
-FitsFrame Op.Call f registers results cells pc i = (i.a < length registers) × (i.a < 256) × IsListed registers results (i.a + 1) (count_of i.b)
+FitsFrame Op.Call f registers results cells pc i = (i.a < length registers) × (i.a < 256) × IsListed registers results (i.a + 1) (count_of i.b) × AreResultsThere registers i.a (count_of i.c)
 FitsFrame Op.TailCall f registers results cells pc i = (i.a < length registers) × (i.a < 256) × IsListed registers results (i.a + 1) (count_of i.b)
 FitsFrame Op.Return f registers results cells pc i = (i.a < 256) × IsListed registers results i.a (count_of i.b)
 FitsFrame Op.SetList f registers results cells pc i = (i.a < length registers) × (i.a < 256) × IsListed registers results (i.a + 1) (list_of i.b) × (i.c ≡ 0 → (pc < length f.code.items) × (0 < get_or f.code.items pc 0))

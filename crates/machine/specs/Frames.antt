@@ -4,7 +4,7 @@ use Rattle.lua_model.specs.declared.Value.{Value}
 use Rattle.lua_model.specs.Datum.{Datum}
 use Rattle.lua_heap.specs.State.{HeapState, datum, store_of}
 use Rattle.rules.specs.State as rules
-use Rattle.rules.specs.State.{State, Effect, Goes, Fails, at_pc, with_results}
+use Rattle.rules.specs.State.{State, Effect, Goes, Fails, Ends, at_pc, with_results}
 use Rattle.rules.specs.Calls.{call}
 use Rattle.machine.specs.declared.did.Landing.{Landing}
 use Rattle.machine.specs.declared.did.OpenResults.{OpenResults}
@@ -37,3 +37,4 @@ effect_of h (Did.Jumps pc) m = Goes (at_pc m pc)
 effect_of h (Did.Opens results) m = Goes (with_results m (Some (results_of h results)))
 effect_of h (Did.Calls landing f args) m = call (landing_of landing) m (datum h f) (data_of h args)
 effect_of h (Did.Fails v) m = Fails m (datum h v)
+effect_of h Did.Ends m = Ends m

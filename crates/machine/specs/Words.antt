@@ -64,6 +64,11 @@ IsName f k = text_at f k ≡ None → ⊥
 abbrev pub AreThere : List Value → (first count : ℕ) → Type 0
 AreThere registers first count = 0 < count → first + count ≤ length registers
 
+-- the same of a count that may be open
+abbrev pub AreResultsThere : List Value → ℕ → Option ℕ → Type 0
+AreResultsThere registers a None = Unit {0}
+AreResultsThere registers a (Some count) = AreThere registers a count
+
 -- the list is there: so many registers from the first on, or those up to the open results
 abbrev pub IsListed : List Value → Option OpenResults → ℕ → Option ℕ → Type 0
 IsListed registers results first (Some count) = AreThere registers first count
@@ -106,11 +111,18 @@ IsDidOf h (Did.Jumps pc) = Unit {0}
 IsDidOf h (Did.Opens results) = AreOf h results.values
 IsDidOf h (Did.Calls landing f args) = IsOf h f × AreOf h args
 IsDidOf h (Did.Fails v) = IsOf h v
+IsDidOf h Did.Ends = Unit {0}
+
+-- where a call was asked for, its landing fits the frame
+abbrev pub IsAwaited : Function → List Value → ℕ → Did → Type 0
+IsAwaited f registers pc (Did.Calls landing callee args) = IsLanding f registers pc landing
+IsAwaited f registers pc _ = Unit {0}
 
 -- where the effect is this one, from one heap to the next and from these registers to others, this was done
 pub record Does (effect : State → Effect) (old new : HeapState) (f : Function) (before behind : List Value) (pc : ℕ) (did : Did) : Type 0 where
   pub is : (m : State) → Runs m old f pc → effect (showing m old before) ≡ effect_of new did (showing m new behind)
   pub known : IsDidOf new did
+  pub awaited : IsAwaited f behind pc did
   pub registers : AreOf new behind
   pub length_is : length behind ≡ length before
   pub keeps : Keeps old new
@@ -120,6 +132,7 @@ pub record Does (effect : State → Effect) (old new : HeapState) (f : Function)
 pub record DoesWith (effect : State → Effect) (old new : HeapState) (f : Function) (before behind : List Value) (taken left : Option OpenResults) (pc : ℕ) (did : Did) : Type 0 where
   pub is : (m : State) → Runs m old f pc → m.top.results ≡ option_map (results_of old) taken → effect (showing m old before) ≡ effect_of new did (with_results (showing m new behind) (option_map (results_of new) left))
   pub known : IsDidOf new did
+  pub awaited : IsAwaited f behind pc did
   pub registers : AreOf new behind
   pub results : AreResultsOf new left
   pub length_is : length behind ≡ length before

@@ -44,4 +44,6 @@ pub enum Did {
     },
     /// It failed with a value.
     Fails(Value),
+    /// It left the main frame.
+    Ends,
 }

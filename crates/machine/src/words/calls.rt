@@ -1,11 +1,12 @@
 // Words that call, and that take the arguments of the running function (manual 2.5.8 and 2.5.9).
-ghost use Rattle.std.specs.Prelude.{◌≡◌, ℕ, ◌-◌, ◌+◌, ◌<◌, suc, length, IfOk};
+ghost use Rattle.std.specs.Prelude.{◌≡◌, ℕ, ◌+◌, ◌<◌, ◌≤◌, List, length, IfOk};
+ghost use Rattle.lua_model.specs.declared.Value.{Value as TheValue};
 ghost use Rattle.opcode.specs.declared.op.Op.TheVariants as op;
 ghost use Rattle.lua_heap.specs.State.{HeapState, AreOf};
 ghost use Rattle.rules.specs.Step.{effect, count_of as count_in, landing_of as landing_in};
 ghost use Rattle.machine.specs.declared.function.Function.{Function as TheFunction};
 ghost use Rattle.machine.specs.Frames.{data_of, landing_of};
-ghost use Rattle.machine.specs.Words.{IsTest, IsListed, AreResultsOf, AreThere, Does, DoesWith};
+ghost use Rattle.machine.specs.Words.{IsTest, IsListed, IsLanding, AreResultsOf, AreResultsThere, Does, DoesWith};
 
 use crate::did::{Did, Landing, OpenResults};
 use crate::function::Function;
@@ -26,7 +27,8 @@ pub fn count_of(field: u32) -> Option<u32>
 
 /// Where the results of a CALL go: so many to the registers from one on, or all as open results.
 fn results_to(a: u32, count: Option<u32>) -> Landing
-    ensures { landing_of result ≡ landing_in a count }
+    ensures landing { landing_of result ≡ landing_in a count }
+    ensures awaited { (f : TheFunction) (registers : List TheValue) (pc : ℕ) → AreResultsThere registers a count → IsLanding f registers pc result }
 {
     match count {
         Some(count) => Landing::Fixed { a, count },
@@ -44,6 +46,7 @@ pub fn call(
     requires a { i.a < length registers.now }
     requires field { i.a < 256 }
     requires there { IsListed registers.now results.old (i.a + 1) (count_in i.b) }
+    requires results { AreResultsThere registers.now i.a (count_in i.c) }
     ensures { IfOk result (λ did. (h : HeapState) (f : TheFunction) (pc : ℕ) → AreOf h registers.now → AreResultsOf h results.old → DoesWith (λ m. effect op.Call m i) h h f registers.now registers.now results.old results.new pc did) }
 {
     let callee = register(registers, i.a);
@@ -63,7 +66,8 @@ pub fn call_iterator(
     pc: usize,
     i: Instr,
 ) -> Result<Did, AllocError>
-    requires there { i.a + 2 < length registers.now }
+    requires first { i.a + 3 < length registers.now }
+    requires there { i.a + 3 + i.c ≤ length registers.now }
     requires field { i.a < 256 }
     requires jmp { IsTest function.now pc }
     ensures { IfOk result (λ did. (h : HeapState) → AreOf h registers.now → Does (λ m. effect op.TForLoop m i) h h function.now registers.now registers.now pc did) }

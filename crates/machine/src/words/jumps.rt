@@ -1,12 +1,14 @@
 // Jumps of words.
-ghost use Rattle.std.specs.Prelude.{◌≡◌, ◌<◌, ◌^◌, ◌+ℤ◌, pos, suc, None, Some, slice_get, option_and_then};
+ghost use Rattle.std.specs.Prelude.{◌≡◌, ℕ, List, ◌<◌, ◌^◌, ◌+ℤ◌, pos, suc, None, Some, slice_get, option_and_then};
 ghost use Rattle.opcode.specs.Reading.{instr_of};
 ghost use Rattle.lua_heap.specs.State.{HeapState};
 ghost use Rattle.rules.specs.State.{State};
 ghost use Rattle.rules.specs.Places.{jmp_of, as_pc};
 ghost use Rattle.rules.specs.Calls.{branch as branch_of};
+ghost use Rattle.lua_model.specs.declared.Value.{Value as TheValue};
+ghost use Rattle.machine.specs.declared.function.Function.{Function as TheFunction};
 ghost use Rattle.machine.specs.Frames.{effect_of};
-ghost use Rattle.machine.specs.Words.{Runs, IsTest, IsDidOf};
+ghost use Rattle.machine.specs.Words.{Runs, IsTest, IsDidOf, IsAwaited};
 
 use crate::did::Did;
 use crate::function::Function;
@@ -43,6 +45,7 @@ pub fn branch(function: &Function, pc: usize, takes: bool) -> Did
     requires jmp { IsTest function.now pc }
     ensures did { (h : HeapState) (m : State) → Runs m h function.now pc → branch_of m takes ≡ effect_of h result m }
     ensures known { (h : HeapState) → IsDidOf h result }
+    ensures awaited { (f : TheFunction) (values : List TheValue) (pc : ℕ) → IsAwaited f values pc result }
 {
     let behind = pc + 1;
     if takes {

@@ -1,12 +1,14 @@
 // Where the results of calls land (manual 2.5.8).
-ghost use Rattle.std.specs.Prelude.{◌≡◌, ◌+◌, ◌<◌, ◌≤◌, nat_eq, length, IfOk};
+ghost use Rattle.std.specs.Prelude.{◌≡◌, ℕ, List, ◌+◌, ◌<◌, ◌≤◌, nat_eq, length, IfOk};
 ghost use Rattle.opcode.specs.Word.{truth_field};
 ghost use Rattle.lua_model.specs.Datum.{adjusted, first_of, is_true};
 ghost use Rattle.lua_heap.specs.State.{HeapState, AreOf, IsOf, datum};
 ghost use Rattle.rules.specs.State.{State};
 ghost use Rattle.rules.specs.Calls.{branch as branch_of, negated_as, land as land_in, turned as turned_of};
+ghost use Rattle.lua_model.specs.declared.Value.{Value as TheValue};
+ghost use Rattle.machine.specs.declared.function.Function.{Function as TheFunction};
 ghost use Rattle.machine.specs.Frames.{data_of, landing_of, effect_of};
-ghost use Rattle.machine.specs.Words.{Runs, IsTest, IsLanding, IsDidOf, Does};
+ghost use Rattle.machine.specs.Words.{Runs, IsTest, IsLanding, IsDidOf, IsAwaited, Does};
 
 use crate::did::{Did, Landing, OpenResults};
 use crate::function::Function;
@@ -33,6 +35,7 @@ fn land_test(function: &Function, pc: usize, a: u32, negated: bool, value: Value
     requires jmp { IsTest function.now pc }
     ensures did { (h : HeapState) (m : State) → Runs m h function.now pc → branch_of m (nat_eq (truth_field (negated_as negated (is_true (datum h value)))) a) ≡ effect_of h result m }
     ensures known { (h : HeapState) → IsDidOf h result }
+    ensures awaited { (f : TheFunction) (values : List TheValue) (pc : ℕ) → IsAwaited f values pc result }
 {
     let truth = value.is_true() != negated;
     branch(function, pc, u32::from(truth) == a)

@@ -26,4 +26,4 @@ returns c pc =
     (λ m runs.
     let s = showing m old values in
     two_needs (operand s i.b) (operand s i.c) x y (λ x y. give s i.a (arith s.store op x y)) (c.operand-x.ensures.value old m pc runs) (c.operand-y.ensures.value old m pc runs))
-    c.give.ensures.did c.give.ensures.known c.give.ensures.registers c.give.ensures.length_is
+    c.give.ensures.did c.give.ensures.known c.give.ensures.registers c.give.ensures.length_is (c.give.ensures.awaited c.args.function.now pc)

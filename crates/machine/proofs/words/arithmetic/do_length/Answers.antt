@@ -22,4 +22,4 @@ returns c f pc =
     (λ m runs.
     let s = showing m old values in
     one_need (register s i.b) x (λ x. give s i.a (size s.store x)) (c.register-x.ensures.value old))
-    c.give.ensures.did c.give.ensures.known c.give.ensures.registers c.give.ensures.length_is
+    c.give.ensures.did c.give.ensures.known c.give.ensures.registers c.give.ensures.length_is (c.give.ensures.awaited f pc)

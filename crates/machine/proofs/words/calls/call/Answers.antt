@@ -1,4 +1,4 @@
-use Rattle.std.proofs.Common.{◌≡◌, ◌∙◌, ◌+◌, suc, List, ap, sym, refl, arith}
+use Rattle.std.proofs.Common.{◌≡◌, ◌∙◌, ◌+◌, suc, List, ap, sym, subst, refl, arith}
 use Rattle.std.specs.Prelude.{option_map}
 use Rattle.lua_model.specs.Datum.{Datum}
 use Rattle.lua_heap.specs.State.{datum}
@@ -8,6 +8,7 @@ use Rattle.rules.specs.State.{State, Effect, register, with_results}
 use Rattle.rules.specs.Calls.{call as call_in}
 use Rattle.rules.specs.Step.{listed, count_of, landing_of as landing_in}
 use Rattle.machine.specs.Frames.{data_of, showing, results_of}
+use Rattle.machine.specs.Words.{AreResultsThere}
 use Rattle.machine.proofs.Showing.{one_need}
 use Rattle.machine.proofs.words.calls.call.Goals as goal
 
@@ -28,8 +29,9 @@ returns c h f pc known results_known =
           ∙ ap (λ k. listed s (i.a + 1) k (next (landing_in i.a (count_of i.c)))) (sym c.count_of.ensures)
           ∙ c.in_ok-args.ensures.list h m (next (landing_in i.a (count_of i.c))) same
           ∙ ap (λ k. next (landing_in i.a k) t (data_of h list)) (sym c.count_of-2.ensures)
-          ∙ ap (λ l. next l t (data_of h list)) (sym c.results_to.ensures);
+          ∙ ap (λ l. next l t (data_of h list)) (sym c.results_to.ensures.landing);
       known = (c.register-callee.ensures.known h known, c.in_ok-args.ensures.known h known results_known);
+      awaited = c.results_to.ensures.awaited f values pc (subst (AreResultsThere values i.a) (sym c.count_of-2.ensures) c.requires.results);
       registers = known;
       results = c.listed.ensures.results h results_known;
       length_is = refl;

@@ -14,6 +14,9 @@ use Rattle.machine.proofs.words.giving.give_test.Goals as goal
 pub returns-in-Value-clause-known : goal.returns-in-Value-clause-known
 returns-in-Value-clause-known c h known = c.branch-function.ensures.known h
 
+pub returns-in-Value-clause-awaited : goal.returns-in-Value-clause-awaited
+returns-in-Value-clause-awaited c values = c.branch-function.ensures.awaited c.args.function.now values c.args.pc
+
 asks : (h : HeapState) (m : State) (a : ℕ) (act : Act) (f : Value) (args : List Value) (then : Then) (negated : Bool) → act ≡ Act.Call f args then → negated ≡ is_negated (use_of then) → give_test_of m a (act_of h act) ≡ call (test a negated) m (datum h f) (data_of h args)
 asks h m a act f args then negated e n =
     ap (λ (x : Act). give_test_of m a (act_of h x)) e ∙ ap (λ b. call (test a b) m (datum h f) (data_of h args)) (sym n)

@@ -33,6 +33,7 @@ returns-in-Call c f pc =
     stops old now new values c.args.a c.args.first c.args.count c.loop-left.left n c.args.value c.loop-left.value c.register.result act c.loop-left.invariant is_left (λ m. c.register.ensures.value now) grown c.in_ok-joined.ensures.act (Did.Calls (Landing.Pairs c.args.a c.args.first n) c.in-Call.handler c.in-Call.args) f pc
     (λ m. ap (λ (b : Act). answered old now new values c.args.a c.args.first c.args.count c.loop-left.left n c.args.value c.loop-left.value c.register.result act c.loop-left.invariant is_left (λ m. c.register.ensures.value now) grown c.in_ok-joined.ensures.act (showing m new values) (act_of new b)) c.in-Call.is)
     (subst (λ (b : Act). IsActOf new b) c.in-Call.is c.in_ok-joined.ensures.known)
+    (c.requires.a, omega (arith, c.requires.there, is_left, c.loop-left.invariant.fewer), omega (arith, c.requires.room, is_left, c.loop-left.invariant.fewer))
 
 pub returns-in-Fail : goal.returns-in-Fail
 returns-in-Fail c f pc =
@@ -47,6 +48,7 @@ returns-in-Fail c f pc =
     stops old now new values c.args.a c.args.first c.args.count c.loop-left.left n c.args.value c.loop-left.value c.register.result act c.loop-left.invariant is_left (λ m. c.register.ensures.value now) grown c.in_ok-joined.ensures.act (Did.Fails c.in-Fail.failure) f pc
     (λ m. ap (λ (b : Act). answered old now new values c.args.a c.args.first c.args.count c.loop-left.left n c.args.value c.loop-left.value c.register.result act c.loop-left.invariant is_left (λ m. c.register.ensures.value now) grown c.in_ok-joined.ensures.act (showing m new values) (act_of new b)) c.in-Fail.is)
     (subst (λ (b : Act). IsActOf new b) c.in-Fail.is c.in_ok-joined.ensures.known)
+    tt
 
 pub returns : goal.returns
 returns c f pc =

@@ -48,7 +48,7 @@ returns-in-Test c =
     let negated = c.in-Test.negated in
     let vs = data_of h c.args.values in
     for_landing c.args.landing (Landing.Test a negated) h h f values values pc vs c.land_test.result c.in-Test.is
-    (same_does (λ m. land_in (landing_of (Landing.Test a negated)) m vs) h f values pc c.land_test.result c.requires.known (c.land_test.ensures.known h)
+    (same_does (λ m. land_in (landing_of (Landing.Test a negated)) m vs) h f values pc c.land_test.result c.requires.known (c.land_test.ensures.known h) (c.land_test.ensures.awaited f values pc)
     (λ m runs.
     let s = showing m h values in
     ap (λ v. branch s (nat_eq (truth_field (negated_as negated (is_true v))) a)) (sym (c.first-value.ensures.value h))
@@ -83,6 +83,7 @@ returns-in-Fixed c =
     (record {
       is = λ m runs. ap (λ (list : List Value). set_all (showing m h values) a (adjusted count (data_of h list))) (sym items) ∙ c.put_all.ensures.put h m;
       known = tt;
+      awaited = tt;
       registers = c.put_all.ensures.known h c.requires.known (subst (AreOf h) (sym items) c.requires.values);
       length_is = c.put_all.ensures.length_is;
       keeps = keeps_itself h;

@@ -25,6 +25,7 @@ returns-then-is_nil c h known values_known =
           ∙ stops_at_nil m h now a (get_or now (a + 3) Nil) (sym (c.is_nil.ensures h) ∙ c.if-is_nil.true)
           ∙ c.branch-function.ensures.did h _ (shown_runs m h f now pc runs);
       known = c.branch-function.ensures.known h;
+      awaited = c.branch-function.ensures.awaited c.args.function.now _ c.args.pc;
       registers = c.put_all.ensures.known h known values_known;
       length_is = c.put_all.ensures.length_is;
       keeps = keeps_itself h;
@@ -47,6 +48,7 @@ returns c h known values_known =
           ∙ goes_on_with m h now a v (omega (arith, c.requires.first, c.put_all.ensures.length_is)) (sym (c.is_nil.ensures h) ∙ c.if-is_nil.false)
           ∙ c.branch-function-2.ensures.did h _ (shown_runs m h f (slice_set now (a + 2) v) pc runs);
       known = c.branch-function-2.ensures.known h;
+      awaited = c.branch-function-2.ensures.awaited c.args.function.now _ c.args.pc;
       registers = All-set (IsOf h) now (a + 2) v (nil_or_known h now (a + 3) now_known) now_known;
       length_is = length-set now (a + 2) v ∙ c.put_all.ensures.length_is;
       keeps = keeps_itself h;

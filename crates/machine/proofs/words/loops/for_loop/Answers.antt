@@ -37,6 +37,7 @@ returns-then-goes_on c h f known =
           ∙ ap (turn_loop (showing m h one) i now) c.if-goes_on.true
           ∙ goes_round m h one i now c.args.pc c.jump.result (omega (arith, c.requires.variable, length-set values i.a (Number now))) runs.pc_is to;
       known = tt;
+      awaited = tt;
       registers = All-set (IsOf h) one (i.a + 3) (Number now) tt (All-set (IsOf h) values i.a (Number now) tt known);
       length_is = length-set one (i.a + 3) (Number now) ∙ length-set values i.a (Number now);
       keeps = keeps_itself h;
@@ -62,6 +63,7 @@ returns-else-goes_on c h f known =
           counted m h values i c.loop_number-first.result c.loop_number-limit.result c.loop_number-step.result now c.goes_on.result c.loop_number-first.ensures c.loop_number-limit.ensures c.loop_number-step.ensures added goes
           ∙ ap (turn_loop (showing m h one) i now) c.if-goes_on.false;
       known = tt;
+      awaited = tt;
       registers = All-set (IsOf h) values i.a (Number now) tt known;
       length_is = length-set values i.a (Number now);
       keeps = keeps_itself h;

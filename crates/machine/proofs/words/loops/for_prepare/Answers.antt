@@ -42,6 +42,7 @@ returns-in-Ok c f =
           ∙ ap (prepare (showing m h values) i) c.in-Ok.ensures
           ∙ prepared m h values i first limit step now c.args.pc c.jump.result taken runs.pc_is to;
       known = tt;
+      awaited = tt;
       registers = three_known h values i.a now limit step c.requires.known;
       length_is = length-three values i.a now limit step;
       keeps = keeps_itself h;
@@ -63,6 +64,7 @@ returns-in_ok-text_value-in-Err c f =
           ∙ ap (Fails (showing m old values)) (sym c.in_ok-text_value-in-Err.ensures.value)
           ∙ ap (λ s. Fails s (datum new c.in_ok-text_value-in-Err.field-0)) (sym (shown_alike m old new values grown.only_texts grown.keeps c.requires.known));
       known = c.in_ok-text_value-in-Err.ensures.known;
+      awaited = tt;
       registers = values_are_kept old new grown.keeps values c.requires.known;
       length_is = refl;
       keeps = grown.keeps;

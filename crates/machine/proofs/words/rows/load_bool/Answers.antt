@@ -35,6 +35,7 @@ returns-else-i-eq0 c h f known =
           ∙ set_is (skip m) h values i.a v c.requires.a
           ∙ ap (λ n. Goes (at_pc (showing m h behind) n)) (ap suc runs.pc_is ∙ next);
       known = tt;
+      awaited = tt;
       registers = All-set (IsOf h) values i.a v tt known;
       length_is = length-set values i.a v;
       keeps = keeps_itself h;

@@ -18,6 +18,7 @@ returns c h f pc known =
           ∙ ap (λ n. set_all s i.a (adjusted n [])) count
           ∙ c.put_all.ensures.put h m;
       known = tt;
+      awaited = tt;
       registers = c.put_all.ensures.known h known (λ k d within. absurd (omega (arith, within)));
       length_is = c.put_all.ensures.length_is;
       keeps = keeps_itself h;

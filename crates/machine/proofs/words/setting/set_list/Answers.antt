@@ -43,6 +43,7 @@ returns-in-Table c f pc =
           ∙ ap (λ (v : Value). set_list (with_results s (option_map (results_of old) left)) block (datum old v) (data_of old list)) c.in-Table.is
           ∙ sets_all m old new values list left c.in-Table.table.index block c.requires.block keeps c.requires.known left_known (c.in_ok-put_items-in-Table.ensures.items ∙ ap (λ (vs : List Value). with_items (own_store old) c.in-Table.table.index (pos ((block - 1) * 50 + 1)) (data_of old vs)) c.items.ensures);
       known = tt;
+      awaited = tt;
       registers = values_are_kept old new keeps values c.requires.known;
       results = (results_are_kept old new keeps left left_known).0;
       length_is = refl;
@@ -76,6 +77,7 @@ returns c f pc =
           ∙ ap (λ t. Fails (with_results t (option_map (results_of old) left)) (datum new why)) (sym (shown_alike m old new values grown.only_texts grown.keeps c.requires.known))
           ∙ ap (λ r. Fails (with_results (showing m new values) r) (datum new why)) (sym (results_are_kept old new grown.keeps left left_known).1);
       known = c.in_ok-index_failure-in_default.ensures.known;
+      awaited = tt;
       registers = values_are_kept old new grown.keeps values c.requires.known;
       results = (results_are_kept old new grown.keeps left left_known).0;
       length_is = refl;

@@ -63,4 +63,4 @@ returns c pc =
     (λ m runs.
     let s = showing m old between in
     one_need (operand s i.c) key (λ key. give s i.a (index s.store on key)) (c.operand-key.ensures.value old m pc runs))
-    c.give.ensures.did c.give.ensures.known c.give.ensures.registers c.give.ensures.length_is)
+    c.give.ensures.did c.give.ensures.known c.give.ensures.registers c.give.ensures.length_is (c.give.ensures.awaited c.args.function.now pc))

@@ -26,4 +26,4 @@ returns c pc =
     (λ m runs.
     let s = showing m old values in
     two_needs (register s i.b) (operand s i.c) on key (λ on key. give s i.a (index s.store on key)) (c.register-on.ensures.value old) (c.operand-key.ensures.value old m pc runs))
-    c.give.ensures.did c.give.ensures.known c.give.ensures.registers c.give.ensures.length_is
+    c.give.ensures.did c.give.ensures.known c.give.ensures.registers c.give.ensures.length_is (c.give.ensures.awaited c.args.function.now pc)

@@ -31,4 +31,4 @@ returns c pc =
     (λ m runs.
     let s = showing m old values in
     three_needs (register s i.a) (operand s i.b) (operand s i.c) on key v (λ on key v. give_write s (set_index s.store on key v)) (c.register-on.ensures.value old) (c.operand-key.ensures.value old m pc runs) (c.operand-value.ensures.value old m pc runs))
-    c.give_nowhere.ensures.did c.give_nowhere.ensures.known
+    c.give_nowhere.ensures.did c.give_nowhere.ensures.known (c.give_nowhere.ensures.awaited c.args.function.now values pc)

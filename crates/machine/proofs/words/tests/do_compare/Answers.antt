@@ -31,4 +31,4 @@ returns c =
     let s = showing m old values in
     jmp_need s old f pc c.requires.jmp (shown_runs m old f values pc runs) (λ distance. need (operand s i.b) (λ x. need (operand s i.c) (λ y. give_test s i.a (compare s.store op x y))))
     ∙ two_needs (operand s i.b) (operand s i.c) x y (λ x y. give_test s i.a (compare s.store op x y)) (c.operand-x.ensures.value old m pc runs) (c.operand-y.ensures.value old m pc runs))
-    (runs_on old new f c.compare.ensures.keeps c.requires.known.constants) c.give_test.ensures.did c.give_test.ensures.known
+    (runs_on old new f c.compare.ensures.keeps c.requires.known.constants) c.give_test.ensures.did c.give_test.ensures.known (c.give_test.ensures.awaited values)

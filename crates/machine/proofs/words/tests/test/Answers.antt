@@ -15,7 +15,7 @@ returns c h known =
     let values = c.args.registers.now in
     let f = c.args.function.now in
     let i = c.args.i in
-    same_does (λ m. effect op.Test m i) h f values c.args.pc c.branch-function.result known (c.branch-function.ensures.known h)
+    same_does (λ m. effect op.Test m i) h f values c.args.pc c.branch-function.result known (c.branch-function.ensures.known h) (c.branch-function.ensures.awaited f values c.args.pc)
     (λ m runs.
     let s = showing m h values in
     one_need (register s i.a) (datum h c.register.result) (λ v. branch s (not (truth_field (not (is_true v)) == i.c))) (c.register.ensures.value h)

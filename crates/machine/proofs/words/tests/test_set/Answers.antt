@@ -26,7 +26,7 @@ returns-then-false_field-i c h known =
     let f = c.args.function.now in
     let i = c.args.i in
     let v = datum h c.register-v.result in
-    same_does (λ m. effect op.TestSet m i) h f values c.args.pc c.branch-function.result known (c.branch-function.ensures.known h)
+    same_does (λ m. effect op.TestSet m i) h f values c.args.pc c.branch-function.result known (c.branch-function.ensures.known h) (c.branch-function.ensures.awaited f values c.args.pc)
     (λ m runs.
     let s = showing m h values in
     let on = shown_runs m h f values c.args.pc runs in
@@ -55,6 +55,7 @@ returns c h known =
           ∙ ap (λ ds. branch (with_registers s ds) true) (sym (map-set (datum h) values i.a w))
           ∙ c.branch-function-2.ensures.did h (showing m h set) (shown_runs m h f set c.args.pc runs);
       known = c.branch-function-2.ensures.known h;
+      awaited = c.branch-function-2.ensures.awaited c.args.function.now _ c.args.pc;
       registers = All-set (IsOf h) values i.a w (c.register-v.ensures.known h known) known;
       length_is = length-set values i.a w;
       keeps = keeps_itself h;
