@@ -1,5 +1,5 @@
 -- The registers of the topmost frame, lent among those of all frames, and what is left in them.
-use Rattle.std.proofs.Common.{◌≡◌, ◌+◌, ◌-◌, List, [], ◌∷◌, ◌++◌, length, take, drop, refl, sym, ap, subst, ◌∙◌, arith}
+use Rattle.std.proofs.Common.{◌≡◌, ℕ, ◌+◌, ◌-◌, List, [], ◌∷◌, ◌++◌, length, take, drop, refl, sym, ap, subst, ◌∙◌, arith}
 use Rattle.std.proofs.lemmas.List.{length-append, append-nil, take_all, drop_all, nil_from_length}
 use Rattle.std.specs.Prelude.{slice_get}
 use Rattle.std.proofs.lemmas.List.Elements.{All-append, All-take}
@@ -25,6 +25,14 @@ left_row (x ∷ rest) now =
     let n = size (x ∷ rest) - size rest in
     let none : drop n (drop (size rest) (in_a_row rest ++ x)) ≡ [] = ap (drop n) (drop-append_seam (in_a_row rest) x) ∙ drop_all n x (omega (arith, length-append (in_a_row rest) x)) in
     (λ i. take-append_seam (in_a_row rest) x i ++ (now ++ none i)) ∙ ap (λ l. in_a_row rest ++ l) (append-nil now)
+
+-- the registers that were lent are the topmost frame's
+pub part_is : (frames : List (List Value)) (base : ℕ) (row : List Value) → base ≡ size (below frames) → row ≡ in_a_row frames → take (length row - base) (drop base row) ≡ top frames
+part_is frames base row b r = (λ i. take (length (r i) - b i) (drop (b i) (r i))) ∙ lent_top frames
+
+-- the row when a word left these in them
+pub row_is : (frames : List (List Value)) (base : ℕ) (row now : List Value) → base ≡ size (below frames) → row ≡ in_a_row frames → take base row ++ (now ++ drop (length row - base) (drop base row)) ≡ in_a_row (below frames) ++ now
+row_is frames base row now b r = (λ i. take (b i) (r i) ++ (now ++ drop (length (r i) - b i) (drop (b i) (r i)))) ∙ left_row frames now
 
 same_row : (frames : List (List Value)) → with_row frames (in_a_row frames) ≡ frames
 same_row [] = refl

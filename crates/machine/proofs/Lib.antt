@@ -10,4 +10,7 @@ pub mod Items
 pub mod Loading
 pub mod LentRegisters
 pub mod SeenStates
+pub mod SeenCells
+pub mod MadeFrames
+pub mod FramesAbove
 pub mod Ranges

@@ -1,7 +1,7 @@
-pub mod Frames
-pub mod Words
 pub mod Fits
+pub mod Frames
 pub mod Loaded
 pub mod Loading
 pub mod Seen
 pub mod Whole
+pub mod Words

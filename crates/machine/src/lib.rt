@@ -2,10 +2,13 @@
 #![tactic(auto)]
 
 mod did;
+mod entering;
 mod frame;
 mod function;
+mod leaving;
 mod load;
 mod operands;
 mod running;
 mod topmost;
+mod upvalues;
 mod words;

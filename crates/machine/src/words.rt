@@ -15,3 +15,5 @@ mod tables;
 mod tests;
 
 pub use performing::perform;
+pub use rows::put_all;
+pub use setting::{key_of, put_items};

@@ -6,7 +6,7 @@ use Rattle.lua_model.specs.Datum.{Datum, boolean}
 use Rattle.lua_model.specs.Acts as model
 use Rattle.lua_model.specs.Store.{Store, Host}
 use Rattle.lua_model.specs.Builtins.{live_host, with_closed, one_result}
-use Rattle.lua_heap.specs.State.{HeapState, datum, IsOf, AreOf, store_of}
+use Rattle.lua_heap.specs.State.{HeapState, datum, IsOf, AreOf, OnlyTexts, store_of}
 use Rattle.natives.specs.declared.native_act.NativeAct.{NativeAct}
 
 -- the live host of this name is to be closed: there is one, or the answer is false
@@ -33,3 +33,8 @@ IsActOf h (NativeAct.CloseHost name) = Unit {0}
 abbrev pub Answers : (List Datum → Store → model.NativeAct) → HeapState → HeapState → List Value → NativeAct → Type 0
 Answers f old new args act =
     (hosts : List Host) → map (λ k. k.name) hosts ≡ old.host_names → f (map (datum old) args) (store_of old hosts) ≡ act_of new hosts act
+
+-- whatever it answers but results, of the heap only texts changed
+abbrev pub ChangesAs : HeapState → HeapState → NativeAct → Type 0
+ChangesAs old new (NativeAct.Values vs) = Unit {0}
+ChangesAs old new _ = OnlyTexts old new

@@ -3,7 +3,7 @@ ghost use Rattle.std.specs.Prelude.{◌<◌, length, IfOk};
 ghost use Rattle.std.specs.Result.{OnErr};
 ghost use Rattle.lua_model.specs.Builtins.{builtin_names, native};
 ghost use Rattle.lua_heap.specs.State.{Keeps, AreOf, OnlyTexts, OnlyTables};
-ghost use Rattle.natives.specs.Answers.{Answers, IsActOf};
+ghost use Rattle.natives.specs.Answers.{Answers, IsActOf, ChangesAs};
 ghost use Rattle.natives.specs.Refusals.{Gives};
 
 use crate::failures::{assert, error, host_close, pcall};
@@ -18,7 +18,8 @@ use std::alloc::{AllocError, Global};
 
 /// Calls the built-in function of this number (print 0, type 1, .. in the order of lua_model's `builtin_names`) with
 /// these arguments (manual 5.1). A failure is an answer. In time linear in the arguments and in what is answered, on
-/// average, but `next` steps past entries that are nil. Where memory runs out only texts of the heap changed.
+/// average, but `next` steps past entries that are nil. Where it answers no results or memory runs out, only texts of
+/// the heap changed.
 pub fn native(
     alloc: Global,
     heap: &mut Heap,
@@ -29,6 +30,7 @@ pub fn native(
     requires args { AreOf heap.old args.now }
     ensures act { IfOk result (λ r. Answers (native id) heap.old heap.new args.now r) }
     ensures known { IfOk result (IsActOf heap.new) }
+    ensures changes { IfOk result (ChangesAs heap.old heap.new) }
     ensures only_tables { OnlyTables heap.old heap.new }
     ensures err { OnErr result (OnlyTexts heap.old heap.new) }
     ensures keeps { Keeps heap.old heap.new }
@@ -46,6 +48,7 @@ fn call(alloc: Global, heap: &mut Heap, id: u8, args: &[Value]) -> Result<Native
     requires id { id < length builtin_names }
     requires args { AreOf heap.old args.now }
     ensures act { Gives (native id) heap.old heap.new args.now result }
+    ensures changes { IfOk result (ChangesAs heap.old heap.new) }
     ensures only_tables { OnlyTables heap.old heap.new }
     ensures err { OnErr result (OnlyTexts heap.old heap.new) }
     ensures keeps { Keeps heap.old heap.new }

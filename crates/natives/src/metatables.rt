@@ -5,6 +5,7 @@ ghost use Rattle.lua_model.specs.Store.{Store};
 ghost use Rattle.lua_model.specs.Builtins.{argument as argument_of, setmetatable as setmetatable_in, getmetatable as getmetatable_in, set_metatable_to, change_metatable, protection as protection_in, metatable_of as metatable_of_datum, table_or_nil as table_or_nil_datum};
 ghost use Rattle.lua_heap.specs.State.{HeapState, datum, IsOf, own_store, Keeps, meta_of, IsMetaOf, AreOf, OnlyTexts, OnlyTables};
 ghost use Rattle.lua_heap.specs.Grown.{Grown};
+ghost use Rattle.natives.specs.Answers.{ChangesAs};
 ghost use Rattle.natives.specs.Refusals.{Gives, Refuses};
 
 use crate::arguments::{a_table, any_value, argument};
@@ -19,6 +20,7 @@ use std::alloc::{AllocError, Global};
 pub fn setmetatable(alloc: Global, heap: &mut Heap, args: &[Value]) -> Result<NativeAct, Refusal>
     requires { AreOf heap.old args.now }
     ensures act { Gives setmetatable_in heap.old heap.new args.now result }
+    ensures changes { IfOk result (ChangesAs heap.old heap.new) }
     ensures only_tables { OnlyTables heap.old heap.new }
     ensures err { OnErr result (OnlyTexts heap.old heap.new) }
     ensures keeps { Keeps heap.old heap.new }

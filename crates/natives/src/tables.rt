@@ -3,6 +3,7 @@ ghost use Rattle.std.specs.Prelude.{◌≡◌, pos, ◌<◌, ◌+ℤ◌, ◌-ℤ
 ghost use Rattle.std.specs.Result.{OnErr};
 ghost use Rattle.lua_model.specs.Builtins.{rawget as rawget_in, rawset as rawset_in, next as next_in, pairs as pairs_in, ipairs as ipairs_in, ipairs_next as ipairs_next_in, unpack as unpack_in, entries as entries_of, natural};
 ghost use Rattle.lua_heap.specs.State.{HeapState, datum, own_store, Keeps, AreOf, OnlyTables};
+ghost use Rattle.natives.specs.Answers.{ChangesAs};
 ghost use Rattle.natives.specs.Refusals.{Gives};
 
 use crate::arguments::{a_number, a_table, any_value, argument_or_nil, number_or};
@@ -37,6 +38,7 @@ pub fn rawget(alloc: Global, heap: &Heap, args: &[Value]) -> Result<NativeAct, R
 pub fn rawset(alloc: Global, heap: &mut Heap, args: &[Value]) -> Result<NativeAct, Refusal>
     requires { AreOf heap.old args.now }
     ensures act { Gives rawset_in heap.old heap.new args.now result }
+    ensures changes { IfOk result (ChangesAs heap.old heap.new) }
     ensures only_tables { OnlyTables heap.old heap.new }
     ensures err { OnErr result (heap.new ≡ heap.old) }
     ensures keeps { Keeps heap.old heap.new }

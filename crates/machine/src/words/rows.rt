@@ -4,7 +4,7 @@ ghost use Rattle.opcode.specs.declared.op.Op.TheVariants as op;
 ghost use Rattle.lua_model.specs.declared.Value.TheVariants.{Nil};
 ghost use Rattle.lua_model.specs.Datum.{adjusted};
 ghost use Rattle.lua_heap.specs.State.{HeapState, AreOf};
-ghost use Rattle.rules.specs.State.{State, Goes, set_all};
+ghost use Rattle.rules.specs.State.{State, Goes, set_all, spliced};
 ghost use Rattle.rules.specs.Step.{effect};
 ghost use Rattle.machine.specs.declared.function.Function.{Function as TheFunction};
 ghost use Rattle.machine.specs.Frames.{data_of, showing};
@@ -28,6 +28,7 @@ fn value_or_nil(values: &[Value], k: usize) -> Value
 pub fn put_all(registers: &mut [Value], first: usize, count: usize, values: &[Value])
     requires there { AreThere registers.old first count }
     ensures put { (h : HeapState) (m : State) → set_all (showing m h registers.old) first (adjusted count (data_of h values.now)) ≡ Goes (showing m h registers.new) }
+    ensures spliced { (h : HeapState) → data_of h registers.new ≡ spliced (data_of h registers.old) first (adjusted count (data_of h values.now)) }
     ensures known { (h : HeapState) → AreOf h registers.old → AreOf h values.now → AreOf h registers.new }
     ensures length_is { length registers.new ≡ length registers.old }
 {

@@ -18,7 +18,7 @@ use opcode::Instr;
 use std::alloc::{AllocError, Global};
 
 /// The number of a key.
-fn key_of(number: usize) -> Result<Value, AllocError>
+pub fn key_of(number: usize) -> Result<Value, AllocError>
     ensures { IfOk result (λ key. key ≡ Value.Number (pos number)) }
 {
     match i64::try_from(number) {
@@ -28,7 +28,7 @@ fn key_of(number: usize) -> Result<Value, AllocError>
 }
 
 /// Raw entries of a table, from a key on. In time linear in the values, on average.
-fn put_items(
+pub fn put_items(
     heap: &mut Heap,
     table: TableId,
     first: usize,

@@ -11,16 +11,8 @@ use Rattle.machine.specs.declared.function.Function.{Function}
 use Rattle.machine.specs.declared.did.Did.{Did}
 use Rattle.machine.specs.Fits.{Fits}
 use Rattle.machine.specs.Words.{Does}
-use Rattle.machine.proofs.LentRegisters.{lent_top, left_row, left_frames, top-with_top, left_shares}
+use Rattle.machine.proofs.LentRegisters.{part_is, row_is, left_frames, top-with_top, left_shares}
 use Rattle.machine.proofs.topmost.perform_top.Goals as goal
-
--- the registers that were lent are the topmost frame's
-part_is : (frames : List (List Value)) (base : ℕ) (row : List Value) → base ≡ size (below frames) → row ≡ in_a_row frames → take (length row - base) (drop base row) ≡ top frames
-part_is frames base row b r = (λ i. take (length (r i) - b i) (drop (b i) (r i))) ∙ lent_top frames
-
--- the row when a word left these in them
-row_is : (frames : List (List Value)) (base : ℕ) (row now : List Value) → base ≡ size (below frames) → row ≡ in_a_row frames → take base row ++ (now ++ drop (length row - base) (drop base row)) ≡ in_a_row (below frames) ++ now
-row_is frames base row now b r = (λ i. take (b i) (r i) ++ (now ++ drop (length (r i) - b i) (drop (b i) (r i)))) ∙ left_row frames now
 
 pub perform-requires-clause-fits : goal.perform-requires-clause-fits
 perform-requires-clause-fits c =
