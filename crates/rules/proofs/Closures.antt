@@ -72,7 +72,7 @@ member_back (x ∷ xs) ys r e = go (x == r) (member_back xs ys r e)
     go true h = refl
     go false h = h
 
-captures_ok : (s : State) (caps : Registers) (words : List ℕ) → list_any (is_bad_word_of Op.Closure) words ≡ false → reaches (length s.top.registers) (named_by_all Op.Move words) ≡ false → reaches (length s.top.cells) (named_by_all Op.GetUpval words) ≡ false → ((r : ℕ) → member (named_by_all Op.Move words) r ≡ true → caps r ≡ true) → AreCaptures s caps words
+pub captures_ok : (s : State) (caps : Registers) (words : List ℕ) → list_any (is_bad_word_of Op.Closure) words ≡ false → reaches (length s.top.registers) (named_by_all Op.Move words) ≡ false → reaches (length s.top.cells) (named_by_all Op.GetUpval words) ≡ false → ((r : ℕ) → member (named_by_all Op.Move words) r ≡ true → caps r ≡ true) → AreCaptures s caps words
 captures_ok s caps [] bad registers upvalues named = tt
 captures_ok s caps (w ∷ rest) bad registers upvalues named =
     (word_capture s caps (instr_of w) (some_head (is_bad_word_of Op.Closure) w rest bad) (reach_front _ (named_by Op.Move (instr_of w)) (named_by_all Op.Move rest) registers) (reach_front _ (named_by Op.GetUpval (instr_of w)) (named_by_all Op.GetUpval rest) upvalues) (λ r e. named r (member_front (named_by Op.Move (instr_of w)) (named_by_all Op.Move rest) r e)), captures_ok s caps rest (some_tail (is_bad_word_of Op.Closure) w rest bad) (reach_back _ (named_by Op.Move (instr_of w)) (named_by_all Op.Move rest) registers) (reach_back _ (named_by Op.GetUpval (instr_of w)) (named_by_all Op.GetUpval rest) upvalues) (λ r e. named r (member_back (named_by Op.Move (instr_of w)) (named_by_all Op.Move rest) r e)))

@@ -69,7 +69,7 @@ words_fine m0 base Op.Closure a b c bx sbx d met = closure_fine m0 base a b c bx
 words_fine m0 base Op.Vararg a b c bx sbx d met = vararg_fine m0 base a b c bx sbx d
 
 -- there is an instruction at each place of a sound function
-has_instr : (f : Chunk) (known : Known f) (pc : ℕ) → is_place f (Some pc) ≡ true → (i : Instr) × (instr_at f pc ≡ Some i)
+pub has_instr : (f : Chunk) (known : Known f) (pc : ℕ) → is_place f (Some pc) ≡ true → (i : Instr) × (instr_at f pc ≡ Some i)
 has_instr f known pc place =
     let low : pc < length (own f).code = ltb-true _ _ (and_first _ _ place) in
     let solid : is_further f pc ≡ false = not_true _ (and_second _ _ place) in
@@ -83,7 +83,7 @@ has_instr f known pc place =
     go (Some i) e = (i, refl)
 
 -- a result of a run that is not stuck, and whose state is as it should be
-abbrev IsFine : Conf → Type 0
+abbrev pub IsFine : Conf → Type 0
 IsFine (Going s) = Inv s
 IsFine (Ended store outside) = Unit {0}
 IsFine (Failed text store outside) = Unit {0}
@@ -121,7 +121,7 @@ unwind_fine s (x ∷ below) at base v =
 after_fine : (s : State) (e : Effect) → Fine e → IsFine (after s e)
 after_fine s e fine = settled_fine s _ e (λ at v base. unwind_fine s (at.top ∷ at.below) at base v) fine
 
-step_fine : (s : State) → Inv s → IsFine (step s)
+pub step_fine : (s : State) → Inv s → IsFine (step s)
 step_fine s inv =
     let solid : is_further s.top.function s.top.pc ≡ false = not_true _ (and_second _ _ inv.ready.place) in
     let i = has_instr s.top.function inv.base.known s.top.pc inv.ready.place in
@@ -143,7 +143,7 @@ no_upvalues : (chunk : Chunk) → Sound chunk → (own chunk).upvalues ≤ 0
 no_upvalues (function f inner) sound =
     ltb-false 0 f.upvalues (or_second_false _ _ (or_first_false _ _ (shape_of (function f inner) (known_of (function f inner) true sound))))
 
-start_fine : (chunk : Chunk) → Sound chunk → (store : Store) (replies : List Reply) → IsFine (start chunk store replies)
+pub start_fine : (chunk : Chunk) → Sound chunk → (store : Store) (replies : List Reply) → IsFine (start chunk store replies)
 start_fine (function f inner) sound store replies =
     after_fine _ _ (begin_fine (first_state (function f inner) store replies) (record { function = function f inner; cells = [] }) [] nowhere 0 (record {
       known = known_of (function f inner) true sound;
