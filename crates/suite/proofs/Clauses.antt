@@ -32,6 +32,16 @@ stores_in (list_file file) bytes text comes = comes
 stores_in (verify_file file) bytes text comes = comes
 stores_in (compile_file file out strip) bytes text comes = tt
 
+-- what an outcome says of the end that was carried out
+abbrev Tells : Outcome → End → Type 0
+Tells (Outcome.BadSource fault) end = end ≡ bad_source fault
+Tells (Outcome.BadChunk fault) end = end ≡ bad_chunk fault
+Tells (Outcome.Rejected rejection) end = end ≡ rejected rejection
+Tells Outcome.Unbuilt end = end ≡ unbuilt
+Tells Outcome.BadWords end = ⊥
+Tells Outcome.ReadFault end = ⊥
+Tells outcome end = Unit {0}
+
 -- how a job is carried out
 module _ (job : Job) (old new : Outside) where
   -- what is called behind the fetch
@@ -132,54 +142,20 @@ module _ (job : Job) (old new : Outside) where
   refused_as (rejected rejection) outcome c other = ap status_of c.0
   refused_as unbuilt outcome c other = ap status_of c.0
 
-  -- the other way round
-  pub source_refused : (end : End) (fault : Fault) → CarriesOut job end (Outcome.BadSource fault) old new → end ≡ bad_source fault
-  source_refused (put text) fault c = absurd c
-  source_refused (stored text) fault c = absurd c
-  source_refused (bad_source other) fault c = let same = c.0 in cc
-  source_refused (bad_chunk other) fault c = let same = c.0 in cc
-  source_refused (rejected rejection) fault c = let same = c.0 in cc
-  source_refused unbuilt fault c = let same = c.0 in cc
-
-  pub chunk_refused : (end : End) (fault : ChunkFault) → CarriesOut job end (Outcome.BadChunk fault) old new → end ≡ bad_chunk fault
-  chunk_refused (put text) fault c = absurd c
-  chunk_refused (stored text) fault c = absurd c
-  chunk_refused (bad_source other) fault c = let same = c.0 in cc
-  chunk_refused (bad_chunk other) fault c = let same = c.0 in cc
-  chunk_refused (rejected other) fault c = let same = c.0 in cc
-  chunk_refused unbuilt fault c = let same = c.0 in cc
-
-  pub rejected_as : (end : End) (rejection : Rejection) → CarriesOut job end (Outcome.Rejected rejection) old new → end ≡ rejected rejection
-  rejected_as (put text) rejection c = absurd c
-  rejected_as (stored text) rejection c = absurd c
-  rejected_as (bad_source other) rejection c = let same = c.0 in cc
-  rejected_as (bad_chunk other) rejection c = let same = c.0 in cc
-  rejected_as (rejected other) rejection c = let same = c.0 in cc
-  rejected_as unbuilt rejection c = let same = c.0 in cc
-
-  pub unbuilt_refused : (end : End) → CarriesOut job end Outcome.Unbuilt old new → end ≡ unbuilt
-  unbuilt_refused (put text) c = absurd c
-  unbuilt_refused (stored text) c = absurd c
-  unbuilt_refused (bad_source other) c = let same = c.0 in cc
-  unbuilt_refused (bad_chunk other) c = let same = c.0 in cc
-  unbuilt_refused (rejected rejection) c = let same = c.0 in cc
-  unbuilt_refused unbuilt c = refl
-
-  pub never_bad_words : (end : End) → CarriesOut job end Outcome.BadWords old new → ⊥
-  never_bad_words (put text) c = c
-  never_bad_words (stored text) c = c
-  never_bad_words (bad_source other) c = let same = c.0 in cc
-  never_bad_words (bad_chunk other) c = let same = c.0 in cc
-  never_bad_words (rejected rejection) c = let same = c.0 in cc
-  never_bad_words unbuilt c = let same = c.0 in cc
-
-  pub never_read_fault : (end : End) → CarriesOut job end Outcome.ReadFault old new → ⊥
-  never_read_fault (put text) c = c
-  never_read_fault (stored text) c = c
-  never_read_fault (bad_source other) c = let same = c.0 in cc
-  never_read_fault (bad_chunk other) c = let same = c.0 in cc
-  never_read_fault (rejected rejection) c = let same = c.0 in cc
-  never_read_fault unbuilt c = let same = c.0 in cc
+  -- the other way round: the outcome of a refusal tells what was refused
+  tells : (end : End) (outcome : Outcome) → CarriesOut job end outcome old new → Tells outcome end
+  tells (put text) Outcome.Done c = tt
+  tells (put text) Outcome.WriteFault c = tt
+  tells (put text) Outcome.OutOfMemory c = tt
+  tells (put text) outcome c = absurd c
+  tells (stored text) Outcome.Done c = tt
+  tells (stored text) Outcome.WriteFault c = tt
+  tells (stored text) Outcome.OutOfMemory c = tt
+  tells (stored text) outcome c = absurd c
+  tells (bad_source fault) outcome c = subst (λ o. Tells o (bad_source fault)) (sym c.0) refl
+  tells (bad_chunk fault) outcome c = subst (λ o. Tells o (bad_chunk fault)) (sym c.0) refl
+  tells (rejected rejection) outcome c = subst (λ o. Tells o (rejected rejection)) (sym c.0) refl
+  tells unbuilt outcome c = subst (λ o. Tells o unbuilt) (sym c.0) refl
 
 -- a fetch that succeeds changes neither what files hold nor what the sink took
 pub leaves_before : (job : Job) (old new : Outside) (end : End) → Leaves job end (fetched job false old) new → Leaves job end old new
@@ -389,88 +365,48 @@ module _ (laws : Laws) (words : Words) (job : Job) (reads : Reads words job) (ol
             let l = done_leaves job (fetched job false old) new c.end (subst (λ o. CarriesOut job c.end o (fetched job false old) new) done c.carried) in
             (c.end, c.comes, l.0, leaves_before job old new c.end l.1)
 
-    pub bad_source_clause : result ≡ Status.BadSource → Fetched words false old.calls new.calls × (fault : Fault) × ((other : Job) (bytes : List ℕ) → Asks words old.contents other bytes → Comes other bytes (bad_source fault)) × Takes err_before err_later (line_of (Outcome.BadSource fault) (named words))
-    bad_source_clause e = (
+    -- a status that tells what the job comes to
+    told : {A : Type 0} (status : Status) (outcome_of : A → Outcome) (end_of : A → End)
+        → status ≢ Status.WriteFault → status ≢ Status.OutOfMemory → ((a : A) → outcome_of a ≢ Outcome.ReadFault) → ((a : A) → outcome_of a ≢ Outcome.OutOfMemory)
+        → (status_of outcome ≡ status → (a : A) × (outcome ≡ outcome_of a)) → ((a : A) (end : End) → Tells (outcome_of a) end → end ≡ end_of a) → result ≡ status
+        → Fetched words false old.calls new.calls × (a : A) × ((other : Job) (bytes : List ℕ) → Asks words old.contents other bytes → Comes other bytes (end_of a)) × Takes err_before err_later (line_of (outcome_of a) (named words))
+    told {A = A} status outcome_of end_of no_fault no_want not_read not_wanting of_own same e = (
       fetched_calls f,
-      bad.0,
-      λ other bytes asks. subst (λ j. Comes j bytes (bad_source bad.0)) (sym (asked other asks.reads)) (carried bytes (does_told bytes (told_job other bytes asks) f)),
-      subst (λ o. Takes err_before err_later (line_of o (named words))) bad.1 s.1,
+      its.0,
+      λ other bytes asks. subst (λ j. Comes j bytes (end_of its.0)) (sym (asked other asks.reads)) (carried bytes (does_told bytes (told_job other bytes asks) f)),
+      subst (λ o. Takes err_before err_later (line_of o (named words))) its.1 s.1,
     )
       where
-        s : (status_of outcome ≡ Status.BadSource) × Takes err_before err_later (line_of outcome (named words))
-        s = settled Status.BadSource e (λ w. cc) (λ w. cc)
+        s : (status_of outcome ≡ status) × Takes err_before err_later (line_of outcome (named words))
+        s = settled status e no_fault no_want
 
-        bad : (fault : Fault) × (outcome ≡ Outcome.BadSource fault)
-        bad = of_status outcome Status.BadSource s.0
+        its : (a : A) × (outcome ≡ outcome_of a)
+        its = of_own s.0
+
+        wanting : outcome ≢ Outcome.OutOfMemory
+        wanting w = not_wanting its.0 (sym its.1 ∙ w)
 
         f : DoesFetched job outcome old new
-        f = job_done (λ w. cc (bad.1)) (λ w. cc (bad.1))
+        f = job_done (λ w. not_read its.0 (sym its.1 ∙ w)) wanting
 
-        carried : (bytes : List ℕ) → Does job bytes outcome (fetched job false old) new → Comes job bytes (bad_source bad.0)
+        carried : (bytes : List ℕ) → Does job bytes outcome (fetched job false old) new → Comes job bytes (end_of its.0)
         carried bytes d =
-            let c = job_carried bytes (λ w. cc (bad.1)) d in
-            subst (Comes job bytes) (source_refused job (fetched job false old) new c.end bad.0 (subst (λ o. CarriesOut job c.end o (fetched job false old) new) bad.1 c.carried)) c.comes
+            let c = job_carried bytes wanting d in
+            subst (Comes job bytes) (same its.0 c.end (subst (λ o. Tells o c.end) its.1 (tells job (fetched job false old) new c.end outcome c.carried))) c.comes
+
+    pub bad_source_clause : result ≡ Status.BadSource → Fetched words false old.calls new.calls × (fault : Fault) × ((other : Job) (bytes : List ℕ) → Asks words old.contents other bytes → Comes other bytes (bad_source fault)) × Takes err_before err_later (line_of (Outcome.BadSource fault) (named words))
+    bad_source_clause = told Status.BadSource Outcome.BadSource bad_source (λ w. cc) (λ w. cc) (λ a w. cc) (λ a w. cc) (of_status outcome Status.BadSource) (λ a end is. is)
 
     pub bad_chunk_clause : result ≡ Status.BadChunk → Fetched words false old.calls new.calls × (fault : ChunkFault) × ((other : Job) (bytes : List ℕ) → Asks words old.contents other bytes → Comes other bytes (bad_chunk fault)) × Takes err_before err_later (line_of (Outcome.BadChunk fault) (named words))
-    bad_chunk_clause e = (
-      fetched_calls f,
-      bad.0,
-      λ other bytes asks. subst (λ j. Comes j bytes (bad_chunk bad.0)) (sym (asked other asks.reads)) (carried bytes (does_told bytes (told_job other bytes asks) f)),
-      subst (λ o. Takes err_before err_later (line_of o (named words))) bad.1 s.1,
-    )
-      where
-        s : (status_of outcome ≡ Status.BadChunk) × Takes err_before err_later (line_of outcome (named words))
-        s = settled Status.BadChunk e (λ w. cc) (λ w. cc)
-
-        bad : (fault : ChunkFault) × (outcome ≡ Outcome.BadChunk fault)
-        bad = of_status outcome Status.BadChunk s.0
-
-        f : DoesFetched job outcome old new
-        f = job_done (λ w. cc (bad.1)) (λ w. cc (bad.1))
-
-        carried : (bytes : List ℕ) → Does job bytes outcome (fetched job false old) new → Comes job bytes (bad_chunk bad.0)
-        carried bytes d =
-            let c = job_carried bytes (λ w. cc (bad.1)) d in
-            subst (Comes job bytes) (chunk_refused job (fetched job false old) new c.end bad.0 (subst (λ o. CarriesOut job c.end o (fetched job false old) new) bad.1 c.carried)) c.comes
+    bad_chunk_clause = told Status.BadChunk Outcome.BadChunk bad_chunk (λ w. cc) (λ w. cc) (λ a w. cc) (λ a w. cc) (of_status outcome Status.BadChunk) (λ a end is. is)
 
     pub rejected_clause : result ≡ Status.Rejected → Fetched words false old.calls new.calls × (rejection : Rejection) × ((other : Job) (bytes : List ℕ) → Asks words old.contents other bytes → Comes other bytes (rejected rejection)) × Takes err_before err_later (line_of (Outcome.Rejected rejection) (named words))
-    rejected_clause e = (
-      fetched_calls f,
-      bad.0,
-      λ other bytes asks. subst (λ j. Comes j bytes (rejected bad.0)) (sym (asked other asks.reads)) (carried bytes (does_told bytes (told_job other bytes asks) f)),
-      subst (λ o. Takes err_before err_later (line_of o (named words))) bad.1 s.1,
-    )
-      where
-        s : (status_of outcome ≡ Status.Rejected) × Takes err_before err_later (line_of outcome (named words))
-        s = settled Status.Rejected e (λ w. cc) (λ w. cc)
-
-        bad : (rejection : Rejection) × (outcome ≡ Outcome.Rejected rejection)
-        bad = of_status outcome Status.Rejected s.0
-
-        f : DoesFetched job outcome old new
-        f = job_done (λ w. cc (bad.1)) (λ w. cc (bad.1))
-
-        carried : (bytes : List ℕ) → Does job bytes outcome (fetched job false old) new → Comes job bytes (rejected bad.0)
-        carried bytes d =
-            let c = job_carried bytes (λ w. cc (bad.1)) d in
-            subst (Comes job bytes) (rejected_as job (fetched job false old) new c.end bad.0 (subst (λ o. CarriesOut job c.end o (fetched job false old) new) bad.1 c.carried)) c.comes
+    rejected_clause = told Status.Rejected Outcome.Rejected rejected (λ w. cc) (λ w. cc) (λ a w. cc) (λ a w. cc) (of_status outcome Status.Rejected) (λ a end is. is)
 
     pub unbuilt_clause : result ≡ Status.Unbuilt → Fetched words false old.calls new.calls × ((other : Job) (bytes : List ℕ) → Asks words old.contents other bytes → Comes other bytes unbuilt)
-    unbuilt_clause e = (
-      fetched_calls f,
-      λ other bytes asks. subst (λ j. Comes j bytes unbuilt) (sym (asked other asks.reads)) (carried bytes (does_told bytes (told_job other bytes asks) f)),
-    )
-      where
-        is : outcome ≡ Outcome.Unbuilt
-        is = of_status outcome Status.Unbuilt (settled Status.Unbuilt e (λ w. cc) (λ w. cc)).0
-
-        f : DoesFetched job outcome old new
-        f = job_done (λ w. cc (is)) (λ w. cc (is))
-
-        carried : (bytes : List ℕ) → Does job bytes outcome (fetched job false old) new → Comes job bytes unbuilt
-        carried bytes d =
-            let c = job_carried bytes (λ w. cc (is)) d in
-            subst (Comes job bytes) (unbuilt_refused job (fetched job false old) new c.end (subst (λ o. CarriesOut job c.end o (fetched job false old) new) is c.carried)) c.comes
+    unbuilt_clause e =
+        let t = told {A = Unit {0}} Status.Unbuilt (λ a. Outcome.Unbuilt) (λ a. unbuilt) (λ w. cc) (λ w. cc) (λ a w. cc) (λ a w. cc) (λ s. (tt, of_status outcome Status.Unbuilt s)) (λ a end is. is) e in
+        (t.0, t.2)
 
     pub bad_words_clause : result ≡ Status.BadWords → ⊥
     bad_words_clause e = never (job_carried f.bytes (λ w. cc (is)) f.does)
@@ -482,7 +418,7 @@ module _ (laws : Laws) (words : Words) (job : Job) (reads : Reads words job) (ol
         f = job_done (λ w. cc (is)) (λ w. cc (is))
 
         never : Carried job f.bytes outcome (fetched job false old) new → ⊥
-        never c = never_bad_words job (fetched job false old) new c.end (subst (λ o. CarriesOut job c.end o (fetched job false old) new) is c.carried)
+        never c = subst (λ o. Tells o c.end) is (tells job (fetched job false old) new c.end outcome c.carried)
 
     pub read_fault_clause : result ≡ Status.ReadFault → Fetched words true old.calls new.calls
     read_fault_clause e = by works
@@ -491,7 +427,7 @@ module _ (laws : Laws) (words : Words) (job : Job) (reads : Reads words job) (ol
         is = of_status outcome Status.ReadFault (settled Status.ReadFault e (λ w. cc) (λ w. cc)).0
 
         never : (bytes : List ℕ) → Carried job bytes outcome (fetched job false old) new → ⊥
-        never bytes c = never_read_fault job (fetched job false old) new c.end (subst (λ o. CarriesOut job c.end o (fetched job false old) new) is c.carried)
+        never bytes c = subst (λ o. Tells o c.end) is (tells job (fetched job false old) new c.end outcome c.carried)
 
         by : Works (Some job) outcome old new → Fetched words true old.calls new.calls
         by (inl w) = failed_calls w.1

@@ -6,6 +6,7 @@ pub mod Registers
 pub mod Steps
 pub mod Runs
 pub mod SourceLemmas
+pub mod FitsStripped
 pub mod Verified
 mod WordLemmas
 pub mod Meant

@@ -2,6 +2,7 @@
 ghost use Rattle.std.specs.Prelude.{◌≡◌, ℕ, List, Option, Err, IfOk, IsErrOf};
 ghost use Rattle.std.specs.String.{string_bytes};
 ghost use Rattle.proto.specs.View.{view_proto};
+ghost use Rattle.chunk_io.specs.Items.{Fits as ChunkFits, le8};
 ghost use Rattle.suite.specs.declared.fault.Fault.{Fault};
 ghost use Rattle.suite.specs.Words.{compile_file as compile_job};
 ghost use Rattle.suite.specs.Outcome.{IsFaultIn};
@@ -10,7 +11,7 @@ ghost use Rattle.suite.specs.Work.{Does, StoresText, outside};
 
 use crate::outcome::Outcome;
 use crate::source::{SourceFault, parsed_tree, scopes_of};
-use chunk_io::{Layout, dump, fits};
+use chunk_io::dump;
 use codegen::compile;
 use lua_num::ByteText;
 use proto::Proto;
@@ -37,6 +38,7 @@ pub fn compile_file<F: Files>(
 /// The chunk of a source, or its fault. The time is about linear in the bytes.
 pub fn compiled_chunk(alloc: Global, bytes: &[u8], file: &Word) -> Result<Proto, SourceFault>
     ensures chunk { IfOk result (λ proto. IsCompiled (string_bytes file.now) bytes.now (view_proto proto)) }
+    ensures spelled { IfOk result (λ proto. ChunkFits le8 (view_proto proto)) }
     ensures bad { (fault : Fault) → result ≡ Err (SourceFault.Bad fault) → IsFaultIn bytes.now fault }
     ensures built { IsErrOf result SourceFault.Unbuilt → ⊥ }
 {
@@ -56,7 +58,7 @@ fn source_name(alloc: Global, file: &Word) -> Result<ByteText, AllocError>
     Ok(name)
 }
 
-// The bytes of the chunk of a source, stripped or not. A chunk that no bytes spell is taken as want of memory.
+// The bytes of the chunk of a source, stripped or not.
 fn spelled_source(
     alloc: Global,
     bytes: &[u8],
@@ -69,9 +71,6 @@ fn spelled_source(
 {
     let proto = compiled_chunk(alloc, bytes, source)?;
     let kept = stripped_if(alloc, proto, strip);
-    if !fits(&kept, Layout::le8()) {
-        return Err(SourceFault::OutOfMemory);
-    }
     let text = dump(alloc, &kept)?;
     Ok(text)
 }

@@ -14,13 +14,13 @@ ghost use Rattle.suite.specs.Work.{Does, PutsText, outside};
 
 use crate::compiling::compiled_chunk;
 use crate::outcome::Outcome;
-use crate::output::put_all;
+use crate::output::put_text;
 use crate::source::is_chunk;
 use chunk_io::{ChunkFault, undump};
 use lister::list;
 use proto::Proto;
 use std::alloc::Global;
-use suite_io::{Sink, SinkFault, Word};
+use suite_io::{Sink, Word};
 
 /// Puts the listing of the chunk of a file: the one that its bytes spell, or that of the source.
 pub fn list_bytes<O: Sink>(alloc: Global, bytes: &[u8], file: &Word, out: &mut O) -> Outcome
@@ -69,9 +69,5 @@ fn put_listing<O: Sink>(alloc: Global, proto: &Proto, out: &mut O) -> Outcome
     let Ok(text) = list(alloc, proto) else {
         return Outcome::OutOfMemory;
     };
-    match put_all(out, text.bytes()) {
-        Ok(()) => Outcome::Done,
-        Err(SinkFault::Failed) => Outcome::WriteFault,
-        Err(SinkFault::OutOfMemory) => Outcome::OutOfMemory,
-    }
+    put_text(out, text.bytes())
 }

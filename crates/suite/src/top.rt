@@ -38,7 +38,7 @@ pub fn suite<F: Files, O: Sink, E: Sink>(
         × Reported settled (named words.now) result (E.taken err.old) (E.taken err.new) (E.faults err.old) (E.faults err.new) }
 
     // What the words ask for is carried out, where no count of faults rose: source of the first form prints what it means, a chunk and a
-    // source are listed, a source is compiled, and what has a fault is refused.
+    // source are listed or verified, a source is compiled, and what has a fault, or is verified and not sound, is refused.
     ensures carried_out { (job : Job) (bytes : List ℕ) (end : End) → Asks words.now (F.contents files.old) job bytes → Comes job bytes end
         → NoFault (F.calls files.old) (F.calls files.new) → ¬ (Rises (O.faults out.old) (O.faults out.new)) → ¬ (Rises (E.faults err.old) (E.faults err.new))
         → ((result ≡ status_at end) × Leaves job end (outside (F.contents files.old) (F.calls files.old) (O.taken out.old) (O.faults out.old)) (outside (F.contents files.new) (F.calls files.new) (O.taken out.new) (O.faults out.new))) ⊎ (result ≡ Status.OutOfMemory) }

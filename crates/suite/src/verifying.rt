@@ -1,5 +1,5 @@
 // Verifying a file.
-ghost use Rattle.std.specs.Prelude.{◌≤◌, List, ℕ, Option, codes, ◌++◌, [], ◌∷◌, IfErr, IsOk};
+ghost use Rattle.std.specs.Prelude.{◌≤◌, List, Option, IfErr, IsOk};
 ghost use Rattle.std.specs.String.{string_bytes};
 ghost use Rattle.proto.specs.View.{view_proto};
 ghost use Rattle.rules.specs.Sound.{Sound};
@@ -7,15 +7,15 @@ ghost use Rattle.suite_io.specs.declared.calls.FileCall.{FileCall};
 ghost use Rattle.suite_io.specs.Contents.{Contents};
 ghost use Rattle.suite.specs.Words.{verify_file};
 ghost use Rattle.suite.specs.Verifying.{IsRefused};
-ghost use Rattle.suite.specs.Work.{Does, PutsText, outside};
+ghost use Rattle.suite.specs.Work.{Does, outside};
 
 use crate::fault::Rejection;
 use crate::listing::chunk_of;
 use crate::outcome::Outcome;
-use crate::output::put_all;
+use crate::output::put_text;
 use proto::Proto;
 use std::alloc::Global;
-use suite_io::{Sink, SinkFault, Word};
+use suite_io::{Sink, Word};
 use verifier::{Refusal, verify};
 
 /// Puts `ok` and a line end where the chunk of a file is sound: the one that its bytes spell, or that of the source.
@@ -28,7 +28,7 @@ pub fn verify_bytes<O: Sink>(alloc: Global, bytes: &[u8], file: &Word, out: &mut
         Err(outcome) => return outcome,
     };
     match sound(alloc, proto) {
-        Ok(()) => put_ok(out),
+        Ok(()) => put_text(out, b"ok\n"),
         Err(outcome) => outcome,
     }
 }
@@ -44,16 +44,5 @@ fn sound(alloc: Global, proto: Proto) -> Result<(), Outcome>
             Err(Outcome::Rejected(Rejection { path, pc, rule }))
         }
         Err(Refusal::OutOfMemory { .. }) => Err(Outcome::OutOfMemory),
-    }
-}
-
-fn put_ok<O: Sink>(out: &mut O) -> Outcome
-    ensures puts { (contents : Option Contents) (calls : List FileCall) → PutsText (codes "ok" ++ 10 ∷ []) result (outside contents calls (O.taken out.old) (O.faults out.old)) (outside contents calls (O.taken out.new) (O.faults out.new)) }
-    ensures never_falls { O.faults out.old ≤ O.faults out.new }
-{
-    match put_all(out, b"ok\n") {
-        Ok(()) => Outcome::Done,
-        Err(SinkFault::Failed) => Outcome::WriteFault,
-        Err(SinkFault::OutOfMemory) => Outcome::OutOfMemory,
     }
 }

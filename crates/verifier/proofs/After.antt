@@ -1,8 +1,10 @@
 -- What a word does to a note.
-use Rattle.std.proofs.Common.{◌∙◌, ◌≡◌, ℕ, suc, ◌+◌, ◌<◌, ◌≤◌, Bool, true, false, ◌&&◌, ◌||◌, not, List, [], ◌∷◌, ◌++◌, length, drop, refl, sym, ap, subst, arith}
+use Rattle.std.proofs.Common.{◌∙◌, ◌≡◌, ℕ, suc, ◌+◌, ◌<◌, Bool, true, false, ◌&&◌, ◌||◌, not, List, [], ◌∷◌, ◌++◌, length, drop, refl, sym, ap, subst, arith}
 use Rattle.std.specs.Prelude.{ℤ, Option, get_or, ◌==◌, nat_lt, nat_le, if◌then◌else◌}
 use Rattle.std.specs.List.{list_any}
-use Rattle.std.proofs.Math.Seq.{drop-length}
+use Rattle.std.proofs.Math.Bool.{or_assoc, or-false, and-true}
+use Rattle.std.proofs.lemmas.List.{at_drop_more}
+use Rattle.std.proofs.lemmas.List.Folds.{list_any-append}
 use Rattle.std.proofs.lemmas.Bool.{ltb-true, ltb-false, leb-true, leb-false, eqb-true, eqb-false}
 use Rattle.opcode.specs.declared.op.Op.{Op}
 use Rattle.opcode.specs.declared.word.Instr.{Instr}
@@ -11,9 +13,8 @@ use Rattle.proto.specs.Chunk.{Chunk}
 use Rattle.rules.specs.Places.{named_by, named_by_all, named_further, words_of, is_pc, ways, test_ways, plain_ways, jmp_at}
 use Rattle.rules.specs.Words.{is_test}
 use Rattle.rules.specs.Notes.{Note as Meant, after, writes, closes, prepares, captures}
-use Rattle.verifier.specs.Registers.{Alike, hit, is_in, is_hit, capturing, capturing_each, capturing_all, letting_go_by, preparing_by}
+use Rattle.verifier.specs.Registers.{Alike, hit, is_in, is_hit, capturing, capturing_each, capturing_all, letting_go, preparing}
 use Rattle.verifier.specs.Flow.{Writes}
-use Rattle.verifier.proofs.Scans.{left_at}
 
 -- notes that say the same still do after a capture
 capturing_alike : (r : ℕ) (n m : Meant) → Alike n m → Alike (capturing r n) (capturing r m)
@@ -35,24 +36,13 @@ alike_by n m k one two = record { captured = λ r. one.captured r ∙ two.captur
 
 -- one more further word
 pub captures_one : (words : List ℕ) (k : ℕ) (now next whole : Meant) → k < length words → Alike next (capturing_each (named_by Op.Move (instr_of (get_or words k 0))) now) → Alike (capturing_all (drop k words) now) whole → Alike (capturing_all (drop (k + 1) words) next) whole
-captures_one words k now next whole low one so = alike_by _ _ _ (all_alike (drop (k + 1) words) next _ one) (subst (λ m. Alike m whole) (left_at (λ ws. capturing_all ws now) words k low) so)
-
-pub captures_end : (words : List ℕ) (k : ℕ) (now whole : Meant) → length words ≤ k → k ≤ length words → Alike (capturing_all (drop k words) now) whole → Alike now whole
-captures_end words k now whole past within so = subst (λ ws. Alike (capturing_all ws now) whole) (ap (λ n. drop n words) same ∙ drop-length words) so
-  where
-    same : k ≡ length words
-    same = omega (arith, past, within)
+captures_one words k now next whole low one so = alike_by _ _ _ (all_alike (drop (k + 1) words) next _ one) (subst (λ m. Alike m whole) (at_drop_more (λ ws. capturing_all ws now) words k 0 low) so)
 
 abbrev pub any_is : List ℕ → ℕ → Bool
 any_is rs r = list_any (λ named. named == r) rs
 
 any_both : (rs ss : List ℕ) (r : ℕ) → any_is (rs ++ ss) r ≡ (any_is rs r || any_is ss r)
-any_both [] ss r = refl
-any_both (x ∷ rs) ss r = go (x == r) (any_both rs ss r)
-  where
-    go : (b : Bool) → any_is (rs ++ ss) r ≡ (any_is rs r || any_is ss r) → (b || any_is (rs ++ ss) r) ≡ ((b || any_is rs r) || any_is ss r)
-    go true e = refl
-    go false e = e
+any_both rs ss r = list_any-append (λ named. named == r) rs ss
 
 -- a note where some registers are captured
 abbrev pub capturing_these : List ℕ → Meant → Meant
@@ -60,18 +50,6 @@ capturing_these rs n = record {
   captured = λ r. n.captured r || any_is rs r;
   loops = λ a. n.loops a && not (any_is rs a || any_is rs (a + 1) || any_is rs (a + 2));
 }
-
-or_assoc : (x y z : Bool) → ((x || y) || z) ≡ (x || (y || z))
-or_assoc true y z = refl
-or_assoc false y z = refl
-
-or_false : (x : Bool) → x ≡ (x || false)
-or_false true = refl
-or_false false = refl
-
-and_true : (x : Bool) → x ≡ (x && true)
-and_true true = refl
-and_true false = refl
 
 -- two lists of three tests each
 apart : (x w0 w1 w2 c0 c1 c2 : Bool) → ((x && not (w0 || w1 || w2)) && not (c0 || c1 || c2)) ≡ (x && not ((w0 || c0) || (w1 || c1) || (w2 || c2)))
@@ -84,8 +62,13 @@ apart true false false true false true c2 = refl
 apart true false false true false false c2 = refl
 apart true false false false c0 c1 c2 = refl
 
+none_of_three : (x y z : Bool) → not (x || y || z) ≡ (not x && not y && not z)
+none_of_three true y z = refl
+none_of_three false true z = refl
+none_of_three false false z = refl
+
 none_captured : (n : Meant) → Alike n (capturing_these [] n)
-none_captured n = record { captured = λ r. or_false (n.captured r); loops = λ a. and_true (n.loops a) }
+none_captured n = record { captured = λ r. sym (or-false (n.captured r)); loops = λ a. sym (and-true (n.loops a)) }
 
 more_captured : (rs ss : List ℕ) (n : Meant) → Alike (capturing_these ss (capturing_these rs n)) (capturing_these (rs ++ ss) n)
 more_captured rs ss n = record {
@@ -141,7 +124,7 @@ all_captured [] n = none_captured n
 all_captured (w ∷ words) n = alike_by _ _ _ (all_captured words _) (alike_by _ _ _ (these_alike (named_by_all Op.Move words) _ _ (each_captured (named_by Op.Move (instr_of w)) n)) (more_captured (named_by Op.Move (instr_of w)) (named_by_all Op.Move words) n))
 
 -- A note after a word: the registers that it writes are hit, some are let go, some captured, and a loop is prepared.
-pub after_alike : (f : Chunk) (pc : ℕ) (i : Instr) (n h l k p : Meant) (first end : ℕ) (words : List ℕ) → Writes i first end → named_further Op.Move i.op (words_of f pc i) ≡ named_by_all Op.Move words → Alike h (hit first end n) → Alike l (letting_go_by i.op i h) → Alike k (capturing_all words l) → Alike p (preparing_by i.op i k) → Alike p (after f pc i n)
+pub after_alike : (f : Chunk) (pc : ℕ) (i : Instr) (n h l k p : Meant) (first end : ℕ) (words : List ℕ) → Writes i first end → named_further Op.Move i.op (words_of f pc i) ≡ named_by_all Op.Move words → Alike h (hit first end n) → Alike l (letting_go (closes i.op i) h) → Alike k (capturing_all words l) → Alike p (preparing (prepares i.op i) k) → Alike p (after f pc i n)
 after_alike f pc i n h l k p first end words wrote named hits lets caps prep = record {
   captured = λ r. prep.captured r ∙ all.captured r ∙ ap (λ b. b || any_is rs r) (lets.captured r ∙ ap (λ b. b && not (closes i.op i r)) (hits.captured r)) ∙ ap (λ b. (n.captured r && not (closes i.op i r)) || b) (named_as r);
   loops = λ a. prep.loops a ∙ ap (λ b. b || prepares i.op i a) (all.loops a ∙ ap (λ b. b && not (any_is rs a || any_is rs (a + 1) || any_is rs (a + 2))) (lets.loops a ∙ hits.loops a) ∙ spared a);
@@ -159,20 +142,8 @@ after_alike f pc i n h l k p first end words wrote named hits lets caps prep = r
     spared : (a : ℕ) → ((n.loops a && not (is_hit first end a)) && not (any_is rs a || any_is rs (a + 1) || any_is rs (a + 2))) ≡ (n.loops a && (not (writes i.op i a || captures f pc i a) && not (writes i.op i (a + 1) || captures f pc i (a + 1)) && not (writes i.op i (a + 2) || captures f pc i (a + 2))))
     spared a = turned (n.loops a) _ _ _ _ _ _ _ _ _ _ _ _ (wrote a) (wrote (a + 1)) (wrote (a + 2)) (named_as a) (named_as (a + 1)) (named_as (a + 2))
       where
-        laws : (x w0 w1 w2 c0 c1 c2 : Bool) → ((x && not (w0 || w1 || w2)) && not (c0 || c1 || c2)) ≡ (x && (not (w0 || c0) && not (w1 || c1) && not (w2 || c2)))
-        laws false w0 w1 w2 c0 c1 c2 = refl
-        laws true true w1 w2 c0 c1 c2 = refl
-        laws true false true w2 true c1 c2 = refl
-        laws true false true w2 false c1 c2 = refl
-        laws true false false true true c1 c2 = refl
-        laws true false false true false true c2 = refl
-        laws true false false true false false c2 = refl
-        laws true false false false true c1 c2 = refl
-        laws true false false false false true c2 = refl
-        laws true false false false false false c2 = refl
-
         turned : (x v0 v1 v2 w0 w1 w2 c0 c1 c2 d0 d1 d2 : Bool) → w0 ≡ v0 → w1 ≡ v1 → w2 ≡ v2 → c0 ≡ d0 → c1 ≡ d1 → c2 ≡ d2 → ((x && not (v0 || v1 || v2)) && not (c0 || c1 || c2)) ≡ (x && (not (w0 || d0) && not (w1 || d1) && not (w2 || d2)))
-        turned x v0 v1 v2 w0 w1 w2 c0 c1 c2 d0 d1 d2 e0 e1 e2 f0 f1 f2 = laws x v0 v1 v2 c0 c1 c2 ∙ same (sym e0) (sym e1) (sym e2) f0 f1 f2
+        turned x v0 v1 v2 w0 w1 w2 c0 c1 c2 d0 d1 d2 e0 e1 e2 f0 f1 f2 = apart x v0 v1 v2 c0 c1 c2 ∙ ap (λ b. x && b) (none_of_three (v0 || c0) (v1 || c1) (v2 || c2)) ∙ same (sym e0) (sym e1) (sym e2) f0 f1 f2
           where
             same : v0 ≡ w0 → v1 ≡ w1 → v2 ≡ w2 → c0 ≡ d0 → c1 ≡ d1 → c2 ≡ d2 → (x && (not (v0 || c0) && not (v1 || c1) && not (v2 || c2))) ≡ (x && (not (w0 || d0) && not (w1 || d1) && not (w2 || d2)))
             same g0 g1 g2 h0 h1 h2 = cc

@@ -1,18 +1,14 @@
 -- The words of a function.
-use Rattle.std.proofs.Common.{◌∙◌, ◌≡◌, ℕ, zero, suc, ◌+◌, ◌<◌, ◌≤◌, ◌-◌, ◌^◌, ◌%◌, drop, append_assoc, Bool, true, false, List, [], ◌∷◌, ◌++◌, length, map, Some, None, refl, sym, ap, arith, not-suc-le-zero, le_of_suc-le-suc}
-use Rattle.std.specs.Prelude.{Option, IfSome, nat_lt, get_or, slice_get, option_map, option_and_then}
+use Rattle.std.proofs.Common.{◌∙◌, ◌≡◌, ℕ, zero, suc, ◌+◌, ◌<◌, ◌≤◌, drop, append_assoc, Bool, true, false, List, [], ◌∷◌, ◌++◌, length, map, Some, None, refl, sym, ap, arith, not-suc-le-zero, le_of_suc-le-suc}
+use Rattle.std.specs.Prelude.{nat_lt, get_or, slice_get, option_map, option_and_then}
 use Rattle.rules.specs.Words.{instr_at}
 use Rattle.std.proofs.Math.Seq.{drop-cons}
 use Rattle.std.proofs.lemmas.Bool.{ltb-true, ltb-false, lt-ltb}
-use Rattle.opcode.specs.declared.op.Op.{Op}
-use Rattle.opcode.specs.declared.op.Format.{Format}
-use Rattle.opcode.specs.Reading.{instr_of, fields, opcodes}
-use Rattle.opcode.specs.Word.{format_of}
+use Rattle.opcode.specs.Reading.{instr_of}
 use Rattle.proto.specs.Chunk.{Chunk, own, Functions, functions_of, function_at}
 use Rattle.proto.specs.View.{view_proto}
 use Rattle.proto.specs.declared.proto.Proto.{Proto}
 use Rattle.rules.specs.Places.{further_from, belonging}
-use Rattle.verifier.specs.Functions.{HasFields}
 
 -- the function of a number, by the list of them
 some_at : (xs : List Proto) (n : ℕ) (x : Proto) → n < length xs → x ≡ get_or xs n x → function_at (functions_of (map view_proto xs)) n ≡ Some (view_proto x)
@@ -30,18 +26,6 @@ inner_there inner xs n upvalues x is low at has = ap Some has ∙ sym (ap (λ fs
 
 pub inner_past : (inner : Functions) (xs : List Proto) (n : ℕ) → inner ≡ functions_of (map view_proto xs) → false ≡ nat_lt n (length xs) → None ≡ option_map (λ f. (own f).upvalues) (function_at inner n)
 inner_past inner xs n is high = sym (ap (λ fs. option_map (λ f. (own f).upvalues) (function_at fs n)) is ∙ ap (option_map (λ f. (own f).upvalues)) (none_at xs n (ltb-false n (length xs) (sym high))))
-
-pub has_fields : (w : ℕ) → w < 2 ^ 32 → IfSome (instr_of w) HasFields
-has_fields w low = go (slice_get opcodes (w % 64))
-  where
-    of_format : (op : Op) (format : Format) → HasFields (fields op format w)
-    of_format op Format.Abc = (omega arith, omega (arith, low), omega arith)
-    of_format op Format.Abx = (omega arith, omega arith, omega arith)
-    of_format op Format.Asbx = (omega arith, omega arith, omega arith)
-
-    go : (o : Option Op) → IfSome (option_map (λ op. fields op (format_of op) w) o) HasFields
-    go None = tt
-    go (Some op) = of_format op (format_of op)
 
 get_is : (xs : List ℕ) (n x : ℕ) → n < length xs → x ≡ get_or xs n x → slice_get xs n ≡ Some x
 get_is [] n x low is = absurd (not-suc-le-zero low)

@@ -1,8 +1,9 @@
 -- Loops over the words of a function.
-use Rattle.std.proofs.Common.{◌∙◌, ◌≡◌, ℕ, zero, suc, ◌+◌, ◌<◌, ◌≤◌, Bool, true, false, ◌&&◌, ◌||◌, not, List, [], ◌∷◌, ◌++◌, length, drop, None, refl, sym, ap, arith, not-suc-le-zero, le_of_suc-le-suc}
+use Rattle.std.proofs.Common.{◌∙◌, ◌≡◌, ℕ, zero, suc, ◌+◌, ◌<◌, ◌≤◌, Bool, true, false, ◌&&◌, ◌||◌, not, List, [], ◌∷◌, length, drop, None, refl, sym, ap, arith, not-suc-le-zero, le_of_suc-le-suc}
 use Rattle.std.specs.Prelude.{get_or, slice_get, nat_le, option_and_then, if◌then◌else◌}
 use Rattle.std.specs.List.{list_any}
-use Rattle.std.proofs.Math.Seq.{drop-cons, drop-length}
+use Rattle.std.proofs.lemmas.List.{at_drop_more, at_drop_all}
+use Rattle.std.proofs.lemmas.List.Folds.{list_any-append}
 use Rattle.opcode.specs.declared.op.Op.{Op}
 use Rattle.opcode.specs.Reading.{instr_of}
 use Rattle.proto.specs.Chunk.{Chunk, Functions}
@@ -13,34 +14,16 @@ use Rattle.rules.specs.Breaks.{reaches, has_vararg, is_vararg_word, leaves, left
 one_more : (n : ℕ) → n + 1 ≡ suc n
 one_more n = omega arith
 
--- what is left of a list from one place on, as a word and what is left behind it
-pub left_at : {A : Type 0} (F : List ℕ → A) (words : List ℕ) (k : ℕ) → k < length words → F (drop k words) ≡ F (get_or words k 0 ∷ drop (k + 1) words)
-left_at F words k low = ap F (drop-cons words k 0 low) ∙ ap (λ n. F (get_or words k 0 ∷ drop n words)) (sym (one_more k))
-
-pub any_none : (test : ℕ → Bool) (words : List ℕ) (k : ℕ) (all : Bool) → k < length words → test (get_or words k 0) ≡ false → all ≡ list_any test (drop k words) → all ≡ list_any test (drop (k + 1) words)
-any_none test words k all low isnt so = so ∙ left_at (list_any test) words k low ∙ ap (λ b. b || list_any test (drop (k + 1) words)) isnt
-
 pub any_some : (test : ℕ → Bool) (words : List ℕ) (k : ℕ) (all : Bool) → k < length words → test (get_or words k 0) ≡ true → all ≡ list_any test (drop k words) → true ≡ all
-any_some test words k all low is so = sym (so ∙ left_at (list_any test) words k low ∙ ap (λ b. b || list_any test (drop (k + 1) words)) is)
+any_some test words k all low is so = sym (so ∙ at_drop_more (list_any test) words k 0 low ∙ ap (λ b. b || list_any test (drop (k + 1) words)) is)
 
-pub any_end : (test : ℕ → Bool) (words : List ℕ) (k : ℕ) (all : Bool) → length words ≤ k → k ≤ length words → all ≡ list_any test (drop k words) → false ≡ all
-any_end test words k all past within so = sym (so ∙ ap (λ n. list_any test (drop n words)) same ∙ ap (list_any test) (drop-length words))
-  where
-    same : k ≡ length words
-    same = omega (arith, past, within)
-
-reaches_both : (limit : ℕ) (xs ys : List ℕ) → reaches limit (xs ++ ys) ≡ (reaches limit xs || reaches limit ys)
-reaches_both limit [] ys = refl
-reaches_both limit (x ∷ xs) ys = go (nat_le limit x) (reaches_both limit xs ys)
-  where
-    go : (b : Bool) → reaches limit (xs ++ ys) ≡ (reaches limit xs || reaches limit ys) → (b || reaches limit (xs ++ ys)) ≡ ((b || reaches limit xs) || reaches limit ys)
-    go true e = refl
-    go false e = e
+pub any_end : (test : ℕ → Bool) (words : List ℕ) (k : ℕ) (all : Bool) → length words ≤ k → all ≡ list_any test (drop k words) → false ≡ all
+any_end test words k all past so = sym (so ∙ at_drop_all (list_any test) words k past)
 
 -- the further words that name something past a limit, one by one
 pub named_one_by_one : (by : Op) (limit : ℕ) (words : List ℕ) → reaches limit (named_by_all by words) ≡ list_any (λ w. reaches limit (named_by by (instr_of w))) words
 named_one_by_one by limit [] = refl
-named_one_by_one by limit (w ∷ words) = reaches_both limit (named_by by (instr_of w)) (named_by_all by words) ∙ ap (λ b. reaches limit (named_by by (instr_of w)) || b) (named_one_by_one by limit words)
+named_one_by_one by limit (w ∷ words) = list_any-append (nat_le limit) (named_by by (instr_of w)) (named_by_all by words) ∙ ap (λ b. reaches limit (named_by by (instr_of w)) || b) (named_one_by_one by limit words)
 
 -- as many marks as words
 pub length-further : (inner : Functions) (n : ℕ) (words : List ℕ) → length (further_from inner n words) ≡ length words
@@ -64,12 +47,9 @@ vararg_none marks words k all same low isnt so = so ∙ vararg_at marks words k 
 pub vararg_some : (marks : List Bool) (words : List ℕ) (k : ℕ) (all : Bool) → length marks ≡ length words → k < length words → is_vararg_at marks words k ≡ true → all ≡ has_vararg (drop k marks) (drop k words) → true ≡ all
 vararg_some marks words k all same low is so = sym (so ∙ vararg_at marks words k same low ∙ ap (λ b. if b then true else has_vararg (drop (suc k) marks) (drop (suc k) words)) is)
 
-pub vararg_end : (marks : List Bool) (words : List ℕ) (k : ℕ) (all : Bool) → length words ≤ k → k ≤ length words → all ≡ has_vararg (drop k marks) (drop k words) → false ≡ all
-vararg_end marks words k all past within so = sym (so ∙ ap (has_vararg (drop k marks)) (ap (λ n. drop n words) same ∙ drop-length words) ∙ none (drop k marks))
+pub vararg_end : (marks : List Bool) (words : List ℕ) (k : ℕ) (all : Bool) → length words ≤ k → all ≡ has_vararg (drop k marks) (drop k words) → false ≡ all
+vararg_end marks words k all past so = sym (so ∙ at_drop_all (has_vararg (drop k marks)) words k past ∙ none (drop k marks))
   where
-    same : k ≡ length words
-    same = omega (arith, past, within)
-
     none : (ms : List Bool) → has_vararg ms [] ≡ false
     none [] = refl
     none (false ∷ ms) = refl

@@ -1,6 +1,5 @@
 -- Serves the bodies: functions with their marks.
 use Rattle.std.specs.Prelude.{◌≡◌, ◌<◌, ◌^◌, length}
-use Rattle.opcode.specs.declared.word.Instr.{Instr}
 use Rattle.proto.specs.Chunk.{own}
 use Rattle.proto.specs.declared.proto.Proto.{Proto}
 use Rattle.proto.specs.View.{view_proto}
@@ -12,7 +11,3 @@ proto_of f = f.proto.now
 
 abbrev pub IsMarked : Inside → Type 0
 IsMarked f = (f.further.items ≡ further_words (view_proto f.proto.now)) × (length (own (view_proto f.proto.now)).code < 2 ^ 32)
-
--- how large the fields of a word are
-abbrev pub HasFields : Instr → Type 0
-HasFields i = (i.a < 256) × (i.b < 512) × (i.c < 512)

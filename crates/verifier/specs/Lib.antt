@@ -4,3 +4,4 @@ pub mod Least
 pub mod Registers
 pub mod Rules
 pub mod Verify
+pub mod Refusing

@@ -6,7 +6,7 @@ use Rattle.opcode.specs.declared.word.Instr.{Instr}
 use Rattle.opcode.specs.Reading.{instr_of}
 use Rattle.proto.specs.Chunk.{Chunk}
 use Rattle.rules.specs.Places.{is_edge, is_pc, named_by}
-use Rattle.rules.specs.Notes.{Note as Meant, Notes, Registers, closes, prepares}
+use Rattle.rules.specs.Notes.{Note as Meant, Notes, Registers}
 use Rattle.verifier.specs.declared.registers.RegisterSet.{RegisterSet}
 use Rattle.verifier.specs.declared.note.Note.{Note}
 use Rattle.verifier.specs.Least.{Moves}
@@ -84,21 +84,13 @@ abbrev pub capturing_all : List ℕ → Meant → Meant
 capturing_all [] n = n
 capturing_all (w ∷ rest) n = capturing_all rest (capturing_each (named_by Op.Move (instr_of w)) n)
 
--- what a word lets go
-abbrev pub letting_go_by : Op → Instr → Meant → Meant
-letting_go_by op i n = record n { captured = λ r. n.captured r && not (closes op i r) }
+-- where some registers are let go
+abbrev pub letting_go : Registers → Meant → Meant
+letting_go gone n = record n { captured = λ r. n.captured r && not (gone r) }
 
--- the loop that a word prepares
-abbrev pub preparing_by : Op → Instr → Meant → Meant
-preparing_by op i n = record n { loops = λ a. n.loops a || prepares op i a }
-
--- where the registers from the first on are let go
-abbrev pub letting_go : ℕ → Meant → Meant
-letting_go first n = record n { captured = λ r. n.captured r && not (nat_le first r) }
-
--- where a loop is prepared
-abbrev pub preparing : ℕ → Meant → Meant
-preparing register n = record n { loops = λ a. n.loops a || (a == register) }
+-- where some loops are prepared
+abbrev pub preparing : Registers → Meant → Meant
+preparing more n = record n { loops = λ a. n.loops a || more a }
 
 -- each way of the word at a pc that is an edge
 abbrev pub AreEdges : Chunk → ℕ → Instr → Option ℕ → Option ℕ → Type 0

@@ -1,11 +1,8 @@
 -- Serves the bodies: what is found of a function and those in it, and where a path then leads.
-use Rattle.std.specs.Prelude.{◌≡◌, ℕ, ◌+◌, Bool, List, ◌∷◌, ◌++◌, Option, None, Some}
+use Rattle.std.specs.Prelude.{◌≡◌, ℕ, Bool, List, ◌∷◌, ◌++◌, Option, None, Some}
 use Rattle.proto.specs.Chunk.{Chunk, Functions}
-use Rattle.proto.specs.View.{view_proto}
-use Rattle.proto.specs.declared.proto.Proto.{Proto}
-use Rattle.rules.specs.Sound.{IsSound, AreSound, IsRejected, AreRejected, Rejected}
+use Rattle.rules.specs.Sound.{IsSound, AreSound, IsRejected, AreRejected}
 use Rattle.verifier.specs.declared.scan.Broken.{Broken}
-use Rattle.verifier.specs.declared.judging.Refusal.{Refusal}
 
 -- sound, or the path was led on to where the function is rejected
 abbrev pub Judged : Chunk → Bool → List ℕ → List ℕ → Option Broken → Type 0
@@ -15,8 +12,3 @@ Judged f main before now (Some broken) = (path : List ℕ) × (now ≡ before ++
 abbrev pub AllJudged : Functions → List ℕ → List ℕ → Option Broken → Type 0
 AllJudged inner before now None = AreSound inner × (now ≡ before)
 AllJudged inner before now (Some broken) = (n : ℕ) × (path : List ℕ) × (now ≡ before ++ n ∷ path) × AreRejected inner n path broken.pc broken.rule
-
--- What a refusal says of a function that it gives back: rejected, and where; of want of memory no more.
-abbrev pub Refuses : Proto → Refusal → Type 0
-Refuses proto (Refusal.Rejected given path pc rule) = (given ≡ proto) × Rejected (view_proto proto) path pc rule
-Refuses proto (Refusal.OutOfMemory given) = given ≡ proto

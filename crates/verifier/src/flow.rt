@@ -4,11 +4,11 @@ ghost use Rattle.std.specs.Prelude.{◌^◌, ◌≡◌, ℕ, ◌<◌, ◌-◌, �
 ghost use Rattle.proto.specs.Chunk.{own};
 ghost use Rattle.std.specs.List.{list_any};
 ghost use Rattle.opcode.specs.declared.op.Op.{Op as TheOp};
+ghost use Rattle.opcode.specs.Word.{InRange};
 ghost use Rattle.opcode.specs.Reading.{instr_of};
 ghost use Rattle.rules.specs.Places.{is_pc, is_place, test_ways as test_ways_of, plain_ways as plain_ways_of, named_by, named_by_all, named_further, words_of};
-ghost use Rattle.rules.specs.Notes.{after as after_word};
-ghost use Rattle.verifier.specs.Functions.{HasFields};
-ghost use Rattle.verifier.specs.Registers.{Alike, AreEdges, capturing_all, capturing_each, letting_go_by, preparing_by, meant};
+ghost use Rattle.rules.specs.Notes.{after as after_word, closes, prepares};
+ghost use Rattle.verifier.specs.Registers.{Alike, AreEdges, capturing_all, capturing_each, letting_go, preparing, meant};
 ghost use Rattle.verifier.specs.Flow.{AreWays, Writes};
 
 use crate::jumps::is_test;
@@ -25,7 +25,7 @@ pub struct Ways {
 
 /// The registers that an instruction writes: from the first on, below the end.
 fn written(instr: Instr) -> (u32, u32)
-    requires fields { HasFields instr }
+    requires fields { InRange instr }
     ensures { Writes instr result.0 result.1 }
 {
     let Instr { a, b, c, .. } = instr;
@@ -82,7 +82,7 @@ fn captured(note: Note, words: &[u32]) -> Note
 
 /// The note where an instruction let registers go.
 fn let_go_by(instr: Instr, note: Note) -> Note
-    ensures { Alike (meant result) (letting_go_by instr.op instr (meant note)) }
+    ensures { Alike (meant result) (letting_go (closes instr.op instr) (meant note)) }
 {
     match instr.op {
         Op::Close => note.let_go(instr.a),
@@ -92,8 +92,8 @@ fn let_go_by(instr: Instr, note: Note) -> Note
 
 /// The note where an instruction prepared a loop.
 fn prepared_by(instr: Instr, note: Note) -> Note
-    requires fields { HasFields instr }
-    ensures { Alike (meant result) (preparing_by instr.op instr (meant note)) }
+    requires fields { InRange instr }
+    ensures { Alike (meant result) (preparing (prepares instr.op instr) (meant note)) }
 {
     match instr.op {
         Op::ForPrep => note.prepared(instr.a),
@@ -115,7 +115,7 @@ fn closure_words<'a>(function: &'a Function<'_>, pc: usize, instr: Instr) -> &'a
 /// What holds after the word at a pc, where the note holds before it.
 pub fn after(function: &Function<'_>, pc: usize, instr: Instr, note: Note) -> Note
     requires small { pc < 2 ^ 32 }
-    requires fields { HasFields instr }
+    requires fields { InRange instr }
     ensures { Alike (meant result) (after_word (view_proto function.now) pc instr (meant note)) }
 {
     let (first, end) = written(instr);

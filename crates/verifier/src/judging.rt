@@ -3,7 +3,8 @@ ghost use Rattle.std.specs.Prelude.{◌≡◌, ◌+◌, true, false, IfOk, IfErr
 ghost use Rattle.proto.specs.Chunk.{functions_of};
 ghost use Rattle.proto.specs.View.{view_proto};
 ghost use Rattle.rules.specs.Sound.{Sound};
-ghost use Rattle.verifier.specs.Verify.{Judged, AllJudged, Refuses};
+ghost use Rattle.verifier.specs.Verify.{Judged, AllJudged};
+ghost use Rattle.verifier.specs.Refusing.{Refuses};
 
 use crate::scan::{Broken, first_broken};
 use proto::{Path, Proto};

@@ -1,11 +1,11 @@
 // Jumps, open results and the ends of a function.
 ghost use Rattle.proto.specs.View.{view_proto};
 ghost use Rattle.std.specs.Prelude.{◌^◌, ◌≡◌, ◌<◌, [], ◌∷◌, None, option_and_then, if◌then◌else◌};
+ghost use Rattle.opcode.specs.Word.{InRange};
 ghost use Rattle.rules.specs.Breaks.{jumps, wants as wants_of, leaves as leaves_of, wanted_at as wanted_at_of, left_before as left_before_of, is_unmet as is_unmet_of, breaks_jump as breaks_jump_of, breaks_results as breaks_results_of, breaks_no_jump as breaks_no_jump_of, breaks_end as breaks_end_of, breaks_further as breaks_further_of, is_bad_word_of as is_bad_word_by, wants_at as wants_at_of};
 ghost use Rattle.rules.specs.Words.{instr_at, is_test as is_test_of};
 ghost use Rattle.rules.specs.Places.{is_further, target};
 ghost use Rattle.std.specs.List.{list_any};
-ghost use Rattle.verifier.specs.Functions.{HasFields};
 ghost use Rattle.verifier.specs.Rules.{gone_to};
 
 use crate::words::{Function, jump};
@@ -66,7 +66,7 @@ pub fn breaks_jump(function: &Function<'_>, pc: usize, instr: Instr) -> bool
 
 /// The first register of the list of an instruction that takes open results.
 fn wants(instr: Instr) -> Option<u32>
-    requires fields { HasFields instr }
+    requires fields { InRange instr }
     ensures { result ≡ wants_of instr.op instr }
 {
     match instr.op {
@@ -142,7 +142,7 @@ fn jumps_to_wanting(function: &Function<'_>, pc: usize, instr: Instr) -> bool
 /// a word that takes them.
 pub fn breaks_results(function: &Function<'_>, pc: usize, instr: Instr) -> bool
     requires small { pc < 2 ^ 32 }
-    requires fields { HasFields instr }
+    requires fields { InRange instr }
     ensures { result ≡ breaks_results_of (view_proto function.now) pc instr }
 {
     is_unmet(wants(instr), left_before(function, pc))

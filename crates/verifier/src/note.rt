@@ -1,5 +1,5 @@
 // What is known of the registers before a word.
-ghost use Rattle.std.specs.Prelude.{◌≡◌, ◌≤◌, ◌<◌, Some, false, IsTrue, IfNone, IfSome};
+ghost use Rattle.std.specs.Prelude.{◌≡◌, ◌≤◌, ◌<◌, ◌==◌, nat_le, Some, false, IsTrue, IfNone, IfSome};
 ghost use Rattle.verifier.specs.Registers.{meant, meant_in, room, room_in, most_room, hit, capturing, letting_go, preparing, Alike, IsEmpty};
 ghost use Rattle.verifier.specs.Least.{Joins, JoinsIn};
 
@@ -68,7 +68,7 @@ impl Note {
 
     /// The note where the registers from the first on were let go.
     pub fn let_go(self, first: u32) -> Note
-        ensures { Alike (meant result) (letting_go first (meant self)) }
+        ensures { Alike (meant result) (letting_go (nat_le first) (meant self)) }
     {
         Note {
             free: self.free.either(RegisterSet::range(first, 512)),
@@ -79,7 +79,7 @@ impl Note {
     /// The note where a loop was prepared.
     pub fn prepared(self, register: u32) -> Note
         requires small { register < 512 }
-        ensures { Alike (meant result) (preparing register (meant self)) }
+        ensures { Alike (meant result) (preparing (λ a. a == register) (meant self)) }
     {
         let made = RegisterSet::range(register, register + 1);
         Note {

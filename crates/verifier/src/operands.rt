@@ -3,8 +3,8 @@ ghost use Rattle.proto.specs.View.{view_proto};
 ghost use Rattle.std.specs.Prelude.{◌^◌, ◌≡◌, ◌<◌, ◌-◌, filter, map, nat_lt, nat_le};
 ghost use Rattle.rules.specs.Breaks.{reaches, names, operands as operands_of, has_order, breaks_register as breaks_register_of, breaks_constant as breaks_constant_of, breaks_function as breaks_function_of, breaks_upvalue as breaks_upvalue_of, breaks_name as breaks_name_of};
 ghost use Rattle.rules.specs.Places.{named_by, named_by_all, named_further, words_of};
+ghost use Rattle.opcode.specs.Word.{InRange};
 ghost use Rattle.opcode.specs.Reading.{instr_of};
-ghost use Rattle.verifier.specs.Functions.{HasFields};
 ghost use Rattle.verifier.specs.Rules.{all_of, listed};
 
 use crate::words::Function;
@@ -61,7 +61,7 @@ fn in_order(instr: Instr) -> bool
 
 /// Whether a register that an instruction names beside its operands is not below the count.
 fn names_past(instr: Instr, count: u32) -> bool
-    requires fields { HasFields instr }
+    requires fields { InRange instr }
     ensures { result ≡ reaches count (names instr.op instr) }
 {
     let Instr { a, b, c, .. } = instr;
@@ -127,7 +127,7 @@ fn any_named_past(by: Op, words: &[u32], count: u32) -> bool
 /// Whether a register that the word at a pc names is not there, or its fields name none.
 pub fn breaks_register(function: &Function<'_>, pc: usize, instr: Instr) -> bool
     requires small { pc < 2 ^ 32 }
-    requires fields { HasFields instr }
+    requires fields { InRange instr }
     ensures { result ≡ breaks_register_of (view_proto function.now) pc instr }
 {
     let count = function.registers();

@@ -2,12 +2,12 @@
 ghost use Rattle.std.specs.Prelude.{◌≡◌, ◌<◌, ◌^◌, ◌&&◌, ◌==◌, not, Bool, IfOk};
 ghost use Rattle.proto.specs.Chunk.{own};
 ghost use Rattle.proto.specs.View.{view_proto};
+ghost use Rattle.opcode.specs.Word.{InRange};
 ghost use Rattle.rules.specs.declared.rule.Rule.{Rule as TheRule};
 ghost use Rattle.rules.specs.Notes.{Notes};
 ghost use Rattle.rules.specs.Words.{instr_at};
 ghost use Rattle.rules.specs.Places.{further_words, is_further};
 ghost use Rattle.rules.specs.Breaks.{breaks, instr_breaks, breaks_numbers as breaks_numbers_of, breaks_captured as breaks_captured_of, breaks_shape as breaks_shape_of, has_vararg as has_vararg_in, is_vararg_word as is_vararg_word_of};
-ghost use Rattle.verifier.specs.Functions.{HasFields};
 ghost use Rattle.verifier.specs.Registers.{meant_in, notes_of};
 ghost use Rattle.verifier.specs.Least.{AreLeast};
 ghost use Rattle.verifier.specs.Rules.{first_of, rules_before_shape, all_rules, Finds};
@@ -36,7 +36,7 @@ fn breaks_numbers(note: Option<Note>, instr: Instr) -> bool
 
 /// Whether one of a FORPREP's three registers may be captured.
 fn breaks_captured(note: Option<Note>, instr: Instr) -> bool
-    requires fields { HasFields instr }
+    requires fields { InRange instr }
     ensures { result ≡ breaks_captured_of (meant_in note) instr.op instr }
 {
     match note {
@@ -100,7 +100,7 @@ fn broken_before_shape(
     instr: Instr,
 ) -> Option<Rule>
     requires small { pc < 2 ^ 32 }
-    requires fields { HasFields instr }
+    requires fields { InRange instr }
     ensures { result ≡ first_of (instr_breaks (view_proto function.now) (meant_in note) pc instr) rules_before_shape }
 {
     if breaks_register(function, pc, instr) {

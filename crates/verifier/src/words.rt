@@ -3,11 +3,11 @@ ghost use Rattle.std.specs.Prelude.{◌-◌, IfSome, is_some, ◌^◌, ◌≡◌
 ghost use Rattle.proto.specs.Chunk.{own, functions, functions_of, function_at};
 ghost use Rattle.proto.specs.View.{view_proto};
 ghost use Rattle.rules.specs.Words.{instr_at};
+ghost use Rattle.opcode.specs.Word.{InRange};
 ghost use Rattle.opcode.specs.Reading.{instr_of};
-ghost use Rattle.verifier.specs.Functions.{HasFields};
 ghost use Rattle.rules.specs.Places.{further_words, is_further as is_further_in, belonging, belonging_to, words_of, next_pc as next_pc_of, target, is_place as is_place_of, jmp_at};
 
-use opcode::{Instr, Op, decode};
+use opcode::{Instr, Op, decode, words_are_read};
 use proto::{Constant, Proto};
 use std::alloc::{AllocError, Global};
 use std::marker::Model;
@@ -118,8 +118,10 @@ fn belonging_of(proto: &Proto, instr: Option<Instr>) -> usize
 /// The instruction of a word.
 pub fn decoded(word: u32) -> Option<Instr>
     ensures reading { result ≡ instr_of word }
-    ensures fields { IfSome result HasFields }
+    ensures fields { IfSome result InRange }
 {
+    // A law: the fields of what is read are in range.
+    words_are_read();
     decode(word)
 }
 
@@ -146,7 +148,7 @@ impl<'a> Function<'a> {
     /// The instruction at a pc.
     pub fn instr(&self, pc: usize) -> Option<Instr>
         ensures instr { result ≡ instr_at (view_proto self.now) pc }
-        ensures fields { IfSome result HasFields }
+        ensures fields { IfSome result InRange }
         ensures there { IfSome result (λ _. pc < length (own (view_proto self.now)).code) }
         ensures small { IfSome result (λ _. pc < 2 ^ 32 - 1) }
     {

@@ -13,7 +13,7 @@ returns-in-Err-clause-does g c = λ contents calls.
 
 pub returns-in-Ok-sound-clause-does : goal.returns-in-Ok-sound-clause-does
 returns-in-Ok-sound-clause-does g c = λ contents calls.
-    put_does (verify_file (string_bytes c.args.file.now)) c.args.bytes.now (codes "ok" ++ 10 ∷ []) c.put_ok.result (outside contents calls (g.O.Sink.taken c.args.out.now) (g.O.Sink.faults c.args.out.now)) (outside contents calls (g.O.Sink.taken c.put_ok.new.out) (g.O.Sink.faults c.put_ok.new.out)) (record { chunk = view_proto c.in-Ok.proto; has = c.in-Ok.ensures.chunk; sound = c.in-Ok-sound.ensures.sound refl; is = refl }) (c.put_ok.ensures.puts contents calls)
+    put_does (verify_file (string_bytes c.args.file.now)) c.args.bytes.now (codes "ok" ++ 10 ∷ []) c.put_text.result (outside contents calls (g.O.Sink.taken c.args.out.now) (g.O.Sink.faults c.args.out.now)) (outside contents calls (g.O.Sink.taken c.put_text.new.sink) (g.O.Sink.faults c.put_text.new.sink)) (record { chunk = view_proto c.in-Ok.proto; has = c.in-Ok.ensures.chunk; sound = c.in-Ok-sound.ensures.sound refl; is = refl }) (c.put_text.ensures.puts contents calls)
 
 pub returns-in-Err-sound-clause-does : goal.returns-in-Err-sound-clause-does
 returns-in-Err-sound-clause-does g c = λ contents calls.

@@ -10,4 +10,4 @@ pub returns-then-named_past : goal.returns-then-named_past
 returns-then-named_past c = any_some (λ w. reaches c.args.count (named_by c.args.by (instr_of w))) c.args.words.now c.loop-word.word-index _ (omega arith) (sym c.named_past.ensures ∙ c.if-named_past.true) c.loop-word.invariant ∙ sym (named_one_by_one c.args.by c.args.count c.args.words.now)
 
 pub returns : goal.returns
-returns c = any_end (λ w. reaches c.args.count (named_by c.args.by (instr_of w))) c.args.words.now c.loop-word.word-index _ (omega arith) (omega arith) c.loop-word.invariant ∙ sym (named_one_by_one c.args.by c.args.count c.args.words.now)
+returns c = any_end (λ w. reaches c.args.count (named_by c.args.by (instr_of w))) c.args.words.now c.loop-word.word-index _ (omega arith) c.loop-word.invariant ∙ sym (named_one_by_one c.args.by c.args.count c.args.words.now)

@@ -13,4 +13,4 @@ pub loop-pc-preserved : goal.loop-pc-preserved
 loop-pc-preserved c = (omega arith, vararg_none (further_words (view_proto c.args.function.now)) (own (view_proto c.args.function.now)).code c.loop-pc.pc _ (length-further _ 0 _) (omega arith) (sym c.is_vararg_at.ensures ∙ c.if-is_vararg_at.false) c.loop-pc.invariant.1)
 
 pub returns : goal.returns
-returns c = vararg_end (further_words (view_proto c.args.function.now)) (own (view_proto c.args.function.now)).code c.loop-pc.pc _ (omega arith) c.loop-pc.invariant.0 c.loop-pc.invariant.1
+returns c = vararg_end (further_words (view_proto c.args.function.now)) (own (view_proto c.args.function.now)).code c.loop-pc.pc _ (omega arith) c.loop-pc.invariant.1
