@@ -14,3 +14,7 @@ pub mod SeenCells
 pub mod MadeFrames
 pub mod FramesAbove
 pub mod Ranges
+pub mod HostsBeside
+pub mod Outcomes
+pub mod PlainValues
+pub mod CallTurns

@@ -5,3 +5,5 @@ pub mod Loading
 pub mod Seen
 pub mod Whole
 pub mod Words
+pub mod Outside
+pub mod Called

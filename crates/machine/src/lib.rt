@@ -1,6 +1,7 @@
 //! The machine: it runs verified chunks, word by word.
 #![tactic(auto)]
 
+mod calling;
 mod did;
 mod entering;
 mod frame;

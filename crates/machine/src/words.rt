@@ -14,6 +14,7 @@ mod straight;
 mod tables;
 mod tests;
 
+pub use lists::joined;
 pub use performing::perform;
 pub use rows::put_all;
 pub use setting::{key_of, put_items};

@@ -46,7 +46,7 @@ fn part(registers: &[Value], first: u32, count: u32) -> &[Value]
 }
 
 /// Values and a list behind them. In constant time where there are no values.
-fn joined(alloc: Global, values: &[Value], list: ValueList) -> Result<ValueList, AllocError>
+pub fn joined(alloc: Global, values: &[Value], list: ValueList) -> Result<ValueList, AllocError>
     ensures { IfOk result (λ all. all ≡ values.now ++ list) }
 {
     if values.is_empty() {
