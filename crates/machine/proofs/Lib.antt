@@ -18,3 +18,5 @@ pub mod HostsBeside
 pub mod Outcomes
 pub mod PlainValues
 pub mod CallTurns
+pub mod LeftByWords
+pub mod SeenWords

@@ -58,7 +58,7 @@ list_opened values results behind open_results first count list e f g there is =
     let R : Option OpenResults → Type 0 = λ r. GivesList values (Some open_results) r first None list in
     subst P (sym e) (subst Q (sym f) (λ t. subst R (sym g) (λ h m next same. opened m h values list open_results first next t.0 t.1 is same))) there
 
-part_known : (h : HeapState) (values : List Value) (first n : ℕ) → AreOf h values → AreOf h (take n (drop first values))
+pub part_known : (h : HeapState) (values : List Value) (first n : ℕ) → AreOf h values → AreOf h (take n (drop first values))
 part_known h values first n known = All-take (IsOf h) n (drop first values) (All-drop (IsOf h) first values known)
 
 pub opened_known : (h : HeapState) (values list : List Value) (results : Option OpenResults) (open_results : OpenResults) (first n : ℕ) → results ≡ Some open_results → list ≡ take n (drop first values) ++ open_results.values → AreOf h values → AreResultsOf h results → AreOf h list

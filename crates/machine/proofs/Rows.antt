@@ -7,10 +7,13 @@ use Rattle.lua_model.specs.declared.Value.{Value}
 use Rattle.lua_model.specs.declared.Value.TheVariants.{Nil}
 use Rattle.lua_model.specs.Datum.{Datum, nil, adjusted}
 use Rattle.lua_heap.specs.State.{HeapState, datum, IsOf, AreOf}
+use Rattle.lua_heap.proofs.Callers.{keeps_itself}
 use Rattle.rules.specs.State.{State, Goes, check, has_registers, spliced, set_all, with_registers}
 use Rattle.rules.proofs.Lists.{length-adjusted}
+use Rattle.machine.specs.declared.function.Function.{Function}
+use Rattle.machine.specs.declared.did.Did.{Did}
 use Rattle.machine.specs.Frames.{data_of, showing}
-use Rattle.machine.specs.Words.{AreThere}
+use Rattle.machine.specs.Words.{AreThere, Does}
 
 pub adjusted_next : (k : ℕ) (vs : List Datum) → adjusted (suc k) vs ≡ adjusted k vs ++ get_or vs k nil ∷ []
 adjusted_next zero [] = refl
@@ -63,3 +66,15 @@ put_is m h before now a n vs many there is =
     let long : length (data_of h before) ≡ length before = length-map before (datum h) in
     ap (λ b. check b (Goes (with_registers s (spliced s.top.registers a vs)))) (ap (has_registers s a) many ∙ has_them s a n (λ some. subst (λ k. a + n ≤ k) (sym long) (there some)))
     ∙ ap (λ ds. Goes (with_registers s ds)) (sym is)
+
+-- so many values put into registers, and nothing else
+pub put_does : (h : HeapState) (f : Function) (before now : List Value) (pc a n : ℕ) (list values : List Value) → list ≡ values → ((m : State) → set_all (showing m h before) a (adjusted n (data_of h list)) ≡ Goes (showing m h now)) → AreOf h now → length now ≡ length before → Does (λ m. set_all m a (adjusted n (data_of h values))) h h f before now pc Did.Next
+put_does h f before now pc a n list values is put known long = record {
+  is = λ m runs. ap (λ (vs : List Value). set_all (showing m h before) a (adjusted n (data_of h vs))) (sym is) ∙ put m;
+  known = tt;
+  awaited = tt;
+  registers = known;
+  length_is = long;
+  keeps = keeps_itself h;
+  only_store = refl;
+}

@@ -17,12 +17,13 @@ use Rattle.machine.specs.declared.function.Function.{Function}
 use Rattle.machine.specs.declared.frame.Frame.{Frame}
 use Rattle.machine.specs.declared.running.Running.{Running}
 use Rattle.machine.specs.declared.did.Landing.{Landing}
+use Rattle.machine.specs.declared.did.OpenResults.{OpenResults}
 use Rattle.machine.specs.declared.did.Did.{Did}
 use Rattle.machine.specs.Frames.{data_of, showing, effect_of}
 use Rattle.machine.specs.Seen.{Around, frame_seen, frames_seen, cells_in, closure_seen, seen}
 use Rattle.machine.specs.Loaded.{all_functions, AreLoaded}
 use Rattle.machine.specs.Whole.{IsClosureOf, IsFrameOf, IsWaiting, AreWaiting, IsSafe, IsWhole}
-use Rattle.machine.specs.Words.{AreThere, IsLanding, Runs, Does}
+use Rattle.machine.specs.Words.{AreThere, IsLanding, AreResultsOf, Runs, Does}
 use Rattle.machine.proofs.Items.{results_are_kept}
 use Rattle.machine.proofs.LentRegisters.{top-with_top}
 use Rattle.machine.proofs.Showing.{set_is}
@@ -78,6 +79,10 @@ sizes-with_top (x ∷ rest) now same = ap (λ n. n ∷ map (λ (vs : List Value)
 below-with_top : (frames : List (List Value)) (now : List Value) → below (with_top frames now) ≡ below frames
 below-with_top [] now = refl
 below-with_top (x ∷ rest) now = refl
+
+pub same_top : (frames : List (List Value)) → frames ≡ with_top frames (top frames)
+same_top [] = refl
+same_top (x ∷ rest) = refl
 
 -- ---- a word
 
@@ -234,6 +239,19 @@ safe_behind fs old heap stack safe shares keeps closures as_many = record {
   lower = All-weaker (IsFrameOf old.heap fs) (IsFrameOf heap fs) (λ x known. frame_stays old.heap heap fs x keeps closures known) (reverse old.below.items) safe.lower;
   closures = subst (λ (cs : List ClosureState). All (λ f. f.function < length fs) cs) (sym closures) safe.closures;
   waiting = waiting_by_sizes fs old.top.landing (reverse old.below.items) (below old.stack.frames) (below stack.frames) (below_sizes old.stack.frames stack.frames as_many) safe.waiting;
+}
+
+-- at another pc of the topmost frame, with other open results
+pub safe_at : (fs : List Function) (k : Running) (pc : ℕ) (results : Option OpenResults) → IsSafe fs k → AreResultsOf k.heap results → IsSafe fs (record k { top = record k.top { pc = pc; results = results } })
+safe_at fs k pc results safe known = record {
+  shares = safe.shares;
+  depth = safe.depth;
+  constants = safe.constants;
+  room = safe.room;
+  top_frame = record { function = safe.top_frame.function; closure = safe.top_frame.closure; extra = safe.top_frame.extra; results = known };
+  lower = safe.lower;
+  closures = safe.closures;
+  waiting = safe.waiting;
 }
 
 -- when the topmost frame was taken off: the last of those below it is the topmost one then, and awaits the landing

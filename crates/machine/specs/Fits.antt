@@ -1,5 +1,6 @@
 -- Serves the words: what each asks of the frame, as the verifier's rules give it.
-use Rattle.std.specs.Prelude.{◌≡◌, ℕ, suc, ◌+◌, ◌-◌, ◌<◌, ◌≤◌, ◌^◌, pos, ◌+ℤ◌, List, length, get_or, Option, None, Some}
+use Rattle.std.specs.Prelude.{◌≡◌, ℕ, suc, ◌+◌, ◌-◌, ◌<◌, ◌≤◌, ◌^◌, pos, ◌+ℤ◌, List, length, get_or, Option, None, Some, slice_get, option_and_then, ◌⊎◌}
+use Rattle.opcode.specs.Reading.{instr_of}
 use Rattle.opcode.specs.declared.op.Op.{Op}
 use Rattle.opcode.specs.declared.word.Instr.{Instr}
 use Rattle.lua_model.specs.declared.Value.{Value}
@@ -72,3 +73,11 @@ FitsFrame Op.Close f registers results cells pc i = i.a < length registers
 FitsFrame Op.Closure f registers results cells pc i = (i.a < length registers) × (i.bx < length f.inner.items)
 FitsFrame Op.Vararg f registers results cells pc i = elim (count_of i.b) [ None ↦ i.a < length registers | Some n ↦ AreThere registers i.a n ]
 FitsFrame _ f registers results cells pc i = Unit {0}
+
+-- further words of a CLOSURE, from a pc on: each names a register of the frame, or an upvalue of its function
+abbrev pub IsCapture : (registers cells : ℕ) → Option Instr → Type 0
+IsCapture registers cells None = ⊥
+IsCapture registers cells (Some w) = ((w.op ≡ Op.Move) × (w.b < registers)) ⊎ ((w.op ≡ Op.GetUpval) × (w.b < cells))
+
+abbrev pub AreCaptures : Function → (registers cells pc count : ℕ) → Type 0
+AreCaptures f registers cells pc count = (k : ℕ) → k < count → IsCapture registers cells (option_and_then instr_of (slice_get f.code.items (pc + k)))

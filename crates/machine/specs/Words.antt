@@ -118,6 +118,15 @@ abbrev pub IsAwaited : Function → List Value → ℕ → Did → Type 0
 IsAwaited f registers pc (Did.Calls landing callee args) = IsLanding f registers pc landing
 IsAwaited f registers pc _ = Unit {0}
 
+-- how many calls there may be until results have landed, and until a call that is asked for has
+abbrev pub calls_of : Landing → ℕ
+calls_of (Landing.Pairs a first count) = suc (suc count)
+calls_of _ = 1
+
+abbrev pub calls_left : Did → ℕ
+calls_left (Did.Calls landing callee args) = calls_of landing
+calls_left _ = 0
+
 -- where the effect is this one, from one heap to the next and from these registers to others, this was done
 pub record Does (effect : State → Effect) (old new : HeapState) (f : Function) (before behind : List Value) (pc : ℕ) (did : Did) : Type 0 where
   pub is : (m : State) → Runs m old f pc → effect (showing m old before) ≡ effect_of new did (showing m new behind)

@@ -8,6 +8,7 @@ mod frame;
 mod function;
 mod leaving;
 mod load;
+mod open_results;
 mod operands;
 mod running;
 mod topmost;

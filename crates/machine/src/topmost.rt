@@ -1,22 +1,72 @@
 // Words in the topmost frame.
-ghost use Rattle.std.specs.Prelude.{◌≡◌, length, IfOk, OnOk};
+ghost use Rattle.std.specs.Prelude.{◌≡◌, ◌<◌, slice_get, Some, IfOk, OnOk};
 ghost use Rattle.lua_heap.specs.State.{AreOf};
+ghost use Rattle.rules.specs.Calls.{land as land_in};
 ghost use Rattle.rules.specs.Step.{effect};
 ghost use Rattle.upvalue.specs.State.{top, with_top};
 ghost use Rattle.upvalue.specs.Shared.{Shares};
+ghost use Rattle.machine.specs.declared.function.Function.{Function as TheFunction};
 ghost use Rattle.machine.specs.Fits.{Fits, IsPlain};
-ghost use Rattle.machine.specs.Words.{Does};
+ghost use Rattle.machine.specs.Frames.{data_of, landing_of};
+ghost use Rattle.machine.specs.Whole.{IsWaiting, IsSafe, DoesSeen};
+ghost use Rattle.machine.specs.Words.{Does, calls_of, calls_left};
 
-use crate::did::Did;
+use crate::did::{Did, Landing};
 use crate::function::Function;
 use crate::running::Running;
-use crate::words::perform;
+use crate::words::{land, perform};
+use lua_heap::ValueList;
 use opcode::Instr;
 use std::alloc::{AllocError, Global};
 
 /// Does a word that works on nothing but the registers of the topmost frame, its function and the heap. The pc of the frame is that behind
 /// the word.
-pub fn perform_top(
+pub fn perform_plain(
+    alloc: Global,
+    running: &mut Running,
+    functions: &[Function],
+    i: Instr,
+) -> Result<Did, AllocError>
+    requires safe { IsSafe functions.now running.old }
+    requires plain { IsPlain i.op }
+    requires fits { (f : TheFunction) → slice_get functions.now running.old.top.function ≡ Some f → Fits i.op f (top running.old.stack.frames) running.old.top.pc i }
+    ensures does { IfOk result (DoesSeen functions.now (λ m. effect i.op m i) running.old running.new) }
+    ensures below { running.new.below ≡ running.old.below }
+{
+    perform_top(alloc, running, &functions[running.top.function], i)
+}
+
+/// Results to where a landing of the topmost frame says.
+pub fn land_top(
+    alloc: Global,
+    running: &mut Running,
+    functions: &[Function],
+    landing: Landing,
+    values: ValueList,
+) -> Result<Did, AllocError>
+    requires safe { IsSafe functions.now running.old }
+    requires values { AreOf running.old.heap values }
+    requires waiting { IsWaiting functions.now landing running.old.top (top running.old.stack.frames) }
+    ensures does { IfOk result (DoesSeen functions.now (λ m. land_in (landing_of landing) m (data_of running.old.heap values)) running.old running.new) }
+    ensures below { running.new.below ≡ running.old.below }
+    ensures falls { IfOk result (λ did. calls_left did < calls_of landing) }
+{
+    let function = &functions[running.top.function];
+    let base = running.stack.base();
+    let pc = running.top.pc;
+    let registers = &mut running.stack.all_registers()[base..];
+    land(
+        alloc,
+        &mut running.heap,
+        registers,
+        function,
+        pc,
+        landing,
+        values,
+    )
+}
+
+fn perform_top(
     alloc: Global,
     running: &mut Running,
     function: &Function,

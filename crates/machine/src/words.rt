@@ -14,7 +14,9 @@ mod straight;
 mod tables;
 mod tests;
 
-pub use lists::joined;
+pub use calls::{call, count_of};
+pub use landing::land;
+pub use lists::{joined, listed};
 pub use performing::perform;
 pub use rows::put_all;
-pub use setting::{key_of, put_items};
+pub use setting::{key_of, put_items, set_list};

@@ -1,11 +1,11 @@
 // CONCAT (manual 2.5.4).
-ghost use Rattle.std.specs.Prelude.{◌≡◌, ℕ, ◌+◌, ◌<◌, ◌≤◌, length, IfOk};
+ghost use Rattle.std.specs.Prelude.{◌≡◌, ℕ, suc, ◌+◌, ◌<◌, ◌≤◌, length, IfOk};
 ghost use Rattle.opcode.specs.declared.op.Op.TheVariants as op;
 ghost use Rattle.lua_heap.specs.State.{IsOf, AreOf, datum};
 ghost use Rattle.rules.specs.Calls.{join as join_of};
 ghost use Rattle.rules.specs.Step.{effect};
 ghost use Rattle.machine.specs.declared.function.Function.{Function as TheFunction};
-ghost use Rattle.machine.specs.Words.{Does};
+ghost use Rattle.machine.specs.Words.{Does, calls_left};
 
 use crate::did::{Did, Landing};
 use crate::operands::register;
@@ -31,7 +31,8 @@ pub fn join(
     requires a { a < length registers.old }
     requires there { first + count ≤ length registers.old }
     requires room { first + count < 1024 }
-    ensures { IfOk result (λ did. (f : TheFunction) (pc : ℕ) → Does (λ m. join_of m a first count (datum heap.old value)) heap.old heap.new f registers.old registers.new pc did) }
+    ensures does { IfOk result (λ did. (f : TheFunction) (pc : ℕ) → Does (λ m. join_of m a first count (datum heap.old value)) heap.old heap.new f registers.old registers.new pc did) }
+    ensures falls { IfOk result (λ did. calls_left did < suc (suc count)) }
 {
     let mut left = count;
     let mut value = value;

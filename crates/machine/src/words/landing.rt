@@ -8,7 +8,7 @@ ghost use Rattle.rules.specs.Calls.{branch as branch_of, negated_as, land as lan
 ghost use Rattle.lua_model.specs.declared.Value.{Value as TheValue};
 ghost use Rattle.machine.specs.declared.function.Function.{Function as TheFunction};
 ghost use Rattle.machine.specs.Frames.{data_of, landing_of, effect_of};
-ghost use Rattle.machine.specs.Words.{Runs, IsTest, IsLanding, IsDidOf, IsAwaited, Does};
+ghost use Rattle.machine.specs.Words.{Runs, IsTest, IsLanding, IsDidOf, IsAwaited, Does, calls_of, calls_left};
 
 use crate::did::{Did, Landing, OpenResults};
 use crate::function::Function;
@@ -36,6 +36,7 @@ fn land_test(function: &Function, pc: usize, a: u32, negated: bool, value: Value
     ensures did { (h : HeapState) (m : State) → Runs m h function.now pc → branch_of m (nat_eq (truth_field (negated_as negated (is_true (datum h value)))) a) ≡ effect_of h result m }
     ensures known { (h : HeapState) → IsDidOf h result }
     ensures awaited { (f : TheFunction) (values : List TheValue) (pc : ℕ) → IsAwaited f values pc result }
+    ensures no_calls { calls_left result ≡ 0 }
 {
     let truth = value.is_true() != negated;
     branch(function, pc, u32::from(truth) == a)
@@ -54,7 +55,8 @@ fn land_turn(
     requires field { a < 256 }
     requires there { a + 3 + count ≤ length registers.old }
     requires first { a + 3 < length registers.old }
-    ensures { (h : HeapState) → AreOf h registers.old → AreOf h values.now → Does (λ m. turned_of m a (adjusted count (data_of h values.now))) h h function.now registers.old registers.new pc result }
+    ensures no_calls { calls_left result ≡ 0 }
+    ensures does { (h : HeapState) → AreOf h registers.old → AreOf h values.now → Does (λ m. turned_of m a (adjusted count (data_of h values.now))) h h function.now registers.old registers.new pc result }
 {
     let at = a as usize;
     put_all(registers, at + 3, count as usize, values);
@@ -79,7 +81,8 @@ pub fn land(
     requires known { AreOf heap.old registers.old }
     requires values { AreOf heap.old values }
     requires landing { IsLanding function.now registers.old pc landing }
-    ensures { IfOk result (λ did. Does (λ m. land_in (landing_of landing) m (data_of heap.old values)) heap.old heap.new function.now registers.old registers.new pc did) }
+    ensures does { IfOk result (λ did. Does (λ m. land_in (landing_of landing) m (data_of heap.old values)) heap.old heap.new function.now registers.old registers.new pc did) }
+    ensures falls { IfOk result (λ did. calls_left did < calls_of landing) }
 {
     match landing {
         Landing::Into { a } => {

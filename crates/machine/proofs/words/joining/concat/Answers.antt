@@ -23,4 +23,4 @@ returns c =
     let s = showing m old values in
     ap (λ b. check b (need (register s i.c) (λ v. join_of s i.a i.b (i.c - i.b) v))) (lt-ltb i.b i.c c.requires.order)
     ∙ one_need (register s i.c) last (λ v. join_of s i.a i.b (i.c - i.b) v) (c.register-last.ensures.value old))
-    (does f pc)) c.join.ensures
+    (does f pc)) c.join.ensures.does

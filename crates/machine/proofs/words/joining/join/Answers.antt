@@ -20,8 +20,8 @@ loop-left-preserved c =
     let grown : Grown now new = record { only_texts = c.concat2.ensures.only_texts; keeps = c.concat2.ensures.keeps } in
     joining_next old now new values c.args.a c.args.first c.args.count c.loop-left.left n c.args.value c.loop-left.value c.register.result act c.loop-left.invariant is_left (λ m. c.register.ensures.value now) grown c.in_ok-joined.ensures.act c.in-Value.joined c.in-Value.is c.in_ok-joined.ensures.known
 
-pub returns-in-Call : goal.returns-in-Call
-returns-in-Call c f pc =
+pub returns-in-Call-clause-does : goal.returns-in-Call-clause-does
+returns-in-Call-clause-does c f pc =
     let old = c.args.heap.now in
     let now = c.loop-left.heap in
     let new = c.concat2.new.heap in
@@ -35,8 +35,8 @@ returns-in-Call c f pc =
     (subst (λ (b : Act). IsActOf new b) c.in-Call.is c.in_ok-joined.ensures.known)
     (c.requires.a, omega (arith, c.requires.there, is_left, c.loop-left.invariant.fewer), omega (arith, c.requires.room, is_left, c.loop-left.invariant.fewer))
 
-pub returns-in-Fail : goal.returns-in-Fail
-returns-in-Fail c f pc =
+pub returns-in-Fail-clause-does : goal.returns-in-Fail-clause-does
+returns-in-Fail-clause-does c f pc =
     let old = c.args.heap.now in
     let now = c.loop-left.heap in
     let new = c.concat2.new.heap in
@@ -50,6 +50,6 @@ returns-in-Fail c f pc =
     (subst (λ (b : Act). IsActOf new b) c.in-Fail.is c.in_ok-joined.ensures.known)
     tt
 
-pub returns : goal.returns
-returns c f pc =
+pub returns-clause-does : goal.returns-clause-does
+returns-clause-does c f pc =
     joined_all c.args.heap.now c.loop-left.heap c.args.registers.now c.args.a c.args.first c.args.count c.loop-left.left c.args.value c.loop-left.value f pc c.loop-left.invariant (omega (arith, c.loop-left-test.false)) c.requires.a

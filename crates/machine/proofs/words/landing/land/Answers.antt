@@ -1,11 +1,10 @@
-use Rattle.std.proofs.Common.{◌≡◌, ◌∙◌, ℕ, List, ap, sym, refl, subst}
+use Rattle.std.proofs.Common.{◌≡◌, ◌∙◌, ℕ, List, ap, sym, subst}
 use Rattle.std.proofs.lemmas.Result.{IfOk-weaker}
 use Rattle.opcode.specs.Word.{truth_field}
 use Rattle.std.specs.Prelude.{nat_eq}
 use Rattle.lua_model.specs.Datum.{Datum, adjusted, first_of, is_true}
 use Rattle.lua_heap.specs.State.{HeapState, AreOf}
-use Rattle.lua_heap.proofs.Callers.{keeps_itself}
-use Rattle.rules.specs.State.{set, set_all}
+use Rattle.rules.specs.State.{set}
 use Rattle.rules.specs.Calls.{land as land_in, join, branch, negated_as, turned}
 use Rattle.lua_model.specs.declared.Value.{Value}
 use Rattle.machine.specs.declared.function.Function.{Function}
@@ -13,6 +12,7 @@ use Rattle.machine.specs.declared.did.Landing.{Landing}
 use Rattle.machine.specs.declared.did.Did.{Did}
 use Rattle.machine.specs.Frames.{data_of, landing_of, showing}
 use Rattle.machine.specs.Words.{IsLanding, Does}
+use Rattle.machine.proofs.Rows.{put_does}
 use Rattle.machine.proofs.Showing.{set_does, same_does, shown_runs}
 use Rattle.machine.proofs.words.landing.land.Goals as goal
 
@@ -25,8 +25,8 @@ for_landing l k old new f before behind pc vs did is does =
 pub join-requires-clause-value : goal.join-requires-clause-value
 join-requires-clause-value c = c.first-value-in-Pairs.ensures.known c.args.heap.now c.requires.values
 
-pub returns-in-Into : goal.returns-in-Into
-returns-in-Into c =
+pub returns-in-Into-clause-does : goal.returns-in-Into-clause-does
+returns-in-Into-clause-does c =
     let h = c.args.heap.now in
     let f = c.args.function.now in
     let values = c.args.registers.now in
@@ -38,8 +38,8 @@ returns-in-Into c =
     (set_does (λ m. set m a (first_of vs)) h f values pc a c.first.result c.requires.known (c.first.ensures.known h c.requires.values) within
     (λ m runs. ap (set (showing m h values) a) (sym (c.first.ensures.value h))))
 
-pub returns-in-Test : goal.returns-in-Test
-returns-in-Test c =
+pub returns-in-Test-clause-does : goal.returns-in-Test-clause-does
+returns-in-Test-clause-does c =
     let h = c.args.heap.now in
     let f = c.args.function.now in
     let values = c.args.registers.now in
@@ -54,8 +54,8 @@ returns-in-Test c =
     ap (λ v. branch s (nat_eq (truth_field (negated_as negated (is_true v))) a)) (sym (c.first-value.ensures.value h))
     ∙ c.land_test.ensures.did h s (shown_runs m h f values pc runs)))
 
-pub returns-in-Pairs : goal.returns-in-Pairs
-returns-in-Pairs c =
+pub returns-in-Pairs-clause-does : goal.returns-in-Pairs-clause-does
+returns-in-Pairs-clause-does c =
     let old = c.args.heap.now in
     let f = c.args.function.now in
     let values = c.args.registers.now in
@@ -67,10 +67,10 @@ returns-in-Pairs c =
     IfOk-weaker c.join.result _ _ (λ did does.
     for_landing c.args.landing (Landing.Pairs a low count) old c.join.new.heap f values c.join.new.registers pc vs did c.in-Pairs.is
     (let P : Datum → Type 0 = λ v. Does (λ m. join m a low count v) old c.join.new.heap f values c.join.new.registers pc did in
-    subst P (c.first-value-in-Pairs.ensures.value old) (does f pc))) c.join.ensures
+    subst P (c.first-value-in-Pairs.ensures.value old) (does f pc))) c.join.ensures.does
 
-pub returns-in-Fixed : goal.returns-in-Fixed
-returns-in-Fixed c =
+pub returns-in-Fixed-clause-does : goal.returns-in-Fixed-clause-does
+returns-in-Fixed-clause-does c =
     let h = c.args.heap.now in
     let f = c.args.function.now in
     let values = c.args.registers.now in
@@ -80,18 +80,10 @@ returns-in-Fixed c =
     let vs = data_of h c.args.values in
     let items = c.items.ensures in
     for_landing c.args.landing (Landing.Fixed a count) h h f values c.put_all.new.registers pc vs Did.Next c.in-Fixed.is
-    (record {
-      is = λ m runs. ap (λ (list : List Value). set_all (showing m h values) a (adjusted count (data_of h list))) (sym items) ∙ c.put_all.ensures.put h m;
-      known = tt;
-      awaited = tt;
-      registers = c.put_all.ensures.known h c.requires.known (subst (AreOf h) (sym items) c.requires.values);
-      length_is = c.put_all.ensures.length_is;
-      keeps = keeps_itself h;
-      only_store = refl;
-    })
+    (put_does h f values c.put_all.new.registers pc a count c.items.result.now c.args.values items (c.put_all.ensures.put h) (c.put_all.ensures.known h c.requires.known (subst (AreOf h) (sym items) c.requires.values)) c.put_all.ensures.length_is)
 
-pub returns-in-Turn : goal.returns-in-Turn
-returns-in-Turn c =
+pub returns-in-Turn-clause-does : goal.returns-in-Turn-clause-does
+returns-in-Turn-clause-does c =
     let h = c.args.heap.now in
     let f = c.args.function.now in
     let values = c.args.registers.now in
@@ -102,4 +94,4 @@ returns-in-Turn c =
     let items = c.items-in-Turn.ensures in
     for_landing c.args.landing (Landing.Turn a count) h h f values c.land_turn.new.registers pc vs c.land_turn.result c.in-Turn.is
     (let P : List Value → Type 0 = λ list. Does (λ m. turned m a (adjusted count (data_of h list))) h h f values c.land_turn.new.registers pc c.land_turn.result in
-    subst P items (c.land_turn.ensures h c.requires.known (subst (AreOf h) (sym items) c.requires.values)))
+    subst P items (c.land_turn.ensures.does h c.requires.known (subst (AreOf h) (sym items) c.requires.values)))

@@ -11,8 +11,8 @@ use Rattle.machine.proofs.Showing.{shown_runs}
 use Rattle.machine.proofs.Landings.{turn_is, goes_on_with, stops_at_nil}
 use Rattle.machine.proofs.words.landing.land_turn.Goals as goal
 
-pub returns-then-is_nil : goal.returns-then-is_nil
-returns-then-is_nil c h known values_known =
+pub returns-then-is_nil-clause-does : goal.returns-then-is_nil-clause-does
+returns-then-is_nil-clause-does c h known values_known =
     let before = c.args.registers.now in
     let now = c.put_all.new.registers in
     let f = c.args.function.now in
@@ -32,8 +32,8 @@ returns-then-is_nil c h known values_known =
       only_store = refl;
     }
 
-pub returns : goal.returns
-returns c h known values_known =
+pub returns-clause-does : goal.returns-clause-does
+returns-clause-does c h known values_known =
     let before = c.args.registers.now in
     let now = c.put_all.new.registers in
     let f = c.args.function.now in
