@@ -20,3 +20,5 @@ pub mod PlainValues
 pub mod CallTurns
 pub mod LeftByWords
 pub mod SeenWords
+pub mod CapturedCells
+pub mod MadeClosures

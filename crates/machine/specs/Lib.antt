@@ -7,3 +7,4 @@ pub mod Whole
 pub mod Words
 pub mod Outside
 pub mod Called
+pub mod Captures

@@ -2,6 +2,7 @@
 #![tactic(auto)]
 
 mod calling;
+mod closures;
 mod did;
 mod entering;
 mod frame;

@@ -14,7 +14,7 @@ use lua_heap::CellId;
 use opcode::Instr;
 
 /// The cell of an upvalue of the running function.
-fn upvalue(running: &Running, slot: u32) -> CellId
+pub fn upvalue(running: &Running, slot: u32) -> CellId
     requires closure { IsClosureOf running.now.heap running.now.top.closure }
     requires slot { slot < length (cells_in running.now.heap running.now.top.closure) }
     ensures cell { result.index ≡ get_or (cells_in running.now.heap running.now.top.closure) slot 0 }
