@@ -102,17 +102,27 @@ pub loaded_at : (c : Chunk) (h : HeapState) (fs : List Function) (number : ℕ) 
 loaded_at c h fs number f loaded within at =
     loaded.each number (numbered c number) f (slice_get-get_or (all_functions c) number c (omega (arith, within, loaded.count))) at
 
--- where its registers begin as they do by themselves, it begins in the machine
-pub begins_above : (c : Chunk) (a : Around) (fs : List Function) (old new : Running) (number : ℕ) (closure : ClosureId) (f : Function) (args extra : List Value) (landing : Landing) (protections : ℕ) → IsSafe fs old → HasAbove old new (made_frame number closure extra landing protections) → IsLoadedAs old.heap (all_functions c) (numbered c number) f → AreOf old.heap extra → data_of old.heap extra ≡ extra_of (is_vararg f.vararg) f.params (data_of old.heap args) → ((m : State) → (own m.top.function).params ≡ f.params → (own m.top.function).flags ≡ f.vararg → m.top.extra ≡ data_of old.heap extra → begin (begun m old.heap (adjusted f.registers (take f.params (data_of old.heap args)))) ≡ Goes (showing m new.heap (top new.stack.frames))) → begin (record (seen c a old) { top = frame_of (record { function = numbered c number; cells = cells_in old.heap (Some closure) }) (data_of old.heap args) (landing_of landing) protections; below = (seen c a old).top ∷ (seen c a old).below }) ≡ Goes (seen c a new)
-begins_above c a fs old new number closure f args extra landing protections safe above loaded known extra_is begins =
-    let given = data_of old.heap args in
-    let frame = frame_of (record { function = numbered c number; cells = cells_in old.heap (Some closure) }) given (landing_of landing) protections in
-    let m : State = record (seen c a old) { top = frame; below = (seen c a old).top ∷ (seen c a old).below } in
-    let registers : frame.registers ≡ adjusted f.registers (take f.params given) = λ i. adjusted (sym loaded.registers i) (take (sym loaded.params i) given) in
-    let further : frame.extra ≡ data_of old.heap extra = (λ i. extra_of (is_vararg (sym loaded.vararg i)) (sym loaded.params i) given) ∙ sym extra_is in
-    let kept : frame.extra ≡ data_of new.heap extra = further ∙ sym (data_are_kept old.heap new.heap above.keeps extra known) in
-    let upvalues : cells_in old.heap (Some closure) ≡ cells_in new.heap (Some closure) = sym (same_upvalues new.heap old.heap (Some closure) (ap (λ (h : HeapState). h.closures) above.only_tables)) in
-    ap (λ ds. begin (begun m old.heap ds)) registers
+-- how registers of a function begin by themselves, with their arguments, from one heap to the next
+abbrev pub BeginAlone : Function → (args extra registers : List Value) → (old new : HeapState) → Type 0
+BeginAlone f args extra registers old new =
+    (m : State) → (own m.top.function).params ≡ f.params → (own m.top.function).flags ≡ f.vararg → m.top.extra ≡ data_of old extra → begin (begun m old (adjusted f.registers (take f.params (data_of old args)))) ≡ Goes (showing m new registers)
+
+-- then a state with a new frame of the function and the store of the first heap begins: the frame is the one that was made, and the store the second heap's
+pub begins_made : (c : Chunk) (base : State) (old new : HeapState) (registers : List Value) (number : ℕ) (closure : ClosureId) (f : Function) (args extra : List Value) (landing : Landing) (protections : ℕ) → Keeps old new → new.closures ≡ old.closures → IsLoadedAs old (all_functions c) (numbered c number) f → AreOf old extra → data_of old extra ≡ extra_of (is_vararg f.vararg) f.params (data_of old args) → BeginAlone f args extra registers old new → begin (record base { top = frame_of (record { function = numbered c number; cells = cells_in old (Some closure) }) (data_of old args) (landing_of landing) protections; store = store_of old base.store.hosts }) ≡ Goes (record base { top = frame_seen c new (made_frame number closure extra landing protections) registers; store = store_of new base.store.hosts })
+begins_made c base old new registers number closure f args extra landing protections keeps same loaded known extra_is begins =
+    let given = data_of old args in
+    let frame = frame_of (record { function = numbered c number; cells = cells_in old (Some closure) }) given (landing_of landing) protections in
+    let m : State = record base { top = frame } in
+    let fitted : frame.registers ≡ adjusted f.registers (take f.params given) = λ i. adjusted (sym loaded.registers i) (take (sym loaded.params i) given) in
+    let further : frame.extra ≡ data_of old extra = (λ i. extra_of (is_vararg (sym loaded.vararg i)) (sym loaded.params i) given) ∙ sym extra_is in
+    let kept : frame.extra ≡ data_of new extra = further ∙ sym (data_are_kept old new keeps extra known) in
+    let upvalues : cells_in old (Some closure) ≡ cells_in new (Some closure) = sym (same_upvalues new old (Some closure) same) in
+    ap (λ ds. begin (begun m old ds)) fitted
     ∙ begins m (sym loaded.params) (sym loaded.vararg) further
-    ∙ (λ i. Goes (record (showing m new.heap (top new.stack.frames)) { top = record frame { cells = upvalues i; extra = kept i; registers = data_of new.heap (top new.stack.frames) } }))
+    ∙ (λ i. Goes (record (showing m new registers) { top = record frame { cells = upvalues i; extra = kept i; registers = data_of new registers } }))
+
+-- where its registers begin as they do by themselves, it begins in the machine
+pub begins_above : (c : Chunk) (a : Around) (fs : List Function) (old new : Running) (number : ℕ) (closure : ClosureId) (f : Function) (args extra : List Value) (landing : Landing) (protections : ℕ) → IsSafe fs old → HasAbove old new (made_frame number closure extra landing protections) → IsLoadedAs old.heap (all_functions c) (numbered c number) f → AreOf old.heap extra → data_of old.heap extra ≡ extra_of (is_vararg f.vararg) f.params (data_of old.heap args) → BeginAlone f args extra (top new.stack.frames) old.heap new.heap → begin (record (seen c a old) { top = frame_of (record { function = numbered c number; cells = cells_in old.heap (Some closure) }) (data_of old.heap args) (landing_of landing) protections; below = (seen c a old).top ∷ (seen c a old).below }) ≡ Goes (seen c a new)
+begins_above c a fs old new number closure f args extra landing protections safe above loaded known extra_is begins =
+    begins_made c (record (seen c a old) { below = (seen c a old).top ∷ (seen c a old).below }) old.heap new.heap (top new.stack.frames) number closure f args extra landing protections above.keeps (ap (λ (h : HeapState). h.closures) above.only_tables) loaded known extra_is begins
     ∙ ap Goes (sym (seen_above fs old new (made_frame number closure extra landing protections) safe above c a))

@@ -22,3 +22,9 @@ pub mod LeftByWords
 pub mod SeenWords
 pub mod CapturedCells
 pub mod MadeClosures
+pub mod FailedLandings
+pub mod OutsideFirst
+pub mod SettledSoFar
+pub mod GivenResults
+pub mod FramesReplaced
+pub mod PushedCalls

@@ -8,3 +8,4 @@ pub mod Words
 pub mod Outside
 pub mod Called
 pub mod Captures
+pub mod Settled

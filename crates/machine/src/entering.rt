@@ -1,23 +1,29 @@
 // Frames that are made.
-ghost use Rattle.std.specs.Prelude.{◌≡◌, ◌<◌, ◌≤◌, ◌∷◌, length, take, Some, IfOk, OnOk};
+ghost use Rattle.std.specs.Prelude.{◌≡◌, ◌*◌, ◌+◌, ℕ, suc, ◌<◌, ◌≤◌, ◌∷◌, List, length, slice_get, take, Some, IfOk, OnOk};
 ghost use Rattle.proto.specs.Chunk.{Chunk, own};
-ghost use Rattle.lua_model.specs.Datum.{adjusted, extra_of, table};
+ghost use Rattle.lua_model.specs.Datum.{Datum, adjusted, extra_of, table};
 ghost use Rattle.lua_heap.specs.State.{HeapState, datum, IsOf, AreOf, Keeps, OnlyTables, own_store, store_of};
 ghost use Rattle.rules.specs.Words.{is_vararg};
-ghost use Rattle.rules.specs.State.{State, Goes, with_registers, with_store};
-ghost use Rattle.rules.specs.Calls.{begin, frame_of, with_arg_table};
+ghost use Rattle.lua_model.specs.Operators.{stack_overflow};
+ghost use Rattle.rules.specs.State.{State, Effect, Goes, with_registers, with_store};
+ghost use Rattle.rules.specs.Calls.{begin, frame_of, with_arg_table, entered, failed_in, land, push as push_of, replace as replace_of};
 ghost use Rattle.upvalue.specs.State.{top, cells_of};
 ghost use Rattle.upvalue.specs.Shared.{Shares};
+ghost use Rattle.machine.specs.declared.did.Did.TheVariants.{Next};
+ghost use Rattle.machine.specs.Settled.{to_do};
+ghost use Rattle.machine.specs.Words.{calls_of};
 ghost use Rattle.machine.specs.Frames.{data_of, landing_of, showing};
 ghost use Rattle.machine.specs.Seen.{Around, seen, numbered, cells_in};
-ghost use Rattle.machine.specs.Whole.{IsClosureOf, IsWaiting, IsSafe, IsWhole};
+ghost use Rattle.machine.specs.Whole.{IsClosureOf, IsWaiting, IsSafe, IsWhole, DoesSeen};
 
-use crate::did::Landing;
+use crate::calling::broke;
+use crate::did::{Did, Landing};
 use crate::frame::Frame;
 use crate::function::Function;
 use crate::running::Running;
+use crate::topmost::land_top;
 use crate::words::{key_of, put_all, put_items};
-use lua_heap::{Heap, ValueList};
+use lua_heap::{Heap, ValueList, text_value};
 use lua_model::{ClosureId, Value};
 use lua_table::SetFault;
 use std::alloc::{AllocError, Global};
@@ -70,6 +76,103 @@ pub fn enter(
     let caller = mem::replace(&mut running.top, frame);
     running.below.push_reserved(caller);
     Ok(())
+}
+
+/// Puts a frame of a function in the place of the topmost one, whose cells are closed: with its landing and its protections. The rest is as
+/// in `enter`.
+pub fn replace(
+    alloc: Global,
+    running: &mut Running,
+    functions: &[Function],
+    closure: ClosureId,
+    args: &[Value],
+) -> Result<(), AllocError>
+    requires safe { IsSafe functions.now running.old }
+    requires closure { IsClosureOf running.old.heap (Some closure) }
+    requires args { AreOf running.old.heap args.now }
+    ensures does { OnOk result ((a : ℕ) (lands : State → List Datum → Effect) → DoesSeen functions.now (λ m. entered (replace_of a) lands 0 m (slice_get m.closures closure.index) (data_of running.old.heap args.now)) running.old running.new Next) }
+{
+    let number = running.heap.closure_function(closure);
+    let function = &functions[number];
+    running.stack.pop_frame(&mut running.heap);
+    let extra = extra_arguments(alloc, function, args)?;
+    put_registers(
+        alloc,
+        &mut running.heap,
+        &mut running.stack,
+        function,
+        args,
+        extra.items(),
+    )?;
+    running.top = Frame {
+        function: number,
+        closure: Some(closure),
+        pc: 0,
+        extra,
+        results: None,
+        landing: running.top.landing,
+        protections: running.top.protections,
+    };
+    Ok(())
+}
+
+/// How many frames there may be below the topmost one.
+const DEPTH_LIMIT: usize = 20_000;
+
+/// Calls a function from the topmost frame, within so many protected calls: its frame is put above, where no more than 20,000 are below;
+/// else this is a failure with the text `stack overflow`, which a protected call takes.
+pub fn push(
+    alloc: Global,
+    running: &mut Running,
+    functions: &[Function],
+    landing: Landing,
+    closure: ClosureId,
+    args: &[Value],
+    protections: u32,
+) -> Result<Did, AllocError>
+    requires safe { IsSafe functions.now running.old }
+    requires closure { IsClosureOf running.old.heap (Some closure) }
+    requires args { AreOf running.old.heap args.now }
+    requires waiting { IsWaiting functions.now landing running.old.top (top running.old.stack.frames) }
+    ensures does { IfOk result (DoesSeen functions.now (λ m. entered (push_of (landing_of landing) (land (landing_of landing))) (land (landing_of landing)) protections m (slice_get m.closures closure.index) (data_of running.old.heap args.now)) running.old running.new) }
+    ensures falls { IfOk result (λ did. to_do (length running.new.below.items) did < 2048 * length running.old.below.items + suc (calls_of landing)) }
+{
+    if running.below.len() >= DEPTH_LIMIT {
+        return overflow(alloc, running, functions, landing, protections);
+    }
+    let number = running.heap.closure_function(closure);
+    enter(
+        alloc,
+        running,
+        functions,
+        number,
+        closure,
+        args,
+        landing,
+        protections,
+    )?;
+    Ok(Did::Next)
+}
+
+/// The failure of a call within so many protected calls for which no frame may be made.
+fn overflow(
+    alloc: Global,
+    running: &mut Running,
+    functions: &[Function],
+    landing: Landing,
+    protections: u32,
+) -> Result<Did, AllocError>
+    requires safe { IsSafe functions.now running.old }
+    requires waiting { IsWaiting functions.now landing running.old.top (top running.old.stack.frames) }
+    ensures does { IfOk result (DoesSeen functions.now (λ m. failed_in (land (landing_of landing)) protections m stack_overflow) running.old running.new) }
+    ensures falls { IfOk result (λ did. to_do (length running.new.below.items) did < 2048 * length running.old.below.items + suc (calls_of landing)) }
+{
+    let value = text_value(alloc, &mut running.heap, b"stack overflow")?;
+    if protections == 0 {
+        return Ok(Did::Fails(value));
+    }
+    let values = broke(alloc, protections - 1, value)?;
+    land_top(alloc, running, functions, landing, values)
 }
 
 /// The arguments behind the parameters, where the function keeps them.

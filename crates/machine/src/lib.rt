@@ -12,6 +12,7 @@ mod load;
 mod open_results;
 mod operands;
 mod running;
+mod settling;
 mod topmost;
 mod upvalues;
 mod words;
