@@ -10,13 +10,13 @@ use Rattle.suite.specs.declared.fault.Fault.{Fault}
 use Rattle.suite.specs.declared.fault.Rejection.{Rejection}
 use Rattle.suite.specs.declared.status.Status.{Status}
 use Rattle.suite.specs.declared.outcome.Outcome.{Outcome}
-use Rattle.suite.specs.Output.{TakesPart}
+use Rattle.suite_io.specs.Parts.{TakesPart}
 use Rattle.suite.specs.Words.{Words, Job, run_file, list_file, verify_file, compile_file, job_in, texts, Reads, NoCommand, Asks, file_of, file_or_none, named}
 use Rattle.suite.specs.Lines.{status_of, line_of, Reported}
 use Rattle.suite.specs.Jobs.{End, stored, put, bad_source, bad_chunk, rejected, unbuilt, Comes}
 use Rattle.suite.specs.Work.{Outside, IsCompilation, fetched, FilesStay, CarriesOut, Carried, Does, DoesFetched, Works, out_of}
 use Rattle.suite.specs.Causes.{Becomes, Fetched, StoreFailed, FilesFor, NoFault, Leaves, status_at}
-use Rattle.suite.proofs.Putting.{takes_none}
+use Rattle.suite_io.proofs.TakenPieces.{takes_none}
 use Rattle.suite.proofs.Facts.{Laws, count_snoc, same_bytes, whole_part, settled_is, becomes, put_becomes, no_memory_is, quiet_is, write_cause}
 use Rattle.suite.proofs.Ends.{alike, alike_status, alike_leaves}
 

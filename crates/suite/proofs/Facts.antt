@@ -27,7 +27,7 @@ use Rattle.first_form.specs.Source.{is_chunk, IsPrintList, IsFirstForm}
 use Rattle.suite.specs.declared.fault.Fault.{Fault}
 use Rattle.suite.specs.declared.status.Status.{Status}
 use Rattle.suite.specs.declared.outcome.Outcome.{Outcome}
-use Rattle.suite.specs.Output.{TakesPart}
+use Rattle.suite_io.specs.Parts.{TakesPart}
 use Rattle.scheme.specs.Scheme.{scheme, Fits}
 use Rattle.scheme.specs.Accepts.{Accepts}
 use Rattle.scheme.specs.Making.{too_many_registers, too_many_constants, jump_too_far, too_many_functions}

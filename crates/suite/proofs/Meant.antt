@@ -12,7 +12,7 @@ use Rattle.first_form.specs.Chunk.{Chunk}
 use Rattle.first_form.specs.Rules.{Conf, Running, Over, Stuck, run, start, ran, progress_of}
 use Rattle.first_form.specs.Agrees.{Agrees, IsSteady}
 use Rattle.suite_io.specs.Taken.{Takes, Rises}
-use Rattle.suite.specs.Output.{TakesPart}
+use Rattle.suite_io.specs.Parts.{TakesPart}
 use Rattle.suite.specs.Reading.{IsRead}
 use Rattle.lua_num.specs.Bytes.{Text}
 use Rattle.suite_io.specs.declared.calls.FileCall.{FileCall}

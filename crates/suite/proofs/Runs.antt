@@ -9,9 +9,9 @@ use Rattle.first_form.specs.Progress.{Piece, End, output}
 use Rattle.first_form.specs.Rules.{Effect, Goes, Prints, Ends, Fails, IsStuck, State, Conf, Running, Over, Stuck, after, next, run, start, ran, progress_of, IsNotStuck}
 use Rattle.suite.specs.Effects.{CanGo, effect_at}
 use Rattle.suite.specs.Frame.{Frame}
-use Rattle.suite.specs.Output.{TakesPart}
+use Rattle.suite_io.specs.Parts.{TakesPart}
 use Rattle.suite.specs.Running.{Puts, PutsPart, Stops, state_of}
-use Rattle.suite.proofs.Putting.{takes_none, takes_both}
+use Rattle.suite_io.proofs.TakenPieces.{takes_none, takes_both}
 
 module _ (chunk : Chunk) where
   -- one step more

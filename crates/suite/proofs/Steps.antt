@@ -8,7 +8,7 @@ use Rattle.first_form.specs.Rules.{Effect, Goes, Prints, Ends, Fails, IsStuck, S
 use Rattle.suite.specs.declared.effects.Effected.{Effected}
 use Rattle.suite.specs.Effects.{Carries, effect_at}
 use Rattle.suite.specs.Frame.{Frame}
-use Rattle.suite.specs.Output.{TakesPart}
+use Rattle.suite_io.specs.Parts.{TakesPart}
 use Rattle.suite.specs.Running.{Moves, Puts, PutsPart, state_of}
 
 printed_after : (effect : Effect) (text : List ℕ) (registers : List Value) (state : State) → Carries effect (Effected.Print text) registers → after state effect ≡ Running (record { pc = suc state.pc; registers = registers; pieces = state.pieces ++ text ∷ [] })

@@ -7,7 +7,7 @@ use Rattle.suite.specs.Words.{Job}
 use Rattle.suite.specs.Jobs.{put, bad_source, bad_chunk, rejected, unbuilt, Comes}
 use Rattle.suite.specs.Reading.{IsRefusal, outcome_of}
 use Rattle.suite.specs.Work.{Outside, Nothing, Does, PutsText}
-use Rattle.suite.proofs.Putting.{takes_none}
+use Rattle.suite_io.proofs.TakenPieces.{takes_none}
 
 pub nothing : (o : Outside) → Nothing o o
 nothing o = (record { contents = refl; calls = refl }, takes_none o.taken)

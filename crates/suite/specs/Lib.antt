@@ -1,6 +1,5 @@
 pub mod Reading
 pub mod Compiling
-pub mod Output
 pub mod Frame
 pub mod Effects
 pub mod Running

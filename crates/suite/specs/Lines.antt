@@ -11,7 +11,7 @@ use Rattle.suite.specs.declared.fault.Fault.{Fault}
 use Rattle.suite.specs.declared.fault.Rejection.{Rejection}
 use Rattle.suite.specs.declared.status.Status.{Status}
 use Rattle.suite.specs.declared.outcome.Outcome.{Outcome}
-use Rattle.suite.specs.Output.{TakesPart}
+use Rattle.suite_io.specs.Parts.{TakesPart}
 
 abbrev pub number_of : Status → ℕ
 number_of Status.Done = 0

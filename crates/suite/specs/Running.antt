@@ -9,7 +9,7 @@ use Rattle.first_form.specs.Rules.{State, Running, Over, next}
 use Rattle.suite.specs.declared.machine.StepEnd.{StepEnd}
 use Rattle.suite.specs.declared.machine.RunEnd.{RunEnd}
 use Rattle.suite.specs.Frame.{Frame}
-use Rattle.suite.specs.Output.{TakesPart}
+use Rattle.suite_io.specs.Parts.{TakesPart}
 
 abbrev pub state_of : Frame → List Piece → State
 state_of frame pieces = record { pc = frame.pc; registers = frame.registers; pieces = pieces }

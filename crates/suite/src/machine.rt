@@ -8,12 +8,11 @@ ghost use Rattle.suite.specs.Running.{StepIs, RunIs};
 
 use crate::chunk::Chunk;
 use crate::effects::{Effected, perform};
-use crate::output::put_all;
 use first_form::chunk::Value;
 use lua_num::ByteText;
 use std::alloc::{AllocError, Global};
 use std::marker::Model;
-use suite_io::{Sink, SinkFault};
+use suite_io::{Sink, SinkFault, put_all};
 
 /// How a run ended.
 #[derive(Debug, Drop)]

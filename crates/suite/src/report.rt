@@ -4,11 +4,10 @@ ghost use Rattle.std.specs.Fmt.{decimal};
 ghost use Rattle.std.specs.String.{string_bytes};
 ghost use Rattle.suite_io.specs.Taken.{Takes, Rises};
 ghost use Rattle.suite.specs.Lines.{Reported, IsPut, Refused, line_with, fault_text as the_text, lexical_text as the_lexical_text, scope_text as the_scope_text, code_text as the_code_text, chunk_text as the_chunk_text, rejection_text as the_rejection_text, path_text as the_path_text, rule_name as the_rule_name};
-ghost use Rattle.suite.specs.Output.{TakesPart};
+ghost use Rattle.suite_io.specs.Parts.{TakesPart};
 
 use crate::fault::{Fault, Rejection};
 use crate::outcome::Outcome;
-use crate::output::put_all;
 use crate::status::Status;
 use chunk_io::ChunkFault;
 use code_builder::CodeFault;
@@ -16,7 +15,7 @@ use lexer::LexFault;
 use rules::Rule;
 use scopes::ScopeFault;
 use std::alloc::{AllocError, Global};
-use suite_io::{Sink, SinkFault};
+use suite_io::{Sink, SinkFault, put_all};
 
 /// Puts the line of what the work came to, which speaks of a file of this name, and answers what
 /// becomes of the status.

@@ -5,7 +5,7 @@ ghost use Rattle.chunk_io.specs.declared.fault.ChunkFault.{ChunkFault};
 ghost use Rattle.suite.specs.declared.fault.Fault.{Fault};
 ghost use Rattle.suite.specs.declared.fault.Rejection.{Rejection};
 ghost use Rattle.suite.specs.declared.outcome.Outcome.{Outcome};
-ghost use Rattle.suite.specs.Output.{TakesPart};
+ghost use Rattle.suite_io.specs.Parts.{TakesPart};
 ghost use Rattle.suite.specs.Words.{Job, job_in, texts, NoCommand, Asks, named};
 ghost use Rattle.suite.specs.Lines.{Reported, status_of, line_of};
 ghost use Rattle.suite.specs.Jobs.{End, Comes, put, bad_source, bad_chunk, rejected, unbuilt};

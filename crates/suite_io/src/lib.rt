@@ -5,6 +5,7 @@ mod calls;
 mod files;
 mod memory_files;
 mod memory_sink;
+mod putting;
 mod real;
 mod sink;
 
@@ -12,5 +13,6 @@ pub use calls::{FileCall, FileCalls};
 pub use files::{FileFault, Files, Word};
 pub use memory_files::MemoryFiles;
 pub use memory_sink::{MemorySink, NeverFails};
+pub use putting::put_all;
 pub use real::{MAX_FILE_BYTES, RealFiles, RealSink};
 pub use sink::{Sink, SinkFault};

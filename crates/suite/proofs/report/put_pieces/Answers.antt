@@ -1,7 +1,7 @@
 use Rattle.std.proofs.Common.{List, ℕ, [], ◌∷◌, subst}
 use Rattle.std.specs.Prelude.{codes}
 use Rattle.suite_io.specs.Taken.{Takes}
-use Rattle.suite.specs.Output.{TakesPart}
+use Rattle.suite_io.specs.Parts.{TakesPart}
 use Rattle.suite.proofs.Putting.{first_refused, second_refused, third_refused, last_refused, on_err, on_err_then}
 use Rattle.suite.proofs.report.put_pieces.Goals as goal
 

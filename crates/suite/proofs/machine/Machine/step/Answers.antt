@@ -2,7 +2,7 @@ use Rattle.std.proofs.Common.{subst, inr, ◌+◌}
 use Rattle.suite_io.specs.Taken.{Takes}
 use Rattle.suite.proofs.Steps.{print_puts, print_puts_part}
 use Rattle.suite.specs.Effects.{Carries, place_effect}
-use Rattle.suite.specs.Output.{TakesPart}
+use Rattle.suite_io.specs.Parts.{TakesPart}
 use Rattle.suite.specs.Running.{Puts, PutsPart}
 use Rattle.suite.proofs.machine.Machine.step.Goals as goal
 

@@ -1,5 +1,5 @@
-use Rattle.suite.proofs.Putting.{put_next, rest_is}
-use Rattle.suite.proofs.output.put_all.Goals as goal
+use Rattle.suite_io.proofs.TakenPieces.{put_next, rest_is}
+use Rattle.suite_io.proofs.putting.put_all.Goals as goal
 
 pub loop-rest-preserved : goal.loop-rest-preserved
 loop-rest-preserved g c =

@@ -1,6 +1,6 @@
 use Rattle.std.proofs.Common.{length}
-use Rattle.suite.proofs.Putting.{PutSoFar}
-use Rattle.suite.proofs.output.put_all.Given as goal
+use Rattle.suite_io.proofs.TakenPieces.{PutSoFar}
+use Rattle.suite_io.proofs.putting.put_all.Given as goal
 
 abbrev pub invariant-loop-rest : goal.invariant-loop-rest
 invariant-loop-rest g l =
