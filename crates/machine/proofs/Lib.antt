@@ -28,3 +28,4 @@ pub mod SettledSoFar
 pub mod GivenResults
 pub mod FramesReplaced
 pub mod PushedCalls
+pub mod EventsInRow

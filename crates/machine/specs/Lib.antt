@@ -9,3 +9,4 @@ pub mod Outside
 pub mod Called
 pub mod Captures
 pub mod Settled
+pub mod Ready

@@ -13,6 +13,7 @@ mod open_results;
 mod operands;
 mod running;
 mod settling;
+mod stepping;
 mod topmost;
 mod upvalues;
 mod words;
