@@ -29,3 +29,9 @@ pub mod GivenResults
 pub mod FramesReplaced
 pub mod PushedCalls
 pub mod EventsInRow
+pub mod Readiness
+pub mod FirstGlobals
+pub mod FirstFrames
+pub mod PutPieces
+pub mod RunSteps
+pub mod RunsSoFar

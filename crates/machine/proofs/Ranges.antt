@@ -351,7 +351,7 @@ module _ (m0 : State) (base : BaseOf m0) (h : HeapState) (f : Function) (values 
 low_pc : (m0 : State) → Inv m0 → m0.top.pc < length (own m0.top.function).code
 low_pc m0 inv = ltb-true _ _ (and_first _ _ inv.ready.place)
 
-doing : (m0 : State) (inv : Inv m0) (i : Instr) → current m0 ≡ Some i → DoingOf m0 inv.base i
+pub doing : (m0 : State) (inv : Inv m0) (i : Instr) → current m0 ≡ Some i → DoingOf m0 inv.base i
 doing m0 inv i at =
     let solid : is_further m0.top.function m0.top.pc ≡ false = not_true _ (and_second _ _ inv.ready.place) in
     record {

@@ -32,13 +32,13 @@ pieces_both (printed piece ∷ es) fs = ap (λ ps. piece ∷ ps) (pieces_both es
 pieces_both (asked host args reply ∷ es) fs = pieces_both es fs
 pieces_both (closed host ∷ es) fs = pieces_both es fs
 
-replies_both : (es fs : List Event) → replies_in (es ++ fs) ≡ replies_in es ++ replies_in fs
+pub replies_both : (es fs : List Event) → replies_in (es ++ fs) ≡ replies_in es ++ replies_in fs
 replies_both [] fs = refl
 replies_both (printed piece ∷ es) fs = replies_both es fs
 replies_both (asked host args reply ∷ es) fs = ap (λ rs. reply ∷ rs) (replies_both es fs)
 replies_both (closed host ∷ es) fs = replies_both es fs
 
-calls_both : (es fs : List Event) → calls_in (es ++ fs) ≡ calls_in es ++ calls_in fs
+pub calls_both : (es fs : List Event) → calls_in (es ++ fs) ≡ calls_in es ++ calls_in fs
 calls_both [] fs = refl
 calls_both (printed piece ∷ es) fs = calls_both es fs
 calls_both (asked host args reply ∷ es) fs = ap (λ cs. record { host = host; args = args; reply = logged reply } ∷ cs) (calls_both es fs)

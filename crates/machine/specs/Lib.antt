@@ -10,3 +10,4 @@ pub mod Called
 pub mod Captures
 pub mod Settled
 pub mod Ready
+pub mod At

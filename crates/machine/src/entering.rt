@@ -229,7 +229,7 @@ fn arg_table(alloc: Global, heap: &mut Heap, extra: &[Value]) -> Result<Value, A
 }
 
 /// The registers of a new frame: the parameters, and behind them the table of the extra arguments where the function's flags ask for one.
-fn put_registers(
+pub fn put_registers(
     alloc: Global,
     heap: &mut Heap,
     stack: &mut ValueStack,

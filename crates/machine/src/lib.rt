@@ -1,6 +1,7 @@
 //! The machine: it runs verified chunks, word by word.
 #![tactic(auto)]
 
+mod beginning;
 mod calling;
 mod closures;
 mod did;
@@ -9,11 +10,16 @@ mod frame;
 mod function;
 mod leaving;
 mod load;
+mod machine;
 mod open_results;
 mod operands;
 mod running;
+mod runs;
 mod settling;
 mod stepping;
 mod topmost;
 mod upvalues;
 mod words;
+
+pub use machine::{Machine, StepEnd};
+pub use runs::{RunEnd, run};

@@ -1,0 +1,155 @@
+-- What a step of a machine comes to in the run that it is at.
+use Rattle.std.proofs.Common.{◌≡◌, ℕ, suc, Vec, Global, List, [], ◌∷◌, ◌++◌, Option, Some, refl, sym, ap, subst, ◌∙◌, append_assoc, append-nil}
+use Rattle.std.specs.List.{concat}
+use Rattle.suite_io.specs.Taken.{Takes}
+use Rattle.suite_io.specs.Parts.{TakesPart}
+use Rattle.suite_io.proofs.TakenPieces.{takes_none}
+use Rattle.lua_num.specs.Bytes.{Text}
+use Rattle.proto.specs.Chunk.{Chunk}
+use Rattle.lua_model.specs.Store.{Event, Reply, Host, printed, asked, closed, output}
+use Rattle.lua_model.specs.Endings.{Ending}
+use Rattle.lua_model.specs.Endings as ending
+use Rattle.host.specs.Hosts.{HostSetState}
+use Rattle.rules.specs.Sound.{Sound}
+use Rattle.rules.specs.State.{State}
+use Rattle.rules.specs.Run.{ran, course}
+use Rattle.rules.proofs.Invariant.{Inv}
+use Rattle.machine.specs.declared.function.Function.{Function}
+use Rattle.machine.specs.declared.machine.Machine.{Machine}
+use Rattle.machine.specs.declared.machine.StepEnd.{StepEnd}
+use Rattle.machine.specs.declared.running.Running.{Running}
+use Rattle.machine.specs.declared.settling.Settled.{Settled}
+use Rattle.machine.specs.At.{IsAt, RanTo, hosts_at, Stepped}
+use Rattle.machine.specs.Outside.{around, pieces_in, replies_in}
+use Rattle.machine.specs.Ready.{IsReady, Steps}
+use Rattle.machine.specs.Seen.{seen}
+use Rattle.machine.specs.Settled.{conf_of}
+use Rattle.machine.specs.Whole.{IsWhole}
+use Rattle.machine.proofs.Readiness.{ready, current_there, inv_of_run, one_more}
+use Rattle.machine.proofs.SeenStates.{whole_later}
+use Rattle.machine.proofs.SettledSoFar.{replies_both}
+
+output_is : (es : List Event) → concat (pieces_in es) ≡ output es
+output_is [] = refl
+output_is (printed piece ∷ es) = ap (λ t. piece ++ t) (output_is es)
+output_is (asked host args reply ∷ es) = output_is es
+output_is (closed host ∷ es) = output_is es
+
+-- what was printed is put, so that it is whole without it
+without_pieces : (c : Chunk) (fs : List Function) (k : Running) (pieces : Vec Text Global) → IsWhole c fs k → IsWhole c fs (record k { pieces = pieces })
+without_pieces c fs k pieces whole =
+    let safe = whole.safe in
+    record {
+      safe = record {
+        shares = safe.shares;
+        depth = safe.depth;
+        constants = safe.constants;
+        room = safe.room;
+        top_frame = safe.top_frame;
+        lower = safe.lower;
+        closures = safe.closures;
+        waiting = safe.waiting;
+      };
+      loaded = whole.loaded;
+    }
+
+abbrev ending_of : Settled → Ending
+ending_of Settled.Going = ending.Going
+ending_of Settled.Done = ending.Ended
+ending_of (Settled.Failed text) = ending.Failed text
+
+course_of : (settled : Settled) (m : State) → course (conf_of settled m) ≡ Some (record { ending = ending_of settled; events = m.outside.events })
+course_of Settled.Going m = refl
+course_of Settled.Done m = refl
+course_of (Settled.Failed text) m = refl
+
+module _ (c : Chunk) (sound : Sound c) (hosts : List Host) (events : List Event) (n : ℕ) (before : HostSetState) (k : Machine) (at : IsAt c hosts events n before k) where
+  inv : (left : List Reply) → Inv (seen c (around before events left) k.running)
+  inv left = inv_of_run c sound hosts (replies_in events ++ left) n (seen c (around before events left) k.running) (at.runs left)
+
+  pub is_ready : (fs : List Function) → fs ≡ k.functions.items → IsReady fs k.running
+  is_ready fs same = subst (λ (fs : List Function). IsReady fs k.running) (sym same) (ready c (around before events []) k.functions.items k.running at.whole (inv []))
+
+  -- no memory was found for the step: the run stands where it stood
+  pub not_stepped : (taken : Option (List ℕ)) (behind : HostSetState) (new : Machine) → Stepped c hosts events n before behind taken taken new StepEnd.OutOfMemory
+  not_stepped taken behind new = record {
+    es = [];
+    ends = (n, ending.Going, λ left. subst (λ es. course (ran c hosts (replies_in es ++ left) n) ≡ Some (record { ending = ending.Going; events = es })) (sym (append-nil events)) (ap course (at.runs left)));
+    puts = ([], ([], refl), takes_none taken);
+    log = λ differs. absurd (differs refl);
+  }
+
+  -- the step was done
+  module _ (new : Running) (behind : HostSetState) (settled : Settled) (fs : List Function) (same : fs ≡ k.functions.items) (done : Steps fs k.running new before behind settled) where
+    steps : Steps k.functions.items k.running new before behind settled
+    steps = subst (λ (fs : List Function). Steps fs k.running new before behind settled) same done
+
+    next : (left : List Reply) → ran c hosts (replies_in (events ++ steps.es) ++ left) (suc n) ≡ conf_of settled (seen c (around behind (events ++ steps.es) left) new)
+    next left =
+        let rest = replies_in steps.es ++ left in
+        let replies : replies_in (events ++ steps.es) ++ left ≡ replies_in events ++ rest = ap (λ rs. rs ++ left) (replies_both events steps.es) ∙ append_assoc (replies_in events) (replies_in steps.es) left in
+        let word = current_there c (around before events rest) k.functions.items k.running at.whole (inv rest) in
+        ap (λ rs. ran c hosts rs (suc n)) replies
+        ∙ one_more c hosts (replies_in events ++ rest) n (seen c (around before events rest) k.running) (at.runs rest)
+        ∙ steps.is c events left word.0 at.whole word.1
+
+    pieces_are : concat new.pieces.items ≡ output steps.es
+    pieces_are = ap concat (steps.happened.pieces ∙ ap (λ ps. ps ++ pieces_in steps.es) at.put) ∙ output_is steps.es
+
+    comes : (so : Settled) → settled ≡ so → (left : List Reply) → ran c hosts (replies_in (events ++ steps.es) ++ left) (suc n) ≡ conf_of so (seen c (around behind (events ++ steps.es) left) new)
+    comes so is left = next left ∙ ap (λ s. conf_of s (seen c (around behind (events ++ steps.es) left) new)) is
+
+    ran_to : RanTo c hosts (events ++ steps.es) (suc n) (ending_of settled)
+    ran_to left = ap course (next left) ∙ course_of settled (seen c (around behind (events ++ steps.es) left) new)
+
+    all_put : (old_taken new_taken : Option (List ℕ)) → Takes old_taken new_taken (concat new.pieces.items) → Takes old_taken new_taken (output steps.es)
+    all_put old_taken new_taken puts = subst (Takes old_taken new_taken) pieces_are puts
+
+    part_put : (old_taken new_taken : Option (List ℕ)) → TakesPart old_taken new_taken (concat new.pieces.items) → TakesPart old_taken new_taken (output steps.es)
+    part_put old_taken new_taken puts = subst (TakesPart old_taken new_taken) pieces_are puts
+
+    -- its output was not put whole
+    pub not_put : (old_taken new_taken : Option (List ℕ)) (behind_put : Machine) → TakesPart old_taken new_taken (concat new.pieces.items) → Stepped c hosts events n before behind old_taken new_taken behind_put StepEnd.OutFault
+    not_put old_taken new_taken behind_put puts = record {
+      es = steps.es;
+      ends = (suc n, ending_of settled, ran_to);
+      puts = part_put old_taken new_taken puts;
+      log = λ differs. steps.happened.log;
+    }
+
+    pub no_memory_to_put : (old_taken new_taken : Option (List ℕ)) (behind_put : Machine) → TakesPart old_taken new_taken (concat new.pieces.items) → Stepped c hosts events n before behind old_taken new_taken behind_put StepEnd.OutOfMemory
+    no_memory_to_put old_taken new_taken behind_put puts = record {
+      es = steps.es;
+      ends = (suc n, ending_of settled, ran_to);
+      puts = part_put old_taken new_taken puts;
+      log = λ differs. steps.happened.log;
+    }
+
+    pub going_on : (old_taken new_taken : Option (List ℕ)) (pieces : Vec Text Global) → settled ≡ Settled.Going → Takes old_taken new_taken (concat new.pieces.items) → pieces.items ≡ [] → Stepped c hosts events n before behind old_taken new_taken (record k { running = record new { pieces = pieces } }) StepEnd.Going
+    going_on old_taken new_taken pieces is puts none = record {
+      es = steps.es;
+      ends = record {
+        runs = comes Settled.Going is;
+        whole = without_pieces c k.functions.items new pieces (whole_later c k.functions.items k.running new at.whole steps.keeps (steps.safe at.whole.safe));
+        named = steps.named ∙ at.named ∙ sym steps.happened.names;
+        put = none;
+      };
+      puts = all_put old_taken new_taken puts;
+      log = λ differs. steps.happened.log;
+    }
+
+    pub at_end : (old_taken new_taken : Option (List ℕ)) (behind_put : Machine) → settled ≡ Settled.Done → Takes old_taken new_taken (concat new.pieces.items) → Stepped c hosts events n before behind old_taken new_taken behind_put StepEnd.Done
+    at_end old_taken new_taken behind_put is puts = record {
+      es = steps.es;
+      ends = (λ left. ap course (comes Settled.Done is left), λ left. ap hosts_at (comes Settled.Done is left));
+      puts = all_put old_taken new_taken puts;
+      log = λ differs. steps.happened.log;
+    }
+
+    pub has_failed : (old_taken new_taken : Option (List ℕ)) (behind_put : Machine) (text : Text) → settled ≡ Settled.Failed text → Takes old_taken new_taken (concat new.pieces.items) → Stepped c hosts events n before behind old_taken new_taken behind_put (StepEnd.Failed text)
+    has_failed old_taken new_taken behind_put text is puts = record {
+      es = steps.es;
+      ends = (λ left. ap course (comes (Settled.Failed text) is left), λ left. ap hosts_at (comes (Settled.Failed text) is left));
+      puts = all_put old_taken new_taken puts;
+      log = λ differs. steps.happened.log;
+    }

@@ -1,0 +1,100 @@
+// A machine and its steps.
+ghost use Rattle.std.specs.Prelude.{◌≡◌, ◌≤◌, ℕ, List, [], IfOk, OnOk, OnErr, IsErrOf};
+ghost use Rattle.std.specs.List.{concat};
+ghost use Rattle.suite_io.specs.Taken.{Takes, Rises};
+ghost use Rattle.suite_io.specs.Parts.{TakesPart};
+ghost use Rattle.proto.specs.View.{view_proto};
+ghost use Rattle.lua_model.specs.Store.{Event, Host};
+ghost use Rattle.host.specs.Views.{set_told};
+ghost use Rattle.machine.specs.At.{IsAt, Stepped};
+ghost use Rattle.machine.specs.Outside.{hosts_of};
+
+use crate::beginning::{first_heap, first_running};
+use crate::function::Function;
+use crate::load::load;
+use crate::running::Running;
+use crate::settling::Settled;
+use crate::stepping::turn;
+use host::HostSet;
+use lua_num::ByteText;
+use std::alloc::{AllocError, Global};
+use suite_io::{Sink, SinkFault, put_all};
+use verifier::Verified;
+
+/// How a step ended. After another end than `Going` the machine is only dropped.
+#[derive(Debug, Drop)]
+pub enum StepEnd {
+    Going,
+    Done,
+    /// The run failed with this text.
+    Failed(ByteText),
+    OutFault,
+    /// Also where a host found no memory.
+    OutOfMemory,
+}
+
+/// A machine that runs a chunk.
+#[derive(Drop)]
+pub struct Machine {
+    running: Running,
+    functions: Vec<Function>,
+}
+
+impl Machine {
+    /// The machine of a chunk at the beginning of its run. Text constants are interned. In time linear in the chunk.
+    pub fn new(alloc: Global, chunk: &Verified, hosts: &HostSet) -> Result<Self, AllocError>
+        ensures { IfOk result (λ machine. IsAt (view_proto chunk.now) (hosts_of (set_told heard hosts.now)) [] 0 (set_told heard hosts.now) machine) }
+    {
+        let mut heap = first_heap(alloc, hosts)?;
+        let functions = load(alloc, &mut heap, chunk.proto())?;
+        let running = first_running(alloc, heap, functions.as_slice())?;
+        Ok(Self { running, functions })
+    }
+
+    /// Does one step of the rules, and puts what it printed. The chunk is the one that the machine was made for, and the hosts are as
+    /// they were after `new` or after the last step, which did not end the run.
+    pub fn step<S: Sink>(
+        &mut self,
+        alloc: Global,
+        chunk: &Verified,
+        out: &mut S,
+        hosts: &mut HostSet,
+    ) -> StepEnd
+        requires { (hosts_then : List Host) × (events : List Event) × (n : ℕ) × IsAt (view_proto chunk.now) hosts_then events n (set_told heard hosts.old) self.old }
+        ensures steps { (hosts_then : List Host) (events : List Event) (n : ℕ) → IsAt (view_proto chunk.now) hosts_then events n (set_told heard hosts.old) self.old → Stepped (view_proto chunk.now) hosts_then events n (set_told heard hosts.old) (set_told heard hosts.new) (S.taken out.old) (S.taken out.new) self.new result }
+        ensures never_falls { S.faults out.old ≤ S.faults out.new }
+        ensures risen { result ≡ StepEnd.OutFault → Rises (S.faults out.old) (S.faults out.new) }
+    {
+        // Called for its clause that the chunk is sound.
+        let _ = chunk.proto();
+        let running = &mut self.running;
+        let Ok(settled) = turn(alloc, running, self.functions.as_slice(), hosts) else {
+            return StepEnd::OutOfMemory;
+        };
+        match put_pieces(&mut running.pieces, out) {
+            Ok(()) => {}
+            Err(SinkFault::Failed) => return StepEnd::OutFault,
+            Err(SinkFault::OutOfMemory) => return StepEnd::OutOfMemory,
+        }
+        match settled {
+            Settled::Going => StepEnd::Going,
+            Settled::Done => StepEnd::Done,
+            Settled::Failed(text) => StepEnd::Failed(text),
+        }
+    }
+}
+
+/// Puts the pieces, in order; there are none behind it. At an error a first part of them was put.
+fn put_pieces<S: Sink>(pieces: &mut Vec<ByteText>, out: &mut S) -> Result<(), SinkFault>
+    ensures whole { OnOk result (Takes (S.taken out.old) (S.taken out.new) (concat pieces.old.items)) }
+    ensures part { OnErr result (TakesPart (S.taken out.old) (S.taken out.new) (concat pieces.old.items)) }
+    ensures none { OnOk result (pieces.new.items ≡ []) }
+    ensures never_falls { S.faults out.old ≤ S.faults out.new }
+    ensures risen { IsErrOf result SinkFault.Failed → Rises (S.faults out.old) (S.faults out.new) }
+{
+    for piece in pieces.as_slice() {
+        put_all(out, piece.bytes())?;
+    }
+    pieces.clear();
+    Ok(())
+}

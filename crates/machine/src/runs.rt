@@ -1,0 +1,55 @@
+// Running a chunk.
+ghost use Rattle.std.specs.Prelude.{◌≡◌, ◌≤◌};
+ghost use Rattle.suite_io.specs.Taken.{Rises};
+ghost use Rattle.proto.specs.View.{view_proto};
+ghost use Rattle.host.specs.Views.{set_told};
+ghost use Rattle.machine.specs.At.{Runs};
+
+use crate::machine::{Machine, StepEnd};
+use host::HostSet;
+use lua_num::ByteText;
+use std::alloc::Global;
+use suite_io::Sink;
+use verifier::Verified;
+
+/// How a run ended.
+#[derive(Debug, Drop)]
+pub enum RunEnd {
+    Done,
+    /// The run failed with this text.
+    Failed(ByteText),
+    /// The run is going after its steps.
+    Unfinished,
+    OutFault,
+    /// Also where a host found no memory.
+    OutOfMemory,
+}
+
+/// Runs a chunk with these hosts for at most this many steps.
+pub fn run<S: Sink>(
+    alloc: Global,
+    chunk: &Verified,
+    steps: u64,
+    out: &mut S,
+    hosts: &mut HostSet,
+) -> RunEnd
+    ensures run { Runs (view_proto chunk.now) steps (set_told heard hosts.old) (set_told heard hosts.new) (S.taken out.old) (S.taken out.new) result }
+    ensures never_falls { S.faults out.old ≤ S.faults out.new }
+    ensures risen { result ≡ RunEnd.OutFault → Rises (S.faults out.old) (S.faults out.new) }
+{
+    // Called for its clause that the chunk is sound.
+    let _ = chunk.proto();
+    let Ok(mut machine) = Machine::new(alloc, chunk, hosts) else {
+        return RunEnd::OutOfMemory;
+    };
+    for _ in 0..steps {
+        match machine.step(alloc, chunk, out, hosts) {
+            StepEnd::Going => {}
+            StepEnd::Done => return RunEnd::Done,
+            StepEnd::Failed(text) => return RunEnd::Failed(text),
+            StepEnd::OutFault => return RunEnd::OutFault,
+            StepEnd::OutOfMemory => return RunEnd::OutOfMemory,
+        }
+    }
+    RunEnd::Unfinished
+}
