@@ -1,5 +1,5 @@
 // Hosts in a set, and what calls of them come to, with ample memory.
-use host::{Host, HostLog, HostSet, LogEntry, ScriptHost};
+use host::{Host, HostLog, HostSet, LineHost, LogEntry, ScriptHost};
 use lua_heap::Heap;
 use lua_model::{Plain, PlainList, Reply, ReplyList, Value};
 use lua_num::ByteText;
@@ -42,6 +42,27 @@ fn a_script_answers_in_turn_and_is_logged(rt: HostRuntime) -> Result<(), Fail> {
     assert!(rt; !set.close(0));
     assert!(rt; !set.is_live(0));
     assert_eq!(rt; set.find(b"ask"), Some(0));
+    Ok(())
+}
+
+#[test]
+fn a_host_of_lines_replies_them_in_turn(rt: HostRuntime) -> Result<(), Fail> {
+    let alloc = rt.alloc();
+    let mut host = LineHost::new(b"ab\n\nlast".as_slice());
+    let wanted = [b"ab".as_slice(), b"", b"last"];
+    for line in wanted {
+        match host.call(alloc, &[]) {
+            Reply::Values(values) => {
+                let text = ByteText::from_slice(alloc, line)?;
+                assert_eq!(rt; values.items(), [Plain::Text(text)].as_slice());
+            }
+            _ => panic!(rt; "no line"),
+        }
+    }
+    match host.call(alloc, &[Plain::Nil]) {
+        Reply::Values(values) => assert_eq!(rt; values.items(), [Plain::Nil].as_slice()),
+        _ => panic!(rt; "no nil at the end"),
+    }
     Ok(())
 }
 

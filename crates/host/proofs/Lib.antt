@@ -1,3 +1,5 @@
+pub mod Examples
+pub mod LineFronts
 pub mod Names
 pub mod Scripts
 pub mod Slots

@@ -4,12 +4,14 @@
 
 mod copies;
 mod host;
+mod lines;
 mod log;
 mod script;
 mod set;
 mod slot;
 
 pub use host::Host;
+pub use lines::{LineHost, MAX_LINE_BYTES};
 pub use log::{HostLog, LogEntry};
 pub use script::ScriptHost;
 pub use set::HostSet;
