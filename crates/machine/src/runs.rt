@@ -2,6 +2,7 @@
 ghost use Rattle.std.specs.Prelude.{◌≡◌, ◌≤◌};
 ghost use Rattle.suite_io.specs.Taken.{Rises};
 ghost use Rattle.proto.specs.View.{view_proto};
+ghost use Rattle.rules.specs.Sound.{Sound};
 ghost use Rattle.host.specs.Views.{set_told};
 ghost use Rattle.machine.specs.At.{Runs};
 
@@ -25,7 +26,7 @@ pub enum RunEnd {
     OutOfMemory,
 }
 
-/// Runs a chunk with these hosts for at most this many steps.
+/// Runs a chunk with these hosts for at most this many steps. That the chunk is sound is a clause of `Verified::proto`.
 pub fn run<S: Sink>(
     alloc: Global,
     chunk: &Verified,
@@ -33,6 +34,7 @@ pub fn run<S: Sink>(
     out: &mut S,
     hosts: &mut HostSet,
 ) -> RunEnd
+    requires sound { Sound (view_proto chunk.now) }
     ensures run { Runs (view_proto chunk.now) steps (set_told heard hosts.old) (set_told heard hosts.new) (S.taken out.old) (S.taken out.new) result }
     ensures never_falls { S.faults out.old ≤ S.faults out.new }
     ensures risen { result ≡ RunEnd.OutFault → Rises (S.faults out.old) (S.faults out.new) }
