@@ -12,13 +12,14 @@ use Rattle.suite.specs.declared.status.Status.{Status}
 use Rattle.suite.specs.declared.outcome.Outcome.{Outcome}
 use Rattle.suite_io.specs.Parts.{TakesPart}
 use Rattle.suite.specs.Words.{Words, Job, run_file, list_file, verify_file, compile_file, job_in, texts, Reads, NoCommand, Asks, file_of, file_or_none, named}
+use Rattle.suite.specs.Worlds.{World}
 use Rattle.suite.specs.Lines.{status_of, line_of, Reported}
-use Rattle.suite.specs.Jobs.{End, stored, put, bad_source, bad_chunk, rejected, unbuilt, Comes}
-use Rattle.suite.specs.Work.{Outside, IsCompilation, fetched, FilesStay, CarriesOut, Carried, Does, DoesFetched, Works, out_of}
-use Rattle.suite.specs.Causes.{Becomes, Fetched, StoreFailed, FilesFor, NoFault, Leaves, status_at}
+use Rattle.suite.specs.Jobs.{End, stored, put, failed, unfinished, bad_source, bad_chunk, rejected, Comes}
+use Rattle.suite.specs.Work.{Outside, IsCompilation, IsStop, MayPut, fetched, FilesStay, CarriesOut, Carried, Does, DoesFetched, Works, out_of}
+use Rattle.suite.specs.Causes.{Becomes, Fetched, StoreFailed, FilesFor, NoFault, Leaves, HasNoOutput, status_at}
 use Rattle.suite_io.proofs.TakenPieces.{takes_none}
 use Rattle.suite.proofs.Facts.{Laws, count_snoc, same_bytes, whole_part, settled_is, becomes, put_becomes, no_memory_is, quiet_is, write_cause}
-use Rattle.suite.proofs.Ends.{alike, alike_status, alike_leaves}
+use Rattle.suite.proofs.Ends.{alike, alike_status, alike_leaves, alike_none, refused_not_run, put_may, failed_may, unfinished_may}
 
 -- the list of calls behind two others is not told apart by what comes later
 later_both : (calls : List FileCall) (a b : FileCall) (xs ys : List FileCall) → (calls ++ a ∷ []) ++ xs ≡ (calls ++ b ∷ []) ++ ys → a ≡ b
@@ -26,24 +27,23 @@ later_both [] a b xs ys e = cc
 later_both (c ∷ calls) a b xs ys e = later_both calls a b xs ys (cc)
 
 -- only a compilation comes to a text that is stored
-stores_in : (job : Job) (bytes text : List ℕ) → Comes job bytes (stored text) → IsCompilation job
-stores_in (run_file file) bytes text comes = comes
-stores_in (list_file file) bytes text comes = comes
-stores_in (verify_file file) bytes text comes = comes
-stores_in (compile_file file out strip) bytes text comes = tt
+stores_in : (job : Job) (bytes : List ℕ) (w : World) (text : List ℕ) → Comes job bytes w (stored text) → IsCompilation job
+stores_in (run_file file steps) bytes w text comes = comes
+stores_in (list_file file) bytes w text comes = comes
+stores_in (verify_file file) bytes w text comes = comes
+stores_in (compile_file file out strip) bytes w text comes = tt
 
 -- what an outcome says of the end that was carried out
 abbrev Tells : Outcome → End → Type 0
 Tells (Outcome.BadSource fault) end = end ≡ bad_source fault
 Tells (Outcome.BadChunk fault) end = end ≡ bad_chunk fault
 Tells (Outcome.Rejected rejection) end = end ≡ rejected rejection
-Tells Outcome.Unbuilt end = end ≡ unbuilt
 Tells Outcome.BadWords end = ⊥
 Tells Outcome.ReadFault end = ⊥
 Tells outcome end = Unit {0}
 
 -- how a job is carried out
-module _ (job : Job) (old new : Outside) where
+module _ (job : Job) (w : World) (old new : Outside) where
   -- what is called behind the fetch
   pub called_later : (end : End) (outcome : Outcome) → CarriesOut job end outcome old new → (later : List FileCall) × (new.calls ≡ old.calls ++ later)
   called_later (put text) Outcome.Done c = ([], c.0.calls ∙ sym (append-nil old.calls))
@@ -54,10 +54,11 @@ module _ (job : Job) (old new : Outside) where
   called_later (stored text) Outcome.WriteFault c = (call_of true (out_of job) true ∷ [], c.0.calls)
   called_later (stored text) Outcome.OutOfMemory c = ([], c.0.calls ∙ sym (append-nil old.calls))
   called_later (stored text) outcome c = absurd c
+  called_later (failed why text) outcome c = ([], c.1.calls ∙ sym (append-nil old.calls))
+  called_later (unfinished steps text) outcome c = ([], c.1.calls ∙ sym (append-nil old.calls))
   called_later (bad_source fault) outcome c = ([], c.1.0.calls ∙ sym (append-nil old.calls))
   called_later (bad_chunk fault) outcome c = ([], c.1.0.calls ∙ sym (append-nil old.calls))
   called_later (rejected rejection) outcome c = ([], c.1.0.calls ∙ sym (append-nil old.calls))
-  called_later unbuilt outcome c = ([], c.1.0.calls ∙ sym (append-nil old.calls))
 
   -- what files come to behind the fetch
   abbrev FilesBehind : Type 0
@@ -68,28 +69,30 @@ module _ (job : Job) (old new : Outside) where
   same_files : FilesStay old new → FilesBehind
   same_files stay = inl (stay.calls, stay.contents)
 
-  pub files_behind : (bytes : List ℕ) (end : End) (outcome : Outcome) → Comes job bytes end → CarriesOut job end outcome old new → FilesBehind
+  pub files_behind : (bytes : List ℕ) (end : End) (outcome : Outcome) → Comes job bytes w end → CarriesOut job end outcome old new → FilesBehind
   files_behind bytes (put text) Outcome.Done comes c = same_files c.0
   files_behind bytes (put text) Outcome.WriteFault comes c = same_files c.0
   files_behind bytes (put text) Outcome.OutOfMemory comes c = same_files c.0
   files_behind bytes (put text) outcome comes c = absurd c
-  files_behind bytes (stored text) Outcome.Done comes c = inr (stores_in job bytes text comes, false, c.0.calls, c.2)
-  files_behind bytes (stored text) Outcome.WriteFault comes c = inr (stores_in job bytes text comes, true, c.0.calls, c.1)
+  files_behind bytes (stored text) Outcome.Done comes c = inr (stores_in job bytes w text comes, false, c.0.calls, c.2)
+  files_behind bytes (stored text) Outcome.WriteFault comes c = inr (stores_in job bytes w text comes, true, c.0.calls, c.1)
   files_behind bytes (stored text) Outcome.OutOfMemory comes c = same_files c.0
   files_behind bytes (stored text) outcome comes c = absurd c
+  files_behind bytes (failed why text) outcome comes c = same_files c.1
+  files_behind bytes (unfinished steps text) outcome comes c = same_files c.1
   files_behind bytes (bad_source fault) outcome comes c = same_files c.1.0
   files_behind bytes (bad_chunk fault) outcome comes c = same_files c.1.0
   files_behind bytes (rejected rejection) outcome comes c = same_files c.1.0
-  files_behind bytes unbuilt outcome comes c = same_files c.1.0
 
   -- at success all of it was put or stored
   pub done_leaves : (end : End) → CarriesOut job end Outcome.Done old new → (status_at end ≡ Status.Done) × Leaves job end old new
   done_leaves (put text) c = (refl, (c.0.contents, c.1))
   done_leaves (stored text) c = (refl, (c.1, c.0.taken))
+  done_leaves (failed why text) c = let differ = c.0 in cc
+  done_leaves (unfinished steps text) c = let differ = c.0 in cc
   done_leaves (bad_source fault) c = let differ = c.0 in cc
   done_leaves (bad_chunk fault) c = let differ = c.0 in cc
   done_leaves (rejected rejection) c = let differ = c.0 in cc
-  done_leaves unbuilt c = let differ = c.0 in cc
 
   -- where no count rose, all of it was, or memory ran out
   pub quiet_leaves : (end : End) (outcome : Outcome) → CarriesOut job end outcome old new → (Rises old.faults new.faults → ⊥) → fault_count new.calls ≡ fault_count old.calls → ((status_of outcome ≡ status_at end) × Leaves job end old new) ⊎ (outcome ≡ Outcome.OutOfMemory)
@@ -104,43 +107,44 @@ module _ (job : Job) (old new : Outside) where
       absurd (omega (arith, files, count))
   quiet_leaves (stored text) Outcome.OutOfMemory c quiet files = inr refl
   quiet_leaves (stored text) outcome c quiet files = absurd c
+  quiet_leaves (failed why text) outcome c quiet files = inl (ap status_of c.0, (c.1.contents, c.2))
+  quiet_leaves (unfinished steps text) outcome c quiet files = inl (ap status_of c.0, (c.1.contents, c.2))
   quiet_leaves (bad_source fault) outcome c quiet files = inl (ap status_of c.0, (c.1.0.contents, c.1.1))
   quiet_leaves (bad_chunk fault) outcome c quiet files = inl (ap status_of c.0, (c.1.0.contents, c.1.1))
   quiet_leaves (rejected rejection) outcome c quiet files = inl (ap status_of c.0, (c.1.0.contents, c.1.1))
-  quiet_leaves unbuilt outcome c quiet files = inl (ap status_of c.0, (c.1.0.contents, c.1.1))
 
   -- what was put is a first part of what is to be put
-  pub part_put : (bytes : List ℕ) (end : End) (outcome : Outcome) → Comes job bytes end → CarriesOut job end outcome old new → Takes old.taken new.taken [] ⊎ ((text : List ℕ) × Comes job bytes (put text) × TakesPart old.taken new.taken text)
-  part_put bytes (put text) Outcome.Done comes c = inr (text, comes, whole_part old.taken new.taken text c.1)
-  part_put bytes (put text) Outcome.WriteFault comes c = inr (text, comes, c.1)
-  part_put bytes (put text) Outcome.OutOfMemory comes c = inr (text, comes, c.1)
+  pub part_put : (bytes : List ℕ) (end : End) (outcome : Outcome) → Comes job bytes w end → CarriesOut job end outcome old new → Takes old.taken new.taken [] ⊎ ((text : List ℕ) × MayPut job bytes w text × TakesPart old.taken new.taken text)
+  part_put bytes (put text) Outcome.Done comes c = inr (text, put_may job bytes w text comes, whole_part old.taken new.taken text c.1)
+  part_put bytes (put text) Outcome.WriteFault comes c = inr (text, put_may job bytes w text comes, c.1)
+  part_put bytes (put text) Outcome.OutOfMemory comes c = inr (text, put_may job bytes w text comes, c.1)
   part_put bytes (put text) outcome comes c = absurd c
   part_put bytes (stored text) Outcome.Done comes c = inl c.0.taken
   part_put bytes (stored text) Outcome.WriteFault comes c = inl c.0.taken
   part_put bytes (stored text) Outcome.OutOfMemory comes c = inl c.1
   part_put bytes (stored text) outcome comes c = absurd c
+  part_put bytes (failed why text) outcome comes c = inr (text, failed_may job bytes w why text comes, whole_part old.taken new.taken text c.2)
+  part_put bytes (unfinished steps text) outcome comes c = inr (text, unfinished_may job bytes w steps text comes, whole_part old.taken new.taken text c.2)
   part_put bytes (bad_source fault) outcome comes c = inl c.1.1
   part_put bytes (bad_chunk fault) outcome comes c = inl c.1.1
   part_put bytes (rejected rejection) outcome comes c = inl c.1.1
-  part_put bytes unbuilt outcome comes c = inl c.1.1
 
   -- a fault of writing: the sink's count rose, or the store failed
-  pub written : (bytes : List ℕ) (end : End) → Comes job bytes end → CarriesOut job end Outcome.WriteFault old new → Rises old.faults new.faults ⊎ (IsCompilation job × (new.calls ≡ old.calls ++ call_of true (out_of job) true ∷ []))
+  pub written : (bytes : List ℕ) (end : End) → Comes job bytes w end → CarriesOut job end Outcome.WriteFault old new → Rises old.faults new.faults ⊎ (IsCompilation job × (new.calls ≡ old.calls ++ call_of true (out_of job) true ∷ []))
   written bytes (put text) comes c = inl c.2
-  written bytes (stored text) comes c = inr (stores_in job bytes text comes, c.0.calls)
+  written bytes (stored text) comes c = inr (stores_in job bytes w text comes, c.0.calls)
+  written bytes (failed why text) comes c = let differ = c.0 in cc
+  written bytes (unfinished steps text) comes c = let differ = c.0 in cc
   written bytes (bad_source fault) comes c = let differ = c.0 in cc
   written bytes (bad_chunk fault) comes c = let differ = c.0 in cc
   written bytes (rejected rejection) comes c = let differ = c.0 in cc
-  written bytes unbuilt comes c = let differ = c.0 in cc
 
   -- what is refused is refused as that
-  pub refused_as : (end : End) (outcome : Outcome) → CarriesOut job end outcome old new → status_at end ≢ Status.Done → status_of outcome ≡ status_at end
-  refused_as (put text) outcome c other = absurd (other refl)
-  refused_as (stored text) outcome c other = absurd (other refl)
-  refused_as (bad_source fault) outcome c other = ap status_of c.0
-  refused_as (bad_chunk fault) outcome c other = ap status_of c.0
-  refused_as (rejected rejection) outcome c other = ap status_of c.0
-  refused_as unbuilt outcome c other = ap status_of c.0
+  pub refused_as : (end : End) (outcome : Outcome) → CarriesOut job end outcome old new → HasNoOutput end → status_of outcome ≡ status_at end
+  refused_as (bad_source fault) outcome c none = ap status_of c.0
+  refused_as (bad_chunk fault) outcome c none = ap status_of c.0
+  refused_as (rejected rejection) outcome c none = ap status_of c.0
+  refused_as end outcome c none = absurd none
 
   -- the other way round: the outcome of a refusal tells what was refused
   tells : (end : End) (outcome : Outcome) → CarriesOut job end outcome old new → Tells outcome end
@@ -152,19 +156,50 @@ module _ (job : Job) (old new : Outside) where
   tells (stored text) Outcome.WriteFault c = tt
   tells (stored text) Outcome.OutOfMemory c = tt
   tells (stored text) outcome c = absurd c
+  tells (failed why text) outcome c = subst (λ o. Tells o (failed why text)) (sym c.0) tt
+  tells (unfinished steps text) outcome c = subst (λ o. Tells o (unfinished steps text)) (sym c.0) tt
   tells (bad_source fault) outcome c = subst (λ o. Tells o (bad_source fault)) (sym c.0) refl
   tells (bad_chunk fault) outcome c = subst (λ o. Tells o (bad_chunk fault)) (sym c.0) refl
   tells (rejected rejection) outcome c = subst (λ o. Tells o (rejected rejection)) (sym c.0) refl
-  tells unbuilt outcome c = subst (λ o. Tells o unbuilt) (sym c.0) refl
+
+  -- a run that failed, or is going
+  pub failed_as : (bytes : List ℕ) (why : List ℕ) (end : End) → Comes job bytes w end → CarriesOut job end (Outcome.ScriptFailed why) old new → (text : List ℕ) × Comes job bytes w (failed why text) × Leaves job (failed why text) old new
+  failed_as bytes why (failed other text) comes c =
+      let same : other ≡ why = let e : Outcome.ScriptFailed why ≡ Outcome.ScriptFailed other = c.0 in cc in
+      (text, subst (λ t. Comes job bytes w (failed t text)) same comes, (c.1.contents, c.2))
+  failed_as bytes why (put text) comes c = absurd c
+  failed_as bytes why (stored text) comes c = absurd c
+  failed_as bytes why (unfinished steps text) comes c = let differ = c.0 in absurd (cc)
+  failed_as bytes why (bad_source fault) comes c = let differ = c.0 in absurd (cc)
+  failed_as bytes why (bad_chunk fault) comes c = let differ = c.0 in absurd (cc)
+  failed_as bytes why (rejected rejection) comes c = let differ = c.0 in absurd (cc)
+
+  pub unfinished_as : (bytes : List ℕ) (steps : ℕ) (end : End) → Comes job bytes w end → CarriesOut job end (Outcome.Unfinished steps) old new → (text : List ℕ) × Comes job bytes w (unfinished steps text) × Leaves job (unfinished steps text) old new
+  unfinished_as bytes steps (unfinished other text) comes c =
+      let same : other ≡ steps = let e : Outcome.Unfinished steps ≡ Outcome.Unfinished other = c.0 in cc in
+      (text, subst (λ n. Comes job bytes w (unfinished n text)) same comes, (c.1.contents, c.2))
+  unfinished_as bytes steps (put text) comes c = absurd c
+  unfinished_as bytes steps (stored text) comes c = absurd c
+  unfinished_as bytes steps (failed why text) comes c = let differ = c.0 in absurd (cc)
+  unfinished_as bytes steps (bad_source fault) comes c = let differ = c.0 in absurd (cc)
+  unfinished_as bytes steps (bad_chunk fault) comes c = let differ = c.0 in absurd (cc)
+  unfinished_as bytes steps (rejected rejection) comes c = let differ = c.0 in absurd (cc)
+
+-- a run stops where the sink's count rose, or memory ran out
+stop_is : (outcome : Outcome) (before later : ℕ) → IsStop outcome before later → ((outcome ≡ Outcome.WriteFault) × Rises before later) ⊎ (outcome ≡ Outcome.OutOfMemory)
+stop_is Outcome.WriteFault before later risen = inl (refl, risen)
+stop_is Outcome.OutOfMemory before later stop = inr refl
+stop_is outcome before later stop = absurd stop
 
 -- a fetch that succeeds changes neither what files hold nor what the sink took
 pub leaves_before : (job : Job) (old new : Outside) (end : End) → Leaves job end (fetched job false old) new → Leaves job end old new
 leaves_before job old new (stored text) l = l
 leaves_before job old new (put text) l = l
+leaves_before job old new (failed why text) l = l
+leaves_before job old new (unfinished steps text) l = l
 leaves_before job old new (bad_source fault) l = l
 leaves_before job old new (bad_chunk fault) l = l
 leaves_before job old new (rejected rejection) l = l
-leaves_before job old new unbuilt l = l
 
 count_same : (calls : List FileCall) (call : FileCall) → call.failed ≡ false → fault_count (calls ++ call ∷ []) ≡ fault_count calls
 count_same calls call e =
@@ -182,7 +217,8 @@ OfStatus Status.Rejected outcome = (rejection : Rejection) × (outcome ≡ Outco
 OfStatus Status.ReadFault outcome = outcome ≡ Outcome.ReadFault
 OfStatus Status.WriteFault outcome = outcome ≡ Outcome.WriteFault
 OfStatus Status.OutOfMemory outcome = outcome ≡ Outcome.OutOfMemory
-OfStatus Status.Unbuilt outcome = outcome ≡ Outcome.Unbuilt
+OfStatus Status.ScriptFailed outcome = (why : List ℕ) × (outcome ≡ Outcome.ScriptFailed why)
+OfStatus Status.Unfinished outcome = (steps : ℕ) × (outcome ≡ Outcome.Unfinished steps)
 
 its_own : (outcome : Outcome) → OfStatus (status_of outcome) outcome
 its_own Outcome.Done = refl
@@ -193,12 +229,13 @@ its_own (Outcome.Rejected rejection) = (rejection, refl)
 its_own Outcome.ReadFault = refl
 its_own Outcome.WriteFault = refl
 its_own Outcome.OutOfMemory = refl
-its_own Outcome.Unbuilt = refl
+its_own (Outcome.ScriptFailed why) = (why, refl)
+its_own (Outcome.Unfinished steps) = (steps, refl)
 
 of_status : (outcome : Outcome) (status : Status) → status_of outcome ≡ status → OfStatus status outcome
 of_status outcome status e = subst (λ s. OfStatus s outcome) e (its_own outcome)
 
-module _ (laws : Laws) (words : Words) (job : Job) (reads : Reads words job) (old new : Outside) (outcome : Outcome) (works : Works (Some job) outcome old new) where
+module _ (laws : Laws) (words : Words) (job : Job) (reads : Reads words job) (w : World) (old new : Outside) (outcome : Outcome) (works : Works (Some job) w outcome old new) where
   pub named_is : named words ≡ file_of job
   named_is = ap file_or_none reads
 
@@ -209,22 +246,23 @@ module _ (laws : Laws) (words : Words) (job : Job) (reads : Reads words job) (ol
   told_job : (other : Job) (bytes : List ℕ) → Asks words old.contents other bytes → Asks words old.contents job bytes
   told_job other bytes asks = subst (λ j. Asks words old.contents j bytes) (asked other asks.reads) asks
 
-  same_told : (bytes : List ℕ) → Asks words old.contents job bytes → (f : DoesFetched job outcome old new) → f.bytes ≡ bytes
+  same_told : (bytes : List ℕ) → Asks words old.contents job bytes → (f : DoesFetched job w outcome old new) → f.bytes ≡ bytes
   same_told bytes asks f = sym (same_bytes old.contents (file_of job) bytes f.bytes asks.told f.told)
 
   -- the job was done with the bytes that are told of its file
-  does_told : (bytes : List ℕ) → Asks words old.contents job bytes → (f : DoesFetched job outcome old new) → Does job bytes outcome (fetched job false old) new
-  does_told bytes asks f = subst (λ b. Does job b outcome (fetched job false old) new) (same_told bytes asks f) f.does
+  does_told : (bytes : List ℕ) → Asks words old.contents job bytes → (f : DoesFetched job w outcome old new) → Does job bytes w outcome (fetched job false old) new
+  does_told bytes asks f = subst (λ b. Does job b w outcome (fetched job false old) new) (same_told bytes asks f) f.does
 
   -- the fetch succeeded
-  fetched_calls : DoesFetched job outcome old new → Fetched words false old.calls new.calls
+  fetched_calls : DoesFetched job w outcome old new → Fetched words false old.calls new.calls
   fetched_calls f = by f.does
     where
-      by : Does job f.bytes outcome (fetched job false old) new → Fetched words false old.calls new.calls
+      by : Does job f.bytes w outcome (fetched job false old) new → Fetched words false old.calls new.calls
       by (inl c) =
-          let later = called_later job (fetched job false old) new c.end outcome c.carried in
+          let later = called_later job w (fetched job false old) new c.end outcome c.carried in
           record { job = job; reads = reads; later = later.0; listed = later.1 }
-      by (inr none) = record { job = job; reads = reads; later = []; listed = none.1.0.calls ∙ sym (append-nil (old.calls ++ call_of false (file_of job) false ∷ [])) }
+      by (inr (inl stopped)) = record { job = job; reads = reads; later = []; listed = stopped.files.calls ∙ sym (append-nil (old.calls ++ call_of false (file_of job) false ∷ [])) }
+      by (inr (inr none)) = record { job = job; reads = reads; later = []; listed = none.1.0.calls ∙ sym (append-nil (old.calls ++ call_of false (file_of job) false ∷ [])) }
 
   failed_calls : new ≡ fetched job true old → Fetched words true old.calls new.calls
   failed_calls e = record { job = job; reads = reads; later = []; listed = ap (λ (o : Outside). o.calls) e ∙ sym (append-nil (old.calls ++ call_of false (file_of job) true ∷ [])) }
@@ -234,29 +272,30 @@ module _ (laws : Laws) (words : Words) (job : Job) (reads : Reads words job) (ol
   fetch_is_one a b one other =
       ap (λ (c : FileCall). c.failed) (later_both old.calls (call_of false (file_of one.job) a) (call_of false (file_of other.job) b) one.later other.later (sym one.listed ∙ other.listed))
 
-  not_fetched : new ≡ old → (failed : Bool) → Fetched words failed old.calls new.calls → ⊥
-  not_fetched e failed f =
-      let calls : old.calls ≡ (old.calls ++ call_of false (file_of f.job) failed ∷ []) ++ f.later = sym (ap (λ (o : Outside). o.calls) e) ∙ f.listed in
+  not_fetched : new ≡ old → (fails : Bool) → Fetched words fails old.calls new.calls → ⊥
+  not_fetched e fails f =
+      let calls : old.calls ≡ (old.calls ++ call_of false (file_of f.job) fails ∷ []) ++ f.later = sym (ap (λ (o : Outside). o.calls) e) ∙ f.listed in
       let more = ap length calls in
-      absurd (omega (arith, more, length-append (old.calls ++ call_of false (file_of f.job) failed ∷ []) f.later, length-append old.calls (call_of false (file_of f.job) failed ∷ [])))
+      absurd (omega (arith, more, length-append (old.calls ++ call_of false (file_of f.job) fails ∷ []) f.later, length-append old.calls (call_of false (file_of f.job) fails ∷ [])))
 
   pub nothing_clause : NoCommand words ⊎ Fetched words true old.calls new.calls → Takes old.taken new.taken []
   nothing_clause (inl none) = let one : job_in (texts words) ≡ Some job = reads in let no : job_in (texts words) ≡ None = none in cc
-  nothing_clause (inr failed) = by works
+  nothing_clause (inr fails) = by works
     where
-      by : Works (Some job) outcome old new → Takes old.taken new.taken []
+      by : Works (Some job) w outcome old new → Takes old.taken new.taken []
       by (inl w) = subst (λ o. Takes old.taken o []) (sym (ap (λ (o : Outside). o.taken) w.1)) (takes_none old.taken)
       by (inr (inl w)) = subst (λ o. Takes old.taken o []) (sym (ap (λ (o : Outside). o.taken) w.1)) (takes_none old.taken)
-      by (inr (inr f)) = let differ : true ≡ false = fetch_is_one true false failed (fetched_calls f) in cc
+      by (inr (inr f)) = let differ : true ≡ false = fetch_is_one true false fails (fetched_calls f) in cc
 
-  pub part_clause : (other : Job) (bytes : List ℕ) → Asks words old.contents other bytes → Takes old.taken new.taken [] ⊎ ((text : List ℕ) × Comes other bytes (put text) × TakesPart old.taken new.taken text)
-  part_clause other bytes asks = subst (λ j. Takes old.taken new.taken [] ⊎ ((text : List ℕ) × Comes j bytes (put text) × TakesPart old.taken new.taken text)) (sym (asked other asks.reads)) (by works)
+  pub part_clause : (other : Job) (bytes : List ℕ) → Asks words old.contents other bytes → Takes old.taken new.taken [] ⊎ ((text : List ℕ) × MayPut other bytes w text × TakesPart old.taken new.taken text)
+  part_clause other bytes asks = subst (λ j. Takes old.taken new.taken [] ⊎ ((text : List ℕ) × MayPut j bytes w text × TakesPart old.taken new.taken text)) (sym (asked other asks.reads)) (by works)
     where
-      carried : Does job bytes outcome (fetched job false old) new → Takes old.taken new.taken [] ⊎ ((text : List ℕ) × Comes job bytes (put text) × TakesPart old.taken new.taken text)
-      carried (inl c) = part_put job (fetched job false old) new bytes c.end outcome c.comes c.carried
-      carried (inr none) = inl none.1.1
+      carried : Does job bytes w outcome (fetched job false old) new → Takes old.taken new.taken [] ⊎ ((text : List ℕ) × MayPut job bytes w text × TakesPart old.taken new.taken text)
+      carried (inl c) = part_put job w (fetched job false old) new bytes c.end outcome c.comes c.carried
+      carried (inr (inl stopped)) = inr (stopped.text, stopped.output, stopped.part)
+      carried (inr (inr none)) = inl none.1.1
 
-      by : Works (Some job) outcome old new → Takes old.taken new.taken [] ⊎ ((text : List ℕ) × Comes job bytes (put text) × TakesPart old.taken new.taken text)
+      by : Works (Some job) w outcome old new → Takes old.taken new.taken [] ⊎ ((text : List ℕ) × MayPut job bytes w text × TakesPart old.taken new.taken text)
       by (inl w) = inl (subst (λ o. Takes old.taken o []) (sym (ap (λ (o : Outside). o.taken) w.1)) (takes_none old.taken))
       by (inr (inl w)) = inl (subst (λ o. Takes old.taken o []) (sym (ap (λ (o : Outside). o.taken) w.1)) (takes_none old.taken))
       by (inr (inr f)) = carried (does_told bytes (told_job other bytes asks) f)
@@ -264,33 +303,36 @@ module _ (laws : Laws) (words : Words) (job : Job) (reads : Reads words job) (ol
   pub files_clause : FilesFor (job_in (texts words)) old new
   files_clause = subst (λ o. FilesFor o old new) (sym reads) (by works)
     where
-      behind : (bytes : List ℕ) (end : End) → Comes job bytes end → CarriesOut job end outcome (fetched job false old) new → FilesFor (Some job) old new
-      behind bytes end comes c = elim (files_behind job (fetched job false old) new bytes end outcome comes c) [
+      behind : (bytes : List ℕ) (end : End) → Comes job bytes w end → CarriesOut job end outcome (fetched job false old) new → FilesFor (Some job) old new
+      behind bytes end comes c = elim (files_behind job w (fetched job false old) new bytes end outcome comes c) [
         | inl same ↦ inr (inl (false, same.0, same.1))
         | inr stores ↦ inr (inr stores)
       ]
 
-      carried : (bytes : List ℕ) → Does job bytes outcome (fetched job false old) new → FilesFor (Some job) old new
+      carried : (bytes : List ℕ) → Does job bytes w outcome (fetched job false old) new → FilesFor (Some job) old new
       carried bytes (inl c) = behind bytes c.end c.comes c.carried
-      carried bytes (inr none) = inr (inl (false, none.1.0.calls, none.1.0.contents))
+      carried bytes (inr (inl stopped)) = inr (inl (false, stopped.files.calls, stopped.files.contents))
+      carried bytes (inr (inr none)) = inr (inl (false, none.1.0.calls, none.1.0.contents))
 
-      by : Works (Some job) outcome old new → FilesFor (Some job) old new
+      by : Works (Some job) w outcome old new → FilesFor (Some job) old new
       by (inl w) = inr (inl (true, ap (λ (o : Outside). o.calls) w.1, ap (λ (o : Outside). o.contents) w.1))
       by (inr (inl w)) = inl (ap (λ (o : Outside). o.calls) w.1, ap (λ (o : Outside). o.contents) w.1)
       by (inr (inr f)) = carried f.bytes f.does
 
   -- the job that was carried out with this outcome, unless that is one of the fetch or want of memory
-  job_done : outcome ≢ Outcome.ReadFault → outcome ≢ Outcome.OutOfMemory → DoesFetched job outcome old new
+  job_done : outcome ≢ Outcome.ReadFault → outcome ≢ Outcome.OutOfMemory → DoesFetched job w outcome old new
   job_done no_fault no_want = by works
     where
-      by : Works (Some job) outcome old new → DoesFetched job outcome old new
+      by : Works (Some job) w outcome old new → DoesFetched job w outcome old new
       by (inl w) = absurd (no_fault w.0)
       by (inr (inl w)) = absurd (no_want w.0)
       by (inr (inr f)) = f
 
-  job_carried : (bytes : List ℕ) → outcome ≢ Outcome.OutOfMemory → Does job bytes outcome (fetched job false old) new → Carried job bytes outcome (fetched job false old) new
-  job_carried bytes no_want (inl c) = c
-  job_carried bytes no_want (inr none) = absurd (no_want none.0)
+  job_carried : (bytes : List ℕ) → outcome ≢ Outcome.WriteFault → outcome ≢ Outcome.OutOfMemory → Does job bytes w outcome (fetched job false old) new → Carried job bytes w outcome (fetched job false old) new
+  job_carried bytes no_fault no_want (inl c) = c
+  job_carried bytes no_fault no_want (inr (inl stopped)) =
+      absurd (elim (stop_is outcome old.faults new.faults stopped.stop) [ inl e ↦ no_fault e.0 | inr e ↦ no_want e ])
+  job_carried bytes no_fault no_want (inr (inr none)) = absurd (no_want none.0)
 
   module _ (err_before err_later : Option (List ℕ)) (err_old err_new : ℕ) (result : Status) (reported : Reported outcome (file_of job) result err_before err_later err_old err_new) where
     settled : (status : Status) → result ≡ status → status ≢ Status.WriteFault → status ≢ Status.OutOfMemory → (status_of outcome ≡ status) × Takes err_before err_later (line_of outcome (named words))
@@ -301,7 +343,7 @@ module _ (laws : Laws) (words : Words) (job : Job) (reads : Reads words job) (ol
     pub line_clause : result ≢ Status.WriteFault → result ≢ Status.OutOfMemory → (o : Outcome) × (status_of o ≡ result) × Takes err_before err_later (line_of o (named words))
     line_clause no_fault no_want = let s = settled result refl no_fault no_want in (outcome, s.0, s.1)
 
-    pub carried_out_clause : (other : Job) (bytes : List ℕ) (end : End) → Asks words old.contents other bytes → Comes other bytes end → NoFault old.calls new.calls → (Rises old.faults new.faults → ⊥) → (Rises err_old err_new → ⊥) → ((result ≡ status_at end) × Leaves other end old new) ⊎ (result ≡ Status.OutOfMemory)
+    pub carried_out_clause : (other : Job) (bytes : List ℕ) (end : End) → Asks words old.contents other bytes → Comes other bytes w end → NoFault old.calls new.calls → (Rises old.faults new.faults → ⊥) → (Rises err_old err_new → ⊥) → ((result ≡ status_at end) × Leaves other end old new) ⊎ (result ≡ Status.OutOfMemory)
     carried_out_clause other bytes end asks comes files quiet err = by works
       where
         same : other ≡ job
@@ -316,9 +358,9 @@ module _ (laws : Laws) (words : Words) (job : Job) (reads : Reads words job) (ol
           | inr s ↦ s
         ]
 
-        ended : (c : End) → Comes job bytes c → (status_of outcome ≡ status_at c) → Leaves job c (fetched job false old) new → ((result ≡ status_at end) × Leaves other end old new) ⊎ (result ≡ Status.OutOfMemory)
+        ended : (c : End) → Comes job bytes w c → (status_of outcome ≡ status_at c) → Leaves job c (fetched job false old) new → ((result ≡ status_at end) × Leaves other end old new) ⊎ (result ≡ Status.OutOfMemory)
         ended c is e l =
-            let one = alike laws job bytes c end is (subst (λ j. Comes j bytes end) same comes) in
+            let one = alike laws job bytes w c end is (subst (λ j. Comes j bytes w end) same comes) in
             elim (quiet_is err_before err_later err_old err_new outcome (file_of job) result reported err) [
               | inl s ↦ inl (s ∙ e ∙ alike_status c end one, as_asked (leaves_before job old new end (alike_leaves job c end (fetched job false old) new one l)))
               | inr s ↦ inr s
@@ -327,14 +369,18 @@ module _ (laws : Laws) (words : Words) (job : Job) (reads : Reads words job) (ol
         faults_same : fault_count new.calls ≡ fault_count (fetched job false old).calls
         faults_same = files ∙ sym (count_same old.calls (call_of false (file_of job) false) refl)
 
-        carried : Does job bytes outcome (fetched job false old) new → ((result ≡ status_at end) × Leaves other end old new) ⊎ (result ≡ Status.OutOfMemory)
-        carried (inl c) = elim (quiet_leaves job (fetched job false old) new c.end outcome c.carried quiet faults_same) [
+        carried : Does job bytes w outcome (fetched job false old) new → ((result ≡ status_at end) × Leaves other end old new) ⊎ (result ≡ Status.OutOfMemory)
+        carried (inl c) = elim (quiet_leaves job w (fetched job false old) new c.end outcome c.carried quiet faults_same) [
           | inl l ↦ ended c.end c.comes l.0 l.1
           | inr e ↦ inr (no_memory e)
         ]
-        carried (inr none) = inr (no_memory none.0)
+        carried (inr (inl stopped)) = elim (stop_is outcome old.faults new.faults stopped.stop) [
+          | inl e ↦ absurd (quiet e.1)
+          | inr e ↦ inr (no_memory e)
+        ]
+        carried (inr (inr none)) = inr (no_memory none.0)
 
-        by : Works (Some job) outcome old new → ((result ≡ status_at end) × Leaves other end old new) ⊎ (result ≡ Status.OutOfMemory)
+        by : Works (Some job) w outcome old new → ((result ≡ status_at end) × Leaves other end old new) ⊎ (result ≡ Status.OutOfMemory)
         by (inl w) =
             let grown = count_snoc old.calls (call_of false (file_of job) true) refl in
             let count : fault_count new.calls ≡ suc (fault_count old.calls) = ap (λ (o : Outside). fault_count o.calls) w.1 ∙ grown in
@@ -342,12 +388,12 @@ module _ (laws : Laws) (words : Words) (job : Job) (reads : Reads words job) (ol
         by (inr (inl w)) = inr (no_memory w.0)
         by (inr (inr f)) = carried (does_told bytes (told_job other bytes asks) f)
 
-    pub done_clause : result ≡ Status.Done → Fetched words false old.calls new.calls × Takes err_before err_later [] × ((other : Job) (bytes : List ℕ) → Asks words old.contents other bytes → (end : End) × Comes other bytes end × (status_at end ≡ Status.Done) × Leaves other end old new)
+    pub done_clause : result ≡ Status.Done → Fetched words false old.calls new.calls × Takes err_before err_later [] × ((other : Job) (bytes : List ℕ) → Asks words old.contents other bytes → (end : End) × Comes other bytes w end × (status_at end ≡ Status.Done) × Leaves other end old new)
     done_clause e = (
       fetched_calls f,
       subst (λ o. Takes err_before err_later (line_of o (named words))) done s.1,
       λ other bytes asks.
-          subst (λ j. (end : End) × Comes j bytes end × (status_at end ≡ Status.Done) × Leaves j end old new) (sym (asked other asks.reads)) (carried bytes (does_told bytes (told_job other bytes asks) f)),
+          subst (λ j. (end : End) × Comes j bytes w end × (status_at end ≡ Status.Done) × Leaves j end old new) (sym (asked other asks.reads)) (carried bytes (does_told bytes (told_job other bytes asks) f)),
     )
       where
         s : (status_of outcome ≡ Status.Done) × Takes err_before err_later (line_of outcome (named words))
@@ -356,24 +402,25 @@ module _ (laws : Laws) (words : Words) (job : Job) (reads : Reads words job) (ol
         done : outcome ≡ Outcome.Done
         done = of_status outcome Status.Done s.0
 
-        f : DoesFetched job outcome old new
+        f : DoesFetched job w outcome old new
         f = job_done (λ w. cc (done)) (λ w. cc (done))
 
-        carried : (bytes : List ℕ) → Does job bytes outcome (fetched job false old) new → (end : End) × Comes job bytes end × (status_at end ≡ Status.Done) × Leaves job end old new
+        carried : (bytes : List ℕ) → Does job bytes w outcome (fetched job false old) new → (end : End) × Comes job bytes w end × (status_at end ≡ Status.Done) × Leaves job end old new
         carried bytes d =
-            let c = job_carried bytes (λ w. cc (done)) d in
-            let l = done_leaves job (fetched job false old) new c.end (subst (λ o. CarriesOut job c.end o (fetched job false old) new) done c.carried) in
+            let c = job_carried bytes (λ e. cc (done)) (λ e. cc (done)) d in
+            let l = done_leaves job w (fetched job false old) new c.end (subst (λ o. CarriesOut job c.end o (fetched job false old) new) done c.carried) in
             (c.end, c.comes, l.0, leaves_before job old new c.end l.1)
 
     -- a status that tells what the job comes to
-    told : {A : Type 0} (status : Status) (outcome_of : A → Outcome) (end_of : A → End)
-        → status ≢ Status.WriteFault → status ≢ Status.OutOfMemory → ((a : A) → outcome_of a ≢ Outcome.ReadFault) → ((a : A) → outcome_of a ≢ Outcome.OutOfMemory)
-        → (status_of outcome ≡ status → (a : A) × (outcome ≡ outcome_of a)) → ((a : A) (end : End) → Tells (outcome_of a) end → end ≡ end_of a) → result ≡ status
-        → Fetched words false old.calls new.calls × (a : A) × ((other : Job) (bytes : List ℕ) → Asks words old.contents other bytes → Comes other bytes (end_of a)) × Takes err_before err_later (line_of (outcome_of a) (named words))
-    told {A = A} status outcome_of end_of no_fault no_want not_read not_wanting of_own same e = (
+    told : {A : Type 0} (status : Status) (outcome_of : A → Outcome) (Says : A → Job → List ℕ → Type 0)
+        → status ≢ Status.WriteFault → status ≢ Status.OutOfMemory → status ≢ Status.ReadFault
+        → (status_of outcome ≡ status → (a : A) × (outcome ≡ outcome_of a))
+        → ((a : A) (bytes : List ℕ) (end : End) → Comes job bytes w end → CarriesOut job end (outcome_of a) (fetched job false old) new → Says a job bytes) → result ≡ status
+        → Fetched words false old.calls new.calls × (a : A) × ((other : Job) (bytes : List ℕ) → Asks words old.contents other bytes → Says a other bytes) × Takes err_before err_later (line_of (outcome_of a) (named words))
+    told {A = A} status outcome_of Says no_fault no_want no_read of_own says e = (
       fetched_calls f,
       its.0,
-      λ other bytes asks. subst (λ j. Comes j bytes (end_of its.0)) (sym (asked other asks.reads)) (carried bytes (does_told bytes (told_job other bytes asks) f)),
+      λ other bytes asks. subst (λ j. Says its.0 j bytes) (sym (asked other asks.reads)) (carried bytes (does_told bytes (told_job other bytes asks) f)),
       subst (λ o. Takes err_before err_later (line_of o (named words))) its.1 s.1,
     )
       where
@@ -383,42 +430,50 @@ module _ (laws : Laws) (words : Words) (job : Job) (reads : Reads words job) (ol
         its : (a : A) × (outcome ≡ outcome_of a)
         its = of_own s.0
 
-        wanting : outcome ≢ Outcome.OutOfMemory
-        wanting w = not_wanting its.0 (sym its.1 ∙ w)
+        not_wanting : outcome ≢ Outcome.OutOfMemory
+        not_wanting o = no_want (sym s.0 ∙ ap status_of o)
 
-        f : DoesFetched job outcome old new
-        f = job_done (λ w. not_read its.0 (sym its.1 ∙ w)) wanting
+        not_writing : outcome ≢ Outcome.WriteFault
+        not_writing o = no_fault (sym s.0 ∙ ap status_of o)
 
-        carried : (bytes : List ℕ) → Does job bytes outcome (fetched job false old) new → Comes job bytes (end_of its.0)
+        f : DoesFetched job w outcome old new
+        f = job_done (λ o. no_read (sym s.0 ∙ ap status_of o)) not_wanting
+
+        carried : (bytes : List ℕ) → Does job bytes w outcome (fetched job false old) new → Says its.0 job bytes
         carried bytes d =
-            let c = job_carried bytes wanting d in
-            subst (Comes job bytes) (same its.0 c.end (subst (λ o. Tells o c.end) its.1 (tells job (fetched job false old) new c.end outcome c.carried))) c.comes
+            let c = job_carried bytes not_writing not_wanting d in
+            says its.0 bytes c.end c.comes (subst (λ o. CarriesOut job c.end o (fetched job false old) new) its.1 c.carried)
 
-    pub bad_source_clause : result ≡ Status.BadSource → Fetched words false old.calls new.calls × (fault : Fault) × ((other : Job) (bytes : List ℕ) → Asks words old.contents other bytes → Comes other bytes (bad_source fault)) × Takes err_before err_later (line_of (Outcome.BadSource fault) (named words))
-    bad_source_clause = told Status.BadSource Outcome.BadSource bad_source (λ w. cc) (λ w. cc) (λ a w. cc) (λ a w. cc) (of_status outcome Status.BadSource) (λ a end is. is)
+    pub bad_source_clause : result ≡ Status.BadSource → Fetched words false old.calls new.calls × (fault : Fault) × ((other : Job) (bytes : List ℕ) → Asks words old.contents other bytes → Comes other bytes w (bad_source fault)) × Takes err_before err_later (line_of (Outcome.BadSource fault) (named words))
+    bad_source_clause = told Status.BadSource Outcome.BadSource (λ a j bytes. Comes j bytes w (bad_source a)) (λ e. cc) (λ e. cc) (λ e. cc) (of_status outcome Status.BadSource) (λ a bytes end comes c. subst (Comes job bytes w) (tells job w (fetched job false old) new end (Outcome.BadSource a) c) comes)
 
-    pub bad_chunk_clause : result ≡ Status.BadChunk → Fetched words false old.calls new.calls × (fault : ChunkFault) × ((other : Job) (bytes : List ℕ) → Asks words old.contents other bytes → Comes other bytes (bad_chunk fault)) × Takes err_before err_later (line_of (Outcome.BadChunk fault) (named words))
-    bad_chunk_clause = told Status.BadChunk Outcome.BadChunk bad_chunk (λ w. cc) (λ w. cc) (λ a w. cc) (λ a w. cc) (of_status outcome Status.BadChunk) (λ a end is. is)
+    pub bad_chunk_clause : result ≡ Status.BadChunk → Fetched words false old.calls new.calls × (fault : ChunkFault) × ((other : Job) (bytes : List ℕ) → Asks words old.contents other bytes → Comes other bytes w (bad_chunk fault)) × Takes err_before err_later (line_of (Outcome.BadChunk fault) (named words))
+    bad_chunk_clause = told Status.BadChunk Outcome.BadChunk (λ a j bytes. Comes j bytes w (bad_chunk a)) (λ e. cc) (λ e. cc) (λ e. cc) (of_status outcome Status.BadChunk) (λ a bytes end comes c. subst (Comes job bytes w) (tells job w (fetched job false old) new end (Outcome.BadChunk a) c) comes)
 
-    pub rejected_clause : result ≡ Status.Rejected → Fetched words false old.calls new.calls × (rejection : Rejection) × ((other : Job) (bytes : List ℕ) → Asks words old.contents other bytes → Comes other bytes (rejected rejection)) × Takes err_before err_later (line_of (Outcome.Rejected rejection) (named words))
-    rejected_clause = told Status.Rejected Outcome.Rejected rejected (λ w. cc) (λ w. cc) (λ a w. cc) (λ a w. cc) (of_status outcome Status.Rejected) (λ a end is. is)
+    pub rejected_clause : result ≡ Status.Rejected → Fetched words false old.calls new.calls × (rejection : Rejection) × ((other : Job) (bytes : List ℕ) → Asks words old.contents other bytes → Comes other bytes w (rejected rejection)) × Takes err_before err_later (line_of (Outcome.Rejected rejection) (named words))
+    rejected_clause = told Status.Rejected Outcome.Rejected (λ a j bytes. Comes j bytes w (rejected a)) (λ e. cc) (λ e. cc) (λ e. cc) (of_status outcome Status.Rejected) (λ a bytes end comes c. subst (Comes job bytes w) (tells job w (fetched job false old) new end (Outcome.Rejected a) c) comes)
 
-    pub unbuilt_clause : result ≡ Status.Unbuilt → Fetched words false old.calls new.calls × ((other : Job) (bytes : List ℕ) → Asks words old.contents other bytes → Comes other bytes unbuilt)
-    unbuilt_clause e =
-        let t = told {A = Unit {0}} Status.Unbuilt (λ a. Outcome.Unbuilt) (λ a. unbuilt) (λ w. cc) (λ w. cc) (λ a w. cc) (λ a w. cc) (λ s. (tt, of_status outcome Status.Unbuilt s)) (λ a end is. is) e in
-        (t.0, t.2)
+    pub script_failed_clause : result ≡ Status.ScriptFailed → Fetched words false old.calls new.calls × (why : List ℕ) × ((other : Job) (bytes : List ℕ) → Asks words old.contents other bytes → (text : List ℕ) × Comes other bytes w (failed why text) × Leaves other (failed why text) old new) × Takes err_before err_later (line_of (Outcome.ScriptFailed why) (named words))
+    script_failed_clause =
+        told Status.ScriptFailed Outcome.ScriptFailed (λ a j bytes. (text : List ℕ) × Comes j bytes w (failed a text) × Leaves j (failed a text) old new) (λ e. cc) (λ e. cc) (λ e. cc) (of_status outcome Status.ScriptFailed)
+        (λ a bytes end comes c. failed_as job w (fetched job false old) new bytes a end comes c)
+
+    pub unfinished_clause : result ≡ Status.Unfinished → Fetched words false old.calls new.calls × (steps : ℕ) × ((other : Job) (bytes : List ℕ) → Asks words old.contents other bytes → (text : List ℕ) × Comes other bytes w (unfinished steps text) × Leaves other (unfinished steps text) old new) × Takes err_before err_later (line_of (Outcome.Unfinished steps) (named words))
+    unfinished_clause =
+        told Status.Unfinished Outcome.Unfinished (λ a j bytes. (text : List ℕ) × Comes j bytes w (unfinished a text) × Leaves j (unfinished a text) old new) (λ e. cc) (λ e. cc) (λ e. cc) (of_status outcome Status.Unfinished)
+        (λ a bytes end comes c. unfinished_as job w (fetched job false old) new bytes a end comes c)
 
     pub bad_words_clause : result ≡ Status.BadWords → ⊥
-    bad_words_clause e = never (job_carried f.bytes (λ w. cc (is)) f.does)
+    bad_words_clause e = never (job_carried f.bytes (λ w. cc (is)) (λ w. cc (is)) f.does)
       where
         is : outcome ≡ Outcome.BadWords
         is = of_status outcome Status.BadWords (settled Status.BadWords e (λ w. cc) (λ w. cc)).0
 
-        f : DoesFetched job outcome old new
+        f : DoesFetched job w outcome old new
         f = job_done (λ w. cc (is)) (λ w. cc (is))
 
-        never : Carried job f.bytes outcome (fetched job false old) new → ⊥
-        never c = subst (λ o. Tells o c.end) is (tells job (fetched job false old) new c.end outcome c.carried)
+        never : Carried job f.bytes w outcome (fetched job false old) new → ⊥
+        never c = subst (λ o. Tells o c.end) is (tells job w (fetched job false old) new c.end outcome c.carried)
 
     pub read_fault_clause : result ≡ Status.ReadFault → Fetched words true old.calls new.calls
     read_fault_clause e = by works
@@ -426,41 +481,45 @@ module _ (laws : Laws) (words : Words) (job : Job) (reads : Reads words job) (ol
         is : outcome ≡ Outcome.ReadFault
         is = of_status outcome Status.ReadFault (settled Status.ReadFault e (λ w. cc) (λ w. cc)).0
 
-        never : (bytes : List ℕ) → Carried job bytes outcome (fetched job false old) new → ⊥
-        never bytes c = subst (λ o. Tells o c.end) is (tells job (fetched job false old) new c.end outcome c.carried)
+        never : (bytes : List ℕ) → Carried job bytes w outcome (fetched job false old) new → ⊥
+        never bytes c = subst (λ o. Tells o c.end) is (tells job w (fetched job false old) new c.end outcome c.carried)
 
-        by : Works (Some job) outcome old new → Fetched words true old.calls new.calls
+        by : Works (Some job) w outcome old new → Fetched words true old.calls new.calls
         by (inl w) = failed_calls w.1
         by (inr (inl w)) = let other = w.0 in absurd (cc (is))
-        by (inr (inr f)) = absurd (never f.bytes (job_carried f.bytes (λ w. cc (is)) f.does))
+        by (inr (inr f)) = absurd (never f.bytes (job_carried f.bytes (λ w. cc (is)) (λ w. cc (is)) f.does))
 
     become : (status : Status) → status_of outcome ≡ status → Becomes status result err_old err_new ⊎ (result ≡ Status.OutOfMemory)
     become status e = subst (λ s. Becomes s result err_old err_new ⊎ (result ≡ Status.OutOfMemory)) e (becomes err_before err_later err_old err_new outcome (file_of job) result reported)
 
     pub fetch_failed_clause : Fetched words true old.calls new.calls → Becomes Status.ReadFault result err_old err_new
-    fetch_failed_clause failed = by works
+    fetch_failed_clause fails = by works
       where
         never : outcome ≡ Outcome.ReadFault → Reported Outcome.ReadFault (file_of job) result err_before err_later err_old err_new
         never e = subst (λ o. Reported o (file_of job) result err_before err_later err_old err_new) e reported
 
-        by : Works (Some job) outcome old new → Becomes Status.ReadFault result err_old err_new
+        by : Works (Some job) w outcome old new → Becomes Status.ReadFault result err_old err_new
         by (inl w) = put_becomes err_before err_later err_old err_new Status.ReadFault _ result (never w.0)
-        by (inr (inl w)) = absurd (not_fetched w.1 true failed)
-        by (inr (inr f)) = let differ : true ≡ false = fetch_is_one true false failed (fetched_calls f) in absurd (cc)
+        by (inr (inl w)) = absurd (not_fetched w.1 true fails)
+        by (inr (inr f)) = let differ : true ≡ false = fetch_is_one true false fails (fetched_calls f) in absurd (cc)
 
-    pub refused_clause : (other : Job) (bytes : List ℕ) (end : End) → Asks words old.contents other bytes → Comes other bytes end → status_at end ≢ Status.Done → Fetched words false old.calls new.calls → Becomes (status_at end) result err_old err_new ⊎ (result ≡ Status.OutOfMemory)
-    refused_clause other bytes end asks comes differs fetch = by works
+    pub refused_clause : (other : Job) (bytes : List ℕ) (end : End) → Asks words old.contents other bytes → Comes other bytes w end → HasNoOutput end → Fetched words false old.calls new.calls → Becomes (status_at end) result err_old err_new ⊎ (result ≡ Status.OutOfMemory)
+    refused_clause other bytes end asks comes none fetch = by works
       where
-        carried : Does job bytes outcome (fetched job false old) new → Becomes (status_at end) result err_old err_new ⊎ (result ≡ Status.OutOfMemory)
-        carried (inl c) =
-            let one = alike_status c.end end (alike laws job bytes c.end end c.comes (subst (λ j. Comes j bytes end) (asked other asks.reads) comes)) in
-            become (status_at end) (refused_as job (fetched job false old) new c.end outcome c.carried (λ d. differs (sym one ∙ d)) ∙ one)
-        carried (inr none) = inr (no_memory none.0)
-          where
-            no_memory : outcome ≡ Outcome.OutOfMemory → result ≡ Status.OutOfMemory
-            no_memory e = no_memory_is err_before err_later err_old err_new _ result (subst (λ o. Reported o (file_of job) result err_before err_later err_old err_new) e reported)
+        its : Comes job bytes w end
+        its = subst (λ j. Comes j bytes w end) (asked other asks.reads) comes
 
-        by : Works (Some job) outcome old new → Becomes (status_at end) result err_old err_new ⊎ (result ≡ Status.OutOfMemory)
+        no_memory : outcome ≡ Outcome.OutOfMemory → result ≡ Status.OutOfMemory
+        no_memory e = no_memory_is err_before err_later err_old err_new _ result (subst (λ o. Reported o (file_of job) result err_before err_later err_old err_new) e reported)
+
+        carried : Does job bytes w outcome (fetched job false old) new → Becomes (status_at end) result err_old err_new ⊎ (result ≡ Status.OutOfMemory)
+        carried (inl c) =
+            let same = alike laws job bytes w c.end end c.comes its in
+            become (status_at end) (refused_as job w (fetched job false old) new c.end outcome c.carried (alike_none c.end end same none) ∙ alike_status c.end end same)
+        carried (inr (inl stopped)) = absurd (refused_not_run laws job bytes w stopped.text end stopped.runs stopped.output its none)
+        carried (inr (inr want)) = inr (no_memory want.0)
+
+        by : Works (Some job) w outcome old new → Becomes (status_at end) result err_old err_new ⊎ (result ≡ Status.OutOfMemory)
         by (inl w) = let differ : true ≡ false = fetch_is_one true false (failed_calls w.1) fetch in absurd (cc)
         by (inr (inl w)) = absurd (not_fetched w.1 false fetch)
         by (inr (inr f)) = carried (does_told bytes (told_job other bytes asks) f)
@@ -471,18 +530,23 @@ module _ (laws : Laws) (words : Words) (job : Job) (reads : Reads words job) (ol
       | inr risen ↦ inr (inl risen)
     ]
       where
-        by_end : (bytes : List ℕ) (end : End) → Comes job bytes end → CarriesOut job end Outcome.WriteFault (fetched job false old) new → Rises old.faults new.faults ⊎ Rises err_old err_new ⊎ StoreFailed words old.calls new.calls
-        by_end bytes end comes c = elim (written job (fetched job false old) new bytes end comes c) [
+        by_end : (bytes : List ℕ) (end : End) → Comes job bytes w end → CarriesOut job end Outcome.WriteFault (fetched job false old) new → Rises old.faults new.faults ⊎ Rises err_old err_new ⊎ StoreFailed words old.calls new.calls
+        by_end bytes end comes c = elim (written job w (fetched job false old) new bytes end comes c) [
           | inl risen ↦ inl risen
           | inr listed ↦ inr (inr (record { job = job; reads = reads; compiles = listed.0; listed = listed.1 }))
         ]
 
+        by : outcome ≡ Outcome.WriteFault → (bytes : List ℕ) → Does job bytes w outcome (fetched job false old) new → Rises old.faults new.faults ⊎ Rises err_old err_new ⊎ StoreFailed words old.calls new.calls
+        by is bytes (inl c) = by_end bytes c.end c.comes (subst (λ o. CarriesOut job c.end o (fetched job false old) new) is c.carried)
+        by is bytes (inr (inl stopped)) = elim (stop_is outcome old.faults new.faults stopped.stop) [
+          | inl e ↦ inl e.1
+          | inr e ↦ absurd (cc)
+        ]
+        by is bytes (inr (inr none)) = let other = none.0 in absurd (cc)
+
         by_outcome : outcome ≡ Outcome.WriteFault → Rises old.faults new.faults ⊎ Rises err_old err_new ⊎ StoreFailed words old.calls new.calls
-        by_outcome is =
-            let f = job_done (λ w. cc (is)) (λ w. cc (is)) in
-            let c = job_carried f.bytes (λ w. cc (is)) f.does in
-            by_end f.bytes c.end c.comes (subst (λ o. CarriesOut job c.end o (fetched job false old) new) is c.carried)
+        by_outcome is = let f = job_done (λ w. cc (is)) (λ w. cc (is)) in by is f.bytes f.does
 
 -- words that ask for nothing
-pub no_job : (words : Words) (o : Outside) → NoCommand words → Works (job_in (texts words)) Outcome.BadWords o o
-no_job words o none = subst (λ j. Works j Outcome.BadWords o o) (sym none) (refl, refl)
+pub no_job : (words : Words) (w : World) (o : Outside) → NoCommand words → Works (job_in (texts words)) w Outcome.BadWords o o
+no_job words w o none = subst (λ j. Works j w Outcome.BadWords o o) (sym none) (refl, refl)

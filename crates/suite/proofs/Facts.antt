@@ -1,5 +1,5 @@
 -- What the clauses of the top call rest on: which outcomes exclude each other, and what becomes of a status.
-use Rattle.std.proofs.Common.{◌≡◌, ℕ, suc, ◌+◌, true, false, List, [], ◌∷◌, ◌++◌, ◌⊎◌, inl, inr, Option, Some, None, IfSome, Contains, refl, sym, ap, subst, ◌∙◌, cond, arith}
+use Rattle.std.proofs.Common.{◌≡◌, ℕ, suc, ◌+◌, true, List, [], ◌∷◌, ◌++◌, ◌⊎◌, inl, inr, Option, Some, None, IfSome, Contains, refl, sym, ap, subst, ◌∙◌, cond, arith}
 use Rattle.std.specs.FinMap.{get}
 use Rattle.std.proofs.lemmas.List.{append-nil}
 use Rattle.std.proofs.lemmas.List.Sums.{sum_by-append}
@@ -23,7 +23,6 @@ use Rattle.parser.specs.Places as syntax
 use Rattle.parser.specs.Laws.{TreesAreOne, NeverBoth}
 use Rattle.scopes.specs.declared.fault.ScopeFault.{ScopeFault}
 use Rattle.scopes.specs.Faults as scoping
-use Rattle.first_form.specs.Source.{is_chunk, IsPrintList, IsFirstForm}
 use Rattle.suite.specs.declared.fault.Fault.{Fault}
 use Rattle.suite.specs.declared.status.Status.{Status}
 use Rattle.suite.specs.declared.outcome.Outcome.{Outcome}
@@ -35,10 +34,10 @@ use Rattle.code_builder.specs.declared.fault.CodeFault.{CodeFault}
 use Rattle.lua_num.specs.Bytes.{Text}
 use Rattle.suite.specs.Words.{Tells}
 use Rattle.suite.specs.Lines.{status_of, line_of, Refused, IsPut, Reported}
-use Rattle.suite.specs.Outcome.{IsGoodSource, IsFaultIn, IsEarlyFaultIn, IsLimitOf, HasNoChunk}
-use Rattle.suite.specs.Jobs.{IsCompiled, IsNotRun, HasOutput, source_name}
+use Rattle.suite.specs.Outcome.{IsFaultIn, IsLimitOf, HasNoChunk}
+use Rattle.suite.specs.Jobs.{IsCompiled, source_name}
 use Rattle.suite.specs.Causes.{Becomes}
-use Rattle.suite.proofs.SourceLemmas.{TokensAreOne, form_is, list_scoped}
+use Rattle.suite.proofs.SourceLemmas.{TokensAreOne}
 
 abbrev pub TokensOrFault : Type 0
 TokensOrFault = (bytes : List ℕ) (tokens : List Token) (cause : Cause) (at : ℕ) → Lexes bytes tokens → Stops bytes cause at → ⊥
@@ -67,10 +66,6 @@ laws_of tokens_one tokens_never trees_one trees_never chunks_one chunks_never = 
   chunks_are_one = chunks_one;
   chunk_or_fault = chunks_never;
 }
-
--- two outputs of a source are one
-pub same_output : (source : Source) (a b : List ℕ) → HasOutput source a → HasOutput source b → a ≡ b
-same_output source a b h k = sym (h.output_is h.ends.0 h.ends.1) ∙ k.output_is h.ends.0 h.ends.1
 
 pub count_snoc : (calls : List FileCall) (call : FileCall) → call.failed ≡ true → fault_count (calls ++ call ∷ []) ≡ suc (fault_count calls)
 count_snoc calls call e =
@@ -109,7 +104,11 @@ no_scope_fault whole (ScopeFault.TooManyUpvalues line reached) keeps is = let so
 no_scope_fault whole ScopeFault.OutOfMemory keeps is = is
 
 -- nor do a tree that keeps the rules of scoping and a fault that is told before the chunk is made
-pub no_early_fault : Laws → (bytes : List ℕ) (tokens : List Token) (whole : Source) (fault : Fault) → Lexes bytes tokens → IsTreeOf tokens whole → Scoped whole → IsEarlyFaultIn bytes fault → ⊥
+abbrev IsEarlyFaultIn : List ℕ → Fault → Type 0
+IsEarlyFaultIn bytes (Fault.Code fault) = ⊥
+IsEarlyFaultIn bytes fault = IsFaultIn bytes fault
+
+no_early_fault : Laws → (bytes : List ℕ) (tokens : List Token) (whole : Source) (fault : Fault) → Lexes bytes tokens → IsTreeOf tokens whole → Scoped whole → IsEarlyFaultIn bytes fault → ⊥
 no_early_fault laws bytes tokens whole (Fault.Scoping fault) lexed parsed keeps is =
     let same_tokens : is.tokens ≡ tokens = laws.tokens_are_one bytes is.tokens tokens is.lexed lexed in
     let same : whole ≡ is.whole = laws.trees_are_one tokens whole is.whole parsed (subst (λ t. IsTreeOf t is.whole) same_tokens is.parsed) in
@@ -155,25 +154,6 @@ one_chunk laws file bytes c d one other =
     let same : one.source ≡ other.source = one_tree laws bytes one.accepts.tokens other.accepts.tokens one.source other.source one.accepts.lexed one.accepts.parsed other.accepts.lexed other.accepts.parsed in
     one.is ∙ ap (λ s. scheme s (source_name file)) same ∙ sym other.is
 
--- source of the first form has no fault, and is run
-pub form_not_bad : Laws → (bytes : List ℕ) (source : Source) (fault : Fault) → IsFirstForm bytes source → IsEarlyFaultIn bytes fault → ⊥
-form_not_bad laws bytes source fault form is =
-    no_early_fault laws bytes form.tokens source fault form.lexed form.parsed (list_scoped source form.tree form.listed) is
-
-pub form_is_run : Laws → (bytes : List ℕ) (source : Source) → IsFirstForm bytes source → IsNotRun bytes → ⊥
-form_is_run laws bytes source form (inl chunk) = let no_chunk : is_chunk bytes ≡ false = form.no_chunk in cc
-form_is_run laws bytes source form (inr other) =
-    let good : IsGoodSource bytes other.1 = other.2 in
-    let same : source ≡ other.1 = form_is laws.tokens_are_one laws.trees_are_one bytes good.tokens other.1 source good.lexed good.parsed form in
-    other.3 form.tree (subst (λ (w : Source). IsPrintList w.body form.tree) same form.listed)
-
--- what is not run has no fault
-pub fault_not_unbuilt : Laws → (bytes : List ℕ) (fault : Fault) → is_chunk bytes ≡ false → IsEarlyFaultIn bytes fault → IsNotRun bytes → ⊥
-fault_not_unbuilt laws bytes fault source is (inl chunk) = cc
-fault_not_unbuilt laws bytes fault source is (inr other) =
-    let good : IsGoodSource bytes other.1 = other.2 in
-    no_early_fault laws bytes good.tokens other.1 fault good.lexed good.parsed good.scoped is
-
 -- a status whose line was refused is then one of two
 refused_is : (status result : Status) (old new : ℕ) → Refused status result old new → (result ≡ Status.WriteFault) ⊎ (result ≡ Status.OutOfMemory)
 refused_is Status.WriteFault result old new r = inl r
@@ -190,8 +170,10 @@ refused_is Status.BadChunk result old new (inr r) = inr r
 refused_is Status.Rejected result old new (inr r) = inr r
 refused_is Status.ReadFault result old new (inl r) = inl r.0
 refused_is Status.ReadFault result old new (inr r) = inr r
-refused_is Status.Unbuilt result old new (inl r) = inl r.0
-refused_is Status.Unbuilt result old new (inr r) = inr r
+refused_is Status.ScriptFailed result old new (inl r) = inl r.0
+refused_is Status.Unfinished result old new (inl r) = inl r.0
+refused_is Status.ScriptFailed result old new (inr r) = inr r
+refused_is Status.Unfinished result old new (inr r) = inr r
 
 module _ (err_before err_later : Option (List ℕ)) (err_old err_new : ℕ) where
   -- a status that no refusal gives is that of the outcome, and its line was taken
@@ -208,6 +190,9 @@ module _ (err_before err_later : Option (List ℕ)) (err_old err_new : ℕ) wher
   pub settled_is : (outcome : Outcome) (file : List ℕ) (result : Status) → Reported outcome file result err_before err_later err_old err_new → (result ≡ Status.WriteFault → ⊥) → (result ≡ Status.OutOfMemory → ⊥) → (result ≡ status_of outcome) × Takes err_before err_later (line_of outcome file)
   settled_is Outcome.Done file result r no_fault no_want = r
   settled_is Outcome.BadWords file result r no_fault no_want = put_is Status.BadWords _ result r no_fault no_want
+  settled_is (Outcome.Unfinished steps) file result (inl p) no_fault no_want = put_is Status.Unfinished _ result p no_fault no_want
+  settled_is (Outcome.Unfinished steps) file result (inr p) no_fault no_want =
+      absurd (no_want (put_is Status.OutOfMemory _ result p no_fault no_want).0)
   settled_is (Outcome.BadSource fault) file result (inl p) no_fault no_want = put_is Status.BadSource _ result p no_fault no_want
   settled_is (Outcome.BadSource fault) file result (inr p) no_fault no_want =
       absurd (no_want (put_is Status.OutOfMemory _ result p no_fault no_want).0)
@@ -220,7 +205,7 @@ module _ (err_before err_later : Option (List ℕ)) (err_old err_new : ℕ) wher
   settled_is Outcome.ReadFault file result r no_fault no_want = put_is Status.ReadFault _ result r no_fault no_want
   settled_is Outcome.WriteFault file result r no_fault no_want = put_is Status.WriteFault _ result r no_fault no_want
   settled_is Outcome.OutOfMemory file result r no_fault no_want = put_is Status.OutOfMemory _ result r no_fault no_want
-  settled_is Outcome.Unbuilt file result r no_fault no_want = put_is Status.Unbuilt _ result r no_fault no_want
+  settled_is (Outcome.ScriptFailed why) file result r no_fault no_want = put_is Status.ScriptFailed _ result r no_fault no_want
 
   -- where no count rose, the status is that of the outcome, or memory ran out
   quiet_refused : (status result : Status) → Refused status result err_old err_new → (Rises err_old err_new → ⊥) → (result ≡ status) ⊎ (result ≡ Status.OutOfMemory)
@@ -238,8 +223,10 @@ module _ (err_before err_later : Option (List ℕ)) (err_old err_new : ℕ) wher
   quiet_refused Status.Rejected result (inr r) quiet = inr r
   quiet_refused Status.ReadFault result (inl r) quiet = absurd (quiet r.1)
   quiet_refused Status.ReadFault result (inr r) quiet = inr r
-  quiet_refused Status.Unbuilt result (inl r) quiet = absurd (quiet r.1)
-  quiet_refused Status.Unbuilt result (inr r) quiet = inr r
+  quiet_refused Status.ScriptFailed result (inl r) quiet = absurd (quiet r.1)
+  quiet_refused Status.Unfinished result (inl r) quiet = absurd (quiet r.1)
+  quiet_refused Status.ScriptFailed result (inr r) quiet = inr r
+  quiet_refused Status.Unfinished result (inr r) quiet = inr r
 
   -- a status becomes a fault of writing only where the count rose
   write_refused : (status result : Status) → Refused status result err_old err_new → result ≡ Status.WriteFault → (status ≡ Status.WriteFault) ⊎ Rises err_old err_new
@@ -257,8 +244,10 @@ module _ (err_before err_later : Option (List ℕ)) (err_old err_new : ℕ) wher
   write_refused Status.Rejected result (inr r) e = cc
   write_refused Status.ReadFault result (inl r) e = inr r.1
   write_refused Status.ReadFault result (inr r) e = cc
-  write_refused Status.Unbuilt result (inl r) e = inr r.1
-  write_refused Status.Unbuilt result (inr r) e = cc
+  write_refused Status.ScriptFailed result (inl r) e = inr r.1
+  write_refused Status.Unfinished result (inl r) e = inr r.1
+  write_refused Status.ScriptFailed result (inr r) e = cc
+  write_refused Status.Unfinished result (inr r) e = cc
 
   pub put_becomes : (status : Status) (line : List ℕ) (result : Status) → IsPut status line result err_before err_later err_old err_new → Becomes status result err_old err_new
   put_becomes status line result (inl p) = inl p.0
@@ -267,6 +256,8 @@ module _ (err_before err_later : Option (List ℕ)) (err_old err_new : ℕ) wher
   pub becomes : (outcome : Outcome) (file : List ℕ) (result : Status) → Reported outcome file result err_before err_later err_old err_new → Becomes (status_of outcome) result err_old err_new ⊎ (result ≡ Status.OutOfMemory)
   becomes Outcome.Done file result r = inl (inl r.0)
   becomes Outcome.BadWords file result r = inl (put_becomes Status.BadWords _ result r)
+  becomes (Outcome.Unfinished steps) file result (inl p) = inl (put_becomes Status.Unfinished _ result p)
+  becomes (Outcome.Unfinished steps) file result (inr p) = inr (no_memory_is _ result p)
   becomes (Outcome.BadSource fault) file result (inl p) = inl (put_becomes Status.BadSource _ result p)
   becomes (Outcome.BadSource fault) file result (inr p) = inr (no_memory_is _ result p)
   becomes (Outcome.BadChunk fault) file result (inl p) = inl (put_becomes Status.BadChunk _ result p)
@@ -276,7 +267,7 @@ module _ (err_before err_later : Option (List ℕ)) (err_old err_new : ℕ) wher
   becomes Outcome.ReadFault file result r = inl (put_becomes Status.ReadFault _ result r)
   becomes Outcome.WriteFault file result r = inl (put_becomes Status.WriteFault _ result r)
   becomes Outcome.OutOfMemory file result r = inr (no_memory_is _ result r)
-  becomes Outcome.Unbuilt file result r = inl (put_becomes Status.Unbuilt _ result r)
+  becomes (Outcome.ScriptFailed why) file result r = inl (put_becomes Status.ScriptFailed _ result r)
 
   pub quiet_is : (outcome : Outcome) (file : List ℕ) (result : Status) → Reported outcome file result err_before err_later err_old err_new → (Rises err_old err_new → ⊥) → (result ≡ status_of outcome) ⊎ (result ≡ Status.OutOfMemory)
   quiet_is outcome file result r quiet = by (becomes outcome file result r)

@@ -1,94 +1,114 @@
--- What the code of a source prints is what the source means.
-use Rattle.std.proofs.Common.{◌≡◌, ℕ, suc, ◌*◌, ◌≤◌, List, [], ◌∷◌, ◌++◌, length, Option, Some, None, inl, inr, refl, sym, ap, ◌∙◌, arith}
-use Rattle.first_form.specs.declared.tree.Statement.{Statement}
-use Rattle.lua_model.specs.Store as whole
-use Rattle.lua_model.specs.Endings.{Ended, Course}
-use Rattle.source_meaning.specs.Meaning as whole_meaning
-use Rattle.agrees.specs.Printed.{prints_of, ending_of, course_of}
-use Rattle.std.specs.List.{concat}
-use Rattle.first_form.specs.Progress.{Piece, End, Done, Failed, Progress, output}
-use Rattle.first_form.specs.Meaning.{meaning}
-use Rattle.first_form.specs.Chunk.{Chunk}
-use Rattle.first_form.specs.Rules.{Conf, Running, Over, Stuck, run, start, ran, progress_of}
-use Rattle.first_form.specs.Agrees.{Agrees, IsSteady}
-use Rattle.suite_io.specs.Taken.{Takes, Rises}
-use Rattle.suite_io.specs.Parts.{TakesPart}
-use Rattle.suite.specs.Reading.{IsRead}
+-- A list of printed numbers that is run does what it means.
+use Rattle.std.proofs.Common.{◌≡◌, ◌≢◌, ℕ, zero, suc, ◌*◌, ◌≤◌, true, false, List, inl, inr, Option, Some, None, refl, sym, ap, subst, ◌∙◌, arith}
 use Rattle.lua_num.specs.Bytes.{Text}
-use Rattle.suite_io.specs.declared.calls.FileCall.{FileCall}
-use Rattle.suite_io.specs.Contents.{Contents}
-use Rattle.suite.specs.declared.outcome.Outcome.{Outcome}
+use Rattle.lua_tree.specs.Syntax.{Source}
+use Rattle.lua_model.specs.Store.{Event, output}
+use Rattle.lua_model.specs.Endings.{Ending, Ended, Failed, Waiting, Going, Course}
+use Rattle.proto.specs.Chunk.{Chunk}
+use Rattle.rules.specs.Run as rules
+use Rattle.rules.specs.Run.{Conf, run, step, ran, course}
+use Rattle.scheme.specs.Scheme.{scheme}
+use Rattle.first_form.specs.declared.tree.Statement.{Statement}
+use Rattle.first_form.specs.Source.{is_chunk, IsPrintList, IsFirstForm}
+use Rattle.agrees.specs.Agrees.{Agrees, AgreesFor}
+use Rattle.suite_io.specs.Taken.{Takes}
+use Rattle.suite.specs.declared.status.Status.{Status}
 use Rattle.suite.specs.Words.{run_file}
-use Rattle.suite.specs.Jobs.{HasOutput, IsOutputOf, put}
-use Rattle.suite.specs.Work.{Does, outside}
-use Rattle.std.proofs.lemmas.Bool.{cases_lt}
-use Rattle.suite.proofs.Runs.{over_later}
+use Rattle.suite.specs.Worlds.{World, replies_of}
+use Rattle.suite.specs.Jobs.{End, stored, put, failed, unfinished, bad_source, bad_chunk, rejected, Comes, HasChunk, HasRun, source_name, ran_in}
+use Rattle.suite.specs.Work.{Outside}
+use Rattle.suite.specs.Causes.{Leaves, IsMeant, meant_by, status_at}
+use Rattle.suite.proofs.SourceLemmas.{form_is}
+use Rattle.suite.proofs.Facts.{Laws}
 
--- an end stays
-ran_later : (chunk : Chunk) (n m : ℕ) (end : End) (conf : Conf) → n ≤ m → run chunk n (start chunk) ≡ conf → (progress_of conf).end ≡ Some end → ran chunk m ≡ ran chunk n
-ran_later chunk n m end (Running s) l is e = cc
-ran_later chunk n m end (Over end2 pieces) l is e =
-    ap progress_of (over_later chunk n m (start chunk) end2 pieces l is ∙ sym is)
-ran_later chunk n m end Stuck l is e = cc
+abbrev pub Agreement : Type 0
+Agreement = (source : Source) (tree : List Statement) (name : List ℕ) → IsPrintList source.body tree → Agrees source (scheme source name)
 
--- the early meaning has ended where the whole one has, with the same output
-done_of : (end : Option End) → ending_of end ≡ Ended → end ≡ Some Done
-done_of None e = cc
-done_of (Some Done) e = refl
-done_of (Some (Failed text)) e = cc
+abbrev going_so : List Event → Course
+going_so events = record { ending = Going; events = events }
 
-output-prints_of : (pieces : List Piece) → whole.output (prints_of pieces) ≡ concat pieces
-output-prints_of [] = refl
-output-prints_of (piece ∷ pieces) = ap (λ text. piece ++ text) (output-prints_of pieces)
+-- a run that is over stays so
+abbrev IsOver : Conf → Type 0
+IsOver (rules.Going m) = ⊥
+IsOver conf = Unit {0}
 
-module _ (tree : List Statement) (chunk : Chunk) (agrees : Agrees tree chunk) (steady : IsSteady tree) (bytes : List ℕ) (read : IsRead bytes tree) where
-  enough : ℕ
-  enough = suc (6 * length tree)
+over_stays : (k : ℕ) (conf : Conf) → IsOver conf → run k conf ≡ conf
+over_stays zero conf over = refl
+over_stays (suc k) (rules.Going m) over = absurd over
+over_stays (suc k) (rules.Ended store outside) over = refl
+over_stays (suc k) (rules.Failed text store outside) over = refl
+over_stays (suc k) (rules.Waiting m) over = refl
+over_stays (suc k) rules.Stuck over = refl
 
-  -- the code has ended within the steps, as the source ends
-  source_ends : ran chunk 1000000000 ≡ meaning tree enough
-  unfolding enough
-  source_ends =
-      let few : length tree ≤ 200 = read.listed.few in
-      let ended = agrees.ends enough Done steady.ends in
-      ran_later chunk (8 * enough) 1000000000 Done _ (omega arith) refl (ap (λ (p : Progress). p.end) ended ∙ steady.ends) ∙ ended
+run_stays : (n total : ℕ) (conf : Conf) → n ≤ total → IsOver (run n conf) → run total conf ≡ run n conf
+run_stays zero total conf within over = over_stays total conf over
+run_stays (suc n) zero (rules.Going m) within over = absurd (omega (arith, within))
+run_stays (suc n) (suc total) (rules.Going m) within over = run_stays n total (step m) (omega (arith, within)) over
+run_stays (suc n) total (rules.Ended store outside) within over = over_stays total (rules.Ended store outside) tt
+run_stays (suc n) total (rules.Failed text store outside) within over = over_stays total (rules.Failed text store outside) tt
+run_stays (suc n) total (rules.Waiting m) within over = over_stays total (rules.Waiting m) tt
+run_stays (suc n) total rules.Stuck within over = over_stays total rules.Stuck tt
 
-  pub source_done : (ran chunk 1000000000).end ≡ Some Done
-  unfolding enough
-  source_done = ap (λ (p : Progress). p.end) source_ends ∙ steady.ends
+over_by : (conf : Conf) (c : Course) → course conf ≡ Some c → c.ending ≢ Going → IsOver conf
+over_by (rules.Going m) c e other = let same = ap course_ending e in absurd (other (sym same))
+  where
+    course_ending : Option Course → Ending
+    course_ending (Some d) = d.ending
+    course_ending None = Going
+over_by (rules.Ended store outside) c e other = tt
+over_by (rules.Failed text store outside) c e other = tt
+over_by (rules.Waiting m) c e other = tt
+over_by rules.Stuck c e other = tt
 
-  pub source_never_fails : (text : List ℕ) → (ran chunk 1000000000).end ≡ Some (Failed text) → ⊥
-  source_never_fails text e = let done = source_done in cc
+module _ (laws : Laws) (agreement : Agreement) (file : Text) (steps : ℕ) (bytes : List ℕ) (source : Source) (form : IsFirstForm bytes source) (w : World) where
+  -- the chunk of the file is that of the source
+  chunk_is : (chunk : Chunk) → HasChunk file bytes chunk → chunk ≡ scheme source (source_name file)
+  chunk_is chunk (inl one) = let yes : is_chunk bytes ≡ true = one.0 in let no : is_chunk bytes ≡ false = form.no_chunk in absurd (cc)
+  chunk_is chunk (inr one) =
+      let same : source ≡ one.1.source = form_is laws.tokens_are_one laws.trees_are_one bytes one.1.accepts.tokens one.1.source source one.1.accepts.lexed one.1.accepts.parsed form in
+      one.1.is ∙ ap (λ s. scheme s (source_name file)) (sym same)
 
-  pub source_never_goes_on : (ran chunk 1000000000).end ≡ None → ⊥
-  source_never_goes_on e = let done = source_done in cc
+  agrees : (chunk : Chunk) → HasChunk file bytes chunk → AgreesFor source chunk w.hosts (replies_of w.calls)
+  agrees chunk has = subst (λ c. AgreesFor source c w.hosts (replies_of w.calls)) (sym (chunk_is chunk has)) (agreement source form.tree (source_name file) form.listed w.hosts (replies_of w.calls))
 
-  same_end : (ticks : ℕ) → (meaning tree ticks).end ≡ Some Done → meaning tree ticks ≡ meaning tree enough
-  unfolding enough
-  same_end ticks ended = elim (cases_lt ticks enough) [
-    | inl less ↦ sym (steady.stays ticks enough Done (omega arith) ended)
-    | inr more ↦ steady.stays enough ticks Done more steady.ends
-  ]
+  meant : (ending : Ending) (text : List ℕ) → ending ≢ Going → HasRun file bytes w steps ending text → (ticks : ℕ) × ((meant_by source w ticks).ending ≡ ending) × (text ≡ output (meant_by source w ticks).events)
+  meant ending text over has =
+      let only = (agrees has.chunk has.has).ends_only steps (record { ending = ending; events = has.events }) has.comes over in
+      (only.0, ap (λ (c : Course). c.ending) only.1, has.is ∙ ap (λ (c : Course). output c.events) (sym only.1))
 
-  module _ (is_early : (ticks : ℕ) → whole_meaning.meaning read.source [] [] ticks ≡ course_of (meaning tree ticks)) where
-    source_output : HasOutput read.source (output (ran chunk 1000000000))
-    unfolding enough
-    source_output = record {
-      ends = (enough, ap (λ (c : Course). c.ending) (is_early enough) ∙ ap ending_of steady.ends);
-      output_is = λ ticks ended.
-          let early_ends = done_of (meaning tree ticks).end (sym (ap (λ (c : Course). c.ending) (is_early ticks)) ∙ ended) in
-          ap (λ (c : Course). whole.output c.events) (is_early ticks) ∙ output-prints_of (meaning tree ticks).pieces ∙ ap output (same_end ticks early_ends ∙ sym source_ends);
+  not_meant : (text : List ℕ) → HasRun file bytes w steps Going text → (ticks : ℕ) → 8 * ticks ≤ steps → (meant_by source w ticks).ending ≢ Going → ⊥
+  not_meant text has ticks within over =
+      let ended : course (ran_in has.chunk w (8 * ticks)) ≡ Some (meant_by source w ticks) = (agrees has.chunk has.has).ends ticks over in
+      let is_over = over_by (ran_in has.chunk w (8 * ticks)) (meant_by source w ticks) ended over in
+      let stays : ran_in has.chunk w steps ≡ ran_in has.chunk w (8 * ticks) = run_stays (8 * ticks) steps _ within is_over in
+      let same : course (ran_in has.chunk w steps) ≡ Some (meant_by source w ticks) = ap course stays ∙ ended in
+      let both : Some (meant_by source w ticks) ≡ Some (going_so has.events) = sym same ∙ has.comes in
+      let one : meant_by source w ticks ≡ going_so has.events = cc in
+      over (ap (λ (c : Course). c.ending) one)
+
+  going_by : (ticks : ℕ) (ending : Ending) → (meant_by source w ticks).ending ≡ ending → ((meant_by source w ticks).ending ≢ Going → ⊥) → (meant_by source w ticks).ending ≡ Going
+  going_by ticks Going e not_over = e
+  going_by ticks Ended e not_over = absurd (not_over (λ g. cc (sym e ∙ g)))
+  going_by ticks (Failed why) e not_over = absurd (not_over (λ g. cc (sym e ∙ g)))
+  going_by ticks Waiting e not_over = absurd (not_over (λ g. cc (sym e ∙ g)))
+
+  module _ (old new : Outside) where
+    at_done : (end : End) → Comes (run_file file steps) bytes w end → status_at end ≡ Status.Done → Leaves (run_file file steps) end old new → (ticks : ℕ) × ((meant_by source w ticks).ending ≡ Ended) × Takes old.taken new.taken (output (meant_by source w ticks).events)
+    at_done (put text) comes e l = let m = meant Ended text (λ g. cc) comes in (m.0, m.1, subst (Takes old.taken new.taken) m.2 l.1)
+    at_done (stored text) comes e l = absurd comes
+    at_done (failed why text) comes e l = absurd (cc)
+    at_done (unfinished n text) comes e l = absurd (cc)
+    at_done (bad_source fault) comes e l = absurd (cc)
+    at_done (bad_chunk fault) comes e l = absurd (cc)
+    at_done (rejected r) comes e l = absurd (cc)
+
+    pub is_meant : (result : Status)
+        → (result ≡ Status.Done → (end : End) × Comes (run_file file steps) bytes w end × (status_at end ≡ Status.Done) × Leaves (run_file file steps) end old new)
+        → (result ≡ Status.ScriptFailed → (why : List ℕ) × (text : List ℕ) × Comes (run_file file steps) bytes w (failed why text) × Leaves (run_file file steps) (failed why text) old new)
+        → (result ≡ Status.Unfinished → (n : ℕ) × (text : List ℕ) × Comes (run_file file steps) bytes w (unfinished n text) × Leaves (run_file file steps) (unfinished n text) old new)
+        → IsMeant source w steps result old.taken new.taken
+    is_meant result ended fails goes = record {
+      done = λ e. let d = ended e in at_done d.0 d.1 d.2 d.3;
+      failed = λ e. let d = fails e in let m = meant (Failed d.0) d.1 (λ g. cc) d.2 in (m.0, d.0, m.1, subst (Takes old.taken new.taken) m.2 d.3.1);
+      unfinished = λ e ticks within. let d = goes e in going_by ticks (meant_by source w ticks).ending refl (λ over. not_meant d.1 d.2.1 ticks within over);
     }
-
-    pub is_output : IsOutputOf bytes (output (ran chunk 1000000000))
-    is_output = record { source = read.source; form = read.form; outputs = source_output }
-
-    -- it is put, whole or a first part of it
-    pub run_whole : (file : Text) (contents : Option Contents) (calls : List FileCall) (before later : Option (List ℕ)) (old new : ℕ) → Takes before later (output (ran chunk 1000000000)) → Does (run_file file) bytes Outcome.Done (outside contents calls before old) (outside contents calls later new)
-    run_whole file contents calls before later old new t = inl (record { end = put (output (ran chunk 1000000000)); comes = is_output; carried = (record { contents = refl; calls = refl }, t) })
-
-    pub run_part : (file : Text) (contents : Option Contents) (calls : List FileCall) (before later : Option (List ℕ)) (old new : ℕ) → TakesPart before later (output (ran chunk 1000000000)) → Rises old new → Does (run_file file) bytes Outcome.WriteFault (outside contents calls before old) (outside contents calls later new)
-    run_part file contents calls before later old new t risen = inl (record { end = put (output (ran chunk 1000000000)); comes = is_output; carried = (record { contents = refl; calls = refl }, t, risen) })
-
-    pub run_no_memory : (file : Text) (contents : Option Contents) (calls : List FileCall) (before later : Option (List ℕ)) (old new : ℕ) → TakesPart before later (output (ran chunk 1000000000)) → Does (run_file file) bytes Outcome.OutOfMemory (outside contents calls before old) (outside contents calls later new)
-    run_no_memory file contents calls before later old new t = inl (record { end = put (output (ran chunk 1000000000)); comes = is_output; carried = (record { contents = refl; calls = refl }, t) })

@@ -1,5 +1,5 @@
 -- Pieces that a sink takes one after another, of which one is refused.
-use Rattle.std.proofs.Common.{◌≡◌, ℕ, List, ◌++◌, Option, Result, Ok, Err, OnErr, sym, ap, ◌∙◌, append_assoc}
+use Rattle.std.proofs.Common.{ℕ, List, ◌++◌, Option, Result, Ok, Err, OnErr, sym, ap, ◌∙◌, append_assoc}
 use Rattle.suite_io.specs.Taken.{Takes}
 use Rattle.suite_io.specs.Parts.{TakesPart}
 use Rattle.suite_io.proofs.TakenPieces.{takes_both}

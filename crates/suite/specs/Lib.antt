@@ -1,13 +1,10 @@
-pub mod Reading
-pub mod Compiling
-pub mod Frame
-pub mod Effects
-pub mod Running
-pub mod Verifying
 pub mod Words
 pub mod Arguments
 pub mod Lines
 pub mod Outcome
+pub mod Worlds
 pub mod Jobs
 pub mod Work
 pub mod Causes
+pub mod Reading
+pub mod Verifying

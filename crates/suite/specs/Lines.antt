@@ -15,26 +15,28 @@ use Rattle.suite_io.specs.Parts.{TakesPart}
 
 abbrev pub number_of : Status → ℕ
 number_of Status.Done = 0
+number_of Status.ScriptFailed = 1
 number_of Status.BadWords = 2
+number_of Status.Unfinished = 3
 number_of Status.BadSource = 4
 number_of Status.BadChunk = 5
 number_of Status.Rejected = 6
 number_of Status.ReadFault = 8
 number_of Status.WriteFault = 9
 number_of Status.OutOfMemory = 10
-number_of Status.Unbuilt = 11
 
 -- the status of what the work came to
 abbrev pub status_of : Outcome → Status
 status_of Outcome.Done = Status.Done
+status_of (Outcome.ScriptFailed why) = Status.ScriptFailed
 status_of Outcome.BadWords = Status.BadWords
+status_of (Outcome.Unfinished steps) = Status.Unfinished
 status_of (Outcome.BadSource fault) = Status.BadSource
 status_of (Outcome.BadChunk fault) = Status.BadChunk
 status_of (Outcome.Rejected rejection) = Status.Rejected
 status_of Outcome.ReadFault = Status.ReadFault
 status_of Outcome.WriteFault = Status.WriteFault
 status_of Outcome.OutOfMemory = Status.OutOfMemory
-status_of Outcome.Unbuilt = Status.Unbuilt
 
 -- the name of a fault of lexing, and its offset; want of memory is no such fault
 abbrev pub lexical_text : LexFault → List ℕ
@@ -111,20 +113,25 @@ rule_name Rule.FallsOff = codes "FallsOff"
 abbrev pub rejection_text : Rejection → List ℕ
 rejection_text rejection = codes ": rejected: function " ++ (path_text rejection.path ++ (codes " pc " ++ (decimal rejection.pc ++ (codes ": " ++ rule_name rejection.rule))))
 
+-- how many steps a run was going for
+abbrev pub steps_text : ℕ → List ℕ
+steps_text steps = codes "unfinished after " ++ (decimal steps ++ codes " steps")
+
 -- a line that speaks of a file of this name: `luasuite: `, the name, the text, and a line end
 abbrev pub line_with : List ℕ → List ℕ → List ℕ
 line_with name text = codes "luasuite: " ++ (name ++ (text ++ 10 ∷ []))
 
 abbrev pub line_of : Outcome → List ℕ → List ℕ
 line_of Outcome.Done name = []
+line_of (Outcome.ScriptFailed why) name = line_with [] why
 line_of Outcome.BadWords name = line_with [] (codes "bad words")
+line_of (Outcome.Unfinished steps) name = line_with [] (steps_text steps)
 line_of (Outcome.BadSource fault) name = line_with name (fault_text fault)
 line_of (Outcome.BadChunk fault) name = line_with name (chunk_text fault)
 line_of (Outcome.Rejected rejection) name = line_with name (rejection_text rejection)
 line_of Outcome.ReadFault name = line_with name (codes ": read failed")
 line_of Outcome.WriteFault name = line_with [] (codes "write failed")
 line_of Outcome.OutOfMemory name = line_with [] (codes "out of memory")
-line_of Outcome.Unbuilt name = line_with name (codes ": Unbuilt")
 
 -- what becomes of a status whose line was refused. One that is a fault of writing or want of memory stays. Every other
 -- becomes a fault of writing, where the count of the sink rose, or want of memory
@@ -139,9 +146,12 @@ IsPut status line result before after old new =
     ((result ≡ status) × Takes before after line) ⊎ (Refused status result old new × TakesPart before after line)
 
 -- what becomes of the status while the line is put. Nothing is put at success, and where there is no memory for the text
--- of a fault, the line is that of want of memory
+-- of a fault or of a number, the line is that of want of memory
 abbrev pub Reported : Outcome → List ℕ → Status → Option (List ℕ) → Option (List ℕ) → ℕ → ℕ → Type 0
 Reported Outcome.Done name result before after old new = (result ≡ Status.Done) × Takes before after []
+Reported (Outcome.Unfinished steps) name result before after old new =
+    IsPut Status.Unfinished (line_of (Outcome.Unfinished steps) name) result before after old new
+    ⊎ IsPut Status.OutOfMemory (line_of Outcome.OutOfMemory name) result before after old new
 Reported (Outcome.BadSource fault) name result before after old new =
     IsPut Status.BadSource (line_of (Outcome.BadSource fault) name) result before after old new
     ⊎ IsPut Status.OutOfMemory (line_of Outcome.OutOfMemory name) result before after old new

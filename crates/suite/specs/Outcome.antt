@@ -1,6 +1,6 @@
 -- To be believed. What is wrong with the bytes of a source.
 use Rattle.std.specs.Prelude.{◌≡◌, ℕ, List, length, slice_get, Option, Some, None}
-use Rattle.lua_tree.specs.Syntax.{Source, Statements}
+use Rattle.lua_tree.specs.Syntax.{Source}
 use Rattle.lua_tree.specs.Trees.{IsTreeOf}
 use Rattle.lua_tree.specs.Scoping.{Scoped}
 use Rattle.lua_tree.specs.declared.token.Token.{Token}
@@ -11,8 +11,6 @@ use Rattle.scopes.specs.declared.fault.ScopeFault.{ScopeFault}
 use Rattle.scopes.specs.Faults as scoping
 use Rattle.code_builder.specs.declared.fault.CodeFault.{CodeFault}
 use Rattle.codegen.specs.Compiled.{StopsBy}
-use Rattle.first_form.specs.declared.tree.Statement.{Statement}
-use Rattle.first_form.specs.Source.{IsPrintList}
 use Rattle.suite.specs.declared.fault.Fault.{Fault}
 
 -- the offset of a token, or the length of the bytes, where there is none
@@ -61,12 +59,3 @@ IsFaultIn bytes (Fault.Unexpected offset) = HasNoTree IsUnexpectedAt bytes offse
 IsFaultIn bytes (Fault.TooDeep offset) = HasNoTree IsTooDeepAt bytes offset
 IsFaultIn bytes (Fault.Scoping fault) = HasNoScopes bytes fault
 IsFaultIn bytes (Fault.Code fault) = HasNoChunk bytes fault
-
--- one that is told before the chunk is made
-abbrev pub IsEarlyFaultIn : List ℕ → Fault → Type 0
-IsEarlyFaultIn bytes (Fault.Code fault) = ⊥
-IsEarlyFaultIn bytes fault = IsFaultIn bytes fault
-
--- the statements are no list of at most 200 printed numbers
-abbrev pub IsNoPrintList : Statements → Type 0
-IsNoPrintList body = (tree : List Statement) → IsPrintList body tree → ⊥

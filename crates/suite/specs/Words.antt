@@ -1,10 +1,11 @@
 -- To be believed. How the words are read, and what they ask for.
-use Rattle.std.specs.Prelude.{◌≡◌, ◌==◌, ◌&&◌, ℕ, zero, suc, Bool, true, false, nat_lt, List, [], ◌∷◌, length, map, Option, Some, None, option_map, option_and_then, codes, String, if◌then◌else◌}
+use Rattle.std.specs.Prelude.{◌≡◌, ◌==◌, ◌&&◌, ◌^◌, ℕ, zero, suc, Bool, true, false, nat_lt, nat_le, List, [], ◌∷◌, length, map, take, drop, Option, Some, None, option_map, option_and_then, codes, String, if◌then◌else◌}
 use Rattle.std.specs.Str.{bytes_eq}
 use Rattle.std.specs.String.{string_bytes}
 use Rattle.std.specs.declared.alloc.Global.{Global}
 use Rattle.std.specs.FinMap.{get}
-use Rattle.lua_num.specs.Bytes.{Text}
+use Rattle.lua_num.specs.Bytes.{Text, is_digit}
+use Rattle.lua_num.specs.Numeral.{worth_of, digits_value}
 use Rattle.suite_io.specs.Contents.{Contents}
 use Rattle.suite.specs.declared.words.Command.{Command}
 
@@ -14,23 +15,23 @@ Words = List (String Global)
 abbrev pub texts : Words → List Text
 texts words = map string_bytes words
 
--- what words ask for: to run a file, to list it, to verify it, or to compile it into another, stripped or not
+-- what words ask for: to run a file for at most so many steps, to list it, to verify it, or to compile it into another, stripped or not
 pub data Job : Type 0 where
-  run_file : (file : Text) → Job
+  run_file : (file : Text) (steps : ℕ) → Job
   list_file : (file : Text) → Job
   verify_file : (file : Text) → Job
   compile_file : (file out : Text) (strip : Bool) → Job
 
 -- the file that is fetched
 abbrev pub file_of : Job → Text
-file_of (run_file file) = file
+file_of (run_file file steps) = file
 file_of (list_file file) = file
 file_of (verify_file file) = file
 file_of (compile_file file out strip) = file
 
 -- what a command asks for
 abbrev pub job_of : Command → Job
-job_of (Command.Run file) = run_file (string_bytes file.now)
+job_of (Command.Run file steps) = run_file (string_bytes file.now) steps
 job_of (Command.List file) = list_file (string_bytes file.now)
 job_of (Command.Verify file) = verify_file (string_bytes file.now)
 job_of (Command.Compile file out strip) = compile_file (string_bytes file.now) (string_bytes out.now) strip
@@ -40,46 +41,78 @@ abbrev pub is_flag : Text → Bool
 is_flag [] = false
 is_flag (byte ∷ text) = (byte == 45) && nat_lt 0 (length text)
 
--- the words behind the first one: those that stand for files, in order, and how many of the others are `--strip`
+-- the words behind the first one: those that stand for files, how many are `--strip`, and what stands behind each `--steps`, all in order
 pub record Arguments : Type 0 where
   pub files : List Text
   pub strips : ℕ
+  pub steps : List Text
 
 abbrev pub with_file : Text → Arguments → Arguments
-with_file word found = record { files = word ∷ found.files; strips = found.strips }
+with_file word found = record { files = word ∷ found.files; strips = found.strips; steps = found.steps }
 
 abbrev pub with_strip : Arguments → Arguments
-with_strip found = record { files = found.files; strips = suc found.strips }
+with_strip found = record { files = found.files; strips = suc found.strips; steps = found.steps }
+
+abbrev pub with_steps : Text → Arguments → Arguments
+with_steps number found = record { files = found.files; strips = found.strips; steps = number ∷ found.steps }
 
 abbrev pub files_alone : List Text → Arguments
-files_alone words = record { files = words; strips = 0 }
+files_alone words = record { files = words; strips = 0; steps = [] }
 
--- Behind `--` all words stand for files. Before it no flag but `--strip` stands in a command.
-abbrev pub arguments : List Text → Option Arguments
-arguments [] = Some (files_alone [])
-arguments (word ∷ words) =
-    if bytes_eq word (codes "--") then Some (files_alone words)
-    else (if bytes_eq word (codes "--strip") then option_map with_strip (arguments words)
-    else (if is_flag word then None else option_map (with_file word) (arguments words)))
+-- `--steps=`, before the number in one word
+abbrev pub steps_mark : Text
+steps_mark = codes "--steps="
+
+-- Behind `--` all words stand for files. Before it no flag but `--strip`, `--steps N` and `--steps=N` stands in a command.
+abbrev mutual
+  pub arguments : List Text → Option Arguments
+  arguments [] = Some (files_alone [])
+  arguments (word ∷ words) =
+      if bytes_eq word (codes "--") then Some (files_alone words)
+      else (if bytes_eq word (codes "--strip") then option_map with_strip (arguments words)
+      else (if bytes_eq word (codes "--steps") then behind_steps words
+      else (if bytes_eq (take 8 word) steps_mark then option_map (with_steps (drop 8 word)) (arguments words)
+      else (if is_flag word then None else option_map (with_file word) (arguments words)))))
+
+  pub behind_steps : List Text → Option Arguments
+  behind_steps [] = None
+  behind_steps (number ∷ words) = option_map (with_steps number) (arguments words)
+
+abbrev pub below_2_63 : ℕ → Option ℕ
+below_2_63 n = if nat_lt n (2 ^ 63) then Some n else None
+
+-- the number of 1 to 19 decimal digits, where it is below 2^63
+abbrev pub steps_in : Text → Option ℕ
+steps_in text = if nat_le (length text) 19 then option_and_then below_2_63 (worth_of is_digit digits_value text) else None
+
+-- how many steps a run has where no number is given
+abbrev pub default_steps : ℕ
+default_steps = 1000000000
 
 -- one file, and no flag
-abbrev pub one_file : List Text → ℕ → Option Text
-one_file (file ∷ []) zero = Some file
-one_file files strips = None
+abbrev pub one_file : List Text → ℕ → List Text → Option Text
+one_file (file ∷ []) zero [] = Some file
+one_file files strips steps = None
+
+-- one file, with a number of steps or none
+abbrev pub run_of : List Text → ℕ → List Text → Option Job
+run_of (file ∷ []) zero [] = Some (run_file file default_steps)
+run_of (file ∷ []) zero (number ∷ []) = option_map (run_file file) (steps_in number)
+run_of files strips steps = None
 
 -- two files, and `--strip` once or not at all
-abbrev pub compilation : List Text → ℕ → Option Job
-compilation (file ∷ out ∷ []) zero = Some (compile_file file out false)
-compilation (file ∷ out ∷ []) (suc zero) = Some (compile_file file out true)
-compilation files strips = None
+abbrev pub compilation : List Text → ℕ → List Text → Option Job
+compilation (file ∷ out ∷ []) zero [] = Some (compile_file file out false)
+compilation (file ∷ out ∷ []) (suc zero) [] = Some (compile_file file out true)
+compilation files strips steps = None
 
 -- what the first word asks for, with the words behind it
 abbrev pub job_with : Text → Arguments → Option Job
 job_with first found =
-    if bytes_eq first (codes "run") then option_map run_file (one_file found.files found.strips)
-    else (if bytes_eq first (codes "list") then option_map list_file (one_file found.files found.strips)
-    else (if bytes_eq first (codes "verify") then option_map verify_file (one_file found.files found.strips)
-    else (if bytes_eq first (codes "compile") then compilation found.files found.strips else None)))
+    if bytes_eq first (codes "run") then run_of found.files found.strips found.steps
+    else (if bytes_eq first (codes "list") then option_map list_file (one_file found.files found.strips found.steps)
+    else (if bytes_eq first (codes "verify") then option_map verify_file (one_file found.files found.strips found.steps)
+    else (if bytes_eq first (codes "compile") then compilation found.files found.strips found.steps else None)))
 
 -- what words ask for, where they are a command
 abbrev pub job_in : List Text → Option Job

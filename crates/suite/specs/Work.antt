@@ -9,7 +9,8 @@ use Rattle.suite_io.specs.Taken.{Takes, Rises}
 use Rattle.suite.specs.declared.outcome.Outcome.{Outcome}
 use Rattle.suite_io.specs.Parts.{TakesPart}
 use Rattle.suite.specs.Words.{Job, run_file, list_file, verify_file, compile_file, file_of}
-use Rattle.suite.specs.Jobs.{End, stored, put, bad_source, bad_chunk, rejected, unbuilt, Comes}
+use Rattle.suite.specs.Worlds.{World}
+use Rattle.suite.specs.Jobs.{End, stored, put, failed, unfinished, bad_source, bad_chunk, rejected, Comes, HasPut}
 
 -- what is seen of the outside: what files hold and the calls of them, what the sink took and its count of faults
 pub record Outside : Type 0 where
@@ -23,8 +24,8 @@ abbrev pub with_call : FileCall → Outside → Outside
 with_call call old = record { contents = old.contents; calls = old.calls ++ call ∷ []; taken = old.taken; faults = old.faults }
 
 -- a fetch of the file
-abbrev pub fetched : Job → (failed : Bool) → Outside → Outside
-fetched job failed old = with_call (call_of false (file_of job) failed) old
+abbrev pub fetched : Job → (fails : Bool) → Outside → Outside
+fetched job fails old = with_call (call_of false (file_of job) fails) old
 
 -- only the sink is another
 pub record FilesStay (old new : Outside) : Type 0 where
@@ -56,7 +57,7 @@ Nothing old new = FilesStay old new × Takes old.taken new.taken []
 
 -- the file into which a job compiles
 abbrev pub out_of : Job → Text
-out_of (run_file file) = []
+out_of (run_file file steps) = []
 out_of (list_file file) = []
 out_of (verify_file file) = []
 out_of (compile_file file out strip) = out
@@ -69,33 +70,58 @@ IsCompilation job = ⊥
 abbrev pub CarriesOut : Job → End → Outcome → Outside → Outside → Type 0
 CarriesOut job (stored text) outcome old new = StoresText (out_of job) text outcome old new
 CarriesOut job (put text) outcome old new = PutsText text outcome old new
+CarriesOut job (failed why text) outcome old new = (outcome ≡ Outcome.ScriptFailed why) × FilesStay old new × Takes old.taken new.taken text
+CarriesOut job (unfinished steps text) outcome old new = (outcome ≡ Outcome.Unfinished steps) × FilesStay old new × Takes old.taken new.taken text
 CarriesOut job (bad_source fault) outcome old new = (outcome ≡ Outcome.BadSource fault) × Nothing old new
 CarriesOut job (bad_chunk fault) outcome old new = (outcome ≡ Outcome.BadChunk fault) × Nothing old new
 CarriesOut job (rejected rejection) outcome old new = (outcome ≡ Outcome.Rejected rejection) × Nothing old new
-CarriesOut job unbuilt outcome old new = (outcome ≡ Outcome.Unbuilt) × Nothing old new
 
 -- a job with the bytes that were fetched
-pub record Carried (job : Job) (bytes : List ℕ) (outcome : Outcome) (old new : Outside) : Type 0 where
+pub record Carried (job : Job) (bytes : List ℕ) (w : World) (outcome : Outcome) (old new : Outside) : Type 0 where
   pub end : End
-  pub comes : Comes job bytes end
+  pub comes : Comes job bytes w end
   pub carried : CarriesOut job end outcome old new
 
--- it is carried out, or memory ran out before it was known what it comes to
-abbrev pub Does : Job → List ℕ → Outcome → Outside → Outside → Type 0
-Does job bytes outcome old new = Carried job bytes outcome old new ⊎ ((outcome ≡ Outcome.OutOfMemory) × Nothing old new)
+-- it is a run that is asked for
+abbrev pub IsRun : Option Job → Type 0
+IsRun (Some (run_file file steps)) = Unit {0}
+IsRun asked = ⊥
 
-pub record DoesFetched (job : Job) (outcome : Outcome) (old new : Outside) : Type 0 where
+-- a run stopped where the sink failed or memory ran out
+abbrev pub IsStop : Outcome → ℕ → ℕ → Type 0
+IsStop Outcome.WriteFault old new = Rises old new
+IsStop Outcome.OutOfMemory old new = Unit {0}
+IsStop outcome old new = ⊥
+
+-- what is put for a job, whole or a first part of it: of a run its output after some steps
+abbrev pub MayPut : Job → List ℕ → World → List ℕ → Type 0
+MayPut (run_file file steps) bytes w text = HasPut file bytes w.hosts text
+MayPut job bytes w text = Comes job bytes w (put text)
+
+pub record Stopped (job : Job) (bytes : List ℕ) (w : World) (outcome : Outcome) (old new : Outside) : Type 0 where
+  pub runs : IsRun (Some job)
+  pub stop : IsStop outcome old.faults new.faults
+  pub files : FilesStay old new
+  pub text : List ℕ
+  pub output : MayPut job bytes w text
+  pub part : TakesPart old.taken new.taken text
+
+-- it is carried out, or its run stopped, or memory ran out before it was known what it comes to
+abbrev pub Does : Job → List ℕ → World → Outcome → Outside → Outside → Type 0
+Does job bytes w outcome old new = Carried job bytes w outcome old new ⊎ Stopped job bytes w outcome old new ⊎ ((outcome ≡ Outcome.OutOfMemory) × Nothing old new)
+
+pub record DoesFetched (job : Job) (w : World) (outcome : Outcome) (old new : Outside) : Type 0 where
   pub bytes : List ℕ
   pub told : IfSome old.contents (λ held. get held (file_of job) ≡ Some bytes)
-  pub does : Does job bytes outcome (fetched job false old) new
+  pub does : Does job bytes w outcome (fetched job false old) new
 
 -- what words come to that ask for a job, or for none: the order is words, the fetch of their file, and then the job
-abbrev pub Works : Option Job → Outcome → Outside → Outside → Type 0
-Works None outcome old new = (outcome ≡ Outcome.BadWords) × (new ≡ old)
-Works (Some job) outcome old new =
+abbrev pub Works : Option Job → World → Outcome → Outside → Outside → Type 0
+Works None w outcome old new = (outcome ≡ Outcome.BadWords) × (new ≡ old)
+Works (Some job) w outcome old new =
     ((outcome ≡ Outcome.ReadFault) × (new ≡ fetched job true old))
     ⊎ ((outcome ≡ Outcome.OutOfMemory) × (new ≡ old))
-    ⊎ DoesFetched job outcome old new
+    ⊎ DoesFetched job w outcome old new
 
 abbrev pub outside : Option Contents → List FileCall → Option (List ℕ) → ℕ → Outside
 outside contents calls taken faults = record { contents = contents; calls = calls; taken = taken; faults = faults }

@@ -1,26 +1,19 @@
 // Carrying out a command.
-ghost use Rattle.std.specs.Prelude.{◌≤◌, Some, Option, List};
-ghost use Rattle.lua_num.specs.Bytes.{Text};
-ghost use Rattle.suite_io.specs.declared.calls.FileCall.{FileCall};
-ghost use Rattle.suite_io.specs.Contents.{Contents};
-ghost use Rattle.suite.specs.Words.{job_of, run_file};
-ghost use Rattle.suite.specs.Work.{Works, Does, outside};
+ghost use Rattle.std.specs.Prelude.{◌≡◌, ◌≤◌, ◌⊎◌, Some, Option, List};
+ghost use Rattle.host.specs.Views.{set_told};
+ghost use Rattle.suite.specs.Words.{job_of};
+ghost use Rattle.suite.specs.Worlds.{world};
+ghost use Rattle.suite.specs.Work.{Works, Does, IsRun, outside};
 
-use crate::compile::compile;
 use crate::compiling::compile_file;
 use crate::listing::list_bytes;
-use crate::machine::{RunEnd, run};
 use crate::outcome::Outcome;
-use crate::source::read_source;
+use crate::running::run_bytes;
 use crate::verifying::verify_bytes;
 use crate::words::Command;
-use agrees::printed_meaning;
-use first_form::meaning_is_steady;
+use host::HostSet;
 use std::alloc::Global;
-use suite_io::{FileFault, Files, Sink, Word};
-
-/// A run ends within this many steps.
-const MAX_STEPS: u64 = 1_000_000_000;
+use suite_io::{FileFault, Files, Sink};
 
 /// Fetches the file of a command, and does with its bytes what the command asks for.
 pub fn do_command<F: Files, O: Sink>(
@@ -28,12 +21,14 @@ pub fn do_command<F: Files, O: Sink>(
     command: Command<'_>,
     files: &mut F,
     out: &mut O,
+    hosts: &mut HostSet,
 ) -> Outcome
-    ensures works { Works (Some (job_of command.entry)) result (outside (F.contents files.old) (F.calls files.old) (O.taken out.old) (O.faults out.old)) (outside (F.contents files.new) (F.calls files.new) (O.taken out.new) (O.faults out.new)) }
+    ensures works { Works (Some (job_of command.entry)) (world (set_told heard hosts.old) (set_told heard hosts.new)) result (outside (F.contents files.old) (F.calls files.old) (O.taken out.old) (O.faults out.old)) (outside (F.contents files.new) (F.calls files.new) (O.taken out.new) (O.faults out.new)) }
+    ensures hosts { IsRun (Some (job_of command.entry)) ⊎ (set_told heard hosts.new ≡ set_told heard hosts.old) }
     ensures never_falls { O.faults out.old ≤ O.faults out.new }
 {
     match files.fetch(alloc, command.file()) {
-        Ok(bytes) => do_bytes(alloc, command, bytes.bytes(), files, out),
+        Ok(bytes) => do_bytes(alloc, command, bytes.bytes(), files, out, hosts),
         Err(FileFault::Failed) => Outcome::ReadFault,
         Err(FileFault::OutOfMemory) => Outcome::OutOfMemory,
     }
@@ -45,12 +40,14 @@ fn do_bytes<F: Files, O: Sink>(
     bytes: &[u8],
     files: &mut F,
     out: &mut O,
+    hosts: &mut HostSet,
 ) -> Outcome
-    ensures does { Does (job_of command.entry) bytes.now result (outside (F.contents files.old) (F.calls files.old) (O.taken out.old) (O.faults out.old)) (outside (F.contents files.new) (F.calls files.new) (O.taken out.new) (O.faults out.new)) }
+    ensures does { Does (job_of command.entry) bytes.now (world (set_told heard hosts.old) (set_told heard hosts.new)) result (outside (F.contents files.old) (F.calls files.old) (O.taken out.old) (O.faults out.old)) (outside (F.contents files.new) (F.calls files.new) (O.taken out.new) (O.faults out.new)) }
+    ensures hosts { IsRun (Some (job_of command.entry)) ⊎ (set_told heard hosts.new ≡ set_told heard hosts.old) }
     ensures never_falls { O.faults out.old ≤ O.faults out.new }
 {
     match command {
-        Command::Run { .. } => run_source(alloc, bytes, out),
+        Command::Run { file, steps } => run_bytes(alloc, bytes, file, steps, out, hosts),
         Command::List { file } => list_bytes(alloc, bytes, file, out),
         Command::Verify { file } => verify_bytes(alloc, bytes, file, out),
         Command::Compile {
@@ -58,29 +55,5 @@ fn do_bytes<F: Files, O: Sink>(
             out: name,
             strip,
         } => compile_file(alloc, bytes, source, name, strip, files),
-    }
-}
-
-// Reads, compiles and runs a source.
-fn run_source<O: Sink>(alloc: Global, source: &[u8], out: &mut O) -> Outcome
-    ensures does { (file : Text) (contents : Option Contents) (calls : List FileCall) → Does (run_file file) source.now result (outside contents calls (O.taken out.old) (O.faults out.old)) (outside contents calls (O.taken out.new) (O.faults out.new)) }
-    ensures never_falls { O.faults out.old ≤ O.faults out.new }
-{
-    let read = match read_source(alloc, source) {
-        Ok(read) => read,
-        Err(fault) => return fault.outcome(),
-    };
-    let Ok(chunk) = compile(alloc, &read.tree, &read.scopes) else {
-        return Outcome::OutOfMemory;
-    };
-    // Laws: the source means what its statements do, and these end, so that its code does within the steps.
-    printed_meaning();
-    meaning_is_steady();
-    match run(alloc, &chunk, MAX_STEPS, out) {
-        RunEnd::Done => Outcome::Done,
-        RunEnd::OutFault => Outcome::WriteFault,
-        RunEnd::OutOfMemory => Outcome::OutOfMemory,
-        RunEnd::Failed(_) => unreachable!(),
-        RunEnd::Unfinished => unreachable!(),
     }
 }

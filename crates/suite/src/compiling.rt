@@ -1,10 +1,11 @@
 // Compiling a file.
-ghost use Rattle.std.specs.Prelude.{◌≡◌, ℕ, List, Option, Err, IfOk, IsErrOf};
+ghost use Rattle.std.specs.Prelude.{◌≡◌, ℕ, List, Option, Err, IfOk};
 ghost use Rattle.std.specs.String.{string_bytes};
 ghost use Rattle.proto.specs.View.{view_proto};
 ghost use Rattle.chunk_io.specs.Items.{Fits as ChunkFits, le8};
 ghost use Rattle.suite.specs.declared.fault.Fault.{Fault};
 ghost use Rattle.suite.specs.Words.{compile_file as compile_job};
+ghost use Rattle.suite.specs.Worlds.{World};
 ghost use Rattle.suite.specs.Outcome.{IsFaultIn};
 ghost use Rattle.suite.specs.Jobs.{IsCompiled, IsSpellingOf, source_name as the_source_name, stripped_if as the_stripped_if};
 ghost use Rattle.suite.specs.Work.{Does, StoresText, outside};
@@ -27,7 +28,7 @@ pub fn compile_file<F: Files>(
     strip: bool,
     files: &mut F,
 ) -> Outcome
-    ensures does { (taken : Option (List ℕ)) (faults : ℕ) → Does (compile_job (string_bytes source.now) (string_bytes out.now) strip) bytes.now result (outside (F.contents files.old) (F.calls files.old) taken faults) (outside (F.contents files.new) (F.calls files.new) taken faults) }
+    ensures does { (w : World) (taken : Option (List ℕ)) (faults : ℕ) → Does (compile_job (string_bytes source.now) (string_bytes out.now) strip) bytes.now w result (outside (F.contents files.old) (F.calls files.old) taken faults) (outside (F.contents files.new) (F.calls files.new) taken faults) }
 {
     match spelled_source(alloc, bytes, source, strip) {
         Ok(text) => store_text(alloc, files, out, text.bytes()),
@@ -40,7 +41,6 @@ pub fn compiled_chunk(alloc: Global, bytes: &[u8], file: &Word) -> Result<Proto,
     ensures chunk { IfOk result (λ proto. IsCompiled (string_bytes file.now) bytes.now (view_proto proto)) }
     ensures spelled { IfOk result (λ proto. ChunkFits le8 (view_proto proto)) }
     ensures bad { (fault : Fault) → result ≡ Err (SourceFault.Bad fault) → IsFaultIn bytes.now fault }
-    ensures built { IsErrOf result SourceFault.Unbuilt → ⊥ }
 {
     let tree = parsed_tree(alloc, bytes)?;
     let scopes = scopes_of(alloc, &tree)?;
@@ -67,7 +67,6 @@ fn spelled_source(
 ) -> Result<ByteText, SourceFault>
     ensures text { IfOk result (IsSpellingOf (string_bytes source.now) strip bytes.now) }
     ensures bad { (fault : Fault) → result ≡ Err (SourceFault.Bad fault) → IsFaultIn bytes.now fault }
-    ensures built { IsErrOf result SourceFault.Unbuilt → ⊥ }
 {
     let proto = compiled_chunk(alloc, bytes, source)?;
     let kept = stripped_if(alloc, proto, strip);

@@ -1,18 +1,14 @@
 // The top call of the suite.
 #![tactic(auto)]
 
-mod chunk;
 mod command;
-mod compile;
 mod compiling;
-mod effects;
 mod fault;
 mod listing;
-mod machine;
 mod outcome;
 mod output;
 mod report;
-mod show;
+mod running;
 mod source;
 mod status;
 mod top;

@@ -7,9 +7,10 @@ ghost use Rattle.lister.specs.Listing.{listing};
 ghost use Rattle.first_form.specs.Source.{is_chunk as the_is_chunk};
 ghost use Rattle.suite_io.specs.declared.calls.FileCall.{FileCall};
 ghost use Rattle.suite_io.specs.Contents.{Contents};
-ghost use Rattle.suite.specs.Words.{list_file, verify_file};
+ghost use Rattle.suite.specs.Words.{list_file};
+ghost use Rattle.suite.specs.Worlds.{World};
 ghost use Rattle.suite.specs.Jobs.{HasChunk};
-ghost use Rattle.suite.specs.Reading.{IsRefusal};
+ghost use Rattle.suite.specs.Reading.{HasNone};
 ghost use Rattle.suite.specs.Work.{Does, PutsText, outside};
 
 use crate::compiling::compiled_chunk;
@@ -24,7 +25,7 @@ use suite_io::{Sink, Word};
 
 /// Puts the listing of the chunk of a file: the one that its bytes spell, or that of the source.
 pub fn list_bytes<O: Sink>(alloc: Global, bytes: &[u8], file: &Word, out: &mut O) -> Outcome
-    ensures does { (contents : Option Contents) (calls : List FileCall) → Does (list_file (string_bytes file.now)) bytes.now result (outside contents calls (O.taken out.old) (O.faults out.old)) (outside contents calls (O.taken out.new) (O.faults out.new)) }
+    ensures does { (w : World) (contents : Option Contents) (calls : List FileCall) → Does (list_file (string_bytes file.now)) bytes.now w result (outside contents calls (O.taken out.old) (O.faults out.old)) (outside contents calls (O.taken out.new) (O.faults out.new)) }
     ensures never_falls { O.faults out.old ≤ O.faults out.new }
 {
     match chunk_of(alloc, bytes, file) {
@@ -36,8 +37,7 @@ pub fn list_bytes<O: Sink>(alloc: Global, bytes: &[u8], file: &Word, out: &mut O
 /// The chunk of a file, or what the work comes to where it has none.
 pub fn chunk_of(alloc: Global, bytes: &[u8], file: &Word) -> Result<Proto, Outcome>
     ensures chunk { IfOk result (λ proto. HasChunk (string_bytes file.now) bytes.now (view_proto proto)) }
-    ensures refused { IfErr result (IsRefusal (list_file (string_bytes file.now)) bytes.now) }
-    ensures not_verified { IfErr result (IsRefusal (verify_file (string_bytes file.now)) bytes.now) }
+    ensures none { IfErr result (HasNone bytes.now) }
 {
     if is_chunk(bytes) {
         return spelled_chunk(alloc, bytes);
@@ -52,8 +52,7 @@ pub fn chunk_of(alloc: Global, bytes: &[u8], file: &Word) -> Result<Proto, Outco
 fn spelled_chunk(alloc: Global, bytes: &[u8]) -> Result<Proto, Outcome>
     requires { the_is_chunk bytes.now ≡ true }
     ensures chunk { IfOk result (λ proto. (file : Text) → HasChunk file bytes.now (view_proto proto)) }
-    ensures refused { IfErr result (λ outcome. (file : Text) → IsRefusal (list_file file) bytes.now outcome) }
-    ensures not_verified { IfErr result (λ outcome. (file : Text) → IsRefusal (verify_file file) bytes.now outcome) }
+    ensures none { IfErr result (HasNone bytes.now) }
 {
     match undump(alloc, bytes) {
         Ok(proto) => Ok(proto),

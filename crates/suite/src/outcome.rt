@@ -5,19 +5,23 @@ ghost use Rattle.suite.specs.Lines.{status_of};
 use crate::fault::{Fault, Rejection};
 use crate::status::Status;
 use chunk_io::ChunkFault;
+use lua_num::ByteText;
 
 /// What the work came to, before its line is put.
 #[derive(Debug, Drop)]
 pub enum Outcome {
     Done,
+    /// The run failed with this text.
+    ScriptFailed(ByteText),
     BadWords,
+    /// The run is going after this many steps.
+    Unfinished(u64),
     BadSource(Fault),
     BadChunk(ChunkFault),
     Rejected(Rejection),
     ReadFault,
     WriteFault,
     OutOfMemory,
-    Unbuilt,
 }
 
 impl Outcome {
@@ -27,14 +31,15 @@ impl Outcome {
     {
         match self {
             Outcome::Done => Status::Done,
+            Outcome::ScriptFailed(_) => Status::ScriptFailed,
             Outcome::BadWords => Status::BadWords,
+            Outcome::Unfinished(_) => Status::Unfinished,
             Outcome::BadSource(_) => Status::BadSource,
             Outcome::BadChunk(_) => Status::BadChunk,
             Outcome::Rejected(_) => Status::Rejected,
             Outcome::ReadFault => Status::ReadFault,
             Outcome::WriteFault => Status::WriteFault,
             Outcome::OutOfMemory => Status::OutOfMemory,
-            Outcome::Unbuilt => Status::Unbuilt,
         }
     }
 }

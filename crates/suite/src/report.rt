@@ -3,7 +3,7 @@ ghost use Rattle.std.specs.Prelude.{◌≡◌, ◌++◌, ◌∷◌, ◌≤◌, �
 ghost use Rattle.std.specs.Fmt.{decimal};
 ghost use Rattle.std.specs.String.{string_bytes};
 ghost use Rattle.suite_io.specs.Taken.{Takes, Rises};
-ghost use Rattle.suite.specs.Lines.{Reported, IsPut, Refused, line_with, fault_text as the_text, lexical_text as the_lexical_text, scope_text as the_scope_text, code_text as the_code_text, chunk_text as the_chunk_text, rejection_text as the_rejection_text, path_text as the_path_text, rule_name as the_rule_name};
+ghost use Rattle.suite.specs.Lines.{Reported, IsPut, Refused, line_with, fault_text as the_text, lexical_text as the_lexical_text, scope_text as the_scope_text, code_text as the_code_text, chunk_text as the_chunk_text, rejection_text as the_rejection_text, path_text as the_path_text, steps_text as the_steps_text, rule_name as the_rule_name};
 ghost use Rattle.suite_io.specs.Parts.{TakesPart};
 
 use crate::fault::{Fault, Rejection};
@@ -26,26 +26,44 @@ pub fn report<E: Sink>(alloc: Global, err: &mut E, outcome: Outcome, name: &str)
     let status = outcome.status();
     match outcome {
         Outcome::Done => status,
-        Outcome::BadWords => put_line(err, status, "", "bad words"),
+        Outcome::ScriptFailed(why) => put_line(err, status, "", why.bytes()),
+        Outcome::BadWords => put_line(err, status, "", b"bad words"),
+        Outcome::Unfinished(steps) => report_steps(alloc, err, steps, name),
         Outcome::BadSource(fault) => report_fault(alloc, err, fault, name),
         Outcome::BadChunk(fault) => report_chunk(alloc, err, fault, name),
         Outcome::Rejected(rejection) => report_rejection(alloc, err, &rejection, name),
-        Outcome::ReadFault => put_line(err, status, name, ": read failed"),
-        Outcome::WriteFault => put_line(err, status, "", "write failed"),
-        Outcome::OutOfMemory => put_line(err, status, "", "out of memory"),
-        Outcome::Unbuilt => put_line(err, status, name, ": Unbuilt"),
+        Outcome::ReadFault => put_line(err, status, name, b": read failed"),
+        Outcome::WriteFault => put_line(err, status, "", b"write failed"),
+        Outcome::OutOfMemory => put_line(err, status, "", b"out of memory"),
     }
 }
 
-// Puts the line of a fault of a source. Its text is made first; where there is no memory for it, the
-// line is that of want of memory.
+// Puts the line of a run that is going after its steps. Its text is made first; where there is no memory for it, the line is
+// that of want of memory.
+fn report_steps<E: Sink>(alloc: Global, err: &mut E, steps: u64, name: &str) -> Status
+    ensures reported { Reported (Outcome.Unfinished steps) name.now result (E.taken err.old) (E.taken err.new) (E.faults err.old) (E.faults err.new) }
+    ensures never_falls { E.faults err.old ≤ E.faults err.new }
+{
+    match steps_text(alloc, steps) {
+        Ok(text) => put_line(err, Status::Unfinished, "", text.as_bytes()),
+        Err(_) => put_line(err, Status::OutOfMemory, "", b"out of memory"),
+    }
+}
+
+fn steps_text(alloc: Global, steps: u64) -> Result<String, AllocError>
+    ensures { IfOk result (λ text. string_bytes text ≡ the_steps_text steps) }
+{
+    format!(in alloc; "unfinished after {steps} steps")
+}
+
+// Puts the line of a fault of a source. In the same way.
 fn report_fault<E: Sink>(alloc: Global, err: &mut E, fault: Fault, name: &str) -> Status
     ensures reported { Reported (Outcome.BadSource fault) name.now result (E.taken err.old) (E.taken err.new) (E.faults err.old) (E.faults err.new) }
     ensures never_falls { E.faults err.old ≤ E.faults err.new }
 {
     match fault_text(alloc, fault) {
-        Ok(text) => put_line(err, Status::BadSource, name, text.as_str()),
-        Err(_) => put_line(err, Status::OutOfMemory, "", "out of memory"),
+        Ok(text) => put_line(err, Status::BadSource, name, text.as_bytes()),
+        Err(_) => put_line(err, Status::OutOfMemory, "", b"out of memory"),
     }
 }
 
@@ -55,8 +73,8 @@ fn report_chunk<E: Sink>(alloc: Global, err: &mut E, fault: ChunkFault, name: &s
     ensures never_falls { E.faults err.old ≤ E.faults err.new }
 {
     match chunk_text(alloc, fault) {
-        Ok(text) => put_line(err, Status::BadChunk, name, text.as_str()),
-        Err(_) => put_line(err, Status::OutOfMemory, "", "out of memory"),
+        Ok(text) => put_line(err, Status::BadChunk, name, text.as_bytes()),
+        Err(_) => put_line(err, Status::OutOfMemory, "", b"out of memory"),
     }
 }
 
@@ -71,8 +89,8 @@ fn report_rejection<E: Sink>(
     ensures never_falls { E.faults err.old ≤ E.faults err.new }
 {
     match rejection_text(alloc, rejection) {
-        Ok(text) => put_line(err, Status::Rejected, name, text.as_str()),
-        Err(_) => put_line(err, Status::OutOfMemory, "", "out of memory"),
+        Ok(text) => put_line(err, Status::Rejected, name, text.as_bytes()),
+        Err(_) => put_line(err, Status::OutOfMemory, "", b"out of memory"),
     }
 }
 
@@ -215,7 +233,7 @@ fn code_text(alloc: Global, fault: CodeFault) -> Result<String, AllocError>
 }
 
 // Puts the line of a status, and answers what becomes of it.
-fn put_line<E: Sink>(err: &mut E, status: Status, name: &str, text: &str) -> Status
+fn put_line<E: Sink>(err: &mut E, status: Status, name: &str, text: &[u8]) -> Status
     ensures reported { IsPut status (line_with name.now text.now) result (E.taken err.old) (E.taken err.new) (E.faults err.old) (E.faults err.new) }
     ensures never_falls { E.faults err.old ≤ E.faults err.new }
 {
@@ -237,7 +255,7 @@ fn after_refusal(status: Status, fault: SinkFault) -> Status
 }
 
 // Puts `luasuite: `, a name, a text and a line end.
-fn put_pieces<E: Sink>(err: &mut E, name: &str, text: &str) -> Result<(), SinkFault>
+fn put_pieces<E: Sink>(err: &mut E, name: &str, text: &[u8]) -> Result<(), SinkFault>
     ensures whole { OnOk result (Takes (E.taken err.old) (E.taken err.new) (line_with name.now text.now)) }
     ensures part { OnErr result (TakesPart (E.taken err.old) (E.taken err.new) (line_with name.now text.now)) }
     ensures never_falls { E.faults err.old ≤ E.faults err.new }
@@ -245,6 +263,6 @@ fn put_pieces<E: Sink>(err: &mut E, name: &str, text: &str) -> Result<(), SinkFa
 {
     put_all(err, b"luasuite: ")?;
     put_all(err, name.as_bytes())?;
-    put_all(err, text.as_bytes())?;
+    put_all(err, text)?;
     put_all(err, b"\n")
 }

@@ -1,23 +1,20 @@
-// Reading a source of the first form.
-ghost use Rattle.std.specs.Prelude.{◌≡◌, ℤ, List, false, IfOk, IsOk, IsErrOf, IfSome, IfNone, IsTrue, ◌↔◌};
-ghost use Rattle.lua_tree.specs.View.{view_block, view_tree, view_statement, view_exp};
-ghost use Rattle.lua_tree.specs.TreeLists.{expressions_of};
+// Reading a source.
+ghost use Rattle.std.specs.Prelude.{◌≡◌, IfOk, IsOk};
+ghost use Rattle.lua_tree.specs.View.{view_tree};
 ghost use Rattle.lua_tree.specs.Scoping.{Scoped};
 ghost use Rattle.lua_tree.specs.Resolved.{resolved};
 ghost use Rattle.lua_tree.specs.Tiling.{Lexes};
 ghost use Rattle.parser.specs.Places.{StopsBy};
-ghost use Rattle.first_form.specs.Source.{IsPrintList, PrintsNumber, is_chunk as the_is_chunk};
+ghost use Rattle.first_form.specs.Source.{is_chunk as the_is_chunk};
 ghost use Rattle.suite.specs.declared.fault.Fault.{Fault as OneFault};
-ghost use Rattle.suite.specs.Outcome.{IsEarlyFaultIn, IsNoPrintList};
-ghost use Rattle.suite.specs.Jobs.{IsNotRun};
-ghost use Rattle.suite.specs.Reading.{IsRead, IsParsed, outcome_of, IsScopingFault, IsPrintName, IsNumber, IsNumberList};
+ghost use Rattle.suite.specs.Outcome.{IsFaultIn};
+ghost use Rattle.suite.specs.Reading.{IsParsed, outcome_of, IsScopingFault};
 
 use crate::fault::{Fault, offset_of};
 use crate::outcome::Outcome;
 use code_builder::CodeFault;
-use first_form::tree::Statement;
 use lexer::{LexFault, lex};
-use lua_tree::{Args, Block, Exp, ExpKind, StatKind, Token, Tree};
+use lua_tree::{Token, Tree};
 use parser::{SyntaxFault, parse};
 use scopes::{ScopeFault, Scopes, resolve};
 use std::alloc::{AllocError, Global};
@@ -27,8 +24,6 @@ use std::alloc::{AllocError, Global};
 pub enum SourceFault {
     /// The source has a lexical, a syntax, a scope or a code fault.
     Bad(Fault),
-    /// The file is a chunk, or source of another form.
-    Unbuilt,
     OutOfMemory,
 }
 
@@ -39,7 +34,6 @@ impl SourceFault {
     {
         match self {
             SourceFault::Bad(fault) => Outcome::BadSource(fault),
-            SourceFault::Unbuilt => Outcome::Unbuilt,
             SourceFault::OutOfMemory => Outcome::OutOfMemory,
         }
     }
@@ -101,43 +95,10 @@ impl From<AllocError> for SourceFault {
 /// A file whose first byte is this one is a chunk.
 const CHUNK_MARK: u8 = 0x1b;
 
-/// At most this many statements are read.
-const MAX_STATEMENTS: usize = 200;
-
-/// A source of the first form: its statements, its tree, and what the names of the tree mean.
-#[derive(Drop)]
-pub struct PrintedSource {
-    pub statements: Vec<Statement>,
-    pub tree: Tree,
-    pub scopes: Scopes,
-}
-
-/// Reads a source of the first form. A chunk is not lexed. The time is linear in the bytes.
-pub fn read_source(alloc: Global, bytes: &[u8]) -> Result<PrintedSource, SourceFault>
-    ensures read { IfOk result (λ read. IsRead bytes.now read.statements.items) }
-    ensures listed { IfOk result (λ read. IsPrintList (view_tree read.tree).body read.statements.items) }
-    ensures scopes { IfOk result (λ read. read.scopes ≡ resolved (view_tree read.tree)) }
-    ensures bad { (fault : OneFault) → result ≡ Err (SourceFault.Bad fault) → (the_is_chunk bytes.now ≡ false) × IsEarlyFaultIn bytes.now fault }
-    ensures unbuilt { IsErrOf result SourceFault.Unbuilt → IsNotRun bytes.now }
-{
-    if is_chunk(bytes) {
-        return Err(SourceFault::Unbuilt);
-    }
-    let tree = parsed_tree(alloc, bytes)?;
-    let scopes = scopes_of(alloc, &tree)?;
-    let statements = read_block(alloc, &tree.body)?;
-    Ok(PrintedSource {
-        statements,
-        tree,
-        scopes,
-    })
-}
-
 /// The tree of a source, or its fault. The tokens are given back. The time is linear in the bytes.
 pub fn parsed_tree(alloc: Global, bytes: &[u8]) -> Result<Tree, SourceFault>
     ensures tree { IfOk result (λ tree. IsParsed bytes.now (view_tree tree)) }
-    ensures bad { (fault : OneFault) → result ≡ Err (SourceFault.Bad fault) → IsEarlyFaultIn bytes.now fault }
-    ensures built { IsErrOf result SourceFault.Unbuilt → ⊥ }
+    ensures bad { (fault : OneFault) → result ≡ Err (SourceFault.Bad fault) → IsFaultIn bytes.now fault }
 {
     let tokens = lex(alloc, bytes)?;
     match parse(alloc, &tokens) {
@@ -151,7 +112,6 @@ pub fn scopes_of(alloc: Global, tree: &Tree) -> Result<Scopes, SourceFault>
     ensures scopes { IfOk result (λ scopes. scopes ≡ resolved (view_tree tree.now)) }
     ensures scoped { IsOk result → Scoped (view_tree tree.now) }
     ensures bad { (fault : OneFault) → result ≡ Err (SourceFault.Bad fault) → IsScopingFault (view_tree tree.now) fault }
-    ensures built { IsErrOf result SourceFault.Unbuilt → ⊥ }
 {
     let scopes = resolve(alloc, tree)?;
     Ok(scopes)
@@ -171,8 +131,7 @@ pub fn is_chunk(bytes: &[u8]) -> bool
 fn syntax_fault(fault: SyntaxFault, tokens: &[Token], bytes: &[u8]) -> SourceFault
     requires lexed { Lexes bytes.now tokens.now }
     requires fault { StopsBy tokens.now fault }
-    ensures bad { (found : OneFault) → result ≡ SourceFault.Bad found → IsEarlyFaultIn bytes.now found }
-    ensures built { result ≡ SourceFault.Unbuilt → ⊥ }
+    ensures bad { (found : OneFault) → result ≡ SourceFault.Bad found → IsFaultIn bytes.now found }
 {
     match fault {
         SyntaxFault::Unexpected { at } => SourceFault::Bad(Fault::Unexpected {
@@ -182,74 +141,5 @@ fn syntax_fault(fault: SyntaxFault, tokens: &[Token], bytes: &[u8]) -> SourceFau
             offset: offset_of(tokens, at, bytes.len()),
         }),
         SyntaxFault::OutOfMemory => SourceFault::OutOfMemory,
-    }
-}
-
-// The numbers that these statements print.
-fn read_block(alloc: Global, block: &Block) -> Result<Vec<Statement>, SourceFault>
-    ensures tree { IfOk result (λ tree. IsPrintList (view_block block.now) tree.items) }
-    ensures never_bad { (fault : OneFault) → result ≡ Err (SourceFault.Bad fault) → ⊥ }
-    ensures unbuilt { IsErrOf result SourceFault.Unbuilt → IsNoPrintList (view_block block.now) }
-{
-    let mut prints = Vec::new(alloc);
-    for statement in block.items() {
-        if prints.len() == MAX_STATEMENTS {
-            return Err(SourceFault::Unbuilt);
-        }
-        let number = printed_number(&statement.kind).ok_or(SourceFault::Unbuilt)?;
-        prints
-            .push(Statement::Print(number))
-            .map_err(|_| SourceFault::OutOfMemory)?;
-    }
-    Ok(prints)
-}
-
-// The number that a statement prints.
-fn printed_number(kind: &StatKind) -> Option<i64>
-    ensures some { IfSome result (PrintsNumber (view_statement kind.now)) }
-    ensures none { IfNone result ((n : ℤ) → PrintsNumber (view_statement kind.now) n → ⊥) }
-{
-    let StatKind::Call(call) = kind else {
-        return None;
-    };
-    match &call.kind {
-        ExpKind::Call {
-            on,
-            args: Args::List(list),
-            ..
-        } if is_print(on) => one_number(list.items()),
-        _ => None,
-    }
-}
-
-// Whether an expression is the name `print`.
-fn is_print(expression: &Exp) -> bool
-    ensures { IsTrue result ↔ IsPrintName (view_exp expression.now) }
-{
-    match &expression.kind {
-        ExpKind::Name(name) => name.bytes() == b"print".as_slice(),
-        _ => false,
-    }
-}
-
-// The number, where a list has that alone.
-fn one_number(list: &[Exp]) -> Option<i64>
-    ensures some { IfSome result (IsNumberList (expressions_of list.now)) }
-    ensures none { IfNone result ((n : ℤ) → IsNumberList (expressions_of list.now) n → ⊥) }
-{
-    match list {
-        [only] => number_of(only),
-        _ => None,
-    }
-}
-
-// The number that an expression is.
-fn number_of(expression: &Exp) -> Option<i64>
-    ensures some { IfSome result (IsNumber (view_exp expression.now)) }
-    ensures none { IfNone result ((n : ℤ) → IsNumber (view_exp expression.now) n → ⊥) }
-{
-    match expression.kind {
-        ExpKind::Number(n) => Some(n),
-        _ => None,
     }
 }

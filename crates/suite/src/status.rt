@@ -7,9 +7,13 @@ ghost use Rattle.suite.specs.Lines.{number_of};
 pub enum Status {
     /// The command was carried out.
     Done = 0,
+    /// The run failed.
+    ScriptFailed = 1,
     /// The words are no command.
     BadWords = 2,
-    /// The source has a lexical, a syntax or a scope fault.
+    /// The run is going after its steps.
+    Unfinished = 3,
+    /// The source has a lexical, a syntax, a scope or a code fault.
     BadSource = 4,
     /// The bytes are no chunk.
     BadChunk = 5,
@@ -20,8 +24,6 @@ pub enum Status {
     /// Output, or the line that says why, could not be written.
     WriteFault = 9,
     OutOfMemory = 10,
-    /// The source is not of a form that is built.
-    Unbuilt = 11,
 }
 
 impl Status {

@@ -1,16 +1,21 @@
 // Reading the words of a call.
 ghost use Rattle.std.specs.Prelude.{◌≡◌, Some, None, IfSome, IfNone, ◌+◌, ◌<◌, ◌≤◌, ◌^◌, length};
+ghost use Rattle.std.specs.List.{list_all};
 ghost use Rattle.std.specs.String.{string_bytes};
-ghost use Rattle.suite.specs.Words.{Reads, NoCommand, Arguments as Asked, job_of, job_with, arguments as the_arguments, files_alone, with_strip as add_strip, with_file as add_file, one_file as the_one_file, compilation as the_compilation, is_flag as the_is_flag, texts};
-ghost use Rattle.suite.specs.Arguments.{Shows, IsFound};
+ghost use Rattle.lua_num.specs.Bytes.{is_digit};
+ghost use Rattle.suite.specs.Words.{Reads, NoCommand, Arguments as Asked, job_of, job_with, arguments as the_arguments, files_alone, with_strip as add_strip, with_file as add_file, with_steps as add_steps, one_file as the_one_file, run_of as the_run_of, steps_in as the_steps_in, compilation as the_compilation, is_flag as the_is_flag, texts};
+ghost use Rattle.suite.specs.Arguments.{Shows, IsFound, IsKind};
 
+use lua_num::numeral;
 use suite_io::Word;
 
 /// What the words ask for.
 #[derive(Clone, Copy)]
 pub enum Command<'a> {
+    /// At most this many steps of a run.
     Run {
         file: &'a Word,
+        steps: u64,
     },
     List {
         file: &'a Word,
@@ -34,17 +39,18 @@ impl<'a> Command<'a> {
         ensures { string_bytes result.now ≡ file_of (job_of self.entry) }
     {
         match self {
-            Command::Run { file } | Command::List { file } | Command::Verify { file } => file,
+            Command::Run { file, .. } | Command::List { file } | Command::Verify { file } => file,
             Command::Compile { source, .. } => source,
         }
     }
 }
 
-/// The words behind the first one: those that stand for files, and how many of the others are `--strip`.
+/// The words behind the first one: those that stand for files, how many of the others are `--strip`, and what stands behind `--steps`.
 #[derive(Clone, Copy)]
 struct Arguments<'a> {
     files: FileWords<'a>,
     strips: usize,
+    steps: StepWords<'a>,
 }
 
 /// The words that stand for files, of which no command has more than two.
@@ -56,10 +62,39 @@ enum FileWords<'a> {
     More,
 }
 
-/// No command has more words than these behind the first: two files, `--strip` and `--`.
+/// What stands behind `--steps`, which no command has twice.
+#[derive(Clone, Copy)]
+enum StepWords<'a> {
+    No,
+    One(&'a str),
+    More,
+}
+
+/// What a word is that does not stand behind `--`.
+#[derive(Clone, Copy)]
+enum WordKind<'a> {
+    /// `--`.
+    End,
+    Strip,
+    /// `--steps`: the number is the next word.
+    Steps,
+    /// `--steps=` and the number.
+    StepsWith(&'a str),
+    /// A flag that stands in no command.
+    OtherFlag,
+    File,
+}
+
+/// How many steps a run has where no number is given.
+const DEFAULT_STEPS: u64 = 1_000_000_000;
+
+/// No number of steps has more digits.
+const MOST_DIGITS: usize = 19;
+
+/// No command has more words than these behind the first: two files, `--strip` and `--`; or a file, `--steps`, a number and `--`.
 const MOST_ARGUMENTS: usize = 4;
 
-/// The command of the words `run FILE`, `list FILE`, `verify FILE` or `compile SRC OUT [--strip]`; `None` for all other words. Flags may stand
+/// The command of the words `run FILE [--steps N]`, `list FILE`, `verify FILE` or `compile SRC OUT [--strip]`; `None` for all other words. Flags may stand
 /// at any place behind the first word. Behind `--` all words stand for files; before it a word for a file begins with `-` only where
 /// that is the whole word.
 pub fn read_words(words: &[Word]) -> Option<Command<'_>>
@@ -84,11 +119,34 @@ fn read_arguments(words: &[Word]) -> Option<Arguments<'_>>
     let [word, rest @ ..] = words else {
         return Some(file_arguments(words));
     };
-    match word.as_str() {
-        "--" => Some(file_arguments(rest)),
-        "--strip" => Some(with_strip(read_arguments(rest)?)),
-        flag if is_flag(flag) => None,
-        _ => Some(with_file(word, read_arguments(rest)?)),
+    match kind_of(word.as_str()) {
+        WordKind::End => Some(file_arguments(rest)),
+        WordKind::Strip => Some(with_strip(read_arguments(rest)?)),
+        WordKind::Steps => {
+            let [number, behind @ ..] = rest else {
+                return None;
+            };
+            Some(with_steps(number.as_str(), read_arguments(behind)?))
+        }
+        WordKind::StepsWith(number) => Some(with_steps(number, read_arguments(rest)?)),
+        WordKind::OtherFlag => None,
+        WordKind::File => Some(with_file(word, read_arguments(rest)?)),
+    }
+}
+
+// What a word is where it does not stand behind `--`.
+fn kind_of(word: &str) -> WordKind<'_>
+    ensures { IsKind result word.now }
+{
+    match word {
+        "--" => WordKind::End,
+        "--strip" => WordKind::Strip,
+        "--steps" => WordKind::Steps,
+        _ => match word.strip_prefix("--steps=") {
+            Some(number) => WordKind::StepsWith(number),
+            None if is_flag(word) => WordKind::OtherFlag,
+            None => WordKind::File,
+        },
     }
 }
 
@@ -103,7 +161,11 @@ fn file_arguments(words: &[Word]) -> Arguments<'_>
         [one, other] => FileWords::Two(one, other),
         _ => FileWords::More,
     };
-    Arguments { files, strips: 0 }
+    Arguments {
+        files,
+        strips: 0,
+        steps: StepWords::No,
+    }
 }
 
 fn with_strip(found: Arguments<'_>) -> Arguments<'_>
@@ -114,6 +176,22 @@ fn with_strip(found: Arguments<'_>) -> Arguments<'_>
     Arguments {
         files: found.files,
         strips: found.strips + 1,
+        steps: found.steps,
+    }
+}
+
+fn with_steps<'a>(number: &'a str, found: Arguments<'a>) -> Arguments<'a>
+    ensures shows { (asked : Asked) → Shows found.entry asked → Shows result (add_steps number.now asked) }
+    ensures strips { result.strips ≡ found.entry.strips }
+{
+    let steps = match found.steps {
+        StepWords::No => StepWords::One(number),
+        StepWords::One(_) | StepWords::More => StepWords::More,
+    };
+    Arguments {
+        files: found.files,
+        strips: found.strips,
+        steps,
     }
 }
 
@@ -129,6 +207,7 @@ fn with_file<'a>(word: &'a Word, found: Arguments<'a>) -> Arguments<'a>
     Arguments {
         files,
         strips: found.strips,
+        steps: found.steps,
     }
 }
 
@@ -138,9 +217,7 @@ fn command_of<'a>(first: &str, found: Arguments<'a>) -> Option<Command<'a>>
     ensures none { (asked : Asked) → Shows found.entry asked → IfNone result (job_with first.now asked ≡ None) }
 {
     match first {
-        "run" => Some(Command::Run {
-            file: one_file(found)?,
-        }),
+        "run" => run_of(found),
         "list" => Some(Command::List {
             file: one_file(found)?,
         }),
@@ -152,28 +229,67 @@ fn command_of<'a>(first: &str, found: Arguments<'a>) -> Option<Command<'a>>
     }
 }
 
+// The run, where the words name one file, with a number of steps or none.
+fn run_of(found: Arguments<'_>) -> Option<Command<'_>>
+    ensures some { (asked : Asked) → Shows found.entry asked → IfSome result (λ command. the_run_of asked.files asked.strips asked.steps ≡ Some (job_of command)) }
+    ensures none { (asked : Asked) → Shows found.entry asked → IfNone result (the_run_of asked.files asked.strips asked.steps ≡ None) }
+{
+    let FileWords::One(file) = found.files else {
+        return None;
+    };
+    if found.strips != 0 {
+        return None;
+    }
+    let steps = match found.steps {
+        StepWords::No => DEFAULT_STEPS,
+        StepWords::One(number) => steps_in(number)?,
+        StepWords::More => return None,
+    };
+    Some(Command::Run { file, steps })
+}
+
+// The number of 1 to 19 decimal digits, where it is below 2^63.
+fn steps_in(text: &str) -> Option<u64>
+    ensures { result ≡ the_steps_in text.now }
+{
+    if text.len() > MOST_DIGITS || !is_decimal(text) {
+        return None;
+    }
+    let number = numeral(text.as_bytes())?;
+    Some(number as u64)
+}
+
+// Decimal digits alone.
+fn is_decimal(text: &str) -> bool
+    ensures { result ≡ list_all is_digit text.now }
+{
+    text.bytes().all(|byte| byte.is_ascii_digit())
+}
+
 // The file, where the words name one and no more, with no flag.
 fn one_file(found: Arguments<'_>) -> Option<&Word>
-    ensures some { (asked : Asked) → Shows found.entry asked → IfSome result (λ file. the_one_file asked.files asked.strips ≡ Some (string_bytes file.now)) }
-    ensures none { (asked : Asked) → Shows found.entry asked → IfNone result (the_one_file asked.files asked.strips ≡ None) }
+    ensures some { (asked : Asked) → Shows found.entry asked → IfSome result (λ file. the_one_file asked.files asked.strips asked.steps ≡ Some (string_bytes file.now)) }
+    ensures none { (asked : Asked) → Shows found.entry asked → IfNone result (the_one_file asked.files asked.strips asked.steps ≡ None) }
 {
-    match found.files {
-        FileWords::One(file) if found.strips == 0 => Some(file),
+    match (found.files, found.steps) {
+        (FileWords::One(file), StepWords::No) if found.strips == 0 => Some(file),
         _ => None,
     }
 }
 
 // The compilation, where the words name two files, with `--strip` once or not at all.
 fn compilation(found: Arguments<'_>) -> Option<Command<'_>>
-    ensures some { (asked : Asked) → Shows found.entry asked → IfSome result (λ command. the_compilation asked.files asked.strips ≡ Some (job_of command)) }
-    ensures none { (asked : Asked) → Shows found.entry asked → IfNone result (the_compilation asked.files asked.strips ≡ None) }
+    ensures some { (asked : Asked) → Shows found.entry asked → IfSome result (λ command. the_compilation asked.files asked.strips asked.steps ≡ Some (job_of command)) }
+    ensures none { (asked : Asked) → Shows found.entry asked → IfNone result (the_compilation asked.files asked.strips asked.steps ≡ None) }
 {
-    match found.files {
-        FileWords::Two(source, out) if found.strips < 2 => Some(Command::Compile {
-            source,
-            out,
-            strip: found.strips == 1,
-        }),
+    match (found.files, found.steps) {
+        (FileWords::Two(source, out), StepWords::No) if found.strips < 2 => {
+            Some(Command::Compile {
+                source,
+                out,
+                strip: found.strips == 1,
+            })
+        }
         _ => None,
     }
 }

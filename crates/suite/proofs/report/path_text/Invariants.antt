@@ -1,6 +1,5 @@
 use Rattle.std.proofs.Common.{◌≡◌, ◌++◌, drop}
 use Rattle.std.specs.String.{string_bytes}
-use Rattle.std.specs.Fmt.{decimal}
 use Rattle.suite.specs.Lines.{behind_points}
 use Rattle.suite.proofs.report.path_text.Given as goal
 

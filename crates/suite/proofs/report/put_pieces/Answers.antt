@@ -20,11 +20,9 @@ returns-in_err-put_all-2-clause-part g c =
 pub returns-in_err-put_all-3-clause-part : goal.returns-in_err-put_all-3-clause-part
 returns-in_err-put_all-3-clause-part g c =
     let name = subst (Takes _ (g.E.Sink.taken c.put_all-2.new.sink)) c.as_bytes.ensures.value c.in_ok-put_all-2.ensures.whole in
-    let text = subst (TakesPart _ (g.E.Sink.taken c.put_all-3.new.sink)) c.as_bytes-2.ensures.value c.in_err-put_all-3.ensures.part in
-    on_err c.from_residual-in_err-put_all-3.result _ (third_refused prefix c.args.name.now c.args.text.now (10 ∷ []) _ _ _ _ c.in_ok-put_all.ensures.whole name text)
+    on_err c.from_residual-in_err-put_all-3.result _ (third_refused prefix c.args.name.now c.args.text.now (10 ∷ []) _ _ _ _ c.in_ok-put_all.ensures.whole name c.in_err-put_all-3.ensures.part)
 
 pub returns-clause-part : goal.returns-clause-part
 returns-clause-part g c =
     let name = subst (Takes _ (g.E.Sink.taken c.put_all-2.new.sink)) c.as_bytes.ensures.value c.in_ok-put_all-2.ensures.whole in
-    let text = subst (Takes _ (g.E.Sink.taken c.put_all-3.new.sink)) c.as_bytes-2.ensures.value c.in_ok-put_all-3.ensures.whole in
-    on_err_then c.put_all-4.result _ _ (λ p. last_refused prefix c.args.name.now c.args.text.now (10 ∷ []) _ _ _ _ _ c.in_ok-put_all.ensures.whole name text p) c.put_all-4.ensures.part
+    on_err_then c.put_all-4.result _ _ (λ p. last_refused prefix c.args.name.now c.args.text.now (10 ∷ []) _ _ _ _ _ c.in_ok-put_all.ensures.whole name c.in_ok-put_all-3.ensures.whole p) c.put_all-4.ensures.part
