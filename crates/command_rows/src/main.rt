@@ -1,18 +1,22 @@
 // Reads rows such as `run a.lua: print(3)`: words, and what the file `a.lua` holds. Prints behind each row what the suite comes to
 // over files and sinks in memory: the status, what each sink took, the calls of files, and what the file `b` then holds, where it is
-// there. A row may begin with a put that fails or finds no memory, as `out fails 3: ` or `err full 2: `, or with a call of files that
+// there, and last the calls of hosts. The host `ask`, number 0, replies true and 5, and the host `readline` replies `x`,
+// and then fails with `closed pipe`. A row may begin with a put that fails or finds no memory, as `out fails 3: ` or `err full 2: `, or with a call of files that
 // fails, as `files fails 2: `. A row with no `: ` is a heading.
 #![tactic(auto)]
 
 mod full_sink;
+mod hosts;
 mod row;
 
 use full_sink::FullSink;
+use host::{Host, HostSet, ScriptHost};
+use hosts::{ask_replies, calls_text, line_replies};
 use row::{Ending, Row, read_row};
 use std::alloc::{AllocError, Global};
 use std::io;
 use suite::{Status, suite};
-use suite_io::{FileCall, MemoryFiles, MemorySink, Word};
+use suite_io::{FileCall, MemoryFiles, MemorySink, Sink, Word};
 
 fn main(rt: HostRuntime) -> io::Result<()> {
     for line in rt.lines(rt.alloc()) {
@@ -28,7 +32,7 @@ fn main(rt: HostRuntime) -> io::Result<()> {
 fn answer(alloc: Global, row: &Row) -> Result<String, AllocError> {
     let mut files = MemoryFiles::new(alloc, &[row.files_end])?;
     files.set(alloc, &String::from_str(alloc, "a.lua")?, &row.source)?;
-    let mut text = match row.ending {
+    let (mut text, asked) = match row.ending {
         Ending::Full => over_full_sinks(alloc, row, &mut files)?,
         Ending::Fails => over_memory(alloc, row, &mut files)?,
     };
@@ -36,25 +40,53 @@ fn answer(alloc: Global, row: &Row) -> Result<String, AllocError> {
         let shown = stored.escape_ascii();
         text.push_str(format!(in alloc; ", b <{shown}>")?.as_str())?;
     }
+    text.push_str(asked.as_str())?;
     Ok(text)
 }
 
-fn over_memory(alloc: Global, row: &Row, files: &mut MemoryFiles) -> Result<String, AllocError> {
+fn over_memory(
+    alloc: Global,
+    row: &Row,
+    files: &mut MemoryFiles,
+) -> Result<(String, String), AllocError> {
     let mut out = MemorySink::new(alloc, &[row.out_ends])?;
     let mut err = MemorySink::new(alloc, &[row.err_ends])?;
-    let status = suite(alloc, &row.words, files, &mut out, &mut err);
-    outcome(alloc, status, out.taken(), err.taken(), files.calls())
+    let (status, asked) = called(alloc, row, files, &mut out, &mut err)?;
+    let text = outcome(alloc, status, out.taken(), err.taken(), files.calls())?;
+    Ok((text, asked))
 }
 
 fn over_full_sinks(
     alloc: Global,
     row: &Row,
     files: &mut MemoryFiles,
-) -> Result<String, AllocError> {
+) -> Result<(String, String), AllocError> {
     let mut out = FullSink::new(alloc, row.out_ends);
     let mut err = FullSink::new(alloc, row.err_ends);
-    let status = suite(alloc, &row.words, files, &mut out, &mut err);
-    outcome(alloc, status, out.taken(), err.taken(), files.calls())
+    let (status, asked) = called(alloc, row, files, &mut out, &mut err)?;
+    let text = outcome(alloc, status, out.taken(), err.taken(), files.calls())?;
+    Ok((text, asked))
+}
+
+// Calls the suite with the hosts of a row. Answers the status, and what was asked of the hosts.
+fn called<O: Sink, E: Sink>(
+    alloc: Global,
+    row: &Row,
+    files: &mut MemoryFiles,
+    out: &mut O,
+    err: &mut E,
+) -> Result<(Status, String), AllocError> {
+    let ask: Box<dyn Host> = Box::new(alloc, ScriptHost::new(alloc, ask_replies(alloc)?))?;
+    let lines: Box<dyn Host> = Box::new(alloc, ScriptHost::new(alloc, line_replies(alloc)?))?;
+    let mut hosts = HostSet::new(alloc);
+    hosts.add(alloc, b"ask", ask).map_err(|(_, error)| error)?;
+    if !hosts.has(b"readline") {
+        hosts
+            .add(alloc, b"readline", lines)
+            .map_err(|(_, error)| error)?;
+    }
+    let status = suite(alloc, &row.words, files, out, err, &mut hosts);
+    Ok((status, calls_text(alloc, hosts.log())?))
 }
 
 fn outcome(

@@ -1,1 +1,7 @@
-print(3)
+local lines = {}
+local line = readline()
+while line do
+  lines[#lines + 1] = line
+  line = readline()
+end
+print(#lines, lines[1], lines[#lines])

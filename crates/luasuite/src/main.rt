@@ -1,7 +1,8 @@
-// The program: the suite over the system's files, standard output and standard error.
+// The program: the suite over the system's files, standard output and standard error, with a host `readline` over standard input.
 #![tactic(auto)]
 
-use std::io::ErrorKind;
+use host::{Host, HostSet, LineHost};
+use std::io::{BufReader, ErrorKind};
 use std::process::ExitCode;
 use std::rt::Env;
 use std::{env, io};
@@ -20,7 +21,25 @@ fn main(rt: HostRuntime) -> ExitCode {
     let mut files = RealFiles::new(rt.alloc(), &rt);
     let mut out = RealSink::new(rt.stdout());
     let mut err = RealSink::new(rt.stderr());
-    let status = suite(rt.alloc(), &words, &mut files, &mut out, &mut err);
+    let Ok(lines) = BufReader::new(rt.alloc(), rt.stdin()) else {
+        return ExitCode::from(Status::OutOfMemory.number());
+    };
+    let Ok(host) = Box::new(rt.alloc(), LineHost::new(lines)) else {
+        return ExitCode::from(Status::OutOfMemory.number());
+    };
+    let host: Box<dyn Host> = host;
+    let mut hosts = HostSet::new(rt.alloc());
+    if hosts.add(rt.alloc(), b"readline", host).is_err() {
+        return ExitCode::from(Status::OutOfMemory.number());
+    }
+    let status = suite(
+        rt.alloc(),
+        &words,
+        &mut files,
+        &mut out,
+        &mut err,
+        &mut hosts,
+    );
     ExitCode::from(status.number())
 }
 
