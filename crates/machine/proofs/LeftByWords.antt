@@ -1,5 +1,5 @@
 -- What a word leaves in the stack when it worked on the registers of the topmost frame that were lent.
-use Rattle.std.proofs.Common.{◌≡◌, ◌∙◌, ◌-◌, ◌++◌, ℕ, List, length, take, drop, ap, sym, subst}
+use Rattle.std.proofs.Common.{◌≡◌, ◌∙◌, ◌-◌, ◌++◌, ℕ, List, [], ◌∷◌, length, take, drop, refl, ap, sym, subst}
 use Rattle.lua_model.specs.declared.Value.{Value}
 use Rattle.lua_heap.specs.State.{HeapState}
 use Rattle.rules.specs.State.{State, Effect}
@@ -43,3 +43,18 @@ module _ (stack : StackState) (old new : HeapState) (f : Function) (effect : Sta
   still_shares shares =
       let same : new.cells ≡ old.cells = ap (λ (h : HeapState). h.cells) does.only_store in
       subst (λ (vs : List Value). Shares (record stack { frames = with_row stack.frames (fitted stack.frames vs) }) new) (sym (row_is stack.frames base row now b r)) (left_shares stack old new now does.keeps same long does.registers shares)
+
+-- where a word changed no register the stack is as it was
+same_top : (frames : List (List Value)) → with_top frames (top frames) ≡ frames
+same_top [] = refl
+same_top (x ∷ rest) = refl
+
+pub left_alone : (stack : StackState) (base : ℕ) (row now : List Value) → base ≡ size (below stack.frames) → row ≡ in_a_row stack.frames → now ≡ take (length row - base) (drop base row) → left_in stack base row now ≡ stack
+left_alone stack base row now b r same =
+    let is_top : now ≡ top stack.frames = same ∙ part_is stack.frames base row b r in
+    let frames : with_row stack.frames (fitted stack.frames (take base row ++ (now ++ drop (length row - base) (drop base row)))) ≡ stack.frames =
+    ap (λ vs. with_row stack.frames (fitted stack.frames vs)) (row_is stack.frames base row now b r)
+    ∙ left_frames stack.frames now (ap length is_top)
+    ∙ ap (with_top stack.frames) is_top
+    ∙ same_top stack.frames in
+    ap (λ fs. record stack { frames = fs }) frames

@@ -35,3 +35,5 @@ pub mod FirstFrames
 pub mod PutPieces
 pub mod RunSteps
 pub mod RunsSoFar
+pub mod QuickSteps
+pub mod InPlace

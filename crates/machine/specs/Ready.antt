@@ -8,15 +8,17 @@ use Rattle.lua_model.specs.Store.{Event, Reply}
 use Rattle.lua_heap.specs.State.{Keeps}
 use Rattle.host.specs.Hosts.{HostSetState}
 use Rattle.rules.specs.Run.{current, step}
+use Rattle.rules.specs.Step.{effect}
 use Rattle.upvalue.specs.State.{top}
 use Rattle.machine.specs.declared.function.Function.{Function}
 use Rattle.machine.specs.declared.running.Running.{Running}
+use Rattle.machine.specs.declared.did.Did.{Did}
 use Rattle.machine.specs.declared.settling.Settled.{Settled}
 use Rattle.machine.specs.Fits.{Fits, FitsFrame, AreCaptures}
 use Rattle.machine.specs.Outside.{around, replies_in, Happened}
 use Rattle.machine.specs.Seen.{cells_in, seen}
 use Rattle.machine.specs.Settled.{conf_of}
-use Rattle.machine.specs.Whole.{IsSafe, IsWhole}
+use Rattle.machine.specs.Whole.{IsSafe, IsWhole, DoesSeen}
 
 -- a word may be done in the topmost frame, of this function, whose pc is that behind the word
 pub record FitsHere (functions : List Function) (f : Function) (k : Running) (i : Instr) : Type 0 where
@@ -27,6 +29,13 @@ pub record FitsHere (functions : List Function) (f : Function) (k : Running) (i 
 
 abbrev pub with_pc : Running → ℕ → Running
 with_pc k pc = record k { top = record k.top { pc = pc } }
+
+-- a word was done within its frame, which went on to some pc
+pub record GoesOn (functions : List Function) (i : Instr) (old new : Running) : Type 0 where
+  pub next : ℕ
+  pub between : Running
+  pub does : DoesSeen functions (λ m. effect i.op m i) old between (Did.Jumps next)
+  pub is : new ≡ with_pc between next
 
 -- there is a word at the pc of the topmost frame, of this function, and it may be done
 pub record HasWord (functions : List Function) (f : Function) (k : Running) : Type 0 where

@@ -127,6 +127,16 @@ abbrev pub calls_left : Did → ℕ
 calls_left (Did.Calls landing callee args) = calls_of landing
 calls_left _ = 0
 
+-- a word went on within its frame, to this pc
+abbrev pub IsStep : Did → Type 0
+IsStep Did.Next = Unit {0}
+IsStep (Did.Jumps pc) = Unit {0}
+IsStep did = ⊥
+
+abbrev pub pc_of : Did → ℕ → ℕ
+pc_of (Did.Jumps pc) behind = pc
+pc_of did behind = behind
+
 -- where the effect is this one, from one heap to the next and from these registers to others, this was done
 pub record Does (effect : State → Effect) (old new : HeapState) (f : Function) (before behind : List Value) (pc : ℕ) (did : Did) : Type 0 where
   pub is : (m : State) → Runs m old f pc → effect (showing m old before) ≡ effect_of new did (showing m new behind)

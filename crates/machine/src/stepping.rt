@@ -15,7 +15,7 @@ use crate::leaving::return_word;
 use crate::open_results::{call_word, set_list_word, vararg};
 use crate::running::Running;
 use crate::settling::{Settled, settle, tail_call};
-use crate::topmost::perform_plain;
+use crate::topmost::{do_in_place, perform_plain};
 use crate::upvalues::{close, get_upvalue, set_upvalue};
 use host::HostSet;
 use opcode::{Instr, Op, decode};
@@ -77,6 +77,9 @@ pub fn turn(
         unreachable!();
     };
     running.top.pc += 1;
+    if do_in_place(running, functions, i) {
+        return Ok(Settled::Going);
+    }
     let did = do_word(alloc, running, functions, hosts, i)?;
     settle(alloc, running, functions, hosts, did)
 }

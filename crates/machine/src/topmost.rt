@@ -1,20 +1,22 @@
 // Words in the topmost frame.
-ghost use Rattle.std.specs.Prelude.{◌≡◌, ◌<◌, slice_get, Some, IfOk, OnOk};
+ghost use Rattle.std.specs.Prelude.{◌≡◌, ◌<◌, slice_get, Some, IfOk, OnOk, IfSome, IfNone, OnSome, IsTrue, IsFalse};
 ghost use Rattle.lua_heap.specs.State.{AreOf};
 ghost use Rattle.rules.specs.Calls.{land as land_in};
 ghost use Rattle.rules.specs.Step.{effect};
 ghost use Rattle.upvalue.specs.State.{top, with_top};
 ghost use Rattle.upvalue.specs.Shared.{Shares};
 ghost use Rattle.machine.specs.declared.function.Function.{Function as TheFunction};
+ghost use Rattle.machine.specs.declared.did.Did.{Did as TheDid};
 ghost use Rattle.machine.specs.Fits.{Fits, IsPlain};
 ghost use Rattle.machine.specs.Frames.{data_of, landing_of};
+ghost use Rattle.machine.specs.Ready.{GoesOn};
 ghost use Rattle.machine.specs.Whole.{IsWaiting, IsSafe, DoesSeen};
 ghost use Rattle.machine.specs.Words.{Does, calls_of, calls_left};
 
 use crate::did::{Did, Landing};
 use crate::function::Function;
 use crate::running::Running;
-use crate::words::{land, perform};
+use crate::words::{land, perform, quick};
 use lua_heap::ValueList;
 use opcode::Instr;
 use std::alloc::{AllocError, Global};
@@ -34,6 +36,39 @@ pub fn perform_plain(
     ensures below { running.new.below ≡ running.old.below }
 {
     perform_top(alloc, running, &functions[running.top.function], i)
+}
+
+/// Does a common word of the topmost frame in place, and goes on to the pc behind it; the pc of the frame is that behind the word. `false` where
+/// it is no such word, or asks for more than registers and numbers: then nothing is done. Takes no memory.
+pub fn do_in_place(running: &mut Running, functions: &[Function], i: Instr) -> bool
+    requires safe { IsSafe functions.now running.old }
+    requires fits { (f : TheFunction) → slice_get functions.now running.old.top.function ≡ Some f → Fits i.op f (top running.old.stack.frames) running.old.top.pc i }
+    ensures done { IsTrue result → GoesOn functions.now i running.old running.new }
+    ensures not_done { IsFalse result → running.new ≡ running.old }
+{
+    match quick_top(running, &functions[running.top.function], i) {
+        Some(next) => {
+            running.top.pc = next;
+            true
+        }
+        None => false,
+    }
+}
+
+fn quick_top(running: &mut Running, function: &Function, i: Instr) -> Option<usize>
+    requires shares { Shares running.old.stack running.old.heap }
+    requires constants { AreOf running.old.heap function.now.constants.items }
+    requires fits { Fits i.op function.now (top running.old.stack.frames) running.old.top.pc i }
+    ensures some { IfSome result (λ next. Does (λ m. effect i.op m i) running.old.heap running.old.heap function.now (top running.old.stack.frames) (top running.new.stack.frames) running.old.top.pc (TheDid.Jumps next)) }
+    ensures frames { OnSome result (running.new.stack.frames ≡ with_top running.old.stack.frames (top running.new.stack.frames)) }
+    ensures shares { OnSome result (Shares running.new.stack running.old.heap) }
+    ensures rest { running.new ≡ record running.old { stack = running.new.stack } }
+    ensures none { IfNone result (running.new ≡ running.old) }
+{
+    let base = running.stack.base();
+    let pc = running.top.pc;
+    let registers = &mut running.stack.all_registers()[base..];
+    quick(registers, function, pc, i)
 }
 
 /// Results to where a landing of the topmost frame says.

@@ -2,6 +2,7 @@
 mod arithmetic;
 mod calls;
 mod giving;
+mod in_place;
 mod joining;
 mod jumps;
 mod landing;
@@ -15,6 +16,7 @@ mod tables;
 mod tests;
 
 pub use calls::{call, count_of};
+pub use in_place::quick;
 pub use landing::land;
 pub use lists::{joined, listed};
 pub use performing::perform;

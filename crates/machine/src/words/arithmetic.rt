@@ -4,7 +4,7 @@ ghost use Rattle.opcode.specs.declared.op.Op.TheVariants as op;
 ghost use Rattle.lua_heap.specs.State.{HeapState, AreOf};
 ghost use Rattle.rules.specs.Step.{effect, do_arith as do_arith_of};
 ghost use Rattle.machine.specs.declared.function.Function.{Function as TheFunction};
-ghost use Rattle.machine.specs.Words.{AreKnown, IsOperand, Does};
+ghost use Rattle.machine.specs.Words.{AreKnown, IsOperand, Does, IsStep};
 
 use crate::did::Did;
 use crate::function::Function;
@@ -75,7 +75,8 @@ pub fn do_length(
 pub fn do_not(registers: &mut [Value], i: Instr) -> Did
     requires a { i.a < length registers.old }
     requires b { i.b < length registers.old }
-    ensures { (h : HeapState) (f : TheFunction) (pc : ℕ) → AreOf h registers.old → Does (λ m. effect op.Not m i) h h f registers.old registers.new pc result }
+    ensures does { (h : HeapState) (f : TheFunction) (pc : ℕ) → AreOf h registers.old → Does (λ m. effect op.Not m i) h h f registers.old registers.new pc result }
+    ensures step { IsStep result }
 {
     let x = register(registers, i.b);
     registers[i.a as usize] = Value::Bool(!x.is_true());

@@ -8,7 +8,7 @@ ghost use Rattle.rules.specs.Calls.{branch as branch_of};
 ghost use Rattle.lua_model.specs.declared.Value.{Value as TheValue};
 ghost use Rattle.machine.specs.declared.function.Function.{Function as TheFunction};
 ghost use Rattle.machine.specs.Frames.{effect_of};
-ghost use Rattle.machine.specs.Words.{Runs, IsTest, IsDidOf, IsAwaited, calls_left};
+ghost use Rattle.machine.specs.Words.{Runs, IsTest, IsDidOf, IsAwaited, calls_left, IsStep};
 
 use crate::did::Did;
 use crate::function::Function;
@@ -47,6 +47,7 @@ pub fn branch(function: &Function, pc: usize, takes: bool) -> Did
     ensures known { (h : HeapState) → IsDidOf h result }
     ensures awaited { (f : TheFunction) (values : List TheValue) (pc : ℕ) → IsAwaited f values pc result }
     ensures no_calls { calls_left result ≡ 0 }
+    ensures step { IsStep result }
 {
     let behind = pc + 1;
     if takes {

@@ -6,7 +6,7 @@ ghost use Rattle.lua_heap.specs.State.{HeapState, AreOf};
 ghost use Rattle.rules.specs.Places.{as_pc};
 ghost use Rattle.rules.specs.Step.{effect};
 ghost use Rattle.machine.specs.declared.function.Function.{Function as TheFunction};
-ghost use Rattle.machine.specs.Words.{IsNumber, number_of as number_of_value, number_at, loop_numbers_in, Does};
+ghost use Rattle.machine.specs.Words.{IsNumber, number_of as number_of_value, number_at, loop_numbers_in, Does, IsStep};
 
 use crate::did::Did;
 use crate::operands::register;
@@ -17,7 +17,7 @@ use lua_num::{add, sub};
 use opcode::Instr;
 use std::alloc::{AllocError, Global};
 
-fn number(v: Value) -> Option<i64>
+pub fn number(v: Value) -> Option<i64>
     ensures { result ≡ number_of_value v }
 {
     match v {
@@ -60,7 +60,8 @@ pub fn for_loop(registers: &mut [Value], pc: usize, i: Instr) -> Did
     requires variable { i.a + 3 < length registers.old }
     requires goes { as_pc (pos pc +ℤ i.sbx) ≡ None → ⊥ }
     requires room { pc < 2 ^ 33 }
-    ensures { (h : HeapState) (f : TheFunction) → AreOf h registers.old → Does (λ m. effect op.ForLoop m i) h h f registers.old registers.new pc result }
+    ensures does { (h : HeapState) (f : TheFunction) → AreOf h registers.old → Does (λ m. effect op.ForLoop m i) h h f registers.old registers.new pc result }
+    ensures step { IsStep result }
 {
     let first = loop_number(registers, i.a);
     let limit = loop_number(registers, i.a + 1);

@@ -8,7 +8,7 @@ ghost use Rattle.rules.specs.State.{State, Goes, set_all, spliced};
 ghost use Rattle.rules.specs.Step.{effect};
 ghost use Rattle.machine.specs.declared.function.Function.{Function as TheFunction};
 ghost use Rattle.machine.specs.Frames.{data_of, showing};
-ghost use Rattle.machine.specs.Words.{AreThere, Does};
+ghost use Rattle.machine.specs.Words.{AreThere, Does, IsStep};
 
 use crate::did::Did;
 use lua_model::Value;
@@ -41,7 +41,8 @@ pub fn put_all(registers: &mut [Value], first: usize, count: usize, values: &[Va
 pub fn load_nil(registers: &mut [Value], i: Instr) -> Did
     requires field { i.b < 512 }
     requires there { AreThere registers.old i.a (suc i.b - i.a) }
-    ensures { (h : HeapState) (f : TheFunction) (pc : ℕ) → AreOf h registers.old → Does (λ m. effect op.LoadNil m i) h h f registers.old registers.new pc result }
+    ensures does { (h : HeapState) (f : TheFunction) (pc : ℕ) → AreOf h registers.old → Does (λ m. effect op.LoadNil m i) h h f registers.old registers.new pc result }
+    ensures step { IsStep result }
 {
     let count = (i.b + 1).saturating_sub(i.a);
     put_all(registers, i.a as usize, count as usize, &[]);
@@ -52,7 +53,8 @@ pub fn load_nil(registers: &mut [Value], i: Instr) -> Did
 pub fn load_bool(registers: &mut [Value], pc: usize, i: Instr) -> Did
     requires a { i.a < length registers.old }
     requires room { pc < 2 ^ 33 }
-    ensures { (h : HeapState) (f : TheFunction) → AreOf h registers.old → Does (λ m. effect op.LoadBool m i) h h f registers.old registers.new pc result }
+    ensures does { (h : HeapState) (f : TheFunction) → AreOf h registers.old → Does (λ m. effect op.LoadBool m i) h h f registers.old registers.new pc result }
+    ensures step { IsStep result }
 {
     registers[i.a as usize] = Value::Bool(i.b != 0);
     if i.c == 0 {

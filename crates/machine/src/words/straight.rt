@@ -4,7 +4,7 @@ ghost use Rattle.opcode.specs.declared.op.Op.TheVariants as op;
 ghost use Rattle.lua_heap.specs.State.{HeapState, AreOf};
 ghost use Rattle.rules.specs.Step.{effect};
 ghost use Rattle.machine.specs.declared.function.Function.{Function as TheFunction};
-ghost use Rattle.machine.specs.Words.{AreKnown, Does};
+ghost use Rattle.machine.specs.Words.{AreKnown, Does, IsStep};
 
 use crate::did::Did;
 use crate::function::Function;
@@ -16,7 +16,8 @@ use opcode::Instr;
 pub fn copy(registers: &mut [Value], i: Instr) -> Did
     requires a { i.a < length registers.old }
     requires b { i.b < length registers.old }
-    ensures { (h : HeapState) (f : TheFunction) (pc : ℕ) → AreOf h registers.old → Does (λ m. effect op.Move m i) h h f registers.old registers.new pc result }
+    ensures does { (h : HeapState) (f : TheFunction) (pc : ℕ) → AreOf h registers.old → Does (λ m. effect op.Move m i) h h f registers.old registers.new pc result }
+    ensures step { IsStep result }
 {
     registers[i.a as usize] = register(registers, i.b);
     Did::Next
@@ -26,7 +27,8 @@ pub fn copy(registers: &mut [Value], i: Instr) -> Did
 pub fn load_constant(registers: &mut [Value], function: &Function, i: Instr) -> Did
     requires a { i.a < length registers.old }
     requires bx { i.bx < length function.now.constants.items }
-    ensures { (h : HeapState) (pc : ℕ) → AreKnown h function.now registers.old → Does (λ m. effect op.LoadK m i) h h function.now registers.old registers.new pc result }
+    ensures does { (h : HeapState) (pc : ℕ) → AreKnown h function.now registers.old → Does (λ m. effect op.LoadK m i) h h function.now registers.old registers.new pc result }
+    ensures step { IsStep result }
 {
     registers[i.a as usize] = constant(function, i.bx);
     Did::Next

@@ -5,7 +5,7 @@ ghost use Rattle.opcode.specs.Word.{truth_field};
 ghost use Rattle.lua_model.specs.Datum.{is_true};
 ghost use Rattle.lua_heap.specs.State.{HeapState, AreOf, datum};
 ghost use Rattle.rules.specs.Step.{effect, do_compare as do_compare_of};
-ghost use Rattle.machine.specs.Words.{AreKnown, IsOperand, IsTest, Does};
+ghost use Rattle.machine.specs.Words.{AreKnown, IsOperand, IsTest, Does, IsStep};
 
 use crate::did::Did;
 use crate::function::Function;
@@ -51,7 +51,8 @@ fn false_field(v: Value) -> u32
 pub fn test(registers: &[Value], function: &Function, pc: usize, i: Instr) -> Did
     requires a { i.a < length registers.now }
     requires jmp { IsTest function.now pc }
-    ensures { (h : HeapState) → AreOf h registers.now → Does (λ m. effect op.Test m i) h h function.now registers.now registers.now pc result }
+    ensures does { (h : HeapState) → AreOf h registers.now → Does (λ m. effect op.Test m i) h h function.now registers.now registers.now pc result }
+    ensures step { IsStep result }
 {
     let is_c = false_field(register(registers, i.a)) == i.c;
     branch(function, pc, !is_c)
@@ -62,7 +63,8 @@ pub fn test_set(registers: &mut [Value], function: &Function, pc: usize, i: Inst
     requires a { i.a < length registers.old }
     requires b { i.b < length registers.old }
     requires jmp { IsTest function.now pc }
-    ensures { (h : HeapState) → AreOf h registers.old → Does (λ m. effect op.TestSet m i) h h function.now registers.old registers.new pc result }
+    ensures does { (h : HeapState) → AreOf h registers.old → Does (λ m. effect op.TestSet m i) h h function.now registers.old registers.new pc result }
+    ensures step { IsStep result }
 {
     let v = register(registers, i.b);
     if false_field(v) == i.c {

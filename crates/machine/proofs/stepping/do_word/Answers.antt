@@ -1,23 +1,20 @@
-use Rattle.std.proofs.Common.{◌≡◌, ◌∙◌, List, [], length, Some, refl, sym, ap, subst}
+use Rattle.std.proofs.Common.{◌≡◌, List, length, Some, sym, subst}
 use Rattle.std.specs.Prelude.{slice_get}
-use Rattle.std.proofs.lemmas.List.{append-nil}
 use Rattle.std.proofs.lemmas.Result.{IfOk-weaker}
 use Rattle.opcode.specs.declared.op.Op.{Op}
 use Rattle.opcode.specs.declared.word.Instr.{Instr}
 use Rattle.host.specs.Hosts.{HostSetState}
-use Rattle.rules.specs.State.{State, Effect}
 use Rattle.rules.specs.Step.{effect}
 use Rattle.upvalue.specs.State.{top}
 use Rattle.machine.specs.declared.function.Function.{Function}
 use Rattle.machine.specs.declared.running.Running.{Running}
 use Rattle.machine.specs.declared.did.Did.{Did}
 use Rattle.machine.specs.Fits.{FitsFrame}
-use Rattle.machine.specs.Frames.{effect_of}
-use Rattle.machine.specs.Outside.{around}
 use Rattle.machine.specs.Ready.{FitsHere}
-use Rattle.machine.specs.Seen.{cells_in, seen}
+use Rattle.machine.specs.Seen.{cells_in}
 use Rattle.machine.specs.Settled.{DoesOutside}
-use Rattle.machine.specs.Whole.{IsSafe, DoesSeen}
+use Rattle.machine.specs.Whole.{IsSafe}
+use Rattle.machine.proofs.InPlace.{quiet}
 use Rattle.machine.proofs.SeenWords.{top_function}
 use Rattle.machine.proofs.stepping.do_word.Goals as goal
 
@@ -32,25 +29,6 @@ framed_here : (fs : List Function) (k : Running) (i : Instr) (o : Op) (safe : Is
 framed_here fs k i o safe is fits =
     let f = top_function fs k safe in
     framed_as fs f.0 k i o is (fits f.0 f.1)
-
--- a word that did nothing outside
-quiet : {fs : List Function} {act : State → Effect} {old new : Running} {set : HostSetState} {did : Did} → DoesSeen fs act old new did → DoesOutside fs act old new set set did
-quiet {fs} {act} {old} {new} {set} {did} does = record {
-  es = [];
-  happened = record {
-    pieces = ap (λ ps. ps.items) does.pieces ∙ sym (append-nil old.pieces.items);
-    log = sym (append-nil set.log);
-    names = refl;
-  };
-  is = λ c events left whole.
-      does.is c (around set events left) whole
-      ∙ ap (λ es. effect_of new.heap did (seen c (around set es left) new)) (sym (append-nil events));
-  safe = does.safe;
-  known = does.known;
-  awaited = does.awaited;
-  keeps = does.keeps;
-  named = does.named;
-}
 
 -- where the word's opcode is this one
 for_op : {fs : List Function} {old new : Running} {before behind : HostSetState} {did : Did} (i : Instr) (o : Op) → i.op ≡ o → DoesOutside fs (λ m. effect o m i) old new before behind did → DoesOutside fs (λ m. effect i.op m i) old new before behind did

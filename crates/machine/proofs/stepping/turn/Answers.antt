@@ -6,7 +6,7 @@ use Rattle.opcode.specs.Reading.{instr_of}
 use Rattle.opcode.specs.declared.word.Instr.{Instr}
 use Rattle.lua_heap.proofs.Callers.{keeps_both}
 use Rattle.host.specs.Hosts.{HostSetState}
-use Rattle.rules.specs.State.{need, at_pc}
+use Rattle.rules.specs.State.{State, Effect, need, at_pc}
 use Rattle.rules.specs.Words.{instr_at}
 use Rattle.rules.specs.Places.{is_further}
 use Rattle.rules.specs.Run.{current, after}
@@ -16,12 +16,13 @@ use Rattle.machine.specs.declared.running.Running.{Running}
 use Rattle.machine.specs.declared.did.Did.{Did}
 use Rattle.machine.specs.declared.settling.Settled.{Settled}
 use Rattle.machine.specs.Outside.{around, replies_in}
-use Rattle.machine.specs.Ready.{FitsHere, HasWord, IsReady, Steps, with_pc}
+use Rattle.machine.specs.Ready.{FitsHere, GoesOn, HasWord, IsReady, Steps, with_pc}
 use Rattle.machine.specs.Seen.{seen}
 use Rattle.machine.specs.Settled.{DoesOutside, Settles, conf_of}
 use Rattle.machine.specs.Whole.{IsSafe, IsWhole}
 use Rattle.machine.proofs.EventsInRow.{happened_in_row, around_first, around_last}
 use Rattle.machine.proofs.FramesAbove.{loaded_at}
+use Rattle.machine.proofs.InPlace.{quiet, jump_settles}
 use Rattle.machine.proofs.SeenStates.{safe_at, whole_later}
 use Rattle.machine.proofs.stepping.turn.Goals as goal
 
@@ -102,20 +103,39 @@ overflow_add-running g c =
     let there = word_there fs f old (ready_word fs old other c.requires.safe c.requires.ready) in
     omega (arith, f.code.ok.0, f.code.ok.1, f.code.small, there)
 
+-- what the word asks of the machine whose pc is behind it
+fits_behind : (fs : List Function) (old : Running) (i : Instr) (other : Function) (w : ℕ) (o : Option Instr) → IsSafe fs old → IsReady fs old → w ≡ get_or (get_or fs old.top.function other).code.items old.top.pc w → o ≡ instr_of w → o ≡ Some i → (f : Function) → slice_get fs old.top.function ≡ Some f → FitsHere fs f (with_pc old (old.top.pc + 1)) i
+fits_behind fs old i other w o safe ready read decoded some f at =
+    let here = get_or fs old.top.function other in
+    let word = ready_word fs old other safe ready in
+    let is = word_decoded fs here old w o word read decoded ∙ some in
+    let same = same_Some here f (sym (slice_get-get_or fs old.top.function other safe.top_frame.function) ∙ at) in
+    subst (λ (x : Function). FitsHere fs x (with_pc old (old.top.pc + 1)) i) same (word_fits fs here old i word is)
+
+pub do_in_place-requires-clause-fits : goal.do_in_place-requires-clause-fits
+do_in_place-requires-clause-fits g c f at =
+    (fits_behind c.args.functions.now c.args.running.now c.in-Some.i c.index-functions-running.result c.index-word.result.now c.decode.result c.requires.safe c.requires.ready c.index-word.ensures c.decode.ensures.reading c.in-Some.is f at).plain
+
 pub do_word-requires-clause-fits : goal.do_word-requires-clause-fits
 do_word-requires-clause-fits g c f at =
-    let old = c.args.running.now in
     let fs = c.args.functions.now in
     let i = c.in-Some.i in
-    let other = c.index-functions-running.result in
-    let read = get_or fs old.top.function other in
-    let word = ready_word fs old other c.requires.safe c.requires.ready in
-    let is = word_decoded fs read old c.index-word.result.now c.decode.result word c.index-word.ensures c.decode.ensures.reading ∙ c.in-Some.is in
-    let same = same_Some read f (sym (slice_get-get_or fs old.top.function other c.requires.safe.top_frame.function) ∙ at) in
-    subst (λ (x : Function). FitsHere fs x (with_pc old (old.top.pc + 1)) i) same (word_fits fs read old i word is)
+    let P : Running → Type 0 = λ k. slice_get fs k.top.function ≡ Some f → FitsHere fs f k i in
+    subst P (sym (c.if-do_in_place.ensures.not_done refl)) (fits_behind fs c.args.running.now i c.index-functions-running.result c.index-word.result.now c.decode.result c.requires.safe c.requires.ready c.index-word.ensures c.decode.ensures.reading c.in-Some.is f) at
 
-pub returns : goal.returns
-returns g c =
+-- a word that was done in place is a step
+step_in_place : {set : HostSetState} (fs : List Function) (f : Function) (old new : Running) (i : Instr) → slice_get fs old.top.function ≡ Some f → option_and_then instr_of (slice_get f.code.items old.top.pc) ≡ Some i → GoesOn fs i (with_pc old (old.top.pc + 1)) new → Steps fs old new set set Settled.Going
+step_in_place {set} fs f old new i at is done =
+    let P : Running → Type 0 = λ k. Steps fs old k set set Settled.Going in
+    subst P (sym done.is) (one_step fs f old done.between (with_pc done.between done.next) i (Did.Jumps done.next) Settled.Going set set set at is (quiet done.does) (jump_settles fs done.next done.between set))
+
+done_behind : {fs : List Function} {act : State → Effect} {one other new : Running} {before behind : HostSetState} {did : Did} → one ≡ other → DoesOutside fs act one new before behind did → DoesOutside fs act other new before behind did
+done_behind {fs} {act} {one} {other} {new} {before} {behind} {did} same does =
+    let P : Running → Type 0 = λ k. DoesOutside fs act k new before behind did in
+    subst P same does
+
+pub returns-then-do_in_place : goal.returns-then-do_in_place
+returns-then-do_in_place g c =
     let old = c.args.running.now in
     let fs = c.args.functions.now in
     let other = c.index-functions-running.result in
@@ -123,5 +143,17 @@ returns g c =
     let word = ready_word fs old other c.requires.safe c.requires.ready in
     let is = word_decoded fs f old c.index-word.result.now c.decode.result word c.index-word.ensures c.decode.ensures.reading ∙ c.in-Some.is in
     let at = slice_get-get_or fs old.top.function other c.requires.safe.top_frame.function in
+    step_in_place fs f old c.do_in_place.new.running c.in-Some.i at is (c.if-do_in_place.ensures.done refl)
+
+pub returns : goal.returns
+returns g c =
+    let old = c.args.running.now in
+    let fs = c.args.functions.now in
+    let other = c.index-functions-running.result in
+    let f = get_or fs old.top.function other in
+    let i = c.in-Some.i in
+    let word = ready_word fs old other c.requires.safe c.requires.ready in
+    let is = word_decoded fs f old c.index-word.result.now c.decode.result word c.index-word.ensures c.decode.ensures.reading ∙ c.in-Some.is in
+    let at = slice_get-get_or fs old.top.function other c.requires.safe.top_frame.function in
     IfOk-weaker c.settle.result _ _ (λ settled settles.
-    one_step fs f old c.do_word.new.running c.settle.new.running c.in-Some.i c.in_ok-did.did settled _ _ _ at is c.in_ok-did.ensures settles) c.settle.ensures
+    one_step fs f old c.do_word.new.running c.settle.new.running i c.in_ok-did.did settled _ _ _ at is (done_behind (c.if-do_in_place.ensures.not_done refl) c.in_ok-did.ensures) settles) c.settle.ensures

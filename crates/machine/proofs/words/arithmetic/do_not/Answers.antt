@@ -10,8 +10,8 @@ use Rattle.machine.proofs.Showing.{one_need, set_does}
 use Rattle.natives.proofs.Texts.{is_true_is}
 use Rattle.machine.proofs.words.arithmetic.do_not.Goals as goal
 
-pub returns : goal.returns
-returns c h f pc known =
+pub returns-clause-does : goal.returns-clause-does
+returns-clause-does c h f pc known =
     let values = c.args.registers.now in
     let i = c.args.i in
     let x = c.register-x.result in

@@ -13,8 +13,8 @@ use Rattle.machine.specs.Words.{Does}
 use Rattle.machine.proofs.Loops.{counted, goes_round}
 use Rattle.machine.proofs.words.loops.for_loop.Goals as goal
 
-pub returns-then-goes_on : goal.returns-then-goes_on
-returns-then-goes_on c h f known =
+pub returns-then-goes_on-clause-does : goal.returns-then-goes_on-clause-does
+returns-then-goes_on-clause-does c h f known =
     let values = c.args.registers.now in
     let i = c.args.i in
     let now = c.add-now.result in
@@ -45,8 +45,8 @@ returns-then-goes_on c h f known =
     } in
     subst (λ (vs : List Value). Does (λ m. effect op.ForLoop m i) h h f values vs c.args.pc (Did.Jumps c.jump.result)) (sym is_two) behind
 
-pub returns-else-goes_on : goal.returns-else-goes_on
-returns-else-goes_on c h f known =
+pub returns-else-goes_on-clause-does : goal.returns-else-goes_on-clause-does
+returns-else-goes_on-clause-does c h f known =
     let values = c.args.registers.now in
     let i = c.args.i in
     let now = c.add-now.result in

@@ -17,31 +17,31 @@ for_op {old} {new} {f} {before} {behind} {pc} {did} i o is does =
     subst P (sym is) does
 
 pub returns-in-Move : goal.returns-in-Move
-returns-in-Move c = for_op c.args.i Op.Move c.in-Move.is (c.copy.ensures c.args.heap.now c.args.function.now c.args.pc c.requires.known.registers)
+returns-in-Move c = for_op c.args.i Op.Move c.in-Move.is (c.copy.ensures.does c.args.heap.now c.args.function.now c.args.pc c.requires.known.registers)
 
 pub returns-in-LoadK : goal.returns-in-LoadK
-returns-in-LoadK c = for_op c.args.i Op.LoadK c.in-LoadK.is (c.load_constant.ensures c.args.heap.now c.args.pc c.requires.known)
+returns-in-LoadK c = for_op c.args.i Op.LoadK c.in-LoadK.is (c.load_constant.ensures.does c.args.heap.now c.args.pc c.requires.known)
 
 pub returns-in-LoadBool : goal.returns-in-LoadBool
-returns-in-LoadBool c = for_op c.args.i Op.LoadBool c.in-LoadBool.is (c.load_bool.ensures c.args.heap.now c.args.function.now c.requires.known.registers)
+returns-in-LoadBool c = for_op c.args.i Op.LoadBool c.in-LoadBool.is (c.load_bool.ensures.does c.args.heap.now c.args.function.now c.requires.known.registers)
 
 pub returns-in-LoadNil : goal.returns-in-LoadNil
-returns-in-LoadNil c = for_op c.args.i Op.LoadNil c.in-LoadNil.is (c.load_nil.ensures c.args.heap.now c.args.function.now c.args.pc c.requires.known.registers)
+returns-in-LoadNil c = for_op c.args.i Op.LoadNil c.in-LoadNil.is (c.load_nil.ensures.does c.args.heap.now c.args.function.now c.args.pc c.requires.known.registers)
 
 pub returns-in-GetGlobal : goal.returns-in-GetGlobal
 returns-in-GetGlobal c = for_op c.args.i Op.GetGlobal c.in-GetGlobal.is (c.get_global.ensures c.args.pc)
 
 pub returns-in-Not : goal.returns-in-Not
-returns-in-Not c = for_op c.args.i Op.Not c.in-Not.is (c.do_not.ensures c.args.heap.now c.args.function.now c.args.pc c.requires.known.registers)
+returns-in-Not c = for_op c.args.i Op.Not c.in-Not.is (c.do_not.ensures.does c.args.heap.now c.args.function.now c.args.pc c.requires.known.registers)
 
 pub returns-in-Test : goal.returns-in-Test
-returns-in-Test c = for_op c.args.i Op.Test c.in-Test.is (c.test.ensures c.args.heap.now c.requires.known.registers)
+returns-in-Test c = for_op c.args.i Op.Test c.in-Test.is (c.test.ensures.does c.args.heap.now c.requires.known.registers)
 
 pub returns-in-TestSet : goal.returns-in-TestSet
-returns-in-TestSet c = for_op c.args.i Op.TestSet c.in-TestSet.is (c.test_set.ensures c.args.heap.now c.requires.known.registers)
+returns-in-TestSet c = for_op c.args.i Op.TestSet c.in-TestSet.is (c.test_set.ensures.does c.args.heap.now c.requires.known.registers)
 
 pub returns-in-ForLoop : goal.returns-in-ForLoop
-returns-in-ForLoop c = for_op c.args.i Op.ForLoop c.in-ForLoop.is (c.for_loop.ensures c.args.heap.now c.args.function.now c.requires.known.registers)
+returns-in-ForLoop c = for_op c.args.i Op.ForLoop c.in-ForLoop.is (c.for_loop.ensures.does c.args.heap.now c.args.function.now c.requires.known.registers)
 
 pub returns-in-GetTable : goal.returns-in-GetTable
 returns-in-GetTable c = IfOk-weaker c.get_table.result _ _ (λ did does. for_op c.args.i Op.GetTable c.in-GetTable.is (does c.args.pc)) c.get_table.ensures

@@ -14,15 +14,15 @@ use Rattle.machine.specs.Frames.{showing}
 use Rattle.machine.proofs.Showing.{set_is, set_does}
 use Rattle.machine.proofs.words.rows.load_bool.Goals as goal
 
-pub returns-then-i-eq0 : goal.returns-then-i-eq0
-returns-then-i-eq0 c h f known =
+pub returns-then-i-eq0-clause-does : goal.returns-then-i-eq0-clause-does
+returns-then-i-eq0-clause-does c h f known =
     let values = c.args.registers.now in
     let i = c.args.i in
     set_does (λ m. effect op.LoadBool m i) h f values c.args.pc i.a (Value.Bool (not (i.b == 0))) known tt c.requires.a
     (λ m runs. let s = showing m h values in ap (λ b. set (if b then s else skip s) i.a (boolean (not (i.b == 0)))) (eq-eqb i.c 0 c.if-i-eq0.true))
 
-pub returns-else-i-eq0 : goal.returns-else-i-eq0
-returns-else-i-eq0 c h f known =
+pub returns-else-i-eq0-clause-does : goal.returns-else-i-eq0-clause-does
+returns-else-i-eq0-clause-does c h f known =
     let values = c.args.registers.now in
     let i = c.args.i in
     let v = Value.Bool (not (i.b == 0)) in

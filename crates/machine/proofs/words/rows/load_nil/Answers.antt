@@ -6,8 +6,8 @@ use Rattle.machine.specs.Frames.{showing}
 use Rattle.machine.proofs.Rows.{adjusted_none}
 use Rattle.machine.proofs.words.rows.load_nil.Goals as goal
 
-pub returns : goal.returns
-returns c h f pc known =
+pub returns-clause-does : goal.returns-clause-does
+returns-clause-does c h f pc known =
     let values = c.args.registers.now in
     let i = c.args.i in
     let count : suc i.b - i.a ≡ c.saturating_sub-count.result = omega (arith, c.saturating_sub-count.ensures) in

@@ -6,8 +6,8 @@ use Rattle.machine.specs.Frames.{showing}
 use Rattle.machine.proofs.Showing.{set_does}
 use Rattle.machine.proofs.words.straight.copy.Goals as goal
 
-pub returns : goal.returns
-returns c h f pc known =
+pub returns-clause-does : goal.returns-clause-does
+returns-clause-does c h f pc known =
     let values = c.args.registers.now in
     set_does (λ m. effect op.Move m c.args.i) h f values pc c.args.i.a c.register.result known (c.register.ensures.known h known) c.requires.a
     (λ m runs. ap (λ o. need o (λ v. set (showing m h values) c.args.i.a v)) (c.register.ensures.value h))

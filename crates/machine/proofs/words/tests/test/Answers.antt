@@ -10,8 +10,8 @@ use Rattle.machine.specs.Frames.{showing}
 use Rattle.machine.proofs.Showing.{one_need, shown_runs, same_does}
 use Rattle.machine.proofs.words.tests.test.Goals as goal
 
-pub returns : goal.returns
-returns c h known =
+pub returns-clause-does : goal.returns-clause-does
+returns-clause-does c h known =
     let values = c.args.registers.now in
     let f = c.args.function.now in
     let i = c.args.i in

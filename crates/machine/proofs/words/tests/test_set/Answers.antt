@@ -20,8 +20,8 @@ abbrev rest : State → ℕ → Datum → Bool → Effect
 rest s a v b =
     if b then branch s false else need (register s a) (λ old. branch (with_registers s (slice_set s.top.registers a v)) true)
 
-pub returns-then-false_field-i : goal.returns-then-false_field-i
-returns-then-false_field-i c h known =
+pub returns-then-false_field-i-clause-does : goal.returns-then-false_field-i-clause-does
+returns-then-false_field-i-clause-does c h known =
     let values = c.args.registers.now in
     let f = c.args.function.now in
     let i = c.args.i in
@@ -36,8 +36,8 @@ returns-then-false_field-i c h known =
     ∙ ap (rest s i.a v) (eq-eqb c.false_field.result i.c c.if-false_field-i.true)
     ∙ c.branch-function.ensures.did h s on)
 
-pub returns : goal.returns
-returns c h known =
+pub returns-clause-does : goal.returns-clause-does
+returns-clause-does c h known =
     let values = c.args.registers.now in
     let f = c.args.function.now in
     let i = c.args.i in

@@ -1,0 +1,139 @@
+// Common words, done in place: they take no memory and ask for no call.
+ghost use Rattle.std.specs.Prelude.{◌≡◌, ◌<◌, length, Ok, IfSome, IfNone};
+ghost use Rattle.lua_num.specs.Arith.{outcome};
+ghost use Rattle.lua_model.specs.Store.{Store};
+ghost use Rattle.lua_model.specs.Datum.{boolean, number as a_number};
+ghost use Rattle.lua_model.specs.Acts.{value};
+ghost use Rattle.lua_model.specs.Operators.{compare};
+ghost use Rattle.lua_heap.specs.State.{HeapState};
+ghost use Rattle.rules.specs.Step.{effect, do_arith as do_arith_of, do_compare as do_compare_of};
+ghost use Rattle.machine.specs.declared.did.Did.{Did as TheDid};
+ghost use Rattle.machine.specs.Fits.{Fits};
+ghost use Rattle.machine.specs.Words.{AreKnown, Does, IsOperand, IsTest, IsStep, pc_of};
+
+use crate::did::Did;
+use crate::function::Function;
+use crate::operands::operand;
+use crate::words::arithmetic::do_not;
+use crate::words::jumps::{branch, jump};
+use crate::words::loops::{for_loop, number};
+use crate::words::rows::{load_bool, load_nil};
+use crate::words::straight::{copy, load_constant};
+use crate::words::tests::{test, test_set};
+use lua_model::Value;
+use lua_num::{ArithOp, CompareOp, add, div, mul, pow, rem, sub};
+use opcode::{Instr, Op};
+
+/// Does a word in place, where it is a common one that asks for no more than registers and numbers, and answers the pc behind it. Else nothing
+/// is done.
+pub fn quick(registers: &mut [Value], function: &Function, pc: usize, i: Instr) -> Option<usize>
+    requires fits { Fits i.op function.now registers.old pc i }
+    ensures some { IfSome result (λ next. (h : HeapState) → AreKnown h function.now registers.old → Does (λ m. effect i.op m i) h h function.now registers.old registers.new pc (TheDid.Jumps next)) }
+    ensures none { IfNone result (registers.new ≡ registers.old) }
+{
+    match i.op {
+        Op::Move => Some(pc_behind(copy(registers, i), pc)),
+        Op::LoadK => Some(pc_behind(load_constant(registers, function, i), pc)),
+        Op::LoadBool => Some(pc_behind(load_bool(registers, pc, i), pc)),
+        Op::LoadNil => Some(pc_behind(load_nil(registers, i), pc)),
+        Op::Not => Some(pc_behind(do_not(registers, i), pc)),
+        Op::Jmp => Some(jump(pc, i.sbx)),
+        Op::Test => Some(pc_behind(test(registers, function, pc, i), pc)),
+        Op::TestSet => Some(pc_behind(test_set(registers, function, pc, i), pc)),
+        Op::ForLoop => Some(pc_behind(for_loop(registers, pc, i), pc)),
+        Op::Add => quick_arith(registers, function, pc, ArithOp::Add, i),
+        Op::Sub => quick_arith(registers, function, pc, ArithOp::Sub, i),
+        Op::Mul => quick_arith(registers, function, pc, ArithOp::Mul, i),
+        Op::Div => quick_arith(registers, function, pc, ArithOp::Div, i),
+        Op::Mod => quick_arith(registers, function, pc, ArithOp::Rem, i),
+        Op::Pow => quick_arith(registers, function, pc, ArithOp::Pow, i),
+        Op::Eq => quick_compare(registers, function, pc, CompareOp::Eq, i),
+        Op::Lt => quick_compare(registers, function, pc, CompareOp::Lt, i),
+        Op::Le => quick_compare(registers, function, pc, CompareOp::Le, i),
+        _ => None,
+    }
+}
+
+// The pc behind a word that goes on within its frame.
+fn pc_behind(did: Did, pc: usize) -> usize
+    requires { IsStep did }
+    ensures { result ≡ pc_of did pc }
+{
+    match did {
+        Did::Next => pc,
+        Did::Jumps(next) => next,
+        _ => unreachable!(),
+    }
+}
+
+// ADD, SUB, MUL, DIV, MOD or POW of two numbers, where it does not fail.
+fn quick_arith(
+    registers: &mut [Value],
+    function: &Function,
+    pc: usize,
+    op: ArithOp,
+    i: Instr,
+) -> Option<usize>
+    requires a { i.a < length registers.old }
+    requires b { IsOperand function.now registers.old i.b }
+    requires c { IsOperand function.now registers.old i.c }
+    ensures some { IfSome result (λ next. (h : HeapState) → AreKnown h function.now registers.old → Does (λ m. do_arith_of op m i) h h function.now registers.old registers.new pc (TheDid.Jumps next)) }
+    ensures none { IfNone result (registers.new ≡ registers.old) }
+{
+    let Some(x) = number(operand(function, registers, i.b)) else {
+        return None;
+    };
+    let Some(y) = number(operand(function, registers, i.c)) else {
+        return None;
+    };
+    let n = computed(op, x, y)?;
+    registers[i.a as usize] = Value::Number(n);
+    Some(pc)
+}
+
+// What an operation gives, where it does not fail.
+fn computed(op: ArithOp, x: i64, y: i64) -> Option<i64>
+    ensures { IfSome result (λ n. outcome op x y ≡ Ok n) }
+{
+    match op {
+        ArithOp::Add => Some(add(x, y)),
+        ArithOp::Sub => Some(sub(x, y)),
+        ArithOp::Mul => Some(mul(x, y)),
+        ArithOp::Div => div(x, y).ok(),
+        ArithOp::Rem => rem(x, y).ok(),
+        ArithOp::Pow => pow(x, y).ok(),
+    }
+}
+
+// EQ, LT or LE of two numbers.
+fn quick_compare(
+    registers: &[Value],
+    function: &Function,
+    pc: usize,
+    op: CompareOp,
+    i: Instr,
+) -> Option<usize>
+    requires b { IsOperand function.now registers.now i.b }
+    requires c { IsOperand function.now registers.now i.c }
+    requires jmp { IsTest function.now pc }
+    ensures { IfSome result (λ next. (h : HeapState) → AreKnown h function.now registers.now → Does (λ m. do_compare_of op m i) h h function.now registers.now registers.now pc (TheDid.Jumps next)) }
+{
+    let Some(x) = number(operand(function, registers, i.b)) else {
+        return None;
+    };
+    let Some(y) = number(operand(function, registers, i.c)) else {
+        return None;
+    };
+    let holds = compared(op, x, y);
+    Some(pc_behind(branch(function, pc, u32::from(holds) == i.a), pc))
+}
+
+fn compared(op: CompareOp, x: i64, y: i64) -> bool
+    ensures { (s : Store) → compare s op (a_number x) (a_number y) ≡ value (boolean result) }
+{
+    match op {
+        CompareOp::Eq => x == y,
+        CompareOp::Lt => x < y,
+        CompareOp::Le => x <= y,
+    }
+}
