@@ -1,0 +1,2 @@
+local all = {}
+for i = 1, 1000000 do all[i] = {} end
