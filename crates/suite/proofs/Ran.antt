@@ -17,7 +17,7 @@ use Rattle.machine.specs.Outside.{hosts_of, replies_in, calls_in}
 use Rattle.suite.specs.declared.outcome.Outcome.{Outcome}
 use Rattle.suite.specs.Words.{run_file}
 use Rattle.suite.specs.Worlds.{world, replies_of}
-use Rattle.suite.specs.Jobs.{HasChunk, HasRun, HasPut, put, failed, unfinished}
+use Rattle.suite.specs.Jobs.{HasChunk, HasRun, HasPut, HasStopped, put, failed, unfinished}
 use Rattle.suite.specs.Work.{Does, outside}
 
 -- what the log tells of the replies
@@ -29,20 +29,25 @@ replies_logged (asked host args (replies_failure text) ∷ es) = ap (λ (l : Lis
 replies_logged (closed host ∷ es) = replies_logged es
 
 module _ (file : Text) (steps : ℕ) (bytes : List ℕ) (chunk : Chunk) (has : HasChunk file bytes chunk) (sound : Sound chunk) (before behind : HostSetState) where
+  -- the calls and the replies that the log tells
+  logged : (es : List Event) → behind.log ≡ before.log ++ calls_in es → (world before behind).calls ≡ calls_in es
+  logged es log = ap (drop (length before.log)) log ∙ drop-append_seam before.log (calls_in es)
+
+  replies : (es : List Event) → behind.log ≡ before.log ++ calls_in es → replies_in es ++ [] ≡ replies_of (world before behind).calls
+  replies es log = append-nil (replies_in es) ∙ sym (replies_logged es) ∙ ap replies_of (sym (logged es log))
+
   -- a run that came to its end or to the end of its steps
   has_run : (end : Ending) (es : List Event) → RanTo chunk (hosts_of before) es steps end → LeavesHosts chunk (hosts_of before) es steps behind → behind.log ≡ before.log ++ calls_in es → HasRun file bytes (world before behind) steps end (output es)
   has_run end es ran_to leaves log =
-      let calls : (world before behind).calls ≡ calls_in es = ap (drop (length before.log)) log ∙ drop-append_seam before.log (calls_in es) in
-      let replies : replies_in es ++ [] ≡ replies_of (world before behind).calls = append-nil (replies_in es) ∙ sym (replies_logged es) ∙ ap replies_of (sym calls) in
       record {
         chunk = chunk;
         has = has;
         sound = sound;
         events = es;
-        comes = subst (λ (r : List Reply). course (ran chunk (hosts_of before) r steps) ≡ Some (record { ending = end; events = es })) replies (ran_to []);
+        comes = subst (λ (r : List Reply). course (ran chunk (hosts_of before) r steps) ≡ Some (record { ending = end; events = es })) (replies es log) (ran_to []);
         is = refl;
-        called = calls;
-        live = subst (λ (r : List Reply). hosts_at (ran chunk (hosts_of before) r steps) ≡ hosts_of behind) replies (leaves []);
+        called = logged es log;
+        live = subst (λ (r : List Reply). hosts_at (ran chunk (hosts_of before) r steps) ≡ hosts_of behind) (replies es log) (leaves []);
       }
 
   -- one that was stopped before
@@ -57,6 +62,20 @@ module _ (file : Text) (steps : ℕ) (bytes : List ℕ) (chunk : Chunk) (has : H
     events = es;
     comes = ran_to [];
     is = refl;
+  }
+
+  -- one that was stopped where the sink failed
+  has_stopped : (n : ℕ) (end : Ending) (es : List Event) → RanTo chunk (hosts_of before) es n end → behind.log ≡ before.log ++ calls_in es → HasStopped file bytes (world before behind) (output es)
+  has_stopped n end es ran_to log = record {
+    chunk = chunk;
+    has = has;
+    sound = sound;
+    steps = n;
+    ending = end;
+    events = es;
+    comes = subst (λ (r : List Reply). course (ran chunk (hosts_of before) r n) ≡ Some (record { ending = end; events = es })) (replies es log) (ran_to []);
+    is = refl;
+    called = logged es log;
   }
 
   module _ (contents : Option Contents) (calls : List FileCall) (taken later : Option (List ℕ)) (faults now : ℕ) where
@@ -88,6 +107,7 @@ module _ (file : Text) (steps : ℕ) (bytes : List ℕ) (chunk : Chunk) (has : H
       files = record { contents = refl; calls = refl };
       text = output runs.es;
       output = has_put runs.ends.0 runs.ends.1 runs.es runs.ends.2;
+      logged = λ e. has_stopped runs.ends.0 runs.ends.1 runs.es runs.ends.2 (runs.log (λ e. cc));
       part = runs.puts;
     }))
 
@@ -98,5 +118,6 @@ module _ (file : Text) (steps : ℕ) (bytes : List ℕ) (chunk : Chunk) (has : H
       files = record { contents = refl; calls = refl };
       text = output runs.es;
       output = has_put runs.ends.0 runs.ends.1 runs.es runs.ends.2;
+      logged = λ e. absurd (cc);
       part = runs.puts;
     }))

@@ -89,6 +89,18 @@ pub record HasRun (file : Text) (bytes : List ℕ) (w : World) (steps : ℕ) (en
   pub called : w.calls ≡ calls_in events
   pub live : hosts_at (ran_in chunk w steps) ≡ w.later
 
+-- The text is the output of the run of the chunk of a file after some steps, with the replies that the hosts gave, and they were called as it does.
+pub record HasStopped (file : Text) (bytes : List ℕ) (w : World) (text : List ℕ) : Type 0 where
+  pub chunk : Chunk
+  pub has : HasChunk file bytes chunk
+  pub sound : Sound chunk
+  pub steps : ℕ
+  pub ending : Ending
+  pub events : List Event
+  pub comes : course (ran_in chunk w steps) ≡ Some (record { ending = ending; events = events })
+  pub is : text ≡ output events
+  pub called : w.calls ≡ calls_in events
+
 -- the text is the output of the run of the chunk of a file after some steps, with some replies
 pub record HasPut (file : Text) (bytes : List ℕ) (hosts : List Host) (text : List ℕ) : Type 0 where
   pub chunk : Chunk

@@ -10,7 +10,7 @@ use Rattle.suite.specs.declared.outcome.Outcome.{Outcome}
 use Rattle.suite_io.specs.Parts.{TakesPart}
 use Rattle.suite.specs.Words.{Job, run_file, list_file, verify_file, compile_file, file_of}
 use Rattle.suite.specs.Worlds.{World}
-use Rattle.suite.specs.Jobs.{End, stored, put, failed, unfinished, bad_source, bad_chunk, rejected, Comes, HasPut}
+use Rattle.suite.specs.Jobs.{End, stored, put, failed, unfinished, bad_source, bad_chunk, rejected, Comes, HasPut, HasStopped}
 
 -- what is seen of the outside: what files hold and the calls of them, what the sink took and its count of faults
 pub record Outside : Type 0 where
@@ -98,12 +98,18 @@ abbrev pub MayPut : Job → List ℕ → World → List ℕ → Type 0
 MayPut (run_file file steps) bytes w text = HasPut file bytes w.hosts text
 MayPut job bytes w text = Comes job bytes w (put text)
 
+-- it is the output of a run with the replies that the hosts gave
+abbrev pub IsLogged : Job → List ℕ → World → List ℕ → Type 0
+IsLogged (run_file file steps) bytes w text = HasStopped file bytes w text
+IsLogged job bytes w text = ⊥
+
 pub record Stopped (job : Job) (bytes : List ℕ) (w : World) (outcome : Outcome) (old new : Outside) : Type 0 where
   pub runs : IsRun (Some job)
   pub stop : IsStop outcome old.faults new.faults
   pub files : FilesStay old new
   pub text : List ℕ
   pub output : MayPut job bytes w text
+  pub logged : outcome ≡ Outcome.WriteFault → IsLogged job bytes w text
   pub part : TakesPart old.taken new.taken text
 
 -- it is carried out, or its run stopped, or memory ran out before it was known what it comes to
