@@ -1,21 +1,31 @@
 -- A word that was done within its frame, as a step.
-use Rattle.std.proofs.Common.{◌∙◌, ℕ, List, [], refl, sym, ap}
+use Rattle.std.proofs.Common.{◌≡◌, ◌∙◌, ℕ, List, [], length, Some, refl, sym, ap, subst}
+use Rattle.std.specs.Prelude.{slice_get}
 use Rattle.std.proofs.lemmas.List.{append-nil}
+use Rattle.opcode.specs.declared.op.Op.{Op}
+use Rattle.opcode.specs.declared.word.Instr.{Instr}
 use Rattle.lua_heap.proofs.Callers.{keeps_itself}
 use Rattle.host.specs.Hosts.{HostSetState}
 use Rattle.rules.specs.Run.{Going}
 use Rattle.rules.specs.State.{State, Effect}
+use Rattle.rules.specs.Step.{effect}
+use Rattle.upvalue.specs.State.{top, with_top}
+use Rattle.upvalue.specs.Shared.{Shares}
 use Rattle.machine.specs.declared.function.Function.{Function}
+use Rattle.machine.specs.declared.frame.Frame.{Frame}
 use Rattle.machine.specs.declared.running.Running.{Running}
 use Rattle.machine.specs.declared.did.Did.{Did}
 use Rattle.machine.specs.declared.settling.Settled.{Settled}
+use Rattle.machine.specs.Fits.{FitsFrame}
 use Rattle.machine.specs.Frames.{effect_of}
 use Rattle.machine.specs.Outside.{around}
-use Rattle.machine.specs.Ready.{with_pc}
-use Rattle.machine.specs.Seen.{seen}
+use Rattle.machine.specs.Ready.{FitsHere, GoesOn, with_pc}
+use Rattle.machine.specs.Seen.{seen, cells_in}
 use Rattle.machine.specs.Settled.{DoesOutside, Settles}
-use Rattle.machine.specs.Whole.{DoesSeen}
+use Rattle.machine.specs.Whole.{IsSafe, DoesSeen}
+use Rattle.machine.specs.Words.{Does}
 use Rattle.machine.proofs.SeenStates.{safe_at}
+use Rattle.machine.proofs.SeenWords.{top_function, does_seen}
 
 -- a word that did nothing outside
 pub quiet : {fs : List Function} {act : State → Effect} {old new : Running} {set : HostSetState} {did : Did} → DoesSeen fs act old new did → DoesOutside fs act old new set set did
@@ -45,4 +55,50 @@ jump_settles fs next k set = record {
   safe = λ safe. safe_at fs k next k.top.results safe safe.top_frame.results;
   keeps = keeps_itself k.heap;
   named = refl;
+}
+
+-- what the word asks of the frame, where its opcode is this one
+pub framed_as : (fs : List Function) (f : Function) (k : Running) (i : Instr) (o : Op) → i.op ≡ o → FitsHere fs f k i → FitsFrame o f (top k.stack.frames) k.top.results (length (cells_in k.heap k.top.closure)) k.top.pc i
+framed_as fs f k i o is fits =
+    let P : Op → Type 0 = λ x. FitsFrame x f (top k.stack.frames) k.top.results (length (cells_in k.heap k.top.closure)) k.top.pc i in
+    subst P is fits.framed
+
+-- the same of the function that the topmost frame has
+pub framed_here : (fs : List Function) (k : Running) (i : Instr) (o : Op) (safe : IsSafe fs k) → i.op ≡ o → ((f : Function) → slice_get fs k.top.function ≡ Some f → FitsHere fs f k i) → FitsFrame o (top_function fs k safe).0 (top k.stack.frames) k.top.results (length (cells_in k.heap k.top.closure)) k.top.pc i
+framed_here fs k i o safe is fits =
+    let f = top_function fs k safe in
+    framed_as fs f.0 k i o is (fits f.0 f.1)
+
+-- a word that went on to the pc behind it
+pub goes_on : {fs : List Function} {old new : Running} (i : Instr) (o : Op) → i.op ≡ o → DoesSeen fs (λ m. effect o m i) old new Did.Next → GoesOn fs i old new
+goes_on {fs} {old} {new} i o is does = record {
+  next = new.top.pc;
+  between = new;
+  does =
+      let P : Op → Type 0 = λ x. DoesSeen fs (λ m. effect x m i) old new (Did.Jumps new.top.pc) in
+      subst P (sym is) (record {
+        is = does.is;
+        safe = does.safe;
+        known = tt;
+        awaited = λ f at. tt;
+        keeps = does.keeps;
+        named = does.named;
+        pieces = does.pieces;
+      });
+  is = refl;
+}
+
+-- the same, where it is done at any pc and leaves the frame's facts as they were
+pub goes_on_here : {fs : List Function} {old new : Running} (i : Instr) (o : Op) → i.op ≡ o → new.top ≡ old.top → ((pc : ℕ) → DoesSeen fs (λ m. effect o m i) (with_pc old pc) (with_pc new pc) Did.Next) → GoesOn fs i old new
+goes_on_here {fs} {old} {new} i o is same does =
+    let P : Frame → Type 0 = λ x. DoesSeen fs (λ m. effect o m i) (with_pc old x.pc) new Did.Next in
+    goes_on i o is (subst P same (does new.top.pc))
+
+-- a word that worked on the registers of the topmost frame and the heap, with this pc behind it, and went on to another
+pub quick_goes : (fs : List Function) (f : Function) (old new : Running) (pc next : ℕ) (i : Instr) → slice_get fs old.top.function ≡ Some f → new ≡ record old { heap = new.heap; stack = new.stack } → Does (λ m. effect i.op m i) old.heap new.heap f (top old.stack.frames) (top new.stack.frames) pc (Did.Jumps next) → new.stack.frames ≡ with_top old.stack.frames (top new.stack.frames) → Shares new.stack new.heap → GoesOn fs i (with_pc old pc) (with_pc new next)
+quick_goes fs f old new pc next i at rest does frames shares = record {
+  next = next;
+  between = record (with_pc old pc) { heap = new.heap; stack = new.stack };
+  does = does_seen fs (λ m. effect i.op m i) (with_pc old pc) new.heap new.stack f (Did.Jumps next) at does frames (λ _. shares);
+  is = ap (λ k. with_pc k next) rest;
 }

@@ -28,6 +28,7 @@ pub mod SettledSoFar
 pub mod GivenResults
 pub mod FramesReplaced
 pub mod PushedCalls
+pub mod Crossings
 pub mod EventsInRow
 pub mod Readiness
 pub mod FirstGlobals
@@ -37,3 +38,7 @@ pub mod RunSteps
 pub mod RunsSoFar
 pub mod QuickSteps
 pub mod InPlace
+pub mod WordsNext
+pub mod WordsInRow
+pub mod TableEntries
+pub mod Methods

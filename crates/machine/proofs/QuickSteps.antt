@@ -17,9 +17,9 @@ same_pc : (m : State) (pc : ℕ) → m.top.pc ≡ pc → Goes m ≡ Goes (at_pc 
 same_pc m pc is = subst (λ n. Goes m ≡ Goes (at_pc m n)) is refl
 
 -- a step is a jump to the pc behind it
-pub step_does : {act : State → Effect} {h : HeapState} {f : Function} {before behind : List Value} {pc : ℕ} (did : Did) → IsStep did → Does act h h f before behind pc did → Does act h h f before behind pc (Did.Jumps (pc_of did pc))
-step_does {act} {h} {f} {before} {behind} {pc} Did.Next step does = record {
-  is = λ m runs. does.is m runs ∙ same_pc (showing m h behind) pc runs.pc_is;
+pub step_does : {act : State → Effect} {old new : HeapState} {f : Function} {before behind : List Value} {pc : ℕ} (did : Did) → IsStep did → Does act old new f before behind pc did → Does act old new f before behind pc (Did.Jumps (pc_of did pc))
+step_does {act} {old} {new} {f} {before} {behind} {pc} Did.Next step does = record {
+  is = λ m runs. does.is m runs ∙ same_pc (showing m new behind) pc runs.pc_is;
   known = tt;
   awaited = tt;
   registers = does.registers;
@@ -42,9 +42,9 @@ done_does {h} {f} {before} {behind} {pc} i o did next is step at does =
     let P : Op → Type 0 = λ x. Does (λ m. effect x m i) h h f before behind pc (Did.Jumps next) in
     subst P (sym is) (step_at did next step at does)
 
-pub for_op : {h : HeapState} {f : Function} {before behind : List Value} {pc : ℕ} {did : Did} (i : Instr) (o : Op) → i.op ≡ o → Does (λ m. effect o m i) h h f before behind pc did → Does (λ m. effect i.op m i) h h f before behind pc did
-for_op {h} {f} {before} {behind} {pc} {did} i o is does =
-    let P : Op → Type 0 = λ x. Does (λ m. effect x m i) h h f before behind pc did in
+pub for_op : {old new : HeapState} {f : Function} {before behind : List Value} {pc : ℕ} {did : Did} (i : Instr) (o : Op) → i.op ≡ o → Does (λ m. effect o m i) old new f before behind pc did → Does (λ m. effect i.op m i) old new f before behind pc did
+for_op {old} {new} {f} {before} {behind} {pc} {did} i o is does =
+    let P : Op → Type 0 = λ x. Does (λ m. effect x m i) old new f before behind pc did in
     subst P (sym is) does
 
 pub if_some : {A : Type 0} (o : Option A) (P Q : A → Type 0) → ((a : A) → P a → Q a) → IfSome o P → IfSome o Q
@@ -69,3 +69,10 @@ on_some None P R then p = tt
 pub none_weaker : {A : Type 0} (o : Option A) (P Q : Type 0) → (P → Q) → IfNone o P → IfNone o Q
 none_weaker (Some a) P Q then p = tt
 none_weaker None P Q then p = then p
+
+pub if_none : {A : Type 0} (o : Option A) (P : Type 0) → P → IfNone o P
+if_none (Some a) P p = tt
+if_none None P p = p
+
+pub same_number : (x y : ℤ) → Some (number x) ≡ Some (number y) → x ≡ y
+same_number x y is = cc

@@ -1,5 +1,5 @@
 -- What a step of a machine comes to in the run that it is at.
-use Rattle.std.proofs.Common.{◌≡◌, ℕ, suc, Vec, Global, List, [], ◌∷◌, ◌++◌, Option, Some, refl, sym, ap, subst, ◌∙◌, append_assoc, append-nil}
+use Rattle.std.proofs.Common.{◌≡◌, ◌+◌, ℕ, zero, suc, Vec, Global, List, [], ◌∷◌, ◌++◌, Option, Some, refl, sym, ap, subst, ◌∙◌, append_assoc, append-nil, arith}
 use Rattle.std.specs.List.{concat}
 use Rattle.suite_io.specs.Taken.{Takes}
 use Rattle.suite_io.specs.Parts.{TakesPart}
@@ -12,7 +12,7 @@ use Rattle.lua_model.specs.Endings as ending
 use Rattle.host.specs.Hosts.{HostSetState}
 use Rattle.rules.specs.Sound.{Sound}
 use Rattle.rules.specs.State.{State}
-use Rattle.rules.specs.Run.{ran, course}
+use Rattle.rules.specs.Run.{Conf, Going, ran, course}
 use Rattle.rules.proofs.Invariant.{Inv}
 use Rattle.machine.specs.declared.function.Function.{Function}
 use Rattle.machine.specs.declared.machine.Machine.{Machine}
@@ -20,8 +20,9 @@ use Rattle.machine.specs.declared.machine.StepEnd.{StepEnd}
 use Rattle.machine.specs.declared.running.Running.{Running}
 use Rattle.machine.specs.declared.settling.Settled.{Settled}
 use Rattle.machine.specs.At.{IsAt, RanTo, hosts_at, Stepped}
+use Rattle.machine.specs.Memory.{IsBeforeSuch, NeedsNoneNext}
 use Rattle.machine.specs.Outside.{around, pieces_in, replies_in}
-use Rattle.machine.specs.Ready.{IsReady, Steps}
+use Rattle.machine.specs.Ready.{GoesNext, GoesSteps, IsReady, IsReadyOnwards, Steps}
 use Rattle.machine.specs.Seen.{seen}
 use Rattle.machine.specs.Settled.{conf_of}
 use Rattle.machine.specs.Whole.{IsWhole}
@@ -63,12 +64,26 @@ course_of Settled.Going m = refl
 course_of Settled.Done m = refl
 course_of (Settled.Failed text) m = refl
 
+-- the state that a run is going at
+abbrev at_state : State → Conf → State
+at_state other (Going m) = m
+at_state other conf = other
+
 module _ (c : Chunk) (sound : Sound c) (hosts : List Host) (events : List Event) (n : ℕ) (before : HostSetState) (k : Machine) (at : IsAt c hosts events n before k) where
   inv : (left : List Reply) → Inv (seen c (around before events left) k.running)
   inv left = inv_of_run c sound hosts (replies_in events ++ left) n (seen c (around before events left) k.running) (at.runs left)
 
   pub is_ready : (fs : List Function) → fs ≡ k.functions.items → IsReady fs k.running
   is_ready fs same = subst (λ (fs : List Function). IsReady fs k.running) (sym same) (ready c (around before events []) k.functions.items k.running at.whole (inv []))
+
+  pub whole_in : (fs : List Function) → fs ≡ k.functions.items → IsWhole c fs k.running
+  whole_in fs same = subst (λ (fs : List Function). IsWhole c fs k.running) (sym same) at.whole
+
+  pub before_such : IsBeforeSuch c hosts events n → NeedsNoneNext (seen c (around before events []) k.running)
+  before_such (m, runs, needs) =
+      let here = seen c (around before events []) k.running in
+      let going = sym runs ∙ ap (λ rs. ran c hosts rs n) (sym (append-nil (replies_in events))) ∙ at.runs [] in
+      subst NeedsNoneNext (ap (at_state here) going) needs
 
   -- no memory was found for the step: the run stands where it stood
   pub not_stepped : (taken : Option (List ℕ)) (behind : HostSetState) (new : Machine) → Stepped c hosts events n before behind taken taken new StepEnd.OutOfMemory
@@ -77,6 +92,28 @@ module _ (c : Chunk) (sound : Sound c) (hosts : List Host) (events : List Event)
     ends = (n, ending.Going, λ left. subst (λ es. course (ran c hosts (replies_in es ++ left) n) ≡ Some (record { ending = ending.Going; events = es })) (sym (append-nil events)) (ap course (at.runs left)));
     puts = ([], ([], refl), takes_none taken);
     log = λ differs. absurd (differs refl);
+  }
+
+  -- a step was done in which nothing happened outside
+  pub went_next : (new : Running) (fs : List Function) → fs ≡ k.functions.items → GoesNext fs k.running new → IsAt c hosts events (suc n) before (record k { running = new })
+  went_next new fs same done =
+      let goes : GoesNext k.functions.items k.running new = subst (λ (fs : List Function). GoesNext fs k.running new) same done in
+      record {
+        runs = λ left.
+            let word = current_there c (around before events left) k.functions.items k.running at.whole (inv left) in
+            one_more c hosts (replies_in events ++ left) n (seen c (around before events left) k.running) (at.runs left)
+            ∙ goes.is c (around before events left) word.0 at.whole word.1;
+        whole = whole_later c k.functions.items k.running new at.whole goes.keeps (goes.safe at.whole.safe);
+        named = goes.named ∙ at.named;
+        put = ap (λ ps. ps.items) goes.pieces ∙ at.put;
+      }
+
+  pub stepped_in_place : (new : Running) (fs : List Function) (taken : Option (List ℕ)) → fs ≡ k.functions.items → GoesNext fs k.running new → Stepped c hosts events n before before taken taken (record k { running = new }) StepEnd.Going
+  stepped_in_place new fs taken same done = record {
+    es = [];
+    ends = subst (λ es. IsAt c hosts es (suc n) before (record k { running = new })) (sym (append-nil events)) (went_next new fs same done);
+    puts = takes_none taken;
+    log = λ differs. sym (append-nil before.log);
   }
 
   -- the step was done
@@ -153,3 +190,18 @@ module _ (c : Chunk) (sound : Sound c) (hosts : List Host) (events : List Event)
       puts = all_put old_taken new_taken puts;
       log = λ differs. steps.happened.log;
     }
+
+-- so many steps were done in which nothing happened outside
+pub went_steps : (c : Chunk) (sound : Sound c) (hosts : List Host) (events : List Event) (n : ℕ) (now : HostSetState) (k : Machine) → IsAt c hosts events n now k → (more : ℕ) (new : Running) (fs : List Function) → fs ≡ k.functions.items → GoesSteps fs more k.running new → IsAt c hosts events (n + more) now (record k { running = new })
+went_steps c sound hosts events n now k at zero new fs same is =
+    let none_more : n ≡ n + 0 = omega arith in
+    subst (λ m. IsAt c hosts events m now (record k { running = new })) none_more (subst (λ (r : Running). IsAt c hosts events n now (record k { running = r })) (sym is) at)
+went_steps c sound hosts events n now k at (suc more) new fs same (between, went, next) =
+    let further : suc (n + more) ≡ n + suc more = omega arith in
+    let there = went_steps c sound hosts events n now k at more between fs same went in
+    subst (λ m. IsAt c hosts events m now (record k { running = new })) further (went_next c sound hosts events (n + more) now (record k { running = between }) there new fs same next)
+
+-- whatever machine they reach is ready
+pub is_ready_onwards : (c : Chunk) (sound : Sound c) (hosts : List Host) (events : List Event) (n : ℕ) (now : HostSetState) (k : Machine) → IsAt c hosts events n now k → (fs : List Function) → fs ≡ k.functions.items → IsReadyOnwards fs k.running
+is_ready_onwards c sound hosts events n now k at fs same more new went =
+    is_ready c sound hosts events (n + more) now (record k { running = new }) (went_steps c sound hosts events n now k at more new fs same went) fs same

@@ -101,6 +101,16 @@ nothing_yet c before k taken faults at = record {
   risen = omega arith;
 }
 
+-- so many steps more were done in which nothing happened outside
+pub went_further : (c : Chunk) (n done : ℕ) (before now : HostSetState) (k new : Machine) (old_taken now_taken : Option (List ℕ)) (faults_old faults_now : ℕ) → RanSoFar c n before now k old_taken now_taken faults_old faults_now → ((hosts : List Host) (events : List Event) (m : ℕ) (now : HostSetState) → IsAt c hosts events m now k → IsAt c hosts events (m + done) now new) → RanSoFar c (n + done) before now new old_taken now_taken faults_old faults_now
+went_further c n done before now k new old_taken now_taken faults_old faults_now so went = record {
+  es = so.es;
+  at = went (hosts_of before) so.es n now so.at;
+  taken = so.taken;
+  log = so.log;
+  risen = so.risen;
+}
+
 -- all steps were done, and the run is going
 pub unfinished : (c : Chunk) (n steps : ℕ) (before now : HostSetState) (k : Machine) (old_taken now_taken : Option (List ℕ)) (faults_old faults_now : ℕ) → n ≡ steps → RanSoFar c n before now k old_taken now_taken faults_old faults_now → Runs c steps before now old_taken now_taken RunEnd.Unfinished
 unfinished c n steps before now k old_taken now_taken faults_old faults_now all so =

@@ -61,6 +61,30 @@ IsPlain Op.Closure = ⊥
 IsPlain Op.Vararg = ⊥
 IsPlain _ = Unit {0}
 
+-- words that work on no cells but by calls
+abbrev pub IsInner : Op → Type 0
+IsInner Op.GetUpval = ⊥
+IsInner Op.SetUpval = ⊥
+IsInner Op.Close = ⊥
+IsInner _ = Unit {0}
+
+-- words that are not always done in place
+abbrev pub IsOther : Op → Type 0
+IsOther Op.Move = ⊥
+IsOther Op.LoadK = ⊥
+IsOther Op.LoadBool = ⊥
+IsOther Op.LoadNil = ⊥
+IsOther Op.GetUpval = ⊥
+IsOther Op.SetUpval = ⊥
+IsOther Op.GetGlobal = ⊥
+IsOther Op.Not = ⊥
+IsOther Op.Jmp = ⊥
+IsOther Op.Test = ⊥
+IsOther Op.TestSet = ⊥
+IsOther Op.Close = ⊥
+IsOther Op.ForLoop = ⊥
+IsOther _ = Unit {0}
+
 -- of words that work on more than the registers: also of the open results, of how many upvalues the function has, and of the word behind
 abbrev pub FitsFrame : Op → Function → List Value → Option OpenResults → (cells : ℕ) → ℕ → Instr → Type 0
 FitsFrame Op.GetUpval f registers results cells pc i = (i.a < length registers) × (i.b < cells)

@@ -2,6 +2,7 @@ pub mod Fits
 pub mod Frames
 pub mod Loaded
 pub mod Loading
+pub mod Memory
 pub mod Seen
 pub mod Whole
 pub mod Words

@@ -1,5 +1,5 @@
 -- Serves the machine: what it needs of the word that is done next, as the verifier's rules give it, and what a step is.
-use Rattle.std.specs.Prelude.{◌≡◌, ℕ, suc, ◌<◌, List, length, Some, slice_get, option_and_then, ◌++◌}
+use Rattle.std.specs.Prelude.{◌≡◌, ℕ, zero, suc, ◌<◌, List, length, Some, slice_get, option_and_then, ◌++◌}
 use Rattle.opcode.specs.Reading.{instr_of}
 use Rattle.opcode.specs.declared.op.Op.{Op}
 use Rattle.opcode.specs.declared.word.Instr.{Instr}
@@ -7,16 +7,16 @@ use Rattle.proto.specs.Chunk.{Chunk}
 use Rattle.lua_model.specs.Store.{Event, Reply}
 use Rattle.lua_heap.specs.State.{Keeps}
 use Rattle.host.specs.Hosts.{HostSetState}
-use Rattle.rules.specs.Run.{current, step}
+use Rattle.rules.specs.Run.{Going, current, step}
 use Rattle.rules.specs.Step.{effect}
 use Rattle.upvalue.specs.State.{top}
 use Rattle.machine.specs.declared.function.Function.{Function}
 use Rattle.machine.specs.declared.running.Running.{Running}
 use Rattle.machine.specs.declared.did.Did.{Did}
 use Rattle.machine.specs.declared.settling.Settled.{Settled}
-use Rattle.machine.specs.Fits.{Fits, FitsFrame, AreCaptures}
+use Rattle.machine.specs.Fits.{Fits, FitsFrame, AreCaptures, IsOther}
 use Rattle.machine.specs.Outside.{around, replies_in, Happened}
-use Rattle.machine.specs.Seen.{cells_in, seen}
+use Rattle.machine.specs.Seen.{Around, cells_in, seen}
 use Rattle.machine.specs.Settled.{conf_of}
 use Rattle.machine.specs.Whole.{IsSafe, IsWhole, DoesSeen}
 
@@ -37,6 +37,14 @@ pub record GoesOn (functions : List Function) (i : Instr) (old new : Running) : 
   pub does : DoesSeen functions (λ m. effect i.op m i) old between (Did.Jumps next)
   pub is : new ≡ with_pc between next
 
+-- from one machine to the next by one step of the rules, where a word is to be done, in which nothing happened outside
+pub record GoesNext (functions : List Function) (old new : Running) : Type 0 where
+  pub is : (c : Chunk) (a : Around) (i : Instr) → IsWhole c functions old → current (seen c a old) ≡ Some i → step (seen c a old) ≡ Going (seen c a new)
+  pub safe : IsSafe functions old → IsSafe functions new
+  pub keeps : Keeps old.heap new.heap
+  pub named : new.heap.host_names ≡ old.heap.host_names
+  pub pieces : new.pieces ≡ old.pieces
+
 -- there is a word at the pc of the topmost frame, of this function, and it may be done
 pub record HasWord (functions : List Function) (f : Function) (k : Running) : Type 0 where
   pub i : Instr
@@ -45,6 +53,26 @@ pub record HasWord (functions : List Function) (f : Function) (k : Running) : Ty
 
 abbrev pub IsReady : List Function → Running → Type 0
 IsReady functions k = (f : Function) → slice_get functions k.top.function ≡ Some f → HasWord functions f k
+
+-- from one machine to the next in so many steps in which nothing happened outside
+abbrev pub GoesSteps : List Function → ℕ → Running → Running → Type 0
+GoesSteps functions zero old new = new ≡ old
+GoesSteps functions (suc n) old new = (between : Running) × GoesSteps functions n old between × GoesNext functions between new
+
+-- whatever machine is reached in such steps is ready
+abbrev pub IsReadyOnwards : List Function → Running → Type 0
+IsReadyOnwards functions old = (n : ℕ) (k : Running) → GoesSteps functions n old k → IsReady functions k
+
+-- a word may be done in the topmost frame, which has this function, where the pc behind the word is this one
+pub record FitsAt (f : Function) (k : Running) (pc : ℕ) (i : Instr) : Type 0 where
+  pub functions : List Function
+  pub safe : IsSafe functions k
+  pub at : slice_get functions k.top.function ≡ Some f
+  pub fits : FitsHere functions f (with_pc k pc) i
+
+-- the word that is done next is not always done in place
+abbrev pub IsOtherNext : List Function → Running → Type 0
+IsOtherNext functions k = (f : Function) (i : Instr) → slice_get functions k.top.function ≡ Some f → option_and_then instr_of (slice_get f.code.items k.top.pc) ≡ Some i → IsOther i.op
 
 -- from one machine and its hosts to the next, with what happened outside: one step of the rules, where a word is to be done
 pub record Steps (functions : List Function) (old new : Running) (before behind : HostSetState) (settled : Settled) : Type 0 where

@@ -1,10 +1,11 @@
 -- Serves the words: what they need of their frame, and what they did.
-use Rattle.std.specs.Prelude.{◌≡◌, ℕ, suc, ◌+◌, ◌-◌, ◌<◌, ◌≤◌, ◌^◌, ℤ, pos, ◌+ℤ◌, List, map, length, get_or, Option, None, Some, slice_get, option_map, option_and_then}
+use Rattle.std.specs.Prelude.{◌≡◌, ◌⊎◌, false, ℕ, suc, ◌+◌, ◌-◌, ◌<◌, ◌≤◌, ◌^◌, ℤ, pos, ◌+ℤ◌, List, map, length, get_or, Option, None, Some, slice_get, option_map, option_and_then}
 use Rattle.opcode.specs.Reading.{instr_of}
 use Rattle.proto.specs.Chunk.{own}
 use Rattle.lua_model.specs.declared.TextId.{TextId}
 use Rattle.lua_model.specs.declared.Value.{Value}
-use Rattle.lua_model.specs.Datum.{Datum, nil}
+use Rattle.lua_model.specs.Datum.{Datum, nil, is_nil}
+use Rattle.lua_model.specs.Store.{Store, table_at}
 use Rattle.lua_model.specs.Operators.{LoopNumbers, loop_numbers}
 use Rattle.lua_heap.specs.State.{HeapState, IsOf, AreOf, Keeps}
 use Rattle.rules.specs.State.{State, Effect, value_of, with_results}
@@ -157,3 +158,7 @@ pub record DoesWith (effect : State → Effect) (old new : HeapState) (f : Funct
   pub length_is : length behind ≡ length before
   pub keeps : Keeps old new
   pub only_store : OnlyStore old new
+
+-- no handler is asked for an entry of a table: it is not nil, or the table has no metatable
+abbrev pub AsksNone : Store → ℕ → Datum → Type 0
+AsksNone s t entry = (is_nil entry ≡ false) ⊎ ((table_at s t).meta ≡ None)

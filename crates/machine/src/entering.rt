@@ -117,7 +117,7 @@ pub fn replace(
 }
 
 /// How many frames there may be below the topmost one.
-const DEPTH_LIMIT: usize = 20_000;
+pub const DEPTH_LIMIT: usize = 20_000;
 
 /// Calls a function from the topmost frame, within so many protected calls: its frame is put above, where no more than 20,000 are below;
 /// else this is a failure with the text `stack overflow`, which a protected call takes.

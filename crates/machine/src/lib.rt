@@ -4,6 +4,7 @@
 mod beginning;
 mod calling;
 mod closures;
+mod crossing;
 mod did;
 mod entering;
 mod frame;
@@ -13,6 +14,7 @@ mod load;
 mod machine;
 mod open_results;
 mod operands;
+mod row;
 mod running;
 mod runs;
 mod settling;

@@ -1,20 +1,24 @@
 // A machine and its steps.
-ghost use Rattle.std.specs.Prelude.{◌≡◌, ◌≤◌, ℕ, List, [], IfOk, OnOk, OnErr, IsErrOf};
+ghost use Rattle.std.specs.Prelude.{◌≡◌, ◌<◌, ◌≤◌, ◌+◌, ℕ, List, [], IfOk, OnOk, OnErr, IsErrOf};
 ghost use Rattle.std.specs.List.{concat};
 ghost use Rattle.suite_io.specs.Taken.{Takes, Rises};
 ghost use Rattle.suite_io.specs.Parts.{TakesPart};
 ghost use Rattle.proto.specs.View.{view_proto};
 ghost use Rattle.lua_model.specs.Store.{Event, Host};
+ghost use Rattle.host.specs.Hosts.{HostSetState};
 ghost use Rattle.host.specs.Views.{set_told};
 ghost use Rattle.machine.specs.At.{IsAt, Stepped};
+ghost use Rattle.machine.specs.Memory.{IsBeforeSuch};
 ghost use Rattle.machine.specs.Outside.{hosts_of};
+ghost use Rattle.machine.specs.Ready.{IsOtherNext};
 
 use crate::beginning::{first_heap, first_running};
 use crate::function::Function;
 use crate::load::load;
+use crate::row::do_row;
 use crate::running::Running;
 use crate::settling::Settled;
-use crate::stepping::turn;
+use crate::stepping::{cross_next, do_next, turn};
 use host::HostSet;
 use lua_num::ByteText;
 use std::alloc::{AllocError, Global};
@@ -64,24 +68,74 @@ impl Machine {
         ensures steps { (hosts_then : List Host) (events : List Event) (n : ℕ) → IsAt (view_proto chunk.now) hosts_then events n (set_told heard hosts.old) self.old → Stepped (view_proto chunk.now) hosts_then events n (set_told heard hosts.old) (set_told heard hosts.new) (S.taken out.old) (S.taken out.new) self.new result }
         ensures never_falls { S.faults out.old ≤ S.faults out.new }
         ensures risen { result ≡ StepEnd.OutFault → Rises (S.faults out.old) (S.faults out.new) }
+        ensures memory { (hosts_then : List Host) (events : List Event) (n : ℕ) → IsAt (view_proto chunk.now) hosts_then events n (set_told heard hosts.old) self.old → IsBeforeSuch (view_proto chunk.now) hosts_then events n → result ≡ StepEnd.OutOfMemory → ⊥ }
     {
         // Called for its clause that the chunk is sound.
         let _ = chunk.proto();
-        let running = &mut self.running;
-        let Ok(settled) = turn(alloc, running, self.functions.as_slice(), hosts) else {
-            return StepEnd::OutOfMemory;
-        };
-        match put_pieces(&mut running.pieces, out) {
-            Ok(()) => {}
-            Err(SinkFault::Failed) => return StepEnd::OutFault,
-            Err(SinkFault::OutOfMemory) => return StepEnd::OutOfMemory,
-        }
-        match settled {
-            Settled::Going => StepEnd::Going,
-            Settled::Done => StepEnd::Done,
-            Settled::Failed(text) => StepEnd::Failed(text),
+        match do_next(alloc, &mut self.running, self.functions.as_slice()) {
+            Ok(true) => StepEnd::Going,
+            Ok(false) => step_on(alloc, self, chunk, out, hosts),
+            Err(_) => StepEnd::OutOfMemory,
         }
     }
+}
+
+/// Does one step, of a word that is not done in place, and puts what it printed.
+pub fn step_on<S: Sink>(
+    alloc: Global,
+    machine: &mut Machine,
+    chunk: &Verified,
+    out: &mut S,
+    hosts: &mut HostSet,
+) -> StepEnd
+    requires at { (hosts_then : List Host) × (events : List Event) × (n : ℕ) × IsAt (view_proto chunk.now) hosts_then events n (set_told heard hosts.old) machine.old }
+    requires other { IsOtherNext machine.old.functions.items machine.old.running }
+    ensures steps { (hosts_then : List Host) (events : List Event) (n : ℕ) → IsAt (view_proto chunk.now) hosts_then events n (set_told heard hosts.old) machine.old → Stepped (view_proto chunk.now) hosts_then events n (set_told heard hosts.old) (set_told heard hosts.new) (S.taken out.old) (S.taken out.new) machine.new result }
+    ensures never_falls { S.faults out.old ≤ S.faults out.new }
+    ensures risen { result ≡ StepEnd.OutFault → Rises (S.faults out.old) (S.faults out.new) }
+{
+    // Called for its clause that the chunk is sound.
+    let _ = chunk.proto();
+    let running = &mut machine.running;
+    let Ok(settled) = turn(alloc, running, machine.functions.as_slice(), hosts) else {
+        return StepEnd::OutOfMemory;
+    };
+    match put_pieces(&mut running.pieces, out) {
+        Ok(()) => {}
+        Err(SinkFault::Failed) => return StepEnd::OutFault,
+        Err(SinkFault::OutOfMemory) => return StepEnd::OutOfMemory,
+    }
+    match settled {
+        Settled::Going => StepEnd::Going,
+        Settled::Done => StepEnd::Done,
+        Settled::Failed(text) => StepEnd::Failed(text),
+    }
+}
+
+/// Does steps in place, as far as no word asks for more, at most so many; answers how many it did. Where memory runs out the machine is only dropped.
+pub fn go_on(
+    alloc: Global,
+    machine: &mut Machine,
+    chunk: &Verified,
+    steps: u64,
+) -> Result<u64, AllocError>
+    requires { (hosts : List Host) × (events : List Event) × (n : ℕ) × (now : HostSetState) × IsAt (view_proto chunk.now) hosts events n now machine.old }
+    ensures went { IfOk result (λ done. (hosts : List Host) (events : List Event) (n : ℕ) (now : HostSetState) → IsAt (view_proto chunk.now) hosts events n now machine.old → IsAt (view_proto chunk.now) hosts events (n + done) now machine.new) }
+    ensures no_more { IfOk result (λ done. done ≤ steps) }
+    ensures other { IfOk result (λ done. done < steps → IsOtherNext machine.new.functions.items machine.new.running) }
+{
+    // Called for its clause that the chunk is sound.
+    let _ = chunk.proto();
+    let mut done = 0;
+    while done < steps {
+        let functions = machine.functions.as_slice();
+        done += do_row(&mut machine.running, functions, steps - done);
+        if done == steps || !cross_next(alloc, &mut machine.running, functions)? {
+            break;
+        }
+        done += 1;
+    }
+    Ok(done)
 }
 
 /// Puts the pieces, in order; there are none behind it. At an error a first part of them was put.

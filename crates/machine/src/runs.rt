@@ -6,7 +6,7 @@ ghost use Rattle.rules.specs.Sound.{Sound};
 ghost use Rattle.host.specs.Views.{set_told};
 ghost use Rattle.machine.specs.At.{Runs};
 
-use crate::machine::{Machine, StepEnd};
+use crate::machine::{Machine, StepEnd, go_on, step_on};
 use host::HostSet;
 use lua_num::ByteText;
 use std::alloc::Global;
@@ -44,9 +44,17 @@ pub fn run<S: Sink>(
     let Ok(mut machine) = Machine::new(alloc, chunk, hosts) else {
         return RunEnd::OutOfMemory;
     };
-    for _ in 0..steps {
-        match machine.step(alloc, chunk, out, hosts) {
-            StepEnd::Going => {}
+    let mut left = steps;
+    while left > 0 {
+        let Ok(done) = go_on(alloc, &mut machine, chunk, left) else {
+            return RunEnd::OutOfMemory;
+        };
+        left -= done;
+        if left == 0 {
+            return RunEnd::Unfinished;
+        }
+        match step_on(alloc, &mut machine, chunk, out, hosts) {
+            StepEnd::Going => left -= 1,
             StepEnd::Done => return RunEnd::Done,
             StepEnd::Failed(text) => return RunEnd::Failed(text),
             StepEnd::OutFault => return RunEnd::OutFault,

@@ -1,14 +1,19 @@
 // Steps: one word with the calls, landings and failures that belong to it.
-ghost use Rattle.std.specs.Prelude.{◌≡◌, slice_get, Some, IfOk};
+ghost use Rattle.std.specs.Prelude.{◌≡◌, true, slice_get, Some, Ok, IfOk, IsTrue, IsFalse};
+ghost use Rattle.proto.specs.Chunk.{Chunk};
 ghost use Rattle.host.specs.Views.{set_told};
 ghost use Rattle.rules.specs.Step.{effect};
 ghost use Rattle.machine.specs.declared.function.Function.{Function as TheFunction};
+ghost use Rattle.machine.specs.Fits.{IsOther};
+ghost use Rattle.machine.specs.Memory.{NeedsNoneNext};
 ghost use Rattle.machine.specs.Outside.{AreNamed};
-ghost use Rattle.machine.specs.Ready.{FitsHere, IsReady, Steps};
+ghost use Rattle.machine.specs.Ready.{FitsHere, GoesNext, IsOtherNext, IsReady, Steps};
 ghost use Rattle.machine.specs.Settled.{DoesOutside};
-ghost use Rattle.machine.specs.Whole.{IsSafe};
+ghost use Rattle.machine.specs.Seen.{Around, seen};
+ghost use Rattle.machine.specs.Whole.{IsSafe, IsWhole};
 
 use crate::closures::make_closure;
+use crate::crossing::cross;
 use crate::did::Did;
 use crate::function::Function;
 use crate::leaving::return_word;
@@ -16,12 +21,11 @@ use crate::open_results::{call_word, set_list_word, vararg};
 use crate::running::Running;
 use crate::settling::{Settled, settle, tail_call};
 use crate::topmost::{do_in_place, perform_plain};
-use crate::upvalues::{close, get_upvalue, set_upvalue};
 use host::HostSet;
 use opcode::{Instr, Op, decode};
 use std::alloc::{AllocError, Global};
 
-/// Does a word in the topmost frame, whose pc is that behind the word.
+/// Does a word in the topmost frame that was not done in place; the pc of the frame is that behind the word.
 fn do_word(
     alloc: Global,
     running: &mut Running,
@@ -30,23 +34,13 @@ fn do_word(
     i: Instr,
 ) -> Result<Did, AllocError>
     requires safe { IsSafe functions.now running.old }
+    requires other { IsOther i.op }
     requires fits { (f : TheFunction) → slice_get functions.now running.old.top.function ≡ Some f → FitsHere functions.now f running.old i }
     requires named { AreNamed running.old.heap (set_told heard hosts.old) }
     ensures { IfOk result (DoesOutside functions.now (λ m. effect i.op m i) running.old running.new (set_told heard hosts.old) (set_told heard hosts.new)) }
 {
     match i.op {
-        Op::GetUpval => {
-            get_upvalue(running, i);
-            Ok(Did::Next)
-        }
-        Op::SetUpval => {
-            set_upvalue(running, i);
-            Ok(Did::Next)
-        }
-        Op::Close => {
-            close(running, i);
-            Ok(Did::Next)
-        }
+        Op::GetUpval | Op::SetUpval | Op::Close => unreachable!(),
         Op::Closure => {
             make_closure(alloc, running, functions, i)?;
             Ok(Did::Next)
@@ -60,7 +54,62 @@ fn do_word(
     }
 }
 
-/// Does one step of the rules.
+/// Does the word that is next, where it is done in place. `false` where it is not: then nothing is done. Where memory runs out the machine is only
+/// dropped.
+pub fn do_next(
+    alloc: Global,
+    running: &mut Running,
+    functions: &[Function],
+) -> Result<bool, AllocError>
+    requires safe { IsSafe functions.now running.old }
+    requires ready { IsReady functions.now running.old }
+    ensures done { IfOk result (λ done. IsTrue done → GoesNext functions.now running.old running.new) }
+    ensures not_done { IfOk result (λ done. IsFalse done → running.new ≡ running.old) }
+    ensures other { IfOk result (λ done. IsFalse done → IsOtherNext functions.now running.new) }
+    ensures in_place { (c : Chunk) (a : Around) → IsWhole c functions.now running.old → NeedsNoneNext (seen c a running.old) → result ≡ Ok true }
+{
+    let pc = running.top.pc;
+    let word = functions[running.top.function].code[pc];
+    let Some(i) = decode(word) else {
+        unreachable!();
+    };
+    running.top.pc = pc + 1;
+    if do_in_place(running, functions, i) {
+        return Ok(true);
+    }
+    let crossed = cross(alloc, running, functions, i)?;
+    if !crossed {
+        running.top.pc = pc;
+    }
+    Ok(crossed)
+}
+
+/// Does the word that is next, where it is a common CALL or RETURN. `false` where it is not: then nothing is done. Where memory runs out the machine
+/// is only dropped.
+pub fn cross_next(
+    alloc: Global,
+    running: &mut Running,
+    functions: &[Function],
+) -> Result<bool, AllocError>
+    requires safe { IsSafe functions.now running.old }
+    requires ready { IsReady functions.now running.old }
+    ensures done { IfOk result (λ done. IsTrue done → GoesNext functions.now running.old running.new) }
+    ensures not_done { IfOk result (λ done. IsFalse done → running.new ≡ running.old) }
+{
+    let pc = running.top.pc;
+    let word = functions[running.top.function].code[pc];
+    let Some(i) = decode(word) else {
+        unreachable!();
+    };
+    running.top.pc = pc + 1;
+    let crossed = cross(alloc, running, functions, i)?;
+    if !crossed {
+        running.top.pc = pc;
+    }
+    Ok(crossed)
+}
+
+/// Does one step of the rules, of a word that is not done in place.
 pub fn turn(
     alloc: Global,
     running: &mut Running,
@@ -69,6 +118,7 @@ pub fn turn(
 ) -> Result<Settled, AllocError>
     requires safe { IsSafe functions.now running.old }
     requires ready { IsReady functions.now running.old }
+    requires other { IsOtherNext functions.now running.old }
     requires named { AreNamed running.old.heap (set_told heard hosts.old) }
     ensures { IfOk result (Steps functions.now running.old running.new (set_told heard hosts.old) (set_told heard hosts.new)) }
 {
@@ -77,9 +127,6 @@ pub fn turn(
         unreachable!();
     };
     running.top.pc += 1;
-    if do_in_place(running, functions, i) {
-        return Ok(Settled::Going);
-    }
     let did = do_word(alloc, running, functions, hosts, i)?;
     settle(alloc, running, functions, hosts, did)
 }

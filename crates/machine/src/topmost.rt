@@ -1,24 +1,29 @@
 // Words in the topmost frame.
 ghost use Rattle.std.specs.Prelude.{◌≡◌, ◌<◌, slice_get, Some, IfOk, OnOk, IfSome, IfNone, OnSome, IsTrue, IsFalse};
 ghost use Rattle.lua_heap.specs.State.{AreOf};
+ghost use Rattle.proto.specs.Chunk.{Chunk};
+ghost use Rattle.rules.specs.State.{State};
 ghost use Rattle.rules.specs.Calls.{land as land_in};
 ghost use Rattle.rules.specs.Step.{effect};
 ghost use Rattle.upvalue.specs.State.{top, with_top};
 ghost use Rattle.upvalue.specs.Shared.{Shares};
 ghost use Rattle.machine.specs.declared.function.Function.{Function as TheFunction};
 ghost use Rattle.machine.specs.declared.did.Did.{Did as TheDid};
-ghost use Rattle.machine.specs.Fits.{Fits, IsPlain};
-ghost use Rattle.machine.specs.Frames.{data_of, landing_of};
-ghost use Rattle.machine.specs.Ready.{GoesOn};
-ghost use Rattle.machine.specs.Whole.{IsWaiting, IsSafe, DoesSeen};
-ghost use Rattle.machine.specs.Words.{Does, calls_of, calls_left};
+ghost use Rattle.machine.specs.Fits.{Fits, IsPlain, IsInner, IsOther};
+ghost use Rattle.machine.specs.Frames.{data_of, landing_of, showing};
+ghost use Rattle.machine.specs.Memory.{NeedsNone};
+ghost use Rattle.machine.specs.Ready.{FitsHere, GoesOn};
+ghost use Rattle.machine.specs.Seen.{Around, seen};
+ghost use Rattle.machine.specs.Whole.{IsWaiting, IsSafe, IsWhole, DoesSeen};
+ghost use Rattle.machine.specs.Words.{Does, Runs, calls_of, calls_left};
 
 use crate::did::{Did, Landing};
 use crate::function::Function;
 use crate::running::Running;
+use crate::upvalues::{close, get_upvalue, set_upvalue};
 use crate::words::{land, perform, quick};
 use lua_heap::ValueList;
-use opcode::Instr;
+use opcode::{Instr, Op};
 use std::alloc::{AllocError, Global};
 
 /// Does a word that works on nothing but the registers of the topmost frame, its function and the heap. The pc of the frame is that behind
@@ -31,6 +36,7 @@ pub fn perform_plain(
 ) -> Result<Did, AllocError>
     requires safe { IsSafe functions.now running.old }
     requires plain { IsPlain i.op }
+    requires other { IsOther i.op }
     requires fits { (f : TheFunction) → slice_get functions.now running.old.top.function ≡ Some f → Fits i.op f (top running.old.stack.frames) running.old.top.pc i }
     ensures does { IfOk result (DoesSeen functions.now (λ m. effect i.op m i) running.old running.new) }
     ensures below { running.new.below ≡ running.old.below }
@@ -39,14 +45,36 @@ pub fn perform_plain(
 }
 
 /// Does a common word of the topmost frame in place, and goes on to the pc behind it; the pc of the frame is that behind the word. `false` where
-/// it is no such word, or asks for more than registers and numbers: then nothing is done. Takes no memory.
+/// it is no such word, or asks for more: then nothing is done. Takes no memory.
 pub fn do_in_place(running: &mut Running, functions: &[Function], i: Instr) -> bool
     requires safe { IsSafe functions.now running.old }
+    requires fits { (f : TheFunction) → slice_get functions.now running.old.top.function ≡ Some f → FitsHere functions.now f running.old i }
+    ensures done { IsTrue result → GoesOn functions.now i running.old running.new }
+    ensures not_done { IsFalse result → running.new ≡ running.old }
+    ensures other { IsFalse result → IsOther i.op }
+    ensures taken { IsFalse result → (c : Chunk) (a : Around) → IsWhole c functions.now running.old → NeedsNone i.op (seen c a running.old) i → ⊥ }
+{
+    match i.op {
+        Op::GetUpval => get_upvalue(running, i),
+        Op::SetUpval => set_upvalue(running, i),
+        Op::Close => close(running, i),
+        _ => return do_quick(running, functions, i),
+    }
+    true
+}
+
+/// The same of a word that works on no cells.
+fn do_quick(running: &mut Running, functions: &[Function], i: Instr) -> bool
+    requires safe { IsSafe functions.now running.old }
+    requires inner { IsInner i.op }
     requires fits { (f : TheFunction) → slice_get functions.now running.old.top.function ≡ Some f → Fits i.op f (top running.old.stack.frames) running.old.top.pc i }
     ensures done { IsTrue result → GoesOn functions.now i running.old running.new }
     ensures not_done { IsFalse result → running.new ≡ running.old }
+    ensures other { IsFalse result → IsOther i.op }
+    ensures taken { IsFalse result → (c : Chunk) (a : Around) → IsWhole c functions.now running.old → NeedsNone i.op (seen c a running.old) i → ⊥ }
 {
-    match quick_top(running, &functions[running.top.function], i) {
+    let pc = running.top.pc;
+    match quick_at(running, &functions[running.top.function], pc, i) {
         Some(next) => {
             running.top.pc = next;
             true
@@ -55,20 +83,23 @@ pub fn do_in_place(running: &mut Running, functions: &[Function], i: Instr) -> b
     }
 }
 
-fn quick_top(running: &mut Running, function: &Function, i: Instr) -> Option<usize>
+/// The same at a pc, that behind the word, whatever the pc of the frame; answers the pc that the word goes on to.
+pub fn quick_at(running: &mut Running, function: &Function, pc: usize, i: Instr) -> Option<usize>
     requires shares { Shares running.old.stack running.old.heap }
     requires constants { AreOf running.old.heap function.now.constants.items }
-    requires fits { Fits i.op function.now (top running.old.stack.frames) running.old.top.pc i }
-    ensures some { IfSome result (λ next. Does (λ m. effect i.op m i) running.old.heap running.old.heap function.now (top running.old.stack.frames) (top running.new.stack.frames) running.old.top.pc (TheDid.Jumps next)) }
+    requires inner { IsInner i.op }
+    requires fits { Fits i.op function.now (top running.old.stack.frames) pc i }
+    ensures some { IfSome result (λ next. Does (λ m. effect i.op m i) running.old.heap running.new.heap function.now (top running.old.stack.frames) (top running.new.stack.frames) pc (TheDid.Jumps next)) }
     ensures frames { OnSome result (running.new.stack.frames ≡ with_top running.old.stack.frames (top running.new.stack.frames)) }
-    ensures shares { OnSome result (Shares running.new.stack running.old.heap) }
-    ensures rest { running.new ≡ record running.old { stack = running.new.stack } }
+    ensures shares { OnSome result (Shares running.new.stack running.new.heap) }
+    ensures rest { running.new ≡ record running.old { heap = running.new.heap; stack = running.new.stack } }
     ensures none { IfNone result (running.new ≡ running.old) }
+    ensures other { IfNone result (IsOther i.op) }
+    ensures taken { IfNone result ((m : State) → Runs m running.old.heap function.now pc → NeedsNone i.op (showing m running.old.heap (top running.old.stack.frames)) i → ⊥) }
 {
     let base = running.stack.base();
-    let pc = running.top.pc;
     let registers = &mut running.stack.all_registers()[base..];
-    quick(registers, function, pc, i)
+    quick(&mut running.heap, registers, function, pc, i)
 }
 
 /// Results to where a landing of the topmost frame says.
@@ -110,6 +141,7 @@ fn perform_top(
     requires shares { Shares running.old.stack running.old.heap }
     requires constants { AreOf running.old.heap function.now.constants.items }
     requires plain { IsPlain i.op }
+    requires other { IsOther i.op }
     requires fits { Fits i.op function.now (top running.old.stack.frames) running.old.top.pc i }
     ensures did { IfOk result (Does (λ m. effect i.op m i) running.old.heap running.new.heap function.now (top running.old.stack.frames) (top running.new.stack.frames) running.old.top.pc) }
     ensures frames { OnOk result (running.new.stack.frames ≡ with_top running.old.stack.frames (top running.new.stack.frames)) }

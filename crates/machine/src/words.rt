@@ -1,6 +1,7 @@
 // The words, one function or more each, over the registers of the running frame.
 mod arithmetic;
 mod calls;
+mod entries;
 mod giving;
 mod in_place;
 mod joining;
@@ -15,7 +16,7 @@ mod straight;
 mod tables;
 mod tests;
 
-pub use calls::{call, count_of};
+pub use calls::{call, count_of, results_to};
 pub use in_place::quick;
 pub use landing::land;
 pub use lists::{joined, listed};

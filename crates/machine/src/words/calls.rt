@@ -26,7 +26,7 @@ pub fn count_of(field: u32) -> Option<u32>
 }
 
 /// Where the results of a CALL go: so many to the registers from one on, or all as open results.
-fn results_to(a: u32, count: Option<u32>) -> Landing
+pub fn results_to(a: u32, count: Option<u32>) -> Landing
     ensures landing { landing_of result ≡ landing_in a count }
     ensures awaited { (f : TheFunction) (registers : List TheValue) (pc : ℕ) → AreResultsThere registers a count → IsLanding f registers pc result }
 {

@@ -1,46 +1,66 @@
 // Common words, done in place: they take no memory and ask for no call.
-ghost use Rattle.std.specs.Prelude.{◌≡◌, ◌<◌, length, Ok, IfSome, IfNone};
+ghost use Rattle.std.specs.Prelude.{◌≡◌, ◌<◌, ℤ, length, Ok, IfSome, IfNone};
 ghost use Rattle.lua_num.specs.Arith.{outcome};
 ghost use Rattle.lua_model.specs.Store.{Store};
 ghost use Rattle.lua_model.specs.Datum.{boolean, number as a_number};
 ghost use Rattle.lua_model.specs.Acts.{value};
 ghost use Rattle.lua_model.specs.Operators.{compare};
 ghost use Rattle.lua_heap.specs.State.{HeapState};
+ghost use Rattle.rules.specs.State.{State};
 ghost use Rattle.rules.specs.Step.{effect, do_arith as do_arith_of, do_compare as do_compare_of};
 ghost use Rattle.machine.specs.declared.did.Did.{Did as TheDid};
-ghost use Rattle.machine.specs.Fits.{Fits};
-ghost use Rattle.machine.specs.Words.{AreKnown, Does, IsOperand, IsTest, IsStep, pc_of};
+ghost use Rattle.machine.specs.Fits.{Fits, IsInner, IsOther};
+ghost use Rattle.machine.specs.Frames.{showing};
+ghost use Rattle.machine.specs.Memory.{NeedsNone, Computes, Compares};
+ghost use Rattle.machine.specs.Words.{AreKnown, Does, Runs, IsOperand, IsTest, IsStep, pc_of};
 
 use crate::did::Did;
 use crate::function::Function;
 use crate::operands::operand;
 use crate::words::arithmetic::do_not;
+use crate::words::entries::{get_entry, get_method_entry, set_entry};
 use crate::words::jumps::{branch, jump};
-use crate::words::loops::{for_loop, number};
+use crate::words::loops::{for_loop, number, quick_prepare};
 use crate::words::rows::{load_bool, load_nil};
 use crate::words::straight::{copy, load_constant};
+use crate::words::tables::get_global;
 use crate::words::tests::{test, test_set};
+use lua_heap::Heap;
 use lua_model::Value;
 use lua_num::{ArithOp, CompareOp, add, div, mul, pow, rem, sub};
 use opcode::{Instr, Op};
 
-/// Does a word in place, where it is a common one that asks for no more than registers and numbers, and answers the pc behind it. Else nothing
-/// is done.
-pub fn quick(registers: &mut [Value], function: &Function, pc: usize, i: Instr) -> Option<usize>
+/// Does a word in place, where it is a common one that takes no memory and asks for no call, and answers the pc behind it. Else nothing is done.
+pub fn quick(
+    heap: &mut Heap,
+    registers: &mut [Value],
+    function: &Function,
+    pc: usize,
+    i: Instr,
+) -> Option<usize>
+    requires known { AreKnown heap.old function.now registers.old }
+    requires inner { IsInner i.op }
     requires fits { Fits i.op function.now registers.old pc i }
-    ensures some { IfSome result (λ next. (h : HeapState) → AreKnown h function.now registers.old → Does (λ m. effect i.op m i) h h function.now registers.old registers.new pc (TheDid.Jumps next)) }
-    ensures none { IfNone result (registers.new ≡ registers.old) }
+    ensures some { IfSome result (λ next. Does (λ m. effect i.op m i) heap.old heap.new function.now registers.old registers.new pc (TheDid.Jumps next)) }
+    ensures none { IfNone result ((registers.new ≡ registers.old) × (heap.new ≡ heap.old)) }
+    ensures other { IfNone result (IsOther i.op) }
+    ensures taken { IfNone result ((m : State) → Runs m heap.old function.now pc → NeedsNone i.op (showing m heap.old registers.old) i → ⊥) }
 {
     match i.op {
         Op::Move => Some(pc_behind(copy(registers, i), pc)),
         Op::LoadK => Some(pc_behind(load_constant(registers, function, i), pc)),
         Op::LoadBool => Some(pc_behind(load_bool(registers, pc, i), pc)),
         Op::LoadNil => Some(pc_behind(load_nil(registers, i), pc)),
+        Op::GetGlobal => Some(pc_behind(get_global(heap, registers, function, i), pc)),
         Op::Not => Some(pc_behind(do_not(registers, i), pc)),
         Op::Jmp => Some(jump(pc, i.sbx)),
         Op::Test => Some(pc_behind(test(registers, function, pc, i), pc)),
         Op::TestSet => Some(pc_behind(test_set(registers, function, pc, i), pc)),
         Op::ForLoop => Some(pc_behind(for_loop(registers, pc, i), pc)),
+        Op::ForPrep => quick_prepare(heap, registers, pc, i),
+        Op::GetTable => get_entry(heap, registers, function, pc, i),
+        Op::SetTable => set_entry(heap, registers, function, pc, i),
+        Op::Self_ => get_method_entry(heap, registers, function, pc, i),
         Op::Add => quick_arith(registers, function, pc, ArithOp::Add, i),
         Op::Sub => quick_arith(registers, function, pc, ArithOp::Sub, i),
         Op::Mul => quick_arith(registers, function, pc, ArithOp::Mul, i),
@@ -79,6 +99,7 @@ fn quick_arith(
     requires c { IsOperand function.now registers.old i.c }
     ensures some { IfSome result (λ next. (h : HeapState) → AreKnown h function.now registers.old → Does (λ m. do_arith_of op m i) h h function.now registers.old registers.new pc (TheDid.Jumps next)) }
     ensures none { IfNone result (registers.new ≡ registers.old) }
+    ensures taken { IfNone result ((h : HeapState) (m : State) → Runs m h function.now pc → Computes op (showing m h registers.old) i → ⊥) }
 {
     let Some(x) = number(operand(function, registers, i.b)) else {
         return None;
@@ -93,7 +114,8 @@ fn quick_arith(
 
 // What an operation gives, where it does not fail.
 fn computed(op: ArithOp, x: i64, y: i64) -> Option<i64>
-    ensures { IfSome result (λ n. outcome op x y ≡ Ok n) }
+    ensures some { IfSome result (λ n. outcome op x y ≡ Ok n) }
+    ensures none { IfNone result ((n : ℤ) → outcome op x y ≡ Ok n → ⊥) }
 {
     match op {
         ArithOp::Add => Some(add(x, y)),
@@ -116,7 +138,8 @@ fn quick_compare(
     requires b { IsOperand function.now registers.now i.b }
     requires c { IsOperand function.now registers.now i.c }
     requires jmp { IsTest function.now pc }
-    ensures { IfSome result (λ next. (h : HeapState) → AreKnown h function.now registers.now → Does (λ m. do_compare_of op m i) h h function.now registers.now registers.now pc (TheDid.Jumps next)) }
+    ensures some { IfSome result (λ next. (h : HeapState) → AreKnown h function.now registers.now → Does (λ m. do_compare_of op m i) h h function.now registers.now registers.now pc (TheDid.Jumps next)) }
+    ensures taken { IfNone result ((h : HeapState) (m : State) → Runs m h function.now pc → Compares (showing m h registers.now) i → ⊥) }
 {
     let Some(x) = number(operand(function, registers, i.b)) else {
         return None;

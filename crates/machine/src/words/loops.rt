@@ -1,11 +1,15 @@
 // The words of the numeric `for` (manual 2.4.5).
-ghost use Rattle.std.specs.Prelude.{◌≡◌, ℕ, ◌<◌, ◌+◌, ◌^◌, ◌+ℤ◌, pos, length, slice_set, None, Some, IfOk, MatchResult};
+ghost use Rattle.std.specs.Prelude.{◌≡◌, ℕ, ◌<◌, ◌+◌, ◌^◌, ◌+ℤ◌, pos, length, slice_set, None, Some, IfOk, IfSome, IfNone, MatchResult};
 ghost use Rattle.opcode.specs.declared.op.Op.TheVariants as op;
 ghost use Rattle.lua_model.specs.Operators.{goes_on as goes_on_of, counts, no_count};
 ghost use Rattle.lua_heap.specs.State.{HeapState, AreOf};
 ghost use Rattle.rules.specs.Places.{as_pc};
 ghost use Rattle.rules.specs.Step.{effect};
+ghost use Rattle.rules.specs.State.{State};
 ghost use Rattle.machine.specs.declared.function.Function.{Function as TheFunction};
+ghost use Rattle.machine.specs.declared.did.Did.{Did as TheDid};
+ghost use Rattle.machine.specs.Frames.{showing};
+ghost use Rattle.machine.specs.Memory.{AreLoopNumbers};
 ghost use Rattle.machine.specs.Words.{IsNumber, number_of as number_of_value, number_at, loop_numbers_in, Does, IsStep};
 
 use crate::did::Did;
@@ -92,14 +96,49 @@ pub fn for_prepare(
     ensures { IfOk result (λ did. (f : TheFunction) → Does (λ m. effect op.ForPrep m i) heap.old heap.new f registers.old registers.new pc did) }
 {
     match loop_numbers(heap, registers, i.a) {
-        Ok((first, limit, step)) => {
-            put_number(registers, i.a, sub(first, step));
-            put_number(registers, i.a + 1, limit);
-            put_number(registers, i.a + 2, step);
-            Ok(Did::Jumps(jump(pc, i.sbx)))
-        }
+        Ok((first, limit, step)) => Ok(Did::Jumps(begin_loop(
+            registers, pc, i, first, limit, step,
+        ))),
         Err(why) => Ok(Did::Fails(text_value(alloc, heap, why)?)),
     }
+}
+
+/// FORPREP in place: `None` where a number of the loop is none; then nothing is done.
+pub fn quick_prepare(heap: &Heap, registers: &mut [Value], pc: usize, i: Instr) -> Option<usize>
+    requires known { AreOf heap.now registers.old }
+    requires field { i.a < 256 }
+    requires there { i.a + 2 < length registers.old }
+    requires goes { as_pc (pos pc +ℤ i.sbx) ≡ None → ⊥ }
+    requires room { pc < 2 ^ 33 }
+    ensures some { IfSome result (λ next. (f : TheFunction) → Does (λ m. effect op.ForPrep m i) heap.now heap.now f registers.old registers.new pc (TheDid.Jumps next)) }
+    ensures none { IfNone result (registers.new ≡ registers.old) }
+    ensures taken { IfNone result ((m : State) → AreLoopNumbers (showing m heap.now registers.old) i → ⊥) }
+{
+    let Ok((first, limit, step)) = loop_numbers(heap, registers, i.a) else {
+        return None;
+    };
+    Some(begin_loop(registers, pc, i, first, limit, step))
+}
+
+/// Begins a loop of these numbers, and answers the pc of its FORLOOP.
+fn begin_loop(
+    registers: &mut [Value],
+    pc: usize,
+    i: Instr,
+    first: i64,
+    limit: i64,
+    step: i64,
+) -> usize
+    requires field { i.a < 256 }
+    requires there { i.a + 2 < length registers.old }
+    requires goes { as_pc (pos pc +ℤ i.sbx) ≡ None → ⊥ }
+    requires room { pc < 2 ^ 33 }
+    ensures { (h : HeapState) (f : TheFunction) → AreOf h registers.old → loop_numbers_in h registers.old i.a ≡ counts first limit step → Does (λ m. effect op.ForPrep m i) h h f registers.old registers.new pc (TheDid.Jumps result) }
+{
+    put_number(registers, i.a, sub(first, step));
+    put_number(registers, i.a + 1, limit);
+    put_number(registers, i.a + 2, step);
+    jump(pc, i.sbx)
 }
 
 /// The initial value, the limit and the step as numbers, or the text of a failure.

@@ -2,27 +2,24 @@
 ghost use Rattle.std.specs.Prelude.{IfOk};
 ghost use Rattle.lua_heap.specs.State.{HeapState};
 ghost use Rattle.rules.specs.Step.{effect};
-ghost use Rattle.machine.specs.Fits.{Fits, IsPlain};
+ghost use Rattle.machine.specs.Fits.{Fits, IsPlain, IsOther};
 ghost use Rattle.machine.specs.Words.{AreKnown, Does};
 
 use crate::did::Did;
 use crate::function::Function;
-use crate::words::arithmetic::{do_arith, do_length, do_negate, do_not};
+use crate::words::arithmetic::{do_arith, do_length, do_negate};
 use crate::words::calls::call_iterator;
 use crate::words::joining::concat;
-use crate::words::jumps::jump;
-use crate::words::loops::{for_loop, for_prepare};
-use crate::words::rows::{load_bool, load_nil};
-use crate::words::straight::{copy, load_constant};
-use crate::words::tables::{get_global, get_method, get_table, new_table, set_global, set_table};
-use crate::words::tests::{do_compare, test, test_set};
+use crate::words::loops::for_prepare;
+use crate::words::tables::{get_method, get_table, new_table, set_global, set_table};
+use crate::words::tests::do_compare;
 use lua_heap::Heap;
 use lua_model::Value;
 use lua_num::{ArithOp, CompareOp};
 use opcode::{Instr, Op};
 use std::alloc::{AllocError, Global};
 
-/// Does a word. Where memory runs out the heap is only dropped.
+/// Does a word that was not done in place. Where memory runs out the heap is only dropped.
 pub fn perform(
     alloc: Global,
     heap: &mut Heap,
@@ -33,15 +30,11 @@ pub fn perform(
 ) -> Result<Did, AllocError>
     requires known { AreKnown heap.old function.now registers.old }
     requires plain { IsPlain i.op }
+    requires other { IsOther i.op }
     requires fits { Fits i.op function.now registers.old pc i }
     ensures { IfOk result (Does (λ m. effect i.op m i) heap.old heap.new function.now registers.old registers.new pc) }
 {
     match i.op {
-        Op::Move => Ok(copy(registers, i)),
-        Op::LoadK => Ok(load_constant(registers, function, i)),
-        Op::LoadBool => Ok(load_bool(registers, pc, i)),
-        Op::LoadNil => Ok(load_nil(registers, i)),
-        Op::GetGlobal => Ok(get_global(heap, registers, function, i)),
         Op::GetTable => get_table(alloc, heap, registers, function, i),
         Op::SetGlobal => set_global(heap, registers, function, i),
         Op::SetTable => set_table(alloc, heap, registers, function, i),
@@ -54,20 +47,25 @@ pub fn perform(
         Op::Mod => do_arith(alloc, heap, registers, function, ArithOp::Rem, i),
         Op::Pow => do_arith(alloc, heap, registers, function, ArithOp::Pow, i),
         Op::Unm => do_negate(alloc, heap, registers, i),
-        Op::Not => Ok(do_not(registers, i)),
         Op::Len => do_length(alloc, heap, registers, i),
         Op::Concat => concat(alloc, heap, registers, i),
-        Op::Jmp => Ok(Did::Jumps(jump(pc, i.sbx))),
         Op::Eq => do_compare(alloc, heap, registers, function, pc, CompareOp::Eq, i),
         Op::Lt => do_compare(alloc, heap, registers, function, pc, CompareOp::Lt, i),
         Op::Le => do_compare(alloc, heap, registers, function, pc, CompareOp::Le, i),
-        Op::Test => Ok(test(registers, function, pc, i)),
-        Op::TestSet => Ok(test_set(registers, function, pc, i)),
-        Op::ForLoop => Ok(for_loop(registers, pc, i)),
         Op::ForPrep => for_prepare(alloc, heap, registers, pc, i),
         Op::TForLoop => call_iterator(alloc, registers, function, pc, i),
-        Op::GetUpval
+        Op::Move
+        | Op::LoadK
+        | Op::LoadBool
+        | Op::LoadNil
+        | Op::GetUpval
         | Op::SetUpval
+        | Op::GetGlobal
+        | Op::Not
+        | Op::Jmp
+        | Op::Test
+        | Op::TestSet
+        | Op::ForLoop
         | Op::Call
         | Op::TailCall
         | Op::Return

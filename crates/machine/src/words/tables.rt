@@ -4,7 +4,7 @@ ghost use Rattle.opcode.specs.declared.op.Op.TheVariants as op;
 ghost use Rattle.lua_heap.specs.State.{HeapState, AreOf};
 ghost use Rattle.rules.specs.Step.{effect};
 ghost use Rattle.machine.specs.declared.function.Function.{Function as TheFunction};
-ghost use Rattle.machine.specs.Words.{AreKnown, IsOperand, IsName, text_of as text_of_value, text_at, Does};
+ghost use Rattle.machine.specs.Words.{AreKnown, IsOperand, IsName, text_of as text_of_value, text_at, Does, IsStep};
 
 use crate::did::Did;
 use crate::function::Function;
@@ -118,7 +118,8 @@ pub fn get_global(heap: &Heap, registers: &mut [Value], function: &Function, i: 
     requires known { AreKnown heap.now function.now registers.old }
     requires a { i.a < length registers.old }
     requires bx { IsName function.now i.bx }
-    ensures { (pc : ℕ) → Does (λ m. effect op.GetGlobal m i) heap.now heap.now function.now registers.old registers.new pc result }
+    ensures does { (pc : ℕ) → Does (λ m. effect op.GetGlobal m i) heap.now heap.now function.now registers.old registers.new pc result }
+    ensures step { IsStep result }
 {
     registers[i.a as usize] = heap.global(name(function, i.bx));
     Did::Next

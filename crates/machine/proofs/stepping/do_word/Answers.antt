@@ -1,55 +1,21 @@
-use Rattle.std.proofs.Common.{◌≡◌, List, length, Some, sym, subst}
-use Rattle.std.specs.Prelude.{slice_get}
+use Rattle.std.proofs.Common.{◌≡◌, List, sym, subst}
 use Rattle.std.proofs.lemmas.Result.{IfOk-weaker}
 use Rattle.opcode.specs.declared.op.Op.{Op}
 use Rattle.opcode.specs.declared.word.Instr.{Instr}
 use Rattle.host.specs.Hosts.{HostSetState}
 use Rattle.rules.specs.Step.{effect}
-use Rattle.upvalue.specs.State.{top}
 use Rattle.machine.specs.declared.function.Function.{Function}
 use Rattle.machine.specs.declared.running.Running.{Running}
 use Rattle.machine.specs.declared.did.Did.{Did}
-use Rattle.machine.specs.Fits.{FitsFrame}
-use Rattle.machine.specs.Ready.{FitsHere}
-use Rattle.machine.specs.Seen.{cells_in}
 use Rattle.machine.specs.Settled.{DoesOutside}
-use Rattle.machine.specs.Whole.{IsSafe}
-use Rattle.machine.proofs.InPlace.{quiet}
-use Rattle.machine.proofs.SeenWords.{top_function}
+use Rattle.machine.proofs.InPlace.{quiet, framed_as}
 use Rattle.machine.proofs.stepping.do_word.Goals as goal
-
--- what the word asks of the frame, where its opcode is this one
-framed_as : (fs : List Function) (f : Function) (k : Running) (i : Instr) (o : Op) → i.op ≡ o → FitsHere fs f k i → FitsFrame o f (top k.stack.frames) k.top.results (length (cells_in k.heap k.top.closure)) k.top.pc i
-framed_as fs f k i o is fits =
-    let P : Op → Type 0 = λ x. FitsFrame x f (top k.stack.frames) k.top.results (length (cells_in k.heap k.top.closure)) k.top.pc i in
-    subst P is fits.framed
-
--- the same of the function that the topmost frame has
-framed_here : (fs : List Function) (k : Running) (i : Instr) (o : Op) (safe : IsSafe fs k) → i.op ≡ o → ((f : Function) → slice_get fs k.top.function ≡ Some f → FitsHere fs f k i) → FitsFrame o (top_function fs k safe).0 (top k.stack.frames) k.top.results (length (cells_in k.heap k.top.closure)) k.top.pc i
-framed_here fs k i o safe is fits =
-    let f = top_function fs k safe in
-    framed_as fs f.0 k i o is (fits f.0 f.1)
 
 -- where the word's opcode is this one
 for_op : {fs : List Function} {old new : Running} {before behind : HostSetState} {did : Did} (i : Instr) (o : Op) → i.op ≡ o → DoesOutside fs (λ m. effect o m i) old new before behind did → DoesOutside fs (λ m. effect i.op m i) old new before behind did
 for_op {fs} {old} {new} {before} {behind} {did} i o is does =
     let P : Op → Type 0 = λ x. DoesOutside fs (λ m. effect x m i) old new before behind did in
     subst P (sym is) does
-
-pub get_upvalue-requires-clause-a : goal.get_upvalue-requires-clause-a
-get_upvalue-requires-clause-a g c = (framed_here c.args.functions.now c.args.running.now c.args.i Op.GetUpval c.requires.safe c.in-GetUpval.is c.requires.fits).0
-
-pub get_upvalue-requires-clause-b : goal.get_upvalue-requires-clause-b
-get_upvalue-requires-clause-b g c = (framed_here c.args.functions.now c.args.running.now c.args.i Op.GetUpval c.requires.safe c.in-GetUpval.is c.requires.fits).1
-
-pub set_upvalue-requires-clause-a : goal.set_upvalue-requires-clause-a
-set_upvalue-requires-clause-a g c = (framed_here c.args.functions.now c.args.running.now c.args.i Op.SetUpval c.requires.safe c.in-SetUpval.is c.requires.fits).0
-
-pub set_upvalue-requires-clause-b : goal.set_upvalue-requires-clause-b
-set_upvalue-requires-clause-b g c = (framed_here c.args.functions.now c.args.running.now c.args.i Op.SetUpval c.requires.safe c.in-SetUpval.is c.requires.fits).1
-
-pub close-requires-clause-a : goal.close-requires-clause-a
-close-requires-clause-a g c = framed_here c.args.functions.now c.args.running.now c.args.i Op.Close c.requires.safe c.in-Close.is c.requires.fits
 
 pub make_closure-requires-clause-fits : goal.make_closure-requires-clause-fits
 make_closure-requires-clause-fits g c f at = framed_as c.args.functions.now f c.args.running.now c.args.i Op.Closure c.in-Closure.is (c.requires.fits f at)
@@ -74,15 +40,6 @@ set_list_word-requires-clause-fits g c f at = framed_as c.args.functions.now f c
 
 pub vararg-requires-clause-fits : goal.vararg-requires-clause-fits
 vararg-requires-clause-fits g c f at = framed_as c.args.functions.now f c.args.running.now c.args.i Op.Vararg c.in-Vararg.is (c.requires.fits f at)
-
-pub returns-in-GetUpval : goal.returns-in-GetUpval
-returns-in-GetUpval g c = for_op c.args.i Op.GetUpval c.in-GetUpval.is (quiet (c.get_upvalue.ensures c.args.functions.now))
-
-pub returns-in-SetUpval : goal.returns-in-SetUpval
-returns-in-SetUpval g c = for_op c.args.i Op.SetUpval c.in-SetUpval.is (quiet (c.set_upvalue.ensures c.args.functions.now))
-
-pub returns-in-Close : goal.returns-in-Close
-returns-in-Close g c = for_op c.args.i Op.Close c.in-Close.is (quiet (c.close.ensures c.args.functions.now))
 
 pub returns-in_ok-make_closure-in-Closure : goal.returns-in_ok-make_closure-in-Closure
 returns-in_ok-make_closure-in-Closure g c = for_op c.args.i Op.Closure c.in-Closure.is (quiet c.in_ok-make_closure-in-Closure.ensures.does)

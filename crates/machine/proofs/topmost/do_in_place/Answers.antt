@@ -1,26 +1,27 @@
-use Rattle.std.proofs.Common.{length, refl, sym, subst}
-use Rattle.std.proofs.lemmas.Option.{slice_get_read}
-use Rattle.rules.specs.Step.{effect}
-use Rattle.machine.specs.declared.did.Did.{Did}
-use Rattle.machine.specs.declared.running.Running.{Running}
-use Rattle.machine.specs.Whole.{DoesSeen}
-use Rattle.machine.proofs.SeenWords.{does_seen}
+use Rattle.opcode.specs.declared.op.Op.{Op}
+use Rattle.machine.proofs.InPlace.{framed_here, goes_on_here}
 use Rattle.machine.proofs.topmost.do_in_place.Goals as goal
 
-pub returns-in-Some-clause-done : goal.returns-in-Some-clause-done
-returns-in-Some-clause-done c = λ yes.
-    let old = c.args.running.now in
-    let new = c.quick_top.new.running in
-    let fs = c.args.functions.now in
-    let i = c.args.i in
-    let f = c.index-functions-running.result in
-    let next = c.in-Some.next in
-    let at = slice_get_read fs (length fs) old.top.function f refl c.requires.safe.top_frame.function c.index-functions-running.is in
-    let made = c.in-Some.ensures in
-    let P : Running → Type 0 = λ k. DoesSeen fs (λ m. effect i.op m i) old k (Did.Jumps next) in
-    record {
-      next = next;
-      between = new;
-      does = subst P (sym made.rest) (does_seen fs (λ m. effect i.op m i) old old.heap new.stack f (Did.Jumps next) at made.some made.frames (λ shares. made.shares));
-      is = refl;
-    }
+pub get_upvalue-requires-clause-a : goal.get_upvalue-requires-clause-a
+get_upvalue-requires-clause-a c = (framed_here c.args.functions.now c.args.running.now c.args.i Op.GetUpval c.requires.safe c.in-GetUpval.is c.requires.fits).0
+
+pub get_upvalue-requires-clause-b : goal.get_upvalue-requires-clause-b
+get_upvalue-requires-clause-b c = (framed_here c.args.functions.now c.args.running.now c.args.i Op.GetUpval c.requires.safe c.in-GetUpval.is c.requires.fits).1
+
+pub set_upvalue-requires-clause-a : goal.set_upvalue-requires-clause-a
+set_upvalue-requires-clause-a c = (framed_here c.args.functions.now c.args.running.now c.args.i Op.SetUpval c.requires.safe c.in-SetUpval.is c.requires.fits).0
+
+pub set_upvalue-requires-clause-b : goal.set_upvalue-requires-clause-b
+set_upvalue-requires-clause-b c = (framed_here c.args.functions.now c.args.running.now c.args.i Op.SetUpval c.requires.safe c.in-SetUpval.is c.requires.fits).1
+
+pub close-requires-clause-a : goal.close-requires-clause-a
+close-requires-clause-a c = framed_here c.args.functions.now c.args.running.now c.args.i Op.Close c.requires.safe c.in-Close.is c.requires.fits
+
+pub returns-in-GetUpval-clause-done : goal.returns-in-GetUpval-clause-done
+returns-in-GetUpval-clause-done c = λ yes. goes_on_here c.args.i Op.GetUpval c.in-GetUpval.is c.get_upvalue.ensures.top (c.get_upvalue.ensures.does c.args.functions.now)
+
+pub returns-in-SetUpval-clause-done : goal.returns-in-SetUpval-clause-done
+returns-in-SetUpval-clause-done c = λ yes. goes_on_here c.args.i Op.SetUpval c.in-SetUpval.is c.set_upvalue.ensures.top (c.set_upvalue.ensures.does c.args.functions.now)
+
+pub returns-in-Close-clause-done : goal.returns-in-Close-clause-done
+returns-in-Close-clause-done c = λ yes. goes_on_here c.args.i Op.Close c.in-Close.is c.close.ensures.top (c.close.ensures.does c.args.functions.now)

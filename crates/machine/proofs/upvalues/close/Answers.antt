@@ -2,13 +2,14 @@ use Rattle.std.proofs.Common.{List, length, map, refl, sym, ap}
 use Rattle.lua_model.specs.declared.Value.{Value}
 use Rattle.lua_heap.specs.State.{HeapState}
 use Rattle.rules.specs.State.{Goes}
+use Rattle.machine.specs.Ready.{with_pc}
 use Rattle.machine.proofs.SeenStates.{safe_behind}
 use Rattle.machine.proofs.SeenCells.{closed_is}
 use Rattle.machine.proofs.upvalues.close.Goals as goal
 
-pub returns : goal.returns
-returns c fs =
-    let old = c.args.running.now in
+pub returns-clause-does : goal.returns-clause-does
+returns-clause-does c fs pc =
+    let old = with_pc c.args.running.now pc in
     let heap = c.close_from.new.heap in
     let stack = c.close_from.new.self in
     let did = c.close_from.ensures in

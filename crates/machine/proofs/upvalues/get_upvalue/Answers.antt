@@ -6,14 +6,15 @@ use Rattle.lua_heap.proofs.Callers.{keeps_itself}
 use Rattle.rules.specs.State.{need, set}
 use Rattle.rules.specs.Cells.{read_cell}
 use Rattle.upvalue.specs.State.{StackState, top}
+use Rattle.machine.specs.Ready.{with_pc}
 use Rattle.machine.specs.Seen.{cells_in, seen}
 use Rattle.machine.proofs.SeenStates.{sizes-with_top, set_seen, safe_behind}
 use Rattle.machine.proofs.SeenCells.{read_is}
 use Rattle.machine.proofs.upvalues.get_upvalue.Goals as goal
 
-pub returns : goal.returns
-returns c fs =
-    let old = c.args.running.now in
+pub returns-clause-does : goal.returns-clause-does
+returns-clause-does c fs pc =
+    let old = with_pc c.args.running.now pc in
     let i = c.args.i in
     let cell = c.upvalue-cell in
     let value = c.read_cell-value in

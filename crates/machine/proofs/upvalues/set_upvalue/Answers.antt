@@ -6,6 +6,7 @@ use Rattle.lua_heap.specs.State.{datum, no_cell}
 use Rattle.rules.specs.State.{need}
 use Rattle.rules.specs.Cells.{write_cell}
 use Rattle.upvalue.specs.State.{top, cell_of}
+use Rattle.machine.specs.Ready.{with_pc}
 use Rattle.machine.specs.Seen.{cells_in, seen}
 use Rattle.machine.proofs.SeenStates.{safe_behind}
 use Rattle.machine.proofs.SeenCells.{with_value_stays, with_value_names, write_seen}
@@ -14,9 +15,9 @@ use Rattle.machine.proofs.upvalues.set_upvalue.Goals as goal
 pub write_cell-requires-clause-value : goal.write_cell-requires-clause-value
 write_cell-requires-clause-value c = c.read-value.ensures.known c.args.running.now.heap c.requires.shares
 
-pub returns : goal.returns
-returns c fs =
-    let old = c.args.running.now in
+pub returns-clause-does : goal.returns-clause-does
+returns-clause-does c fs pc =
+    let old = with_pc c.args.running.now pc in
     let i = c.args.i in
     let heap = c.write_cell.new.heap in
     let stack = c.write_cell.new.self in

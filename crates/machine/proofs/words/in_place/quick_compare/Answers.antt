@@ -9,8 +9,8 @@ use Rattle.machine.proofs.QuickSteps.{step_at, numbered}
 use Rattle.machine.proofs.Showing.{jmp_need, two_needs, shown_runs, same_does}
 use Rattle.machine.proofs.words.in_place.quick_compare.Goals as goal
 
-pub returns : goal.returns
-returns c h known =
+pub returns-clause-some : goal.returns-clause-some
+returns-clause-some c h known =
     let values = c.args.registers.now in
     let f = c.args.function.now in
     let pc = c.args.pc in

@@ -1,47 +1,7 @@
-use Rattle.std.proofs.Common.{◌≡◌, ℕ, List, sym, subst}
 use Rattle.std.proofs.lemmas.Result.{IfOk-weaker}
 use Rattle.opcode.specs.declared.op.Op.{Op}
-use Rattle.opcode.specs.declared.word.Instr.{Instr}
-use Rattle.lua_model.specs.declared.Value.{Value}
-use Rattle.lua_heap.specs.State.{HeapState}
-use Rattle.rules.specs.Step.{effect}
-use Rattle.machine.specs.declared.function.Function.{Function}
-use Rattle.machine.specs.declared.did.Did.{Did}
-use Rattle.machine.specs.Words.{Does}
+use Rattle.machine.proofs.QuickSteps.{for_op}
 use Rattle.machine.proofs.words.performing.perform.Goals as goal
-
--- where the word's opcode is this one
-for_op : {old new : HeapState} {f : Function} {before behind : List Value} {pc : ℕ} {did : Did} (i : Instr) (o : Op) → i.op ≡ o → Does (λ m. effect o m i) old new f before behind pc did → Does (λ m. effect i.op m i) old new f before behind pc did
-for_op {old} {new} {f} {before} {behind} {pc} {did} i o is does =
-    let P : Op → Type 0 = λ x. Does (λ m. effect x m i) old new f before behind pc did in
-    subst P (sym is) does
-
-pub returns-in-Move : goal.returns-in-Move
-returns-in-Move c = for_op c.args.i Op.Move c.in-Move.is (c.copy.ensures.does c.args.heap.now c.args.function.now c.args.pc c.requires.known.registers)
-
-pub returns-in-LoadK : goal.returns-in-LoadK
-returns-in-LoadK c = for_op c.args.i Op.LoadK c.in-LoadK.is (c.load_constant.ensures.does c.args.heap.now c.args.pc c.requires.known)
-
-pub returns-in-LoadBool : goal.returns-in-LoadBool
-returns-in-LoadBool c = for_op c.args.i Op.LoadBool c.in-LoadBool.is (c.load_bool.ensures.does c.args.heap.now c.args.function.now c.requires.known.registers)
-
-pub returns-in-LoadNil : goal.returns-in-LoadNil
-returns-in-LoadNil c = for_op c.args.i Op.LoadNil c.in-LoadNil.is (c.load_nil.ensures.does c.args.heap.now c.args.function.now c.args.pc c.requires.known.registers)
-
-pub returns-in-GetGlobal : goal.returns-in-GetGlobal
-returns-in-GetGlobal c = for_op c.args.i Op.GetGlobal c.in-GetGlobal.is (c.get_global.ensures c.args.pc)
-
-pub returns-in-Not : goal.returns-in-Not
-returns-in-Not c = for_op c.args.i Op.Not c.in-Not.is (c.do_not.ensures.does c.args.heap.now c.args.function.now c.args.pc c.requires.known.registers)
-
-pub returns-in-Test : goal.returns-in-Test
-returns-in-Test c = for_op c.args.i Op.Test c.in-Test.is (c.test.ensures.does c.args.heap.now c.requires.known.registers)
-
-pub returns-in-TestSet : goal.returns-in-TestSet
-returns-in-TestSet c = for_op c.args.i Op.TestSet c.in-TestSet.is (c.test_set.ensures.does c.args.heap.now c.requires.known.registers)
-
-pub returns-in-ForLoop : goal.returns-in-ForLoop
-returns-in-ForLoop c = for_op c.args.i Op.ForLoop c.in-ForLoop.is (c.for_loop.ensures.does c.args.heap.now c.args.function.now c.requires.known.registers)
 
 pub returns-in-GetTable : goal.returns-in-GetTable
 returns-in-GetTable c = IfOk-weaker c.get_table.result _ _ (λ did does. for_op c.args.i Op.GetTable c.in-GetTable.is (does c.args.pc)) c.get_table.ensures

@@ -7,8 +7,8 @@ use Rattle.machine.specs.Frames.{showing}
 use Rattle.machine.proofs.Showing.{set_does, name_need, shown_runs}
 use Rattle.machine.proofs.words.tables.get_global.Goals as goal
 
-pub returns : goal.returns
-returns c pc =
+pub returns-clause-does : goal.returns-clause-does
+returns-clause-does c pc =
     let h = c.args.heap.now in
     let values = c.args.registers.now in
     let f = c.args.function.now in

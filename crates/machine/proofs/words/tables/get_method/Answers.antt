@@ -1,20 +1,18 @@
-use Rattle.std.proofs.Common.{◌≡◌, ◌∙◌, ◌+◌, ◌<◌, ℕ, suc, List, length, Option, ap, sym, length-set, arith}
+use Rattle.std.proofs.Common.{◌+◌, ◌<◌, ℕ, List, length, length-set, arith}
 use Rattle.std.specs.Prelude.{slice_set}
-use Rattle.std.proofs.lemmas.List.{map-set}
 use Rattle.std.proofs.lemmas.List.Elements.{All-set}
 use Rattle.opcode.specs.declared.op.Op.TheVariants as op
-use Rattle.opcode.specs.declared.word.Instr.{Instr}
 use Rattle.lua_model.specs.declared.Value.{Value}
-use Rattle.lua_model.specs.Datum.{Datum}
 use Rattle.lua_model.specs.Operators.{index}
 use Rattle.lua_heap.specs.State.{HeapState, datum, IsOf}
-use Rattle.rules.specs.State.{State, Effect, need, register, operand, with_registers}
+use Rattle.rules.specs.State.{operand}
 use Rattle.rules.specs.Step.{give, effect}
 use Rattle.machine.specs.Frames.{showing}
 use Rattle.machine.specs.declared.function.Function.{Function}
 use Rattle.machine.specs.Words.{AreKnown}
 use Rattle.machine.proofs.Beside.{index_beside}
-use Rattle.machine.proofs.Showing.{one_need, there, give_does, does_from}
+use Rattle.machine.proofs.Methods.{method_of, self_is}
+use Rattle.machine.proofs.Showing.{one_need, give_does, does_from}
 use Rattle.machine.proofs.words.tables.get_method.Goals as goal
 
 known_with : (h : HeapState) (f : Function) (values : List Value) (a : ℕ) (v : Value) → IsOf h v → AreKnown h f values → AreKnown h f (slice_set values a v)
@@ -28,13 +26,6 @@ index-requires-clause-key c =
     let old = c.args.heap.now in
     c.operand-key.ensures.known old (known_with old c.args.function.now c.args.registers.now (c.args.i.a + 1) c.register-on.result (c.register-on.ensures.known old c.requires.known.registers) c.requires.known)
 
--- SELF, by the register of its object
-abbrev selfed : State → Instr → ℕ → Effect
-selfed s i r =
-    need (register s i.b) (λ on. need (register s r) (λ before.
-    let t = with_registers s (slice_set s.top.registers r on) in
-    need (operand t i.c) (λ key. give t i.a (index t.store on key))))
-
 pub returns : goal.returns
 returns c pc =
     let old = c.args.heap.now in
@@ -46,19 +37,10 @@ returns c pc =
     let object_known = c.register-on.ensures.known old c.requires.known.registers in
     let known = known_with old c.args.function.now values (i.a + 1) object object_known c.requires.known in
     let key = datum old c.operand-key.result in
-    let next : State → Effect = λ s. need (operand s i.c) (λ key. give s i.a (index s.store on key)) in
     let within : i.a + 1 < length values = omega (arith, c.requires.a) in
-    does_from (λ m. effect op.Self_ m i) next old c.index.new.heap c.args.function.now values between c.give.new.registers pc c.give.result (length-set values (i.a + 1) object)
-    (λ m runs.
-    let s = showing m old values in
-    let behind : suc i.a ≡ i.a + 1 = omega arith in
-    ap (selfed s i) behind
-    ∙ one_need (register s i.b) on (λ on. need (register s (i.a + 1)) (λ before.
-    let t = with_registers s (slice_set s.top.registers (i.a + 1) on) in
-    need (operand t i.c) (λ key. give t i.a (index t.store on key)))) (c.register-on.ensures.value old)
-    ∙ ap (λ (o : Option Datum). need o (λ before. next (with_registers s (slice_set s.top.registers (i.a + 1) on)))) (there m old values (i.a + 1) within).1
-    ∙ ap (λ ds. next (with_registers s ds)) (sym (map-set (datum old) values (i.a + 1) object)))
-    (give_does next old c.index.new.heap c.args.function.now between c.give.new.registers pc i.a c.in_ok-act.act c.give.result (λ s. index s on key) known.registers c.index.ensures.only_texts c.index.ensures.keeps c.in_ok-act.ensures.act c.in_ok-act.ensures.known
+    does_from (λ m. effect op.Self_ m i) (method_of on i) old c.index.new.heap c.args.function.now values between c.give.new.registers pc c.give.result (length-set values (i.a + 1) object)
+    (λ m runs. self_is m old values i object within (c.register-on.ensures.value old))
+    (give_does (method_of on i) old c.index.new.heap c.args.function.now between c.give.new.registers pc i.a c.in_ok-act.act c.give.result (λ s. index s on key) known.registers c.index.ensures.only_texts c.index.ensures.keeps c.in_ok-act.ensures.act c.in_ok-act.ensures.known
     (λ hosts. index_beside old hosts on key)
     (λ m runs.
     let s = showing m old between in

@@ -1,0 +1,60 @@
+-- Words of one frame in a row, whose pc is kept beside it.
+use Rattle.std.proofs.Common.{◌≡◌, ◌∙◌, ◌+◌, ◌<◌, ℕ, suc, List, length, Option, Some, None, IfSome, OnSome, refl, sym, subst, arith}
+use Rattle.std.specs.Prelude.{get_or, slice_get, option_and_then}
+use Rattle.std.proofs.lemmas.Option.{slice_get_read, none-some, same_Some}
+use Rattle.opcode.specs.Reading.{instr_of}
+use Rattle.opcode.specs.declared.word.Instr.{Instr}
+use Rattle.machine.specs.declared.function.Function.{Function}
+use Rattle.machine.specs.declared.running.Running.{Running}
+use Rattle.machine.specs.Fits.{IsOther}
+use Rattle.machine.specs.Ready.{FitsAt, GoesNext, GoesOn, GoesSteps, HasWord, IsOtherNext, IsReadyOnwards, with_pc}
+use Rattle.machine.specs.Whole.{IsSafe}
+use Rattle.machine.proofs.WordsNext.{next_in_place, safe_behind_word, word_decoded, word_fits, word_there}
+
+-- what a call that did its work ensures, put together
+pub if_some_all : {T : Type 0} (o : Option T) (P R : T → Type 0) (Q S : Type 0) → ((x : T) → P x → Q → S → R x) → IfSome o P → OnSome o Q → OnSome o S → IfSome o R
+if_some_all (Some x) P R Q S leads p q s = leads x p q s
+if_some_all None P R Q S leads p q s = p
+
+-- the function that was read before the row is that of the topmost frame
+pub row_function : (fs : List Function) (f : Function) (old k : Running) → IsSafe fs old → f ≡ get_or fs old.top.function f → k.top.function ≡ old.top.function → slice_get fs k.top.function ≡ Some f
+row_function fs f old k safe read same = subst (λ n. slice_get fs n ≡ Some f) (sym same) (slice_get_read fs (length fs) old.top.function f refl safe.top_frame.function read)
+
+-- after so many words
+module _ (fs : List Function) (f : Function) (old k : Running) (pc n : ℕ) (ready : IsReadyOnwards fs old) (went : GoesSteps fs n old (with_pc k pc)) (at : slice_get fs k.top.function ≡ Some f) where
+  -- there is a word at the pc
+  word : HasWord fs f (with_pc k pc)
+  word = ready n (with_pc k pc) went f at
+
+  pub row_there : pc < length f.code.items
+  row_there = word_there fs f (with_pc k pc) word
+
+  module _ (w : ℕ) (o : Option Instr) (read : w ≡ get_or f.code.items pc w) (decoded : o ≡ instr_of w) where
+    is_word : option_and_then instr_of (slice_get f.code.items pc) ≡ o
+    is_word = word_decoded fs f (with_pc k pc) w o word read decoded
+
+    pub row_decoded : o ≡ None → ⊥
+    row_decoded none = none-some word.i (sym (is_word ∙ none) ∙ word.at)
+
+    -- that may be done
+    pub row_fits : (i : Instr) → o ≡ Some i → IsSafe fs (with_pc k pc) → FitsAt f k (pc + 1) i
+    row_fits i some safe = record {
+      functions = fs;
+      safe = safe_behind_word fs (with_pc k pc) k.top.pc safe;
+      at = at;
+      fits = word_fits fs f (with_pc k pc) i word (is_word ∙ some);
+    }
+
+    -- and is one word more, where it was done
+    pub row_further : (i : Instr) (new : Running) → o ≡ Some i → GoesOn fs i (with_pc k (pc + 1)) new → IsSafe fs (with_pc k pc) → GoesSteps fs (n + 1) old new × IsSafe fs new
+    row_further i new some done safe =
+        let next : GoesNext fs (with_pc k pc) new = next_in_place fs f (with_pc k pc) new i at (is_word ∙ some) done in
+        let behind_it : suc n ≡ n + 1 = omega arith in
+        (subst (λ m. GoesSteps fs m old new) behind_it (with_pc k pc, went, next), next.safe safe)
+
+    -- or is one that asks for more
+    pub row_other : (i : Instr) → o ≡ Some i → IsOther i.op → IsOtherNext fs (with_pc k pc)
+    row_other i some other g j here there =
+        let same_function : f ≡ g = cc in
+        let found : option_and_then instr_of (slice_get f.code.items pc) ≡ Some j = subst (λ (x : Function). option_and_then instr_of (slice_get x.code.items pc) ≡ Some j) (sym same_function) there in
+        subst (λ (x : Instr). IsOther x.op) (same_Some i j (sym (is_word ∙ some) ∙ found)) other

@@ -1,0 +1,68 @@
+use Rattle.std.proofs.Common.{◌∙◌, ap, sym, subst, arith}
+use Rattle.machine.specs.declared.running.Running.{Running}
+use Rattle.machine.specs.Ready.{IsOtherNext, with_pc}
+use Rattle.machine.proofs.WordsInRow.{row_function, row_there, row_decoded, row_fits, row_further, row_other}
+use Rattle.machine.proofs.row.do_row.Goals as goal
+
+pub index-requires : goal.index-requires
+index-requires c =
+    let fs = c.args.functions.now in
+    let old = c.args.running.now in
+    let f = c.index-functions-running.result in
+    let l = c.loop-done in
+    let (bound, went, safe, same) = l.invariant in
+    let at = row_function fs f old l.running c.requires.safe c.index-functions-running.is same in
+    omega (arith, f.code.ok.0, row_there fs f old l.running l.pc l.done c.requires.ready went at)
+
+pub unreachable-requires : goal.unreachable-requires
+unreachable-requires c =
+    let fs = c.args.functions.now in
+    let old = c.args.running.now in
+    let f = c.index-functions-running.result in
+    let l = c.loop-done in
+    let (bound, went, safe, same) = l.invariant in
+    let at = row_function fs f old l.running c.requires.safe c.index-functions-running.is same in
+    row_decoded fs f old l.running l.pc l.done c.requires.ready went at c.index.result.now c.decode.result c.index.ensures c.decode.ensures.reading c.in_default.is
+
+pub overflow_add-pc : goal.overflow_add-pc
+overflow_add-pc c =
+    let fs = c.args.functions.now in
+    let old = c.args.running.now in
+    let f = c.index-functions-running.result in
+    let l = c.loop-done in
+    let (bound, went, safe, same) = l.invariant in
+    let at = row_function fs f old l.running c.requires.safe c.index-functions-running.is same in
+    omega (arith, f.code.ok.0, f.code.ok.1, f.code.small, row_there fs f old l.running l.pc l.done c.requires.ready went at)
+
+pub word_at-requires : goal.word_at-requires
+word_at-requires c =
+    let fs = c.args.functions.now in
+    let old = c.args.running.now in
+    let f = c.index-functions-running.result in
+    let l = c.loop-done in
+    let (bound, went, safe, same) = l.invariant in
+    let at = row_function fs f old l.running c.requires.safe c.index-functions-running.is same in
+    row_fits fs f old l.running l.pc l.done c.requires.ready went at c.index.result.now c.decode.result c.index.ensures c.decode.ensures.reading c.in-Some.i c.in-Some.is safe
+
+pub loop-done-preserved : goal.loop-done-preserved
+loop-done-preserved c =
+    let fs = c.args.functions.now in
+    let old = c.args.running.now in
+    let f = c.index-functions-running.result in
+    let l = c.loop-done in
+    let (bound, went, safe, same) = l.invariant in
+    let at = row_function fs f old l.running c.requires.safe c.index-functions-running.is same in
+    let made = c.in-Some-word_at.ensures in
+    let further = row_further fs f old l.running l.pc l.done c.requires.ready went at c.index.result.now c.decode.result c.index.ensures c.decode.ensures.reading c.in-Some.i _ c.in-Some.is (made.some fs at) safe in
+    (omega (arith, c.loop-done-test.true), further.0, further.1, ap (λ x. x.function) made.top ∙ same)
+
+pub returns-in-None-clause-other : goal.returns-in-None-clause-other
+returns-in-None-clause-other c = λ fewer.
+    let fs = c.args.functions.now in
+    let old = c.args.running.now in
+    let f = c.index-functions-running.result in
+    let l = c.loop-done in
+    let (bound, went, safe, same) = l.invariant in
+    let at = row_function fs f old l.running c.requires.safe c.index-functions-running.is same in
+    let P : Running → Type 0 = λ k. IsOtherNext fs (with_pc k l.pc) in
+    subst P (sym c.in-None.ensures.none) (row_other fs f old l.running l.pc l.done c.requires.ready went at c.index.result.now c.decode.result c.index.ensures c.decode.ensures.reading c.in-Some.i c.in-Some.is c.in-None.ensures.other)

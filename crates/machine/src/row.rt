@@ -1,0 +1,58 @@
+// Words of the topmost frame in a row.
+ghost use Rattle.std.specs.Prelude.{◌≡◌, ◌<◌, ◌≤◌, List, slice_get, Some, IfSome, IfNone};
+ghost use Rattle.machine.specs.declared.function.Function.{Function as TheFunction};
+ghost use Rattle.machine.specs.Fits.{IsOther};
+ghost use Rattle.machine.specs.Ready.{FitsAt, GoesOn, GoesSteps, IsOtherNext, IsReadyOnwards, with_pc};
+ghost use Rattle.machine.specs.Whole.{IsSafe};
+
+use crate::function::Function;
+use crate::running::Running;
+use crate::topmost::quick_at;
+use crate::upvalues::{close, get_upvalue, set_upvalue};
+use opcode::{Instr, Op, decode};
+
+/// Does words of the topmost frame in place, one after another, at most so many; answers how many it did. Takes no memory.
+pub fn do_row(running: &mut Running, functions: &[Function], steps: u64) -> u64
+    requires safe { IsSafe functions.now running.old }
+    requires ready { IsReadyOnwards functions.now running.old }
+    ensures went { GoesSteps functions.now result running.old running.new }
+    ensures no_more { result ≤ steps }
+    ensures other { result < steps → IsOtherNext functions.now running.new }
+{
+    let function = &functions[running.top.function];
+    let mut pc = running.top.pc;
+    let mut done = 0;
+    while done < steps {
+        let Some(i) = decode(function.code[pc]) else {
+            unreachable!();
+        };
+        match word_at(running, function, pc + 1, i) {
+            Some(next) => pc = next,
+            None => {
+                running.top.pc = pc;
+                return done;
+            }
+        }
+        done += 1;
+    }
+    running.top.pc = pc;
+    done
+}
+
+/// Does a word in place, where it is a common one, and answers the pc that it goes on to; where it is not, nothing is done. The pc is that behind
+/// the word, whatever the pc of the frame.
+fn word_at(running: &mut Running, function: &Function, pc: usize, i: Instr) -> Option<usize>
+    requires { FitsAt function.now running.old pc i }
+    ensures some { (functions : List TheFunction) → slice_get functions running.old.top.function ≡ Some function.now → IfSome result (λ next. GoesOn functions i (with_pc running.old pc) (with_pc running.new next)) }
+    ensures none { IfNone result (running.new ≡ running.old) }
+    ensures other { IfNone result (IsOther i.op) }
+    ensures top { running.new.top ≡ running.old.top }
+{
+    match i.op {
+        Op::GetUpval => get_upvalue(running, i),
+        Op::SetUpval => set_upvalue(running, i),
+        Op::Close => close(running, i),
+        _ => return quick_at(running, function, pc, i),
+    }
+    Some(pc)
+}
