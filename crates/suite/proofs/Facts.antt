@@ -7,6 +7,7 @@ use Rattle.proto.specs.Chunk.{Chunk}
 use Rattle.chunk_io.specs.declared.fault.ChunkFault.{ChunkFault}
 use Rattle.chunk_io.specs.Items.{IsChunkOf}
 use Rattle.chunk_io.specs.Faults.{IsFault}
+use Rattle.host.specs.Hosts.{HostSetState}
 use Rattle.suite_io.specs.declared.calls.FileCall.{FileCall}
 use Rattle.suite_io.specs.Contents.{Contents}
 use Rattle.suite_io.specs.Calls.{fault_count}
@@ -36,7 +37,8 @@ use Rattle.suite.specs.Words.{Tells}
 use Rattle.suite.specs.Lines.{status_of, line_of, Refused, IsPut, Reported}
 use Rattle.suite.specs.Outcome.{IsFaultIn, IsLimitOf, HasNoChunk}
 use Rattle.suite.specs.Jobs.{IsCompiled, source_name}
-use Rattle.suite.specs.Causes.{Becomes}
+use Rattle.suite.specs.Work.{Unasked}
+use Rattle.suite.specs.Causes.{Becomes, IsRefusal}
 use Rattle.suite.proofs.SourceLemmas.{TokensAreOne}
 
 abbrev pub TokensOrFault : Type 0
@@ -175,6 +177,15 @@ refused_is Status.Unfinished result old new (inl r) = inl r.0
 refused_is Status.ScriptFailed result old new (inr r) = inr r
 refused_is Status.Unfinished result old new (inr r) = inr r
 
+-- at the outcome of a refusal hosts are as they were
+unasked_at : (outcome : Outcome) (before behind : HostSetState) → Unasked outcome before behind → IsRefusal (status_of outcome) → behind ≡ before
+unasked_at Outcome.BadWords before behind unasked refuses = unasked
+unasked_at (Outcome.BadSource fault) before behind unasked refuses = unasked
+unasked_at (Outcome.BadChunk fault) before behind unasked refuses = unasked
+unasked_at (Outcome.Rejected rejection) before behind unasked refuses = unasked
+unasked_at Outcome.ReadFault before behind unasked refuses = unasked
+unasked_at outcome before behind unasked refuses = absurd refuses
+
 module _ (err_before err_later : Option (List ℕ)) (err_old err_new : ℕ) where
   -- a status that no refusal gives is that of the outcome, and its line was taken
   put_is : (status : Status) (line : List ℕ) (result : Status) → IsPut status line result err_before err_later err_old err_new → (result ≡ Status.WriteFault → ⊥) → (result ≡ Status.OutOfMemory → ⊥) → (result ≡ status) × Takes err_before err_later line
@@ -206,6 +217,12 @@ module _ (err_before err_later : Option (List ℕ)) (err_old err_new : ℕ) wher
   settled_is Outcome.WriteFault file result r no_fault no_want = put_is Status.WriteFault _ result r no_fault no_want
   settled_is Outcome.OutOfMemory file result r no_fault no_want = put_is Status.OutOfMemory _ result r no_fault no_want
   settled_is (Outcome.ScriptFailed why) file result r no_fault no_want = put_is Status.ScriptFailed _ result r no_fault no_want
+
+  -- and at its status
+  pub unasked_is : (outcome : Outcome) (file : List ℕ) (result : Status) (before behind : HostSetState) → Reported outcome file result err_before err_later err_old err_new → Unasked outcome before behind → IsRefusal result → behind ≡ before
+  unasked_is outcome file result before behind r unasked refuses =
+      let s = settled_is outcome file result r (λ e. subst IsRefusal e refuses) (λ e. subst IsRefusal e refuses) in
+      unasked_at outcome before behind unasked (subst IsRefusal s.0 refuses)
 
   -- where no count rose, the status is that of the outcome, or memory ran out
   quiet_refused : (status result : Status) → Refused status result err_old err_new → (Rises err_old err_new → ⊥) → (result ≡ status) ⊎ (result ≡ Status.OutOfMemory)

@@ -13,6 +13,8 @@ use Rattle.first_form.specs.Source.{is_chunk, IsPrintList, IsFirstForm}
 use Rattle.agrees.specs.Agrees.{Agrees, AgreesFor}
 use Rattle.suite_io.specs.Taken.{Takes}
 use Rattle.suite.specs.declared.status.Status.{Status}
+use Rattle.suite.specs.declared.outcome.Outcome.{Outcome}
+use Rattle.suite.specs.Lines.{line_of}
 use Rattle.suite.specs.Words.{run_file}
 use Rattle.suite.specs.Worlds.{World, replies_of}
 use Rattle.suite.specs.Jobs.{End, stored, put, failed, unfinished, bad_source, bad_chunk, rejected, Comes, HasChunk, HasRun, source_name, ran_in}
@@ -102,13 +104,13 @@ module _ (laws : Laws) (agreement : Agreement) (file : Text) (steps : ℕ) (byte
     at_done (bad_chunk fault) comes e l = absurd (cc)
     at_done (rejected r) comes e l = absurd (cc)
 
-    pub is_meant : (result : Status)
+    pub is_meant : (name : List ℕ) (err_before err_later : Option (List ℕ)) (result : Status)
         → (result ≡ Status.Done → (end : End) × Comes (run_file file steps) bytes w end × (status_at end ≡ Status.Done) × Leaves (run_file file steps) end old new)
-        → (result ≡ Status.ScriptFailed → (why : List ℕ) × (text : List ℕ) × Comes (run_file file steps) bytes w (failed why text) × Leaves (run_file file steps) (failed why text) old new)
+        → (result ≡ Status.ScriptFailed → (why : List ℕ) × (text : List ℕ) × Comes (run_file file steps) bytes w (failed why text) × Leaves (run_file file steps) (failed why text) old new × Takes err_before err_later (line_of (Outcome.ScriptFailed why) name))
         → (result ≡ Status.Unfinished → (n : ℕ) × (text : List ℕ) × Comes (run_file file steps) bytes w (unfinished n text) × Leaves (run_file file steps) (unfinished n text) old new)
-        → IsMeant source w steps result old.taken new.taken
-    is_meant result ended fails goes = record {
+        → IsMeant source w steps name result old.taken new.taken err_before err_later
+    is_meant name err_before err_later result ended fails goes = record {
       done = λ e. let d = ended e in at_done d.0 d.1 d.2 d.3;
-      failed = λ e. let d = fails e in let m = meant (Failed d.0) d.1 (λ g. cc) d.2 in (m.0, d.0, m.1, subst (Takes old.taken new.taken) m.2 d.3.1);
+      failed = λ e. let d = fails e in let m = meant (Failed d.0) d.1 (λ g. cc) d.2 in (m.0, d.0, m.1, subst (Takes old.taken new.taken) m.2 d.3.1, d.4);
       unfinished = λ e ticks within. let d = goes e in going_by ticks (meant_by source w ticks).ending refl (λ over. not_meant d.1 d.2.1 ticks within over);
     }

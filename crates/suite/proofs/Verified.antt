@@ -14,14 +14,7 @@ use Rattle.suite.specs.Verifying.{IsRefused}
 not_sound : (job : Job) (file : Text) (bytes : List ℕ) (chunk : Chunk) (outcome : Outcome) → ((rejection : Rejection) (w : World) → IsRejectedAt file bytes rejection → Comes job bytes w (rejected rejection)) → HasChunk file bytes chunk → IsRefused chunk outcome → IsRefusal job bytes outcome
 not_sound job file bytes chunk (Outcome.Rejected rejection) comes has is = λ w. comes rejection w (record { chunk = chunk; has = has; rejected = is })
 not_sound job file bytes chunk Outcome.OutOfMemory comes has is = tt
-not_sound job file bytes chunk Outcome.Done comes has is = absurd is
-not_sound job file bytes chunk (Outcome.ScriptFailed why) comes has is = absurd is
-not_sound job file bytes chunk Outcome.BadWords comes has is = absurd is
-not_sound job file bytes chunk (Outcome.Unfinished steps) comes has is = absurd is
-not_sound job file bytes chunk (Outcome.BadSource fault) comes has is = absurd is
-not_sound job file bytes chunk (Outcome.BadChunk fault) comes has is = absurd is
-not_sound job file bytes chunk Outcome.ReadFault comes has is = absurd is
-not_sound job file bytes chunk Outcome.WriteFault comes has is = absurd is
+not_sound job file bytes chunk outcome comes has is = absurd is
 
 pub run_not_sound : (file : Text) (steps : ℕ) (bytes : List ℕ) (chunk : Chunk) (outcome : Outcome) → HasChunk file bytes chunk → IsRefused chunk outcome → IsRefusal (run_file file steps) bytes outcome
 run_not_sound file steps bytes chunk outcome has is = not_sound (run_file file steps) file bytes chunk outcome (λ rejection w at. at) has is

@@ -13,7 +13,8 @@ use Rattle.suite.specs.Worlds.{World}
 use Rattle.suite.specs.Outcome.{IsFaultIn}
 use Rattle.suite.specs.Jobs.{put, bad_source, bad_chunk, rejected, Comes}
 use Rattle.suite.specs.Reading.{IsRefusal, HasNone, outcome_of}
-use Rattle.suite.specs.Work.{Outside, Nothing, Does, PutsText, Works, outside, fetched}
+use Rattle.suite.specs.Work.{Outside, Unasked, Nothing, Does, PutsText, Works, outside, fetched}
+use Rattle.host.specs.Hosts.{HostSetState}
 use Rattle.suite_io.specs.declared.calls.FileCall.{FileCall}
 use Rattle.suite_io.specs.Calls.{call_of}
 use Rattle.suite_io.specs.Contents.{Contents}
@@ -27,12 +28,16 @@ refusal job bytes w (Outcome.BadSource fault) o is = inl (record { end = bad_sou
 refusal job bytes w (Outcome.BadChunk fault) o is = inl (record { end = bad_chunk fault; comes = is w; carried = (refl, nothing o) })
 refusal job bytes w (Outcome.Rejected rejection) o is = inl (record { end = rejected rejection; comes = is w; carried = (refl, nothing o) })
 refusal job bytes w Outcome.OutOfMemory o is = inr (inr (refl, nothing o))
-refusal job bytes w Outcome.Done o is = absurd is
-refusal job bytes w (Outcome.ScriptFailed why) o is = absurd is
-refusal job bytes w Outcome.BadWords o is = absurd is
-refusal job bytes w (Outcome.Unfinished steps) o is = absurd is
-refusal job bytes w Outcome.ReadFault o is = absurd is
-refusal job bytes w Outcome.WriteFault o is = absurd is
+refusal job bytes w outcome o is = absurd is
+
+-- where hosts are as they were, they are so at each outcome
+pub unasked_same : (outcome : Outcome) (before behind : HostSetState) → behind ≡ before → Unasked outcome before behind
+unasked_same Outcome.BadWords before behind same = same
+unasked_same (Outcome.BadSource fault) before behind same = same
+unasked_same (Outcome.BadChunk fault) before behind same = same
+unasked_same (Outcome.Rejected rejection) before behind same = same
+unasked_same Outcome.ReadFault before behind same = same
+unasked_same outcome before behind same = tt
 
 -- what a fault of reading comes to is a refusal
 pub fault_refused : (job : Job) (bytes : List ℕ) (fault : SourceFault) → ((why : Fault) → fault ≡ SourceFault.Bad why → (w : World) → Comes job bytes w (bad_source why)) → IsRefusal job bytes (outcome_of fault)
@@ -44,13 +49,7 @@ none_refused : (job : Job) (bytes : List ℕ) (outcome : Outcome) → ((fault : 
 none_refused job bytes (Outcome.BadSource fault) source chunk none = λ w. source fault w none
 none_refused job bytes (Outcome.BadChunk fault) source chunk none = λ w. chunk fault w none
 none_refused job bytes Outcome.OutOfMemory source chunk none = tt
-none_refused job bytes Outcome.Done source chunk none = absurd none
-none_refused job bytes (Outcome.ScriptFailed why) source chunk none = absurd none
-none_refused job bytes Outcome.BadWords source chunk none = absurd none
-none_refused job bytes (Outcome.Unfinished steps) source chunk none = absurd none
-none_refused job bytes (Outcome.Rejected rejection) source chunk none = absurd none
-none_refused job bytes Outcome.ReadFault source chunk none = absurd none
-none_refused job bytes Outcome.WriteFault source chunk none = absurd none
+none_refused job bytes outcome source chunk none = absurd none
 
 pub run_refused : (file : Text) (steps : ℕ) (bytes : List ℕ) (outcome : Outcome) → HasNone bytes outcome → IsRefusal (run_file file steps) bytes outcome
 run_refused file steps bytes outcome none = none_refused (run_file file steps) bytes outcome (λ fault w is. is) (λ fault w is. is) none

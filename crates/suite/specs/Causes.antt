@@ -9,7 +9,8 @@ use Rattle.lua_tree.specs.Syntax.{Source}
 use Rattle.lua_model.specs.Store.{output}
 use Rattle.lua_model.specs.Endings.{Course, Ended, Failed, Going}
 use Rattle.source_meaning.specs.Meaning.{meaning}
-use Rattle.suite.specs.Lines.{Refused}
+use Rattle.suite.specs.declared.outcome.Outcome.{Outcome}
+use Rattle.suite.specs.Lines.{Refused, line_of}
 use Rattle.suite.specs.Words.{Words, Job, Reads, file_of}
 use Rattle.suite.specs.Worlds.{World, replies_of}
 use Rattle.suite.specs.Jobs.{End, stored, put, failed, unfinished, bad_source, bad_chunk, rejected}
@@ -56,6 +57,15 @@ status_at (bad_source fault) = Status.BadSource
 status_at (bad_chunk fault) = Status.BadChunk
 status_at (rejected rejection) = Status.Rejected
 
+-- statuses of work that ended before a run began
+abbrev pub IsRefusal : Status → Type 0
+IsRefusal Status.BadWords = Unit {0}
+IsRefusal Status.BadSource = Unit {0}
+IsRefusal Status.BadChunk = Unit {0}
+IsRefusal Status.Rejected = Unit {0}
+IsRefusal Status.ReadFault = Unit {0}
+IsRefusal status = ⊥
+
 -- nothing is put or stored at it
 abbrev pub HasNoOutput : End → Type 0
 HasNoOutput (bad_source fault) = Unit {0}
@@ -75,9 +85,9 @@ Leaves job end old new = (new.contents ≡ old.contents) × Takes old.taken new.
 abbrev pub meant_by : Source → World → ℕ → Course
 meant_by source w ticks = meaning source w.hosts (replies_of w.calls) ticks
 
--- What a source means, and what its run came to: it has ended where its meaning ends, with the same text; it has failed where that fails, and is
--- going where that has not ended within an eighth of the steps.
-pub record IsMeant (source : Source) (w : World) (steps : ℕ) (status : Status) (before later : Option (List ℕ)) : Type 0 where
+-- What a source means, and what its run came to: it has ended where its meaning ends, with the same text; it has failed where that fails, with the
+-- same text and a line that says why; and it is going where that has not ended within an eighth of the steps.
+pub record IsMeant (source : Source) (w : World) (steps : ℕ) (name : List ℕ) (status : Status) (before later : Option (List ℕ)) (err_before err_later : Option (List ℕ)) : Type 0 where
   pub done : status ≡ Status.Done → (ticks : ℕ) × ((meant_by source w ticks).ending ≡ Ended) × Takes before later (output (meant_by source w ticks).events)
-  pub failed : status ≡ Status.ScriptFailed → (ticks : ℕ) × (why : List ℕ) × ((meant_by source w ticks).ending ≡ Failed why) × Takes before later (output (meant_by source w ticks).events)
+  pub failed : status ≡ Status.ScriptFailed → (ticks : ℕ) × (why : List ℕ) × ((meant_by source w ticks).ending ≡ Failed why) × Takes before later (output (meant_by source w ticks).events) × Takes err_before err_later (line_of (Outcome.ScriptFailed why) name)
   pub unfinished : status ≡ Status.Unfinished → (ticks : ℕ) → 8 * ticks ≤ steps → (meant_by source w ticks).ending ≡ Going

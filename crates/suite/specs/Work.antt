@@ -8,6 +8,7 @@ use Rattle.suite_io.specs.Contents.{Contents, Stores, OthersStay}
 use Rattle.suite_io.specs.Taken.{Takes, Rises}
 use Rattle.suite.specs.declared.outcome.Outcome.{Outcome}
 use Rattle.suite_io.specs.Parts.{TakesPart}
+use Rattle.host.specs.Hosts.{HostSetState}
 use Rattle.suite.specs.Words.{Job, run_file, list_file, verify_file, compile_file, file_of}
 use Rattle.suite.specs.Worlds.{World}
 use Rattle.suite.specs.Jobs.{End, stored, put, failed, unfinished, bad_source, bad_chunk, rejected, Comes, HasPut, HasStopped}
@@ -128,6 +129,15 @@ Works (Some job) w outcome old new =
     ((outcome ≡ Outcome.ReadFault) × (new ≡ fetched job true old))
     ⊎ ((outcome ≡ Outcome.OutOfMemory) × (new ≡ old))
     ⊎ DoesFetched job w outcome old new
+
+-- hosts are as they were, where the work ended before a run began
+abbrev pub Unasked : Outcome → HostSetState → HostSetState → Type 0
+Unasked Outcome.BadWords before behind = behind ≡ before
+Unasked (Outcome.BadSource fault) before behind = behind ≡ before
+Unasked (Outcome.BadChunk fault) before behind = behind ≡ before
+Unasked (Outcome.Rejected rejection) before behind = behind ≡ before
+Unasked Outcome.ReadFault before behind = behind ≡ before
+Unasked outcome before behind = Unit {0}
 
 abbrev pub outside : Option Contents → List FileCall → Option (List ℕ) → ℕ → Outside
 outside contents calls taken faults = record { contents = contents; calls = calls; taken = taken; faults = faults }

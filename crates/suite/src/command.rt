@@ -3,7 +3,7 @@ ghost use Rattle.std.specs.Prelude.{◌≡◌, ◌≤◌, ◌⊎◌, Some, Optio
 ghost use Rattle.host.specs.Views.{set_told};
 ghost use Rattle.suite.specs.Words.{job_of};
 ghost use Rattle.suite.specs.Worlds.{world};
-ghost use Rattle.suite.specs.Work.{Works, Does, IsRun, outside};
+ghost use Rattle.suite.specs.Work.{Works, Does, IsRun, Unasked, outside};
 
 use crate::compiling::compile_file;
 use crate::listing::list_bytes;
@@ -25,6 +25,7 @@ pub fn do_command<F: Files, O: Sink>(
 ) -> Outcome
     ensures works { Works (Some (job_of command.entry)) (world (set_told heard hosts.old) (set_told heard hosts.new)) result (outside (F.contents files.old) (F.calls files.old) (O.taken out.old) (O.faults out.old)) (outside (F.contents files.new) (F.calls files.new) (O.taken out.new) (O.faults out.new)) }
     ensures hosts { IsRun (Some (job_of command.entry)) ⊎ (set_told heard hosts.new ≡ set_told heard hosts.old) }
+    ensures unasked { Unasked result (set_told heard hosts.old) (set_told heard hosts.new) }
     ensures never_falls { O.faults out.old ≤ O.faults out.new }
 {
     match files.fetch(alloc, command.file()) {
@@ -44,6 +45,7 @@ fn do_bytes<F: Files, O: Sink>(
 ) -> Outcome
     ensures does { Does (job_of command.entry) bytes.now (world (set_told heard hosts.old) (set_told heard hosts.new)) result (outside (F.contents files.old) (F.calls files.old) (O.taken out.old) (O.faults out.old)) (outside (F.contents files.new) (F.calls files.new) (O.taken out.new) (O.faults out.new)) }
     ensures hosts { IsRun (Some (job_of command.entry)) ⊎ (set_told heard hosts.new ≡ set_told heard hosts.old) }
+    ensures unasked { Unasked result (set_told heard hosts.old) (set_told heard hosts.new) }
     ensures never_falls { O.faults out.old ≤ O.faults out.new }
 {
     match command {

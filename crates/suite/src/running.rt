@@ -9,7 +9,7 @@ ghost use Rattle.host.specs.Views.{set_told};
 ghost use Rattle.suite.specs.Words.{run_file};
 ghost use Rattle.suite.specs.Worlds.{world};
 ghost use Rattle.suite.specs.Jobs.{HasChunk};
-ghost use Rattle.suite.specs.Work.{Does, outside};
+ghost use Rattle.suite.specs.Work.{Does, Unasked, outside};
 
 use crate::listing::chunk_of;
 use crate::outcome::Outcome;
@@ -30,6 +30,7 @@ pub fn run_bytes<O: Sink>(
     hosts: &mut HostSet,
 ) -> Outcome
     ensures does { (contents : Option Contents) (calls : List FileCall) → Does (run_file (string_bytes file.now) steps) bytes.now (world (set_told heard hosts.old) (set_told heard hosts.new)) result (outside contents calls (O.taken out.old) (O.faults out.old)) (outside contents calls (O.taken out.new) (O.faults out.new)) }
+    ensures unasked { Unasked result (set_told heard hosts.old) (set_told heard hosts.new) }
     ensures never_falls { O.faults out.old ≤ O.faults out.new }
 {
     let proto = match chunk_of(alloc, bytes, file) {
@@ -50,6 +51,7 @@ fn run_chunk<O: Sink>(
     hosts: &mut HostSet,
 ) -> Outcome
     ensures does { (file : Text) (bytes : List ℕ) → HasChunk file bytes (view_proto chunk.now) → (contents : Option Contents) (calls : List FileCall) → Does (run_file file steps) bytes (world (set_told heard hosts.old) (set_told heard hosts.new)) result (outside contents calls (O.taken out.old) (O.faults out.old)) (outside contents calls (O.taken out.new) (O.faults out.new)) }
+    ensures unasked { Unasked result (set_told heard hosts.old) (set_told heard hosts.new) }
     ensures never_falls { O.faults out.old ≤ O.faults out.new }
 {
     // Called for its clause that the chunk is sound.

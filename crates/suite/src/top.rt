@@ -14,8 +14,8 @@ ghost use Rattle.suite.specs.Words.{Job, run_file, job_in, texts, NoCommand, Ask
 ghost use Rattle.suite.specs.Worlds.{world};
 ghost use Rattle.suite.specs.Lines.{Reported, status_of, line_of};
 ghost use Rattle.suite.specs.Jobs.{End, Comes, failed, unfinished, bad_source, bad_chunk, rejected};
-ghost use Rattle.suite.specs.Work.{Works, MayPut, IsRun, outside};
-ghost use Rattle.suite.specs.Causes.{Becomes, Fetched, FilesFor, StoreFailed, NoFault, Leaves, HasNoOutput, IsMeant, status_at};
+ghost use Rattle.suite.specs.Work.{Works, MayPut, IsRun, Unasked, outside};
+ghost use Rattle.suite.specs.Causes.{Becomes, Fetched, FilesFor, StoreFailed, NoFault, Leaves, HasNoOutput, IsRefusal, IsMeant, status_at};
 
 use crate::command::do_command;
 use crate::outcome::Outcome;
@@ -39,10 +39,11 @@ pub fn suite<F: Files, O: Sink, E: Sink>(
     err: &mut E,
     hosts: &mut HostSet,
 ) -> Status
-    // The whole: what the work came to, and what became of its status while its line was put.
+    // The whole: what the work came to, what became of its status while its line was put, and that a refusal before a run left the hosts as they were.
     ensures whole { (settled : Outcome)
         × Works (job_in (texts words.now)) (world (set_told heard hosts.old) (set_told heard hosts.new)) settled (outside (F.contents files.old) (F.calls files.old) (O.taken out.old) (O.faults out.old)) (outside (F.contents files.new) (F.calls files.new) (O.taken out.new) (O.faults out.new))
-        × Reported settled (named words.now) result (E.taken err.old) (E.taken err.new) (E.faults err.old) (E.faults err.new) }
+        × Reported settled (named words.now) result (E.taken err.old) (E.taken err.new) (E.faults err.old) (E.faults err.new)
+        × Unasked settled (set_told heard hosts.old) (set_told heard hosts.new) }
 
     // What the words ask for is carried out, where no count of faults rose: a chunk and a source are run, listed or verified, a source is
     // compiled, and what has a fault, or is run or verified and not sound, is refused.
@@ -65,6 +66,8 @@ pub fn suite<F: Files, O: Sink, E: Sink>(
 
     // Hosts are asked and closed by a run alone.
     ensures hosts { IsRun (job_in (texts words.now)) ⊎ (set_told heard hosts.new ≡ set_told heard hosts.old) }
+    // Nor are they where the work ended before a run began.
+    ensures unasked { IsRefusal result → set_told heard hosts.new ≡ set_told heard hosts.old }
 
     // When each status comes.
     ensures script_failed { result ≡ Status.ScriptFailed → Fetched words.now false (F.calls files.old) (F.calls files.new)
@@ -96,7 +99,7 @@ pub fn suite<F: Files, O: Sink, E: Sink>(
 
     // A list of printed numbers that is run does what it means.
     ensures printed { (file : Text) (steps : ℕ) (bytes : List ℕ) (source : Source) → Asks words.now (F.contents files.old) (run_file file steps) bytes → IsFirstForm bytes source
-        → IsMeant source (world (set_told heard hosts.old) (set_told heard hosts.new)) steps result (O.taken out.old) (O.taken out.new) }
+        → IsMeant source (world (set_told heard hosts.old) (set_told heard hosts.new)) steps (named words.now) result (O.taken out.old) (O.taken out.new) (E.taken err.old) (E.taken err.new) }
 
     // The line for `err`, whole wherever no put of it can have been refused.
     ensures line { result ≢ Status.WriteFault → result ≢ Status.OutOfMemory → (settled : Outcome) × (status_of settled ≡ result)
