@@ -1,13 +1,8 @@
 -- To be believed. A pool as contracts see it: its texts, by their ids (a string is its bytes, manual 2.2). That no two of them are alike makes ids stand for texts.
-use Rattle.std.specs.Prelude.{ℕ, List, [], ◌∷◌, ◌++◌, map, if◌then◌else◌}
-use Rattle.std.specs.Global.{Vec}
+use Rattle.std.specs.Prelude.{List, [], ◌∷◌, ◌++◌, if◌then◌else◌}
 use Rattle.std.specs.List.{list_any, IsDistinct}
 use Rattle.std.specs.Str.{bytes_eq}
 use Rattle.lua_num.specs.Bytes.{Text}
-
--- the bytes of each vector
-abbrev pub texts_of : List (Vec ℕ) → List Text
-texts_of vectors = map (λ v. v.items) vectors
 
 -- a text that is there keeps its place, and another one goes last
 abbrev pub with_text : List Text → Text → List Text

@@ -6,6 +6,9 @@ ghost use Rattle.std.specs.List.{list_any};
 ghost use Rattle.std.specs.Str.{bytes_eq};
 ghost use Rattle.string_pool.specs.Texts.{with_text, TextsDiffer};
 
+mod key;
+
+use crate::key::{Key, Sought};
 use indexmap::IndexSet;
 use lua_model::TextId;
 use std::alloc::{AllocError, Global};
@@ -14,19 +17,19 @@ use std::marker::Model;
 /// Texts by their ids, no two of them alike. Contracts see the list of their bytes.
 #[derive(Drop)]
 pub struct Pool {
-    texts: IndexSet<Vec<u8>>,
+    texts: IndexSet<Key>,
 }
 
 impl Model for Pool {
     ghost use Rattle.std.specs.Prelude.{List};
     ghost use Rattle.lua_num.specs.Bytes.{Text};
-    ghost use Rattle.string_pool.specs.Texts.{texts_of, TextsDiffer};
+    ghost use Rattle.string_pool.specs.Texts.{TextsDiffer};
 
     ghost Value = { List Text };
 
-    ghost view = { λ p. texts_of p.texts.keys };
+    ghost view = { λ p. p.texts.keys };
 
-    ghost invariant = { λ p. TextsDiffer (texts_of p.texts.keys) };
+    ghost invariant = { λ p. TextsDiffer p.texts.keys };
 }
 
 impl Pool {
@@ -49,10 +52,11 @@ impl Pool {
         ensures there { OnErr result (list_any (bytes_eq bytes.now) self.old ≡ false) }
         ensures err { OnErr result (self.new ≡ self.old) }
     {
-        if let Some((index, _)) = self.texts.get_full(bytes) {
+        if let Some((index, _)) = self.texts.get_full(Sought { bytes }) {
             return Ok(TextId { index });
         }
-        let (index, _) = self.texts.insert_full(bytes.to_vec(alloc)?)?;
+        let bytes = bytes.to_vec(alloc)?;
+        let (index, _) = self.texts.insert_full(Key { bytes })?;
         Ok(TextId { index })
     }
 
@@ -61,6 +65,6 @@ impl Pool {
         requires { id.index < length self.now }
         ensures { result.now ≡ get_or self.now id.index [] }
     {
-        self.texts[id.index].as_slice()
+        self.texts[id.index].bytes.as_slice()
     }
 }
