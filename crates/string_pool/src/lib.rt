@@ -1,7 +1,7 @@
 //! The texts of a run, each kept once.
 #![tactic(auto)]
 
-ghost use Rattle.std.specs.Prelude.{◌≡◌, ◌<◌, false, Some, slice_get, [], length, get_or, IfOk, OnOk, OnErr};
+ghost use Rattle.std.specs.Prelude.{◌≡◌, ◌<◌, false, Some, slice_get, [], length, get_or, is_some, IfSome, IfOk, OnOk, OnErr};
 ghost use Rattle.std.specs.List.{list_any};
 ghost use Rattle.std.specs.Str.{bytes_eq};
 ghost use Rattle.string_pool.specs.Texts.{with_text, TextsDiffer};
@@ -52,12 +52,21 @@ impl Pool {
         ensures there { OnErr result (list_any (bytes_eq bytes.now) self.old ≡ false) }
         ensures err { OnErr result (self.new ≡ self.old) }
     {
-        if let Some((index, _)) = self.texts.get_full(Sought { bytes }) {
-            return Ok(TextId { index });
+        if let Some(id) = self.find(bytes) {
+            return Ok(id);
         }
         let bytes = bytes.to_vec(alloc)?;
         let (index, _) = self.texts.insert_full(Key { bytes })?;
         Ok(TextId { index })
+    }
+
+    /// The id of the text with these bytes, where there is one. In time linear in the bytes on average; it takes no memory.
+    pub fn find(&self, bytes: &[u8]) -> Option<TextId>
+        ensures id { IfSome result (λ id. slice_get self.now id.index ≡ Some bytes.now) }
+        ensures found { is_some result ≡ list_any (bytes_eq bytes.now) self.now }
+    {
+        let (index, _) = self.texts.get_full(Sought { bytes })?;
+        Some(TextId { index })
     }
 
     /// The bytes of an id that this pool gave, in constant time.
