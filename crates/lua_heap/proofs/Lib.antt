@@ -1,6 +1,7 @@
 pub mod Mapped
 pub mod Alike
 pub mod Entries
+pub mod Fields
 pub mod Growth
 pub mod Entities
 pub mod Names

@@ -1,6 +1,6 @@
 // The tables of a heap and their metatables.
 ghost use Rattle.std.specs.Prelude.{◌≡◌, ◌<◌, ◌↔◌, true, false, pos, suc, length, option_map, IfOk, IfSome, OnOk, OnErr, Err, Some, None};
-ghost use Rattle.lua_model.specs.Datum.{is_nil};
+ghost use Rattle.lua_model.specs.Datum.{is_nil, text};
 ghost use Rattle.lua_model.specs.Operators.{border};
 ghost use Rattle.lua_model.specs.Store.{table_at, raw_get, raw_set, new_table, with_metatable};
 ghost use Rattle.lua_heap.specs.State.{datum, IsOf, Keeps, pair_of, pairs_of, ArePairsOf, own_store, with_store, meta_of, IsMetaOf, has_key, next_of};
@@ -52,6 +52,23 @@ impl Heap {
         ensures known { IsOf self.now result }
     {
         self.tables[id.index].table.get(key)
+    }
+
+    /// The entry of a table under the text of these bytes, with no handler asked: nil where there is none. In time linear in the bytes on
+    /// average; it takes no memory.
+    pub fn field(&self, id: TableId, name: &[u8]) -> Value
+        requires table { id.index < length self.now.tables }
+        ensures value { datum self.now result ≡ raw_get (own_store self.now) id.index (text name.now) }
+        ensures known { IsOf self.now result }
+    {
+        match self.texts.find(name) {
+            Some(text) => self.raw_get(id, Value::Text(text)),
+            None => {
+                // the keys of a table are values of the heap
+                let _table = self.table(id);
+                Value::Nil
+            }
+        }
     }
 
     /// Sets the entry of a table, with no handler asked. Fails for a nil key, and where memory runs out, which it takes

@@ -31,13 +31,11 @@ at_most_asks s (number a) (number b) h = cc
 at_most_asks s (text a) (text b) h = cc
 at_most_asks s a b h = refl
 
--- at a later heap, once there is no handler `__le`
-pub at_most_swaps : (s t : Store) (a b c d : Datum) → t ≡ s → c ≡ a → d ≡ b → None ≡ at_most_of a b → is_nil (common_handler s a b (codes "__le")) ≡ true → ask_or (common_handler t c d (codes "__lt")) (d ∷ c ∷ []) negated (incomparable c d) ≡ at_most s a b
-at_most_swaps s t a b c d e f g none absent =
-    let swapped : Store → Datum → Datum → Act = λ t c d. ask_or (common_handler t c d (codes "__lt")) (d ∷ c ∷ []) negated (incomparable c d) in
-    let here : swapped t c d ≡ swapped s a b = λ i. swapped (e i) (f i) (g i) in
-    let choice : Bool → Act = λ v. if v then swapped s a b else call (common_handler s a b (codes "__le")) (a ∷ b ∷ []) truth in
-    here ∙ sym (ap choice absent) ∙ sym (at_most_asks s a b none)
+-- where there is no handler `__le`
+pub at_most_swaps : (s : Store) (a b : Datum) → None ≡ at_most_of a b → is_nil (common_handler s a b (codes "__le")) ≡ true → ask_or (common_handler s a b (codes "__lt")) (b ∷ a ∷ []) negated (incomparable a b) ≡ at_most s a b
+at_most_swaps s a b none absent =
+    let choice : Bool → Act = λ v. if v then ask_or (common_handler s a b (codes "__lt")) (b ∷ a ∷ []) negated (incomparable a b) else call (common_handler s a b (codes "__le")) (a ∷ b ∷ []) truth in
+    sym (ap choice absent) ∙ sym (at_most_asks s a b none)
 
 pub acts_alike : (h : HeapState) (r : Result Answer AllocError) (x y : Act) → x ≡ y → IfOk r (λ a. act_of h a ≡ x) → IfOk r (λ a. act_of h a ≡ y)
 acts_alike h (Ok a) x y e f = f ∙ e

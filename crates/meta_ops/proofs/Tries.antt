@@ -8,9 +8,11 @@ use Rattle.lua_model.specs.Acts.{fail_text}
 use Rattle.lua_model.specs.Operators.{index_within, set_index_within}
 use Rattle.lua_heap.specs.State.{HeapState, datum, IsOf, own_store, Keeps, OnlyTexts}
 use Rattle.lua_heap.proofs.Callers.{keeps_itself, keeps_both}
-use Rattle.meta_ops.specs.Acts.{act_of}
+use Rattle.meta_ops.specs.Acts.{act_of, found_of, IsFoundOf}
 use Rattle.meta_ops.specs.declared.act.Act.{Act}
 use Rattle.meta_ops.specs.declared.indexing.Step.{Step}
+use Rattle.meta_ops.specs.declared.indexing.Tried.{Tried}
+use Rattle.meta_ops.specs.declared.indexing.Found.{Found}
 use Rattle.lua_heap.specs.Grown.{Grown}
 use Rattle.meta_ops.specs.Steps.{IsRead, IsWritten, IsReading, IsWriting}
 
@@ -30,51 +32,34 @@ same_store s t a = ap own_store a
 
 -- ---- reads
 
-read_is : (s t : HeapState) (at key : Value) (r step : Step) → r ≡ step → IsRead s t at key r → IsRead s t at key step
-read_is s t at key r step is read = let P : Step → Type 0 = λ x. IsRead s t at key x in subst P is read
-
--- a step of the definition, seen from the first heap
-read_from : (s t : Store) (k l : Datum) → t ≡ s → l ≡ k → (n m : ℕ) (x y : Datum) → index_within n t x l ≡ index_within m t y l → index_within n s x k ≡ index_within m s y k
-read_from s t k l e f n m x y h =
-    let P : Store → Type 0 = λ w. index_within n w x l ≡ index_within m w y l in
-    let Q : Datum → Type 0 = λ w. index_within n s x w ≡ index_within m s y w in
-    subst Q f (subst P e h)
-
-answer_from : (s t : Store) (k l : Datum) → t ≡ s → l ≡ k → (n : ℕ) (x : Datum) (a : model.Act) → a ≡ index_within n t x l → a ≡ index_within n s x k
-answer_from s t k l e f n x a h =
-    let P : Store → Type 0 = λ w. a ≡ index_within n w x l in
-    let Q : Datum → Type 0 = λ w. a ≡ index_within n s x w in
-    subst Q f (subst P e h)
-
-pub reading_start : (s : HeapState) (on key : Value) (limit : ℕ) → IsOf s on → IsReading s s on key on limit 0
-reading_start s on key limit h = record {
-  grown = grown_itself s;
-  known = h;
-  left = λ more e. ap (λ n. index_within n (own_store s) (datum s on) (datum s key)) (omega arith);
+pub reading_start : (h : HeapState) (on key : Value) (limit : ℕ) → IsOf h on → IsReading h on key on limit 0
+reading_start h on key limit known = record {
+  known = known;
+  left = λ more e. ap (λ n. index_within n (own_store h) (datum h on) (datum h key)) (omega arith);
 }
 
-pub reading_next : {first s t : HeapState} {on key at v : Value} {limit tried : ℕ} → IsReading first s on key at limit tried → IsOf first key → Grown s t → (r : Step) → r ≡ Step.Next v → IsRead s t at key r → IsReading first t on key v limit (tried + 1)
-reading_next {first} {s} {t} {on} {key} {at} {v} {limit} {tried} reading k g r is read =
-    let step = read_is s t at key r (Step.Next v) is read in
+read_is : (h : HeapState) (at key : Value) (r tried : Tried) → r ≡ tried → IsRead h at key r → IsRead h at key tried
+read_is h at key r tried is read = let P : Tried → Type 0 = λ x. IsRead h at key x in subst P is read
+
+pub reading_next : {h : HeapState} {on key at v : Value} {limit tried : ℕ} → IsReading h on key at limit tried → (r : Tried) → r ≡ Tried.Next v → IsRead h at key r → IsReading h on key v limit (tried + 1)
+reading_next {h} {on} {key} {at} {v} {limit} {tried} reading r is read =
+    let next = read_is h at key r (Tried.Next v) is read in
     record {
-      grown = grown_both first s t reading.grown g;
-      known = step.1;
+      known = next.1;
       left = λ more e.
           let f : suc more + tried ≡ limit = omega arith in
-          reading.left (suc more) f
-          ∙ read_from (own_store first) (own_store s) (datum first key) (datum s key) (same_store first s reading.grown.only_texts) (reading.grown.keeps key k).1 (suc more) more (datum s at) (datum t v) (step.0 more);
+          reading.left (suc more) f ∙ next.0 more;
     }
 
-pub reading_done : {first s : HeapState} {on key at : Value} {limit tried : ℕ} (t : HeapState) (act : Act) → IsReading first s on key at limit tried → IsOf first key → tried < limit → (r : Step) → r ≡ Step.Done act → IsRead s t at key r → act_of t act ≡ index_within limit (own_store first) (datum first on) (datum first key)
-reading_done {first} {s} {on} {key} {at} {limit} {tried} t act reading k below r is read =
-    let step = read_is s t at key r (Step.Done act) is read in
+pub reading_done : {h : HeapState} {on key at : Value} {limit tried : ℕ} (found : Found) → IsReading h on key at limit tried → tried < limit → (r : Tried) → r ≡ Tried.Done found → IsRead h at key r → (found_of h (datum h key) found ≡ index_within limit (own_store h) (datum h on) (datum h key)) × IsFoundOf h found
+reading_done {h} {on} {key} {at} {limit} {tried} found reading below r is read =
+    let done = read_is h at key r (Tried.Done found) is read in
     let more = limit - (tried + 1) in
     let f : suc more + tried ≡ limit = omega arith in
-    answer_from (own_store first) (own_store s) (datum first key) (datum s key) (same_store first s reading.grown.only_texts) (reading.grown.keeps key k).1 (suc more) (datum s at) (act_of t act) (step.0 more)
-    ∙ sym (reading.left (suc more) f)
+    (done.0 more ∙ sym (reading.left (suc more) f), done.1)
 
-pub reading_over : {first s : HeapState} {on key at : Value} {limit tried : ℕ} → IsReading first s on key at limit tried → tried ≡ limit → index_within limit (own_store first) (datum first on) (datum first key) ≡ fail_text (codes "loop in gettable")
-reading_over {first} {s} {on} {key} {at} {limit} {tried} reading e = reading.left 0 (omega arith)
+pub reading_over : {h : HeapState} {on key at : Value} {limit tried : ℕ} → IsReading h on key at limit tried → tried ≡ limit → index_within limit (own_store h) (datum h on) (datum h key) ≡ fail_text (codes "loop in gettable")
+reading_over {h} {on} {key} {at} {limit} {tried} reading e = reading.left 0 (omega arith)
 
 -- ---- writes
 

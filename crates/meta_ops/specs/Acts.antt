@@ -1,10 +1,13 @@
 -- To be believed. What the operators answer in the program, as what the definitions answer.
-use Rattle.std.specs.Prelude.{map}
+use Rattle.std.specs.Prelude.{[], ◌∷◌, codes, map}
 use Rattle.lua_model.specs.Acts as model
+use Rattle.lua_model.specs.Datum.{Datum}
+use Rattle.lua_model.specs.Operators.{index_fault}
 use Rattle.lua_heap.specs.State.{HeapState, datum, IsOf, AreOf}
 use Rattle.meta_ops.specs.declared.act.Then.{Then}
 use Rattle.meta_ops.specs.declared.act.Act.{Act}
 use Rattle.meta_ops.specs.declared.act.Callee.{Callee}
+use Rattle.meta_ops.specs.declared.indexing.Found.{Found}
 
 abbrev pub use_of : Then → model.Use
 use_of Then.Take = model.take
@@ -33,3 +36,16 @@ abbrev pub IsCalleeOf : HeapState → Callee → Type 0
 IsCalleeOf h (Callee.Plain f) = IsOf h f
 IsCalleeOf h (Callee.Through handler) = IsOf h handler
 IsCalleeOf h (Callee.Fail v) = IsOf h v
+
+-- what was found for a key is what a read of it answers
+abbrev pub found_of : HeapState → Datum → Found → model.Act
+found_of h k (Found.Value v) = model.value (datum h v)
+found_of h k (Found.Handler handler table) = model.call (datum h handler) (datum h table ∷ k ∷ []) model.take
+found_of h k (Found.NoTable v) = model.failure (index_fault (datum h v))
+found_of h k Found.NoEnd = model.fail_text (codes "loop in gettable")
+
+abbrev pub IsFoundOf : HeapState → Found → Type 0
+IsFoundOf h (Found.Value v) = IsOf h v
+IsFoundOf h (Found.Handler handler table) = IsOf h handler × IsOf h table
+IsFoundOf h (Found.NoTable v) = IsOf h v
+IsFoundOf h Found.NoEnd = Unit {0}

@@ -3,16 +3,17 @@ use Rattle.std.specs.Prelude.{◌≡◌, ℕ, suc, ◌+◌}
 use Rattle.lua_model.specs.declared.Value.{Value}
 use Rattle.lua_model.specs.Operators.{index_within, set_index_within}
 use Rattle.lua_heap.specs.State.{HeapState, datum, IsOf, own_store, OnlyTexts}
-use Rattle.meta_ops.specs.Acts.{act_of, IsActOf}
+use Rattle.meta_ops.specs.Acts.{act_of, found_of, IsActOf, IsFoundOf}
 use Rattle.lua_heap.specs.Grown.{Grown}
 use Rattle.meta_ops.specs.declared.indexing.Step.{Step}
+use Rattle.meta_ops.specs.declared.indexing.Tried.{Tried}
 
 -- a read is done, or goes on at another value
-abbrev pub IsRead : (old new : HeapState) → (on key : Value) → Step → Type 0
-IsRead old new on key (Step.Done act) =
-    ((more : ℕ) → act_of new act ≡ index_within (suc more) (own_store old) (datum old on) (datum old key)) × IsActOf new act
-IsRead old new on key (Step.Next v) =
-    ((more : ℕ) → index_within (suc more) (own_store old) (datum old on) (datum old key) ≡ index_within more (own_store old) (datum new v) (datum old key)) × IsOf new v
+abbrev pub IsRead : HeapState → (on key : Value) → Tried → Type 0
+IsRead h on key (Tried.Done found) =
+    ((more : ℕ) → found_of h (datum h key) found ≡ index_within (suc more) (own_store h) (datum h on) (datum h key)) × IsFoundOf h found
+IsRead h on key (Tried.Next v) =
+    ((more : ℕ) → index_within (suc more) (own_store h) (datum h on) (datum h key) ≡ index_within more (own_store h) (datum h v) (datum h key)) × IsOf h v
 
 -- a write is done, or goes on at another value with no table changed
 abbrev pub IsWritten : (old new : HeapState) → (on key value : Value) → Step → Type 0
@@ -23,10 +24,9 @@ IsWritten old new on key value (Step.Next v) =
     × IsOf new v × OnlyTexts old new
 
 -- so many values were tried of a read, and it goes on at another one
-pub record IsReading (first now : HeapState) (on key at : Value) (limit tried : ℕ) : Type 0 where
-  pub grown : Grown first now
-  pub known : IsOf now at
-  pub left : (more : ℕ) → more + tried ≡ limit → index_within limit (own_store first) (datum first on) (datum first key) ≡ index_within more (own_store first) (datum now at) (datum first key)
+pub record IsReading (h : HeapState) (on key at : Value) (limit tried : ℕ) : Type 0 where
+  pub known : IsOf h at
+  pub left : (more : ℕ) → more + tried ≡ limit → index_within limit (own_store h) (datum h on) (datum h key) ≡ index_within more (own_store h) (datum h at) (datum h key)
 
 -- so many values were tried of a write, and it goes on at another one
 pub record IsWriting (first now : HeapState) (on key value at : Value) (limit tried : ℕ) : Type 0 where

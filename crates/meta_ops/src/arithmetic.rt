@@ -52,7 +52,7 @@ pub fn negate(alloc: Global, heap: &mut Heap, a: Value) -> Result<Act, AllocErro
     if let Some(x) = number_of(heap, a) {
         return Ok(Act::Value(Value::Number(neg(x))));
     }
-    let handler = handler(alloc, heap, a, b"__unm")?;
+    let handler = handler(heap, a, b"__unm");
     if is_nil(handler) {
         Ok(Act::Fail(arithmetic_failure(alloc, heap, a)?))
     } else {
@@ -131,7 +131,7 @@ fn ask_arith(
     ensures known { IfOk result (IsActOf heap.new) }
     ensures grown { Grown heap.old heap.new }
 {
-    let handler = either_handler(alloc, heap, a, b, event_of(op))?;
+    let handler = either_handler(heap, a, b, event_of(op));
     if is_nil(handler) {
         Ok(Act::Fail(arithmetic_failure(alloc, heap, culprit)?))
     } else {

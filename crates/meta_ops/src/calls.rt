@@ -25,7 +25,7 @@ pub fn callee(alloc: Global, heap: &mut Heap, f: Value) -> Result<Callee, AllocE
     if is_function(f) {
         return Ok(Callee::Plain(f));
     }
-    let handler = handler(alloc, heap, f, b"__call")?;
+    let handler = handler(heap, f, b"__call");
     if is_function(handler) {
         return Ok(Callee::Through(handler));
     }

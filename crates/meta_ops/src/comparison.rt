@@ -53,7 +53,7 @@ fn equal(alloc: Global, heap: &mut Heap, a: Value, b: Value) -> Result<Act, Allo
     if !are_tables(a, b) {
         return Ok(Act::Value(Value::Bool(false)));
     }
-    let handler = common_handler(alloc, heap, a, b, b"__eq")?;
+    let handler = common_handler(heap, a, b, b"__eq");
     if is_nil(handler) {
         Ok(Act::Value(Value::Bool(false)))
     } else {
@@ -86,7 +86,7 @@ fn at_most(alloc: Global, heap: &mut Heap, a: Value, b: Value) -> Result<Act, Al
     if let Some(is_at_most) = plain_at_most(heap, a, b) {
         return Ok(Act::Value(Value::Bool(is_at_most)));
     }
-    let handler = common_handler(alloc, heap, a, b, b"__le")?;
+    let handler = common_handler(heap, a, b, b"__le");
     if is_nil(handler) {
         ask_not_greater(alloc, heap, a, b)
     } else {
@@ -102,7 +102,7 @@ fn ask_less(alloc: Global, heap: &mut Heap, a: Value, b: Value) -> Result<Act, A
     ensures known { IfOk result (IsActOf heap.new) }
     ensures grown { Grown heap.old heap.new }
 {
-    let handler = common_handler(alloc, heap, a, b, b"__lt")?;
+    let handler = common_handler(heap, a, b, b"__lt");
     if is_nil(handler) {
         incomparable(alloc, heap, a, b)
     } else {
@@ -118,7 +118,7 @@ fn ask_not_greater(alloc: Global, heap: &mut Heap, a: Value, b: Value) -> Result
     ensures known { IfOk result (IsActOf heap.new) }
     ensures grown { Grown heap.old heap.new }
 {
-    let handler = common_handler(alloc, heap, a, b, b"__lt")?;
+    let handler = common_handler(heap, a, b, b"__lt");
     if is_nil(handler) {
         incomparable(alloc, heap, a, b)
     } else {

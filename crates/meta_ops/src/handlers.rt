@@ -17,66 +17,49 @@ pub fn is_function(v: Value) -> bool
     matches!(v, Value::Closure(_) | Value::Native(_) | Value::Host(_))
 }
 
-/// The handler of a value for an event, nil where it has none. The event's name is interned only where the value has a
-/// metatable.
-pub fn handler(alloc: Global, heap: &mut Heap, v: Value, event: &[u8]) -> Result<Value, AllocError>
-    requires { IsOf heap.old v }
-    ensures value { IfOk result (λ r. datum heap.new r ≡ handler_of (own_store heap.old) (datum heap.old v) event.now) }
-    ensures known { IfOk result (IsOf heap.new) }
-    ensures grown { Grown heap.old heap.new }
+/// The handler of a value for an event, nil where it has none. It takes no memory.
+pub fn handler(heap: &Heap, v: Value, event: &[u8]) -> Value
+    requires { IsOf heap.now v }
+    ensures value { datum heap.now result ≡ handler_of (own_store heap.now) (datum heap.now v) event.now }
+    ensures known { IsOf heap.now result }
 {
     let Value::Table(table) = v else {
-        return Ok(Value::Nil);
+        return Value::Nil;
     };
-    let Some(metatable) = heap.metatable(table) else {
-        return Ok(Value::Nil);
-    };
-    let name = heap.intern(alloc, event)?;
-    Ok(heap.raw_get(metatable, Value::Text(name)))
+    match heap.metatable(table) {
+        Some(metatable) => heap.field(metatable, event),
+        None => Value::Nil,
+    }
 }
 
 /// The handler of the first operand, or else that of the second.
-pub fn either_handler(
-    alloc: Global,
-    heap: &mut Heap,
-    a: Value,
-    b: Value,
-    event: &[u8],
-) -> Result<Value, AllocError>
-    requires a { IsOf heap.old a }
-    requires b { IsOf heap.old b }
-    ensures value { IfOk result (λ r. datum heap.new r ≡ either_handler_of (own_store heap.old) (datum heap.old a) (datum heap.old b) event.now) }
-    ensures known { IfOk result (IsOf heap.new) }
-    ensures grown { Grown heap.old heap.new }
+pub fn either_handler(heap: &Heap, a: Value, b: Value, event: &[u8]) -> Value
+    requires a { IsOf heap.now a }
+    requires b { IsOf heap.now b }
+    ensures value { datum heap.now result ≡ either_handler_of (own_store heap.now) (datum heap.now a) (datum heap.now b) event.now }
+    ensures known { IsOf heap.now result }
 {
-    let left = handler(alloc, heap, a, event)?;
+    let left = handler(heap, a, event);
     if is_nil(left) {
-        handler(alloc, heap, b, event)
+        handler(heap, b, event)
     } else {
-        Ok(left)
+        left
     }
 }
 
 /// The one handler of both operands, nil where theirs are not raw equal.
-pub fn common_handler(
-    alloc: Global,
-    heap: &mut Heap,
-    a: Value,
-    b: Value,
-    event: &[u8],
-) -> Result<Value, AllocError>
-    requires a { IsOf heap.old a }
-    requires b { IsOf heap.old b }
-    ensures value { IfOk result (λ r. datum heap.new r ≡ common_handler_of (own_store heap.old) (datum heap.old a) (datum heap.old b) event.now) }
-    ensures known { IfOk result (IsOf heap.new) }
-    ensures grown { Grown heap.old heap.new }
+pub fn common_handler(heap: &Heap, a: Value, b: Value, event: &[u8]) -> Value
+    requires a { IsOf heap.now a }
+    requires b { IsOf heap.now b }
+    ensures value { datum heap.now result ≡ common_handler_of (own_store heap.now) (datum heap.now a) (datum heap.now b) event.now }
+    ensures known { IsOf heap.now result }
 {
-    let first = handler(alloc, heap, a, event)?;
-    let second = handler(alloc, heap, b, event)?;
+    let first = handler(heap, a, event);
+    let second = handler(heap, b, event);
     if heap.raw_equal(first, second) {
-        Ok(first)
+        first
     } else {
-        Ok(Value::Nil)
+        Value::Nil
     }
 }
 

@@ -2,9 +2,9 @@
 ghost use Rattle.std.specs.Prelude.{◌≡◌, ◌<◌, false, length, IfOk, OnOk, OnErr};
 ghost use Rattle.lua_model.specs.Datum.{is_nil as is_nil_datum};
 ghost use Rattle.lua_model.specs.Store.{raw_set};
-ghost use Rattle.lua_model.specs.Operators.{index as index_in, index_within as index_within_in, set_index as set_index_in, set_index_within as set_index_within_in, index_fault};
+ghost use Rattle.lua_model.specs.Operators.{index as index_in, set_index as set_index_in, set_index_within as set_index_within_in, index_fault};
 ghost use Rattle.lua_heap.specs.State.{datum, IsOf, own_store, with_store, Keeps, OnlyTexts, OnlyTables};
-ghost use Rattle.meta_ops.specs.Acts.{act_of, IsActOf};
+ghost use Rattle.meta_ops.specs.Acts.{act_of, found_of, IsActOf, IsFoundOf};
 ghost use Rattle.lua_heap.specs.Grown.{Grown};
 ghost use Rattle.meta_ops.specs.Steps.{IsRead, IsWritten};
 
@@ -18,10 +18,20 @@ use std::alloc::{AllocError, Global};
 /// How many values an index may try.
 const CHAIN_LIMIT: usize = 100;
 
-/// What one try of an index comes to: it is done, or goes on at a handler that is no function.
-#[derive(Drop)]
-enum Step {
-    Done(Act),
+/// What a read finds: a value, a function that is asked for the entry of a table, a value on the way that is no table, or
+/// that there is no end to the tables.
+#[derive(Clone, Copy, PartialEq, Eq, Debug)]
+pub enum Found {
+    Value(Value),
+    Handler { handler: Value, table: Value },
+    NoTable(Value),
+    NoEnd,
+}
+
+/// What one try of a read comes to: it is done, or goes on at a handler that is no function.
+#[derive(Clone, Copy, PartialEq, Eq, Debug)]
+enum Tried {
+    Done(Found),
     Next(Value),
 }
 
@@ -36,56 +46,58 @@ pub fn index(alloc: Global, heap: &mut Heap, on: Value, key: Value) -> Result<Ac
     ensures only_texts { OnlyTexts heap.old heap.new }
     ensures keeps { Keeps heap.old heap.new }
 {
-    index_within(alloc, heap, on, key, CHAIN_LIMIT)
+    match look_up(heap, on, key) {
+        Found::Value(value) => Ok(Act::Value(value)),
+        Found::Handler { handler, table } => call_with(alloc, handler, &[table, key], Then::Take),
+        Found::NoTable(v) => Ok(Act::Fail(index_failure(alloc, heap, v)?)),
+        Found::NoEnd => Ok(Act::Fail(text_value(alloc, heap, b"loop in gettable")?)),
+    }
 }
 
-/// Reads `on[key]`, where so many values may be tried.
-fn index_within(
-    alloc: Global,
-    heap: &mut Heap,
-    on: Value,
-    key: Value,
-    limit: usize,
-) -> Result<Act, AllocError>
-    requires on { IsOf heap.old on }
-    requires key { IsOf heap.old key }
-    ensures act { IfOk result (λ r. act_of heap.new r ≡ index_within_in limit (own_store heap.old) (datum heap.old on) (datum heap.old key)) }
-    ensures known { IfOk result (IsActOf heap.new) }
-    ensures grown { Grown heap.old heap.new }
+/// What is found for `on[key]`, with no function asked. Takes no memory; the time is that of `index`.
+pub fn look_up(heap: &Heap, on: Value, key: Value) -> Found
+    requires on { IsOf heap.now on }
+    requires key { IsOf heap.now key }
+    ensures found { found_of heap.now (datum heap.now key) result ≡ index_in (own_store heap.now) (datum heap.now on) (datum heap.now key) }
+    ensures known { IsFoundOf heap.now result }
 {
     let mut at = on;
-    for _ in 0..limit {
-        match read_step(alloc, heap, at, key)? {
-            Step::Done(act) => return Ok(act),
-            Step::Next(next) => at = next,
+    for _ in 0..CHAIN_LIMIT {
+        match read_step(heap, at, key) {
+            Tried::Done(found) => return found,
+            Tried::Next(next) => at = next,
         }
     }
-    Ok(Act::Fail(text_value(alloc, heap, b"loop in gettable")?))
+    Found::NoEnd
 }
 
-fn read_step(alloc: Global, heap: &mut Heap, on: Value, key: Value) -> Result<Step, AllocError>
-    requires on { IsOf heap.old on }
-    requires key { IsOf heap.old key }
-    ensures step { IfOk result (IsRead heap.old heap.new on key) }
-    ensures grown { Grown heap.old heap.new }
+fn read_step(heap: &Heap, on: Value, key: Value) -> Tried
+    requires on { IsOf heap.now on }
+    requires key { IsOf heap.now key }
+    ensures { IsRead heap.now on key result }
 {
     let Value::Table(table) = on else {
-        let failure = index_failure(alloc, heap, on)?;
-        return Ok(Step::Done(Act::Fail(failure)));
+        return Tried::Done(Found::NoTable(on));
     };
     let entry = heap.raw_get(table, key);
     if !is_nil(entry) {
-        return Ok(Step::Done(Act::Value(entry)));
+        return Tried::Done(Found::Value(entry));
     }
-    let handler = handler(alloc, heap, on, b"__index")?;
+    let handler = handler(heap, on, b"__index");
     if is_nil(handler) {
-        Ok(Step::Done(Act::Value(Value::Nil)))
+        Tried::Done(Found::Value(Value::Nil))
     } else if is_function(handler) {
-        let call = call_with(alloc, handler, &[on, key], Then::Take)?;
-        Ok(Step::Done(call))
+        Tried::Done(Found::Handler { handler, table: on })
     } else {
-        Ok(Step::Next(handler))
+        Tried::Next(handler)
     }
+}
+
+/// What one try of a write comes to: it is done, or goes on at a handler that is no function.
+#[derive(Drop)]
+enum Step {
+    Done(Act),
+    Next(Value),
 }
 
 /// Sets `on[key]`: the entry of a table, or what its handler makes of it, which is asked where it is a function and is
@@ -165,7 +177,7 @@ fn write_step(
         set_entry(heap, table, key, value)?;
         return Ok(Step::Done(Act::Value(Value::Nil)));
     }
-    let handler = handler(alloc, heap, on, b"__newindex")?;
+    let handler = handler(heap, on, b"__newindex");
     if is_nil(handler) {
         set_entry(heap, table, key, value)?;
         Ok(Step::Done(Act::Value(Value::Nil)))

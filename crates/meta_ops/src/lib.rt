@@ -14,5 +14,5 @@ pub use act::{Act, Callee, Then};
 pub use arithmetic::{arith, negate};
 pub use calls::callee;
 pub use comparison::compare;
-pub use indexing::{index, index_failure, set_index};
+pub use indexing::{Found, index, index_failure, look_up, set_index};
 pub use texts::{concat2, length};

@@ -73,7 +73,7 @@ fn ask_join(
     ensures known { IfOk result (IsActOf heap.new) }
     ensures grown { Grown heap.old heap.new }
 {
-    let handler = either_handler(alloc, heap, a, b, b"__concat")?;
+    let handler = either_handler(heap, a, b, b"__concat");
     if is_nil(handler) {
         let failure = kind_failure(
             alloc,

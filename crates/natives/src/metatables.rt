@@ -4,7 +4,6 @@ ghost use Rattle.std.specs.Result.{OnErr, IfErr};
 ghost use Rattle.lua_model.specs.Store.{Store};
 ghost use Rattle.lua_model.specs.Builtins.{argument as argument_of, setmetatable as setmetatable_in, getmetatable as getmetatable_in, set_metatable_to, change_metatable, protection as protection_in, metatable_of as metatable_of_datum, table_or_nil as table_or_nil_datum};
 ghost use Rattle.lua_heap.specs.State.{HeapState, datum, IsOf, own_store, Keeps, meta_of, IsMetaOf, AreOf, OnlyTexts, OnlyTables};
-ghost use Rattle.lua_heap.specs.Grown.{Grown};
 ghost use Rattle.natives.specs.Answers.{ChangesAs};
 ghost use Rattle.natives.specs.Refusals.{Gives, Refuses};
 
@@ -28,7 +27,7 @@ pub fn setmetatable(alloc: Global, heap: &mut Heap, args: &[Value]) -> Result<Na
     let table = a_table(args, 1, b"setmetatable")?;
     let metatable = new_metatable(args)?;
     let present = heap.metatable(table);
-    let guard = protection(alloc, heap, present)?;
+    let guard = protection(heap, present);
     if !is_nil(guard) {
         return Err(Refusal::Text(b"cannot change a protected metatable"));
     }
@@ -37,14 +36,13 @@ pub fn setmetatable(alloc: Global, heap: &mut Heap, args: &[Value]) -> Result<Na
     Ok(answer)
 }
 
-pub fn getmetatable(alloc: Global, heap: &mut Heap, args: &[Value]) -> Result<NativeAct, Refusal>
-    requires { AreOf heap.old args.now }
-    ensures act { Gives getmetatable_in heap.old heap.new args.now result }
-    ensures grown { Grown heap.old heap.new }
+pub fn getmetatable(alloc: Global, heap: &Heap, args: &[Value]) -> Result<NativeAct, Refusal>
+    requires { AreOf heap.now args.now }
+    ensures { Gives getmetatable_in heap.now heap.now args.now result }
 {
     let v = any_value(args, 1, b"getmetatable")?;
     let metatable = metatable_of(heap, v);
-    let guard = protection(alloc, heap, metatable)?;
+    let guard = protection(heap, metatable);
     if is_nil(guard) {
         return Ok(results(alloc, &[table_or_nil(metatable)])?);
     }
@@ -68,22 +66,16 @@ fn new_metatable(args: &[Value]) -> Result<Option<TableId>, Refusal>
     }
 }
 
-/// The raw field `__metatable` of a metatable, nil where there is none. Its name is interned only where there is one.
-fn protection(
-    alloc: Global,
-    heap: &mut Heap,
-    metatable: Option<TableId>,
-) -> Result<Value, AllocError>
-    requires { IsMetaOf heap.old metatable }
-    ensures value { IfOk result (λ v. datum heap.new v ≡ protection_in (own_store heap.old) (meta_of metatable)) }
-    ensures known { IfOk result (IsOf heap.new) }
-    ensures grown { Grown heap.old heap.new }
+/// The raw field `__metatable` of a metatable, nil where there is none.
+fn protection(heap: &Heap, metatable: Option<TableId>) -> Value
+    requires { IsMetaOf heap.now metatable }
+    ensures value { datum heap.now result ≡ protection_in (own_store heap.now) (meta_of metatable) }
+    ensures known { IsOf heap.now result }
 {
-    let Some(metatable) = metatable else {
-        return Ok(Value::Nil);
-    };
-    let name = heap.intern(alloc, b"__metatable")?;
-    Ok(heap.raw_get(metatable, Value::Text(name)))
+    match metatable {
+        Some(metatable) => heap.field(metatable, b"__metatable"),
+        None => Value::Nil,
+    }
 }
 
 fn metatable_of(heap: &Heap, v: Value) -> Option<TableId>

@@ -15,4 +15,4 @@ returns-in_err-metatable-clause-act c =
     rw (p.1, p.2) (λ hosts e. rw (c.in_ok-table.ensures.table h) (c.in_err-metatable.ensures.refused h (store_of h hosts) c.in_ok-table.table.index))
 
 pub set_metatable-requires-clause-metatable : goal.set_metatable-requires-clause-metatable
-set_metatable-requires-clause-metatable c = rw c.protection.ensures.grown.only_texts (c.in_ok-metatable.ensures.known c.args.heap.now c.requires)
+set_metatable-requires-clause-metatable c = c.in_ok-metatable.ensures.known c.args.heap.now c.requires
