@@ -29,6 +29,7 @@ use Rattle.machine.specs.Seen.{Around, closure_seen}
 use Rattle.machine.specs.Outside.{AreNamed, around, pieces_in, calls_in, replies_in, Happened}
 use Rattle.machine.specs.Called.{Enters, Lands, beside, applied_as, IsAppliedOf, NothingHappened, Applies, called_as, IsCalledOf, Invokes, worked_values, failed_with, asked_to, GoesTo, turn_of, turned_as, IsTurnOf, NothingTurned, Turns, ahead, Protected}
 use Rattle.machine.proofs.Beside.{callee_beside}
+use Rattle.machine.proofs.WorkedValues.{worked_is, worked_known}
 
 -- ---- states beside heaps of which only texts differ
 
@@ -94,17 +95,9 @@ module _ {old new : HeapState} (f : Value) (args : List Value) (r : Callee) (is 
 
 -- ---- what a turn comes to
 
-worked_data : (h : HeapState) (p : ℕ) (vs : List Value) → data_of h (worked_values p vs) ≡ worked p (data_of h vs)
-worked_data h zero vs = refl
-worked_data h (suc p) vs = λ i. datum h (Boolean true) ∷ worked_data h p vs i
-
-worked_known : (h : HeapState) (p : ℕ) (vs : List Value) → AreOf h vs → AreOf h (worked_values p vs)
-worked_known h zero vs known = known
-worked_known h (suc p) vs known = All-cons (IsOf h) (Boolean true) (worked_values p vs) tt (worked_known h p vs known)
-
 failed_is : (c : Chunk) (h : HeapState) (enters : Enters) (lands : Lands) (p : ℕ) (v : Value) (m : State) → called_as c h enters lands (failed_with p v) m ≡ failed_in lands p m (datum h v)
 failed_is c h enters lands zero v m = refl
-failed_is c h enters lands (suc p) v m = ap (lands m) (worked_data h p (Boolean false ∷ v ∷ []))
+failed_is c h enters lands (suc p) v m = ap (lands m) (sym (worked_is h p (Boolean false ∷ v ∷ [])))
 
 failed_known : (h : HeapState) (p : ℕ) (v : Value) → IsOf h v → IsCalledOf h (failed_with p v)
 failed_known h zero v known = known
@@ -112,7 +105,7 @@ failed_known h (suc p) v known =
     worked_known h p (Boolean false ∷ v ∷ []) (All-cons (IsOf h) (Boolean false) (v ∷ []) tt (All-cons (IsOf h) v [] known (All-nil (IsOf h))))
 
 turn_is : (c : Chunk) (h : HeapState) (enters : Enters) (lands : Lands) (p : ℕ) (again : Datum → List Datum → Effect) (args : List Value) (applied : Applied) (m : State) → turned_as c h enters lands again (turn_of p args applied) m ≡ applied_as c h enters lands p again args applied m
-turn_is c h enters lands p again args (Applied.Results vs) m = ap (lands m) (worked_data h p vs)
+turn_is c h enters lands p again args (Applied.Results vs) m = ap (lands m) (sym (worked_is h p vs))
 turn_is c h enters lands p again args (Applied.Enters id) m = refl
 turn_is c h enters lands p again args (Applied.Fails v) m = failed_is c h enters lands p v m
 turn_is c h enters lands p again args (Applied.Protects f xs) m = refl

@@ -30,16 +30,7 @@ use Rattle.machine.specs.Whole.{IsWaiting, IsSafe, DoesSeen}
 use Rattle.machine.specs.Words.{GivesList, AreResultsOf, IsLanding, calls_of, calls_left}
 use Rattle.machine.proofs.SeenStates.{length-frames_seen, whole_later, safe_at}
 use Rattle.machine.proofs.SeenWords.{top_function}
-
--- ---- values behind those of protected calls that worked
-
--- as the rules have them
-pub worked_is : (h : HeapState) (p : ℕ) (vs : List Value) → worked p (data_of h vs) ≡ data_of h (worked_values p vs)
-worked_is h zero vs = refl
-worked_is h (suc p) vs = ap (λ ds. boolean true ∷ ds) (worked_is h p vs)
-
-pub worked_known : (h : HeapState) (p : ℕ) (vs : List Value) → AreOf h vs → AreOf h (worked_values p vs)
-worked_known h p vs known = All-append (IsOf h) (replicate p (Boolean true)) vs (All-replicate (IsOf h) p (Boolean true) tt) known
+use Rattle.machine.proofs.WorkedValues.{worked_is}
 
 -- ---- how much there is to do
 

@@ -46,28 +46,11 @@ quiet {fs} {act} {old} {new} {set} {did} does = record {
   named = does.named;
 }
 
--- it goes on to a pc
-pub jump_settles : (fs : List Function) (next : ℕ) (k : Running) (set : HostSetState) → Settles fs (Did.Jumps next) k (with_pc k next) set set Settled.Going
-jump_settles fs next k set = record {
-  es = [];
-  happened = record { pieces = sym (append-nil k.pieces.items); log = sym (append-nil set.log); names = refl };
-  is = λ c m0 events left whole. ap (λ es. Going (seen c (around set es left) (with_pc k next))) (sym (append-nil events));
-  safe = λ safe. safe_at fs k next k.top.results safe safe.top_frame.results;
-  keeps = keeps_itself k.heap;
-  named = refl;
-}
-
 -- what the word asks of the frame, where its opcode is this one
 pub framed_as : (fs : List Function) (f : Function) (k : Running) (i : Instr) (o : Op) → i.op ≡ o → FitsHere fs f k i → FitsFrame o f (top k.stack.frames) k.top.results (length (cells_in k.heap k.top.closure)) k.top.pc i
 framed_as fs f k i o is fits =
     let P : Op → Type 0 = λ x. FitsFrame x f (top k.stack.frames) k.top.results (length (cells_in k.heap k.top.closure)) k.top.pc i in
     subst P is fits.framed
-
--- the same of the function that the topmost frame has
-pub framed_here : (fs : List Function) (k : Running) (i : Instr) (o : Op) (safe : IsSafe fs k) → i.op ≡ o → ((f : Function) → slice_get fs k.top.function ≡ Some f → FitsHere fs f k i) → FitsFrame o (top_function fs k safe).0 (top k.stack.frames) k.top.results (length (cells_in k.heap k.top.closure)) k.top.pc i
-framed_here fs k i o safe is fits =
-    let f = top_function fs k safe in
-    framed_as fs f.0 k i o is (fits f.0 f.1)
 
 -- a word that went on to the pc behind it
 pub goes_on : {fs : List Function} {old new : Running} (i : Instr) (o : Op) → i.op ≡ o → DoesSeen fs (λ m. effect o m i) old new Did.Next → GoesOn fs i old new
@@ -87,12 +70,6 @@ goes_on {fs} {old} {new} i o is does = record {
       });
   is = refl;
 }
-
--- the same, where it is done at any pc and leaves the frame's facts as they were
-pub goes_on_here : {fs : List Function} {old new : Running} (i : Instr) (o : Op) → i.op ≡ o → new.top ≡ old.top → ((pc : ℕ) → DoesSeen fs (λ m. effect o m i) (with_pc old pc) (with_pc new pc) Did.Next) → GoesOn fs i old new
-goes_on_here {fs} {old} {new} i o is same does =
-    let P : Frame → Type 0 = λ x. DoesSeen fs (λ m. effect o m i) (with_pc old x.pc) new Did.Next in
-    goes_on i o is (subst P same (does new.top.pc))
 
 -- a word that worked on the registers of the topmost frame and the heap, with this pc behind it, and went on to another
 pub quick_goes : (fs : List Function) (f : Function) (old new : Running) (pc next : ℕ) (i : Instr) → slice_get fs old.top.function ≡ Some f → new ≡ record old { heap = new.heap; stack = new.stack } → Does (λ m. effect i.op m i) old.heap new.heap f (top old.stack.frames) (top new.stack.frames) pc (Did.Jumps next) → new.stack.frames ≡ with_top old.stack.frames (top new.stack.frames) → Shares new.stack new.heap → GoesOn fs i (with_pc old pc) (with_pc new next)

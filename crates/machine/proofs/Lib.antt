@@ -17,6 +17,7 @@ pub mod Ranges
 pub mod HostsBeside
 pub mod Outcomes
 pub mod PlainValues
+pub mod WorkedValues
 pub mod CallTurns
 pub mod LeftByWords
 pub mod SeenWords

@@ -33,7 +33,7 @@ use Rattle.machine.proofs.CapturedCells.{safe_only}
 use Rattle.machine.proofs.FramesAbove.{loaded_at}
 use Rattle.machine.proofs.Items.{results_are_kept}
 use Rattle.machine.proofs.LentRegisters.{shares_on}
-use Rattle.machine.proofs.SeenStates.{sizes-with_top, set_seen, constants_stay, safe_behind}
+use Rattle.machine.proofs.SeenStates.{safe_at, sizes-with_top, set_seen, constants_stay, safe_behind}
 
 -- ---- one closure more
 
@@ -86,19 +86,6 @@ module _ (fs : List Function) (k : Running) (number : ℕ) (cells : List ℕ) (s
     closures = All-append (λ (f : ClosureState). f.function < length fs) k.heap.closures (record { function = number; cells = cells } ∷ []) safe.closures (All-cons (λ (f : ClosureState). f.function < length fs) (record { function = number; cells = cells }) [] within (All-nil (λ (f : ClosureState). f.function < length fs)));
     waiting = safe.waiting;
   }
-
--- at another pc
-safe_at : (fs : List Function) (k : Running) (pc : ℕ) → IsSafe fs k → IsSafe fs (record k { top = record k.top { pc = pc } })
-safe_at fs k pc safe = record {
-  shares = safe.shares;
-  depth = safe.depth;
-  constants = safe.constants;
-  room = safe.room;
-  top_frame = record { function = safe.top_frame.function; closure = safe.top_frame.closure; extra = safe.top_frame.extra; results = safe.top_frame.results };
-  lower = safe.lower;
-  closures = safe.closures;
-  waiting = safe.waiting;
-}
 
 -- ---- CLOSURE
 
@@ -154,7 +141,7 @@ module _ (fs : List Function) (old now : Running) (f g : Function) (i : Instr) (
     within = slice_get_within fs number g at_made
 
     safe_moved : IsSafe fs old → IsSafe fs moved
-    safe_moved safe = safe_at fs now (old.top.pc + g.upvalues) (safe_only fs old now takes.only_cells safe)
+    safe_moved safe = (let there = safe_only fs old now takes.only_cells safe in safe_at fs now (old.top.pc + g.upvalues) now.top.results there there.top_frame.results)
 
     is_closure : (c : Chunk) (a : Around) → IsWhole c fs old → effect Op.Closure (seen c a old) i ≡ Goes (seen c a (record moved { heap = heap; stack = stack }))
     is_closure c a whole =

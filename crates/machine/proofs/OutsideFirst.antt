@@ -25,7 +25,7 @@ use Rattle.machine.specs.Settled.{IsAwaitedIn, DoesOutside}
 use Rattle.machine.specs.Whole.{IsSafe, DoesSeen}
 use Rattle.machine.specs.Words.{AreResultsOf, IsDidOf}
 use Rattle.machine.proofs.LentRegisters.{shares_on}
-use Rattle.machine.proofs.SeenStates.{behind_change, safe_behind, whole_later, top_known}
+use Rattle.machine.proofs.SeenStates.{behind_change, safe_at, safe_behind, whole_later, top_known}
 
 -- ---- a machine that has done nothing more
 
@@ -118,22 +118,10 @@ module _ (fs : List Function) (old : Running) (heap : HeapState) (pieces : Vec T
 
 -- ---- another pc, and other open results, in the topmost frame
 
-pub safe_at : (fs : List Function) (k : Running) (pc : ℕ) (results : Option OpenResults) → AreResultsOf k.heap results → IsSafe fs k → IsSafe fs (record k { top = record k.top { pc = pc; results = results } })
-safe_at fs k pc results known safe = record {
-  shares = safe.shares;
-  depth = safe.depth;
-  constants = safe.constants;
-  room = safe.room;
-  top_frame = record { function = safe.top_frame.function; closure = safe.top_frame.closure; extra = safe.top_frame.extra; results = known };
-  lower = safe.lower;
-  closures = safe.closures;
-  waiting = safe.waiting;
-}
-
 -- what is done from there was done
 pub does_with_results : (fs : List Function) (effect next : State → Effect) (old new : Running) (results : Option OpenResults) (before behind : HostSetState) (did : Did) → AreResultsOf old.heap results → ((c : Chunk) (a : Around) → effect (seen c a old) ≡ next (seen c a (record old { top = record old.top { results = results } }))) → DoesOutside fs next (record old { top = record old.top { results = results } }) new before behind did → DoesOutside fs effect old new before behind did
 does_with_results fs effect next old new results before behind did known leads does =
-    let safe_then : IsSafe fs old → IsSafe fs (record old { top = record old.top { results = results } }) = safe_at fs old old.top.pc results known in
+    let safe_then : IsSafe fs old → IsSafe fs (record old { top = record old.top { results = results } }) = λ safe. safe_at fs old old.top.pc results safe known in
     record {
       es = does.es;
       happened = does.happened;

@@ -28,6 +28,7 @@ use Rattle.machine.specs.Whole.{IsClosureOf, IsSafe, IsWhole, DoesSeen}
 use Rattle.machine.proofs.SeenStates.{top_known, behind_change, length-frames_seen, whole_later, safe_behind}
 use Rattle.machine.proofs.Showing.{shown_alike}
 use Rattle.machine.proofs.LentRegisters.{shares_on}
+use Rattle.machine.proofs.WorkedValues.{worked_is, worked_known}
 
 -- ---- the closure that is called
 
@@ -112,16 +113,8 @@ does_alike fs effect next old new did alike does = record {
 
 -- ---- a failure within protected calls
 
-worked_data : (h : HeapState) (p : ℕ) (vs : List Value) → data_of h (worked_values p vs) ≡ worked p (data_of h vs)
-worked_data h zero vs = refl
-worked_data h (suc p) vs = λ i. datum h (Boolean true) ∷ worked_data h p vs i
-
-worked_known : (h : HeapState) (p : ℕ) (vs : List Value) → AreOf h vs → AreOf h (worked_values p vs)
-worked_known h zero vs known = known
-worked_known h (suc p) vs known = All-cons (IsOf h) (Boolean true) (worked_values p vs) tt (worked_known h p vs known)
-
 pub broke_data : (h : HeapState) (p : ℕ) (v : Value) (d : Datum) (values : List Value) → datum h v ≡ d → values ≡ worked_values p (Boolean false ∷ v ∷ []) → data_of h values ≡ broke p d
-broke_data h p v d values is are = ap (data_of h) are ∙ worked_data h p (Boolean false ∷ v ∷ []) ∙ ap (broke p) is
+broke_data h p v d values is are = ap (data_of h) are ∙ sym (worked_is h p (Boolean false ∷ v ∷ [])) ∙ ap (broke p) is
 
 pub broke_known : (h : HeapState) (p : ℕ) (v : Value) (values : List Value) → IsOf h v → values ≡ worked_values p (Boolean false ∷ v ∷ []) → AreOf h values
 broke_known h p v values known are =

@@ -28,7 +28,7 @@ use Rattle.machine.specs.Settled.{conf_of}
 use Rattle.machine.specs.Whole.{IsWhole}
 use Rattle.machine.proofs.Readiness.{ready, current_there, inv_of_run, one_more}
 use Rattle.machine.proofs.SeenStates.{whole_later}
-use Rattle.machine.proofs.SettledSoFar.{replies_both}
+use Rattle.machine.proofs.EventsInRow.{replies_in-append}
 
 output_is : (es : List Event) → concat (pieces_in es) ≡ output es
 output_is [] = refl
@@ -69,6 +69,24 @@ abbrev at_state : State → Conf → State
 at_state other (Going m) = m
 at_state other conf = other
 
+-- no memory was found for the step: the run stands where it stood
+pub not_stepped : (c : Chunk) (hosts : List Host) (events : List Event) (n : ℕ) (before : HostSetState) (k : Machine) → IsAt c hosts events n before k → (taken : Option (List ℕ)) (behind : HostSetState) (new : Machine) → Stepped c hosts events n before behind taken taken new StepEnd.OutOfMemory
+not_stepped c hosts events n before k at taken behind new = record {
+  es = [];
+  ends = (n, ending.Going, λ left. subst (λ es. course (ran c hosts (replies_in es ++ left) n) ≡ Some (record { ending = ending.Going; events = es })) (sym (append-nil events)) (ap course (at.runs left)));
+  puts = ([], ([], refl), takes_none taken);
+  log = λ differs. absurd (differs refl);
+}
+
+-- a step in which nothing happened outside
+pub stepped_in_place : (c : Chunk) (hosts : List Host) (events : List Event) (n : ℕ) (before : HostSetState) (new : Machine) → IsAt c hosts events (suc n) before new → (taken : Option (List ℕ)) → Stepped c hosts events n before before taken taken new StepEnd.Going
+stepped_in_place c hosts events n before new at taken = record {
+  es = [];
+  ends = subst (λ es. IsAt c hosts es (suc n) before new) (sym (append-nil events)) at;
+  puts = takes_none taken;
+  log = λ differs. sym (append-nil before.log);
+}
+
 module _ (c : Chunk) (sound : Sound c) (hosts : List Host) (events : List Event) (n : ℕ) (before : HostSetState) (k : Machine) (at : IsAt c hosts events n before k) where
   inv : (left : List Reply) → Inv (seen c (around before events left) k.running)
   inv left = inv_of_run c sound hosts (replies_in events ++ left) n (seen c (around before events left) k.running) (at.runs left)
@@ -85,15 +103,6 @@ module _ (c : Chunk) (sound : Sound c) (hosts : List Host) (events : List Event)
       let going = sym runs ∙ ap (λ rs. ran c hosts rs n) (sym (append-nil (replies_in events))) ∙ at.runs [] in
       subst NeedsNoneNext (ap (at_state here) going) needs
 
-  -- no memory was found for the step: the run stands where it stood
-  pub not_stepped : (taken : Option (List ℕ)) (behind : HostSetState) (new : Machine) → Stepped c hosts events n before behind taken taken new StepEnd.OutOfMemory
-  not_stepped taken behind new = record {
-    es = [];
-    ends = (n, ending.Going, λ left. subst (λ es. course (ran c hosts (replies_in es ++ left) n) ≡ Some (record { ending = ending.Going; events = es })) (sym (append-nil events)) (ap course (at.runs left)));
-    puts = ([], ([], refl), takes_none taken);
-    log = λ differs. absurd (differs refl);
-  }
-
   -- a step was done in which nothing happened outside
   pub went_next : (new : Running) (fs : List Function) → fs ≡ k.functions.items → GoesNext fs k.running new → IsAt c hosts events (suc n) before (record k { running = new })
   went_next new fs same done =
@@ -108,14 +117,6 @@ module _ (c : Chunk) (sound : Sound c) (hosts : List Host) (events : List Event)
         put = ap (λ ps. ps.items) goes.pieces ∙ at.put;
       }
 
-  pub stepped_in_place : (new : Running) (fs : List Function) (taken : Option (List ℕ)) → fs ≡ k.functions.items → GoesNext fs k.running new → Stepped c hosts events n before before taken taken (record k { running = new }) StepEnd.Going
-  stepped_in_place new fs taken same done = record {
-    es = [];
-    ends = subst (λ es. IsAt c hosts es (suc n) before (record k { running = new })) (sym (append-nil events)) (went_next new fs same done);
-    puts = takes_none taken;
-    log = λ differs. sym (append-nil before.log);
-  }
-
   -- the step was done
   module _ (new : Running) (behind : HostSetState) (settled : Settled) (fs : List Function) (same : fs ≡ k.functions.items) (done : Steps fs k.running new before behind settled) where
     steps : Steps k.functions.items k.running new before behind settled
@@ -124,7 +125,7 @@ module _ (c : Chunk) (sound : Sound c) (hosts : List Host) (events : List Event)
     next : (left : List Reply) → ran c hosts (replies_in (events ++ steps.es) ++ left) (suc n) ≡ conf_of settled (seen c (around behind (events ++ steps.es) left) new)
     next left =
         let rest = replies_in steps.es ++ left in
-        let replies : replies_in (events ++ steps.es) ++ left ≡ replies_in events ++ rest = ap (λ rs. rs ++ left) (replies_both events steps.es) ∙ append_assoc (replies_in events) (replies_in steps.es) left in
+        let replies : replies_in (events ++ steps.es) ++ left ≡ replies_in events ++ rest = ap (λ rs. rs ++ left) (replies_in-append events steps.es) ∙ append_assoc (replies_in events) (replies_in steps.es) left in
         let word = current_there c (around before events rest) k.functions.items k.running at.whole (inv rest) in
         ap (λ rs. ran c hosts rs (suc n)) replies
         ∙ one_more c hosts (replies_in events ++ rest) n (seen c (around before events rest) k.running) (at.runs rest)

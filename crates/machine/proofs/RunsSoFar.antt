@@ -25,7 +25,7 @@ use Rattle.machine.specs.At.{IsAt, RanTo, hosts_at, Stepped, Runs}
 use Rattle.machine.specs.Outside.{hosts_of, replies_in, calls_in}
 use Rattle.machine.proofs.Readiness.{IsOver, stays_ended}
 use Rattle.machine.proofs.PutPieces.{part_then}
-use Rattle.machine.proofs.SettledSoFar.{calls_both}
+use Rattle.machine.proofs.EventsInRow.{calls_in-append}
 
 output_both : (es fs : List Event) → output (es ++ fs) ≡ output es ++ output fs
 output_both [] fs = refl
@@ -132,7 +132,7 @@ part_on es fs old now new first more = subst (TakesPart old new) (sym (output_bo
 
 logged_on : (es fs : List Event) (before now behind : HostSetState) → now.log ≡ before.log ++ calls_in es → behind.log ≡ now.log ++ calls_in fs → behind.log ≡ before.log ++ calls_in (es ++ fs)
 logged_on es fs before now behind first more =
-    more ∙ ap (λ cs. cs ++ calls_in fs) first ∙ append_assoc before.log (calls_in es) (calls_in fs) ∙ ap (λ cs. before.log ++ cs) (sym (calls_both es fs))
+    more ∙ ap (λ cs. cs ++ calls_in fs) first ∙ append_assoc before.log (calls_in es) (calls_in fs) ∙ ap (λ cs. before.log ++ cs) (sym (calls_in-append es fs))
 
 -- what a step ensures, wherever in a run its machine is at
 abbrev StepsTo : Chunk → HostSetState → HostSetState → Machine → Machine → Option (List ℕ) → Option (List ℕ) → StepEnd → Type 0

@@ -23,33 +23,7 @@ use Rattle.machine.specs.Settled.{IsAwaitedIn, DoesOutside, Descends, Settles, c
 use Rattle.machine.specs.Whole.{IsSafe, IsWhole}
 use Rattle.machine.specs.Words.{IsDidOf}
 use Rattle.machine.proofs.SeenStates.{whole_later}
-
--- ---- what happened, one after another
-
-pieces_both : (es fs : List Event) → pieces_in (es ++ fs) ≡ pieces_in es ++ pieces_in fs
-pieces_both [] fs = refl
-pieces_both (printed piece ∷ es) fs = ap (λ ps. piece ∷ ps) (pieces_both es fs)
-pieces_both (asked host args reply ∷ es) fs = pieces_both es fs
-pieces_both (closed host ∷ es) fs = pieces_both es fs
-
-pub replies_both : (es fs : List Event) → replies_in (es ++ fs) ≡ replies_in es ++ replies_in fs
-replies_both [] fs = refl
-replies_both (printed piece ∷ es) fs = replies_both es fs
-replies_both (asked host args reply ∷ es) fs = ap (λ rs. reply ∷ rs) (replies_both es fs)
-replies_both (closed host ∷ es) fs = replies_both es fs
-
-pub calls_both : (es fs : List Event) → calls_in (es ++ fs) ≡ calls_in es ++ calls_in fs
-calls_both [] fs = refl
-calls_both (printed piece ∷ es) fs = calls_both es fs
-calls_both (asked host args reply ∷ es) fs = ap (λ cs. record { host = host; args = args; reply = logged reply } ∷ cs) (calls_both es fs)
-calls_both (closed host ∷ es) fs = calls_both es fs
-
-happened_both : (es fs : List Event) (first mid last : List Text) (before between behind : HostSetState) → Happened es first mid before between → Happened fs mid last between behind → Happened (es ++ fs) first last before behind
-happened_both es fs first mid last before between behind a b = record {
-  pieces = b.pieces ∙ ap (λ ps. ps ++ pieces_in fs) a.pieces ∙ append_assoc first (pieces_in es) (pieces_in fs) ∙ ap (λ ps. first ++ ps) (sym (pieces_both es fs));
-  log = b.log ∙ ap (λ cs. cs ++ calls_in fs) a.log ∙ append_assoc before.log (calls_in es) (calls_in fs) ∙ ap (λ cs. before.log ++ cs) (sym (calls_both es fs));
-  names = b.names ∙ a.names;
-}
+use Rattle.machine.proofs.EventsInRow.{replies_in-append, calls_in-append, happened_in_row}
 
 -- ---- so far
 
@@ -86,9 +60,9 @@ named_so fs first did start now before behind so named = so.named ∙ named ∙ 
 pub called_so : (fs : List Function) (first did : Did) (start now new : Running) (before between behind : HostSetState) (landing : Landing) (f : Value) (args : List Value) → SoFar fs first start now before between (Did.Calls landing f args) → DoesOutside fs (λ m. call (landing_of landing) m (datum now.heap f) (data_of now.heap args)) now new between behind did → SoFar fs first start new before behind did
 called_so fs first did start now new before between behind landing f args so does = record {
   es = so.es ++ does.es;
-  happened = happened_both so.es does.es start.pieces.items now.pieces.items new.pieces.items before between behind so.happened does.happened;
+  happened = happened_in_row so.es does.es start.pieces.items now.pieces.items new.pieces.items before between behind so.happened does.happened;
   is = λ c m0 events left whole.
-      let rest : replies_in (so.es ++ does.es) ++ left ≡ replies_in so.es ++ (replies_in does.es ++ left) = ap (λ rs. rs ++ left) (replies_both so.es does.es) ∙ append_assoc (replies_in so.es) (replies_in does.es) left in
+      let rest : replies_in (so.es ++ does.es) ++ left ≡ replies_in so.es ++ (replies_in does.es ++ left) = ap (λ rs. rs ++ left) (replies_in-append so.es does.es) ∙ append_assoc (replies_in so.es) (replies_in does.es) left in
       let all : (events ++ so.es) ++ does.es ≡ events ++ (so.es ++ does.es) = append_assoc events so.es does.es in
       (λ i. after m0 (effect_of start.heap first (seen c (around before events (rest i)) start)))
       ∙ so.is c m0 events (replies_in does.es ++ left) whole

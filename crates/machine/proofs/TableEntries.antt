@@ -12,21 +12,14 @@ use Rattle.machine.specs.Words.{AsksNone}
 abbrev more : ℕ
 more = 99
 
-no_handler : (s : Store) (t : ℕ) (event : Text) → (table_at s t).meta ≡ None → is_nil (handler s (table t) event) ≡ true
-no_handler s t event is = ap (λ o. is_nil (elim o [ None ↦ nil | Some m ↦ raw_get s m (text event) ])) is
-
 written_or : (b c : Bool) (written other : Act × Store) → (b ≡ false) ⊎ (c ≡ true) → (if not b || c then written else other) ≡ written
 written_or b c written other (inl there) = ap (λ x. if not x || c then written else other) there
 written_or true c written other (inr none) = ap (λ x. if x then written else other) none
 written_or false c written other (inr none) = refl
-
-asks : (s : Store) (t : ℕ) (event : Text) (entry : Datum) → AsksNone s t entry → (is_nil entry ≡ false) ⊎ (is_nil (handler s (table t) event) ≡ true)
-asks s t event entry (inl there) = inl there
-asks s t event entry (inr none) = inr (no_handler s t event none)
 
 -- where the key is not nil
 pub write_is : (s : Store) (t : ℕ) (k x : Datum) → is_nil k ≡ false → AsksNone s t (raw_get s t k) → set_index s (table t) k x ≡ (value nil, raw_set s t k x)
 write_is s t nil x key none = cc
 write_is s t k x key none =
     let h = handler s (table t) (codes "__newindex") in
-    written_or (is_nil (raw_get s t k)) (is_nil h) (value nil, raw_set s t k x) (if is_function h then (call h (table t ∷ k ∷ x ∷ []) discard, s) else set_index_within more s h k x) (asks s t (codes "__newindex") (raw_get s t k) none)
+    written_or (is_nil (raw_get s t k)) (is_nil h) (value nil, raw_set s t k x) (if is_function h then (call h (table t ∷ k ∷ x ∷ []) discard, s) else set_index_within more s h k x) none

@@ -4,12 +4,20 @@ use Rattle.std.specs.Prelude.{get_or, slice_get, option_and_then}
 use Rattle.std.proofs.lemmas.Option.{slice_get_read, none-some, same_Some}
 use Rattle.opcode.specs.Reading.{instr_of}
 use Rattle.opcode.specs.declared.word.Instr.{Instr}
+use Rattle.proto.specs.Chunk.{Chunk}
+use Rattle.rules.specs.State.{State}
+use Rattle.upvalue.specs.State.{top}
 use Rattle.machine.specs.declared.function.Function.{Function}
 use Rattle.machine.specs.declared.running.Running.{Running}
 use Rattle.machine.specs.Fits.{IsOther}
+use Rattle.machine.specs.Frames.{showing}
+use Rattle.machine.specs.Memory.{NeedsNone, NeedsNoneNext}
 use Rattle.machine.specs.Ready.{FitsAt, GoesNext, GoesOn, GoesSteps, HasWord, IsOtherNext, IsReadyOnwards, with_pc}
-use Rattle.machine.specs.Whole.{IsSafe}
-use Rattle.machine.proofs.WordsNext.{next_in_place, safe_behind_word, word_decoded, word_fits, word_there}
+use Rattle.machine.specs.Seen.{Around, seen}
+use Rattle.machine.specs.Whole.{IsSafe, IsWhole}
+use Rattle.machine.specs.Words.{Runs}
+use Rattle.machine.proofs.SeenWords.{top_runs}
+use Rattle.machine.proofs.WordsNext.{next_in_place, not_such, safe_behind_word, word_decoded, word_fits, word_there}
 
 -- what a call that did its work ensures, put together
 pub if_some_all : {T : Type 0} (o : Option T) (P R : T → Type 0) (Q S : Type 0) → ((x : T) → P x → Q → S → R x) → IfSome o P → OnSome o Q → OnSome o S → IfSome o R
@@ -51,6 +59,10 @@ module _ (fs : List Function) (f : Function) (old k : Running) (pc n : ℕ) (rea
         let next : GoesNext fs (with_pc k pc) new = next_in_place fs f (with_pc k pc) new i at (is_word ∙ some) done in
         let behind_it : suc n ≡ n + 1 = omega arith in
         (subst (λ m. GoesSteps fs m old new) behind_it (with_pc k pc, went, next), next.safe safe)
+
+    -- or is none that takes no memory, where it was not done
+    pub row_not_such : (i : Instr) → o ≡ Some i → ((m : State) → Runs m k.heap f (pc + 1) → NeedsNone i.op (showing m k.heap (top k.stack.frames)) i → ⊥) → (c : Chunk) (a : Around) → IsWhole c fs (with_pc k pc) → NeedsNoneNext (seen c a (with_pc k pc)) → ⊥
+    row_not_such i some taken = not_such fs f (with_pc k pc) i at (is_word ∙ some) (λ d b here. taken (seen d b (with_pc k (pc + 1))) (top_runs d b fs (with_pc k (pc + 1)) f here at))
 
     -- or is one that asks for more
     pub row_other : (i : Instr) → o ≡ Some i → IsOther i.op → IsOtherNext fs (with_pc k pc)

@@ -87,22 +87,6 @@ next_in_place fs f old new i at word done =
       pieces = ap (λ k. k.pieces) is_new ∙ does.does.pieces;
     }
 
-pub as_step : {set : HostSetState} (fs : List Function) (old new : Running) → GoesNext fs old new → Steps fs old new set set Settled.Going
-as_step {set} fs old new goes = record {
-  es = [];
-  happened = record {
-    pieces = ap (λ ps. ps.items) goes.pieces ∙ sym (append-nil old.pieces.items);
-    log = sym (append-nil set.log);
-    names = refl;
-  };
-  is = λ c events left i whole next.
-      goes.is c (around set events left) i whole next
-      ∙ ap (λ es. Going (seen c (around set es left) new)) (sym (append-nil events));
-  safe = goes.safe;
-  keeps = goes.keeps;
-  named = goes.named;
-}
-
 -- a word that was not done in place is none that takes no memory
 pub not_such : {P : Type 0} (fs : List Function) (f : Function) (old : Running) (i : Instr) → slice_get fs old.top.function ≡ Some f → option_and_then instr_of (slice_get f.code.items old.top.pc) ≡ Some i → ((c : Chunk) (a : Around) → IsWhole c fs (with_pc old (old.top.pc + 1)) → NeedsNone i.op (seen c a (with_pc old (old.top.pc + 1))) i → ⊥) → (c : Chunk) (a : Around) → IsWhole c fs old → NeedsNoneNext (seen c a old) → P
 not_such fs f old i at word taken c a whole (j, next, needs) =

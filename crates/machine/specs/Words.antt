@@ -1,12 +1,12 @@
 -- Serves the words: what they need of their frame, and what they did.
-use Rattle.std.specs.Prelude.{◌≡◌, ◌⊎◌, false, ℕ, suc, ◌+◌, ◌-◌, ◌<◌, ◌≤◌, ◌^◌, ℤ, pos, ◌+ℤ◌, List, map, length, get_or, Option, None, Some, slice_get, option_map, option_and_then}
+use Rattle.std.specs.Prelude.{◌≡◌, ◌⊎◌, true, false, codes, ℕ, suc, ◌+◌, ◌-◌, ◌<◌, ◌≤◌, ◌^◌, ℤ, pos, ◌+ℤ◌, List, map, length, get_or, Option, None, Some, slice_get, option_map, option_and_then}
 use Rattle.opcode.specs.Reading.{instr_of}
 use Rattle.proto.specs.Chunk.{own}
 use Rattle.lua_model.specs.declared.TextId.{TextId}
 use Rattle.lua_model.specs.declared.Value.{Value}
-use Rattle.lua_model.specs.Datum.{Datum, nil, is_nil}
-use Rattle.lua_model.specs.Store.{Store, table_at}
-use Rattle.lua_model.specs.Operators.{LoopNumbers, loop_numbers}
+use Rattle.lua_model.specs.Datum.{Datum, nil, table, is_nil}
+use Rattle.lua_model.specs.Store.{Store}
+use Rattle.lua_model.specs.Operators.{handler, LoopNumbers, loop_numbers}
 use Rattle.lua_heap.specs.State.{HeapState, IsOf, AreOf, Keeps}
 use Rattle.rules.specs.State.{State, Effect, value_of, with_results}
 use Rattle.rules.specs.Places.{jmp_of, as_pc}
@@ -159,6 +159,6 @@ pub record DoesWith (effect : State → Effect) (old new : HeapState) (f : Funct
   pub keeps : Keeps old new
   pub only_store : OnlyStore old new
 
--- no handler is asked for an entry of a table: it is not nil, or the table has no metatable
+-- no handler is asked for a write to an entry of a table: it is not nil, or the table has no such handler
 abbrev pub AsksNone : Store → ℕ → Datum → Type 0
-AsksNone s t entry = (is_nil entry ≡ false) ⊎ ((table_at s t).meta ≡ None)
+AsksNone s t entry = (is_nil entry ≡ false) ⊎ (is_nil (handler s (table t) (codes "__newindex")) ≡ true)

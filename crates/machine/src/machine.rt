@@ -1,5 +1,5 @@
 // A machine and its steps.
-ghost use Rattle.std.specs.Prelude.{◌≡◌, ◌<◌, ◌≤◌, ◌+◌, ℕ, List, [], IfOk, OnOk, OnErr, IsErrOf};
+ghost use Rattle.std.specs.Prelude.{◌≡◌, ◌<◌, ◌≤◌, ◌+◌, ℕ, List, [], Ok, IfOk, OnOk, OnErr, IsErrOf};
 ghost use Rattle.std.specs.List.{concat};
 ghost use Rattle.suite_io.specs.Taken.{Takes, Rises};
 ghost use Rattle.suite_io.specs.Parts.{TakesPart};
@@ -18,7 +18,7 @@ use crate::load::load;
 use crate::row::do_row;
 use crate::running::Running;
 use crate::settling::Settled;
-use crate::stepping::{cross_next, do_next, turn};
+use crate::stepping::{cross_next, turn};
 use host::HostSet;
 use lua_num::ByteText;
 use std::alloc::{AllocError, Global};
@@ -70,11 +70,9 @@ impl Machine {
         ensures risen { result ≡ StepEnd.OutFault → Rises (S.faults out.old) (S.faults out.new) }
         ensures memory { (hosts_then : List Host) (events : List Event) (n : ℕ) → IsAt (view_proto chunk.now) hosts_then events n (set_told heard hosts.old) self.old → IsBeforeSuch (view_proto chunk.now) hosts_then events n → result ≡ StepEnd.OutOfMemory → ⊥ }
     {
-        // Called for its clause that the chunk is sound.
-        let _ = chunk.proto();
-        match do_next(alloc, &mut self.running, self.functions.as_slice()) {
-            Ok(true) => StepEnd::Going,
-            Ok(false) => step_on(alloc, self, chunk, out, hosts),
+        match go_on(alloc, self, chunk, 1) {
+            Ok(0) => step_on(alloc, self, chunk, out, hosts),
+            Ok(_) => StepEnd::Going,
             Err(_) => StepEnd::OutOfMemory,
         }
     }
@@ -123,6 +121,7 @@ pub fn go_on(
     ensures went { IfOk result (λ done. (hosts : List Host) (events : List Event) (n : ℕ) (now : HostSetState) → IsAt (view_proto chunk.now) hosts events n now machine.old → IsAt (view_proto chunk.now) hosts events (n + done) now machine.new) }
     ensures no_more { IfOk result (λ done. done ≤ steps) }
     ensures other { IfOk result (λ done. done < steps → IsOtherNext machine.new.functions.items machine.new.running) }
+    ensures in_place { steps ≡ 1 → (hosts : List Host) (events : List Event) (n : ℕ) (now : HostSetState) → IsAt (view_proto chunk.now) hosts events n now machine.old → IsBeforeSuch (view_proto chunk.now) hosts events n → result ≡ Ok 1 }
 {
     // Called for its clause that the chunk is sound.
     let _ = chunk.proto();

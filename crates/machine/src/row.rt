@@ -1,9 +1,16 @@
 // Words of the topmost frame in a row.
 ghost use Rattle.std.specs.Prelude.{◌≡◌, ◌<◌, ◌≤◌, List, slice_get, Some, IfSome, IfNone};
+ghost use Rattle.proto.specs.Chunk.{Chunk};
+ghost use Rattle.rules.specs.State.{State};
+ghost use Rattle.upvalue.specs.State.{top};
 ghost use Rattle.machine.specs.declared.function.Function.{Function as TheFunction};
 ghost use Rattle.machine.specs.Fits.{IsOther};
+ghost use Rattle.machine.specs.Frames.{showing};
+ghost use Rattle.machine.specs.Memory.{NeedsNone, NeedsNoneNext};
 ghost use Rattle.machine.specs.Ready.{FitsAt, GoesOn, GoesSteps, IsOtherNext, IsReadyOnwards, with_pc};
-ghost use Rattle.machine.specs.Whole.{IsSafe};
+ghost use Rattle.machine.specs.Seen.{Around, seen};
+ghost use Rattle.machine.specs.Whole.{IsSafe, IsWhole};
+ghost use Rattle.machine.specs.Words.{Runs};
 
 use crate::function::Function;
 use crate::running::Running;
@@ -11,13 +18,15 @@ use crate::topmost::quick_at;
 use crate::upvalues::{close, get_upvalue, set_upvalue};
 use opcode::{Instr, Op, decode};
 
-/// Does words of the topmost frame in place, one after another, at most so many; answers how many it did. Takes no memory.
+/// Does words of the topmost frame in place, one after another, at most so many; answers how many it did. It takes memory only for a new entry of
+/// a table.
 pub fn do_row(running: &mut Running, functions: &[Function], steps: u64) -> u64
     requires safe { IsSafe functions.now running.old }
     requires ready { IsReadyOnwards functions.now running.old }
     ensures went { GoesSteps functions.now result running.old running.new }
     ensures no_more { result ≤ steps }
     ensures other { result < steps → IsOtherNext functions.now running.new }
+    ensures first { result ≡ 0 → 0 < steps → (c : Chunk) (a : Around) → IsWhole c functions.now running.old → NeedsNoneNext (seen c a running.old) → ⊥ }
 {
     let function = &functions[running.top.function];
     let mut pc = running.top.pc;
@@ -46,6 +55,7 @@ fn word_at(running: &mut Running, function: &Function, pc: usize, i: Instr) -> O
     ensures some { (functions : List TheFunction) → slice_get functions running.old.top.function ≡ Some function.now → IfSome result (λ next. GoesOn functions i (with_pc running.old pc) (with_pc running.new next)) }
     ensures none { IfNone result (running.new ≡ running.old) }
     ensures other { IfNone result (IsOther i.op) }
+    ensures taken { IfNone result ((m : State) → Runs m running.old.heap function.now pc → NeedsNone i.op (showing m running.old.heap (top running.old.stack.frames)) i → ⊥) }
     ensures top { running.new.top ≡ running.old.top }
 {
     match i.op {

@@ -1,16 +1,14 @@
 // Steps: one word with the calls, landings and failures that belong to it.
-ghost use Rattle.std.specs.Prelude.{◌≡◌, true, slice_get, Some, Ok, IfOk, IsTrue, IsFalse};
-ghost use Rattle.proto.specs.Chunk.{Chunk};
+ghost use Rattle.std.specs.Prelude.{◌≡◌, ◌+◌, slice_get, option_and_then, Some, IfOk, IsTrue, IsFalse};
+ghost use Rattle.opcode.specs.Reading.{instr_of};
 ghost use Rattle.host.specs.Views.{set_told};
 ghost use Rattle.rules.specs.Step.{effect};
 ghost use Rattle.machine.specs.declared.function.Function.{Function as TheFunction};
 ghost use Rattle.machine.specs.Fits.{IsOther};
-ghost use Rattle.machine.specs.Memory.{NeedsNoneNext};
 ghost use Rattle.machine.specs.Outside.{AreNamed};
-ghost use Rattle.machine.specs.Ready.{FitsHere, GoesNext, IsOtherNext, IsReady, Steps};
+ghost use Rattle.machine.specs.Ready.{FitsHere, GoesNext, IsOtherNext, IsReady, Steps, with_pc};
 ghost use Rattle.machine.specs.Settled.{DoesOutside};
-ghost use Rattle.machine.specs.Seen.{Around, seen};
-ghost use Rattle.machine.specs.Whole.{IsSafe, IsWhole};
+ghost use Rattle.machine.specs.Whole.{IsSafe};
 
 use crate::closures::make_closure;
 use crate::crossing::cross;
@@ -20,7 +18,7 @@ use crate::leaving::return_word;
 use crate::open_results::{call_word, set_list_word, vararg};
 use crate::running::Running;
 use crate::settling::{Settled, settle, tail_call};
-use crate::topmost::{do_in_place, perform_plain};
+use crate::topmost::perform_plain;
 use host::HostSet;
 use opcode::{Instr, Op, decode};
 use std::alloc::{AllocError, Global};
@@ -54,34 +52,20 @@ fn do_word(
     }
 }
 
-/// Does the word that is next, where it is done in place. `false` where it is not: then nothing is done. Where memory runs out the machine is only
-/// dropped.
-pub fn do_next(
-    alloc: Global,
-    running: &mut Running,
-    functions: &[Function],
-) -> Result<bool, AllocError>
+/// The word that is next; the pc goes behind it.
+fn take_word(running: &mut Running, functions: &[Function]) -> Instr
     requires safe { IsSafe functions.now running.old }
     requires ready { IsReady functions.now running.old }
-    ensures done { IfOk result (λ done. IsTrue done → GoesNext functions.now running.old running.new) }
-    ensures not_done { IfOk result (λ done. IsFalse done → running.new ≡ running.old) }
-    ensures other { IfOk result (λ done. IsFalse done → IsOtherNext functions.now running.new) }
-    ensures in_place { (c : Chunk) (a : Around) → IsWhole c functions.now running.old → NeedsNoneNext (seen c a running.old) → result ≡ Ok true }
+    ensures behind { running.new ≡ with_pc running.old (running.old.top.pc + 1) }
+    ensures is { (f : TheFunction) → slice_get functions.now running.old.top.function ≡ Some f → option_and_then instr_of (slice_get f.code.items running.old.top.pc) ≡ Some result }
+    ensures fits { (f : TheFunction) → slice_get functions.now running.new.top.function ≡ Some f → FitsHere functions.now f running.new result }
 {
-    let pc = running.top.pc;
-    let word = functions[running.top.function].code[pc];
+    let word = functions[running.top.function].code[running.top.pc];
     let Some(i) = decode(word) else {
         unreachable!();
     };
-    running.top.pc = pc + 1;
-    if do_in_place(running, functions, i) {
-        return Ok(true);
-    }
-    let crossed = cross(alloc, running, functions, i)?;
-    if !crossed {
-        running.top.pc = pc;
-    }
-    Ok(crossed)
+    running.top.pc += 1;
+    i
 }
 
 /// Does the word that is next, where it is a common CALL or RETURN. `false` where it is not: then nothing is done. Where memory runs out the machine
@@ -97,11 +81,7 @@ pub fn cross_next(
     ensures not_done { IfOk result (λ done. IsFalse done → running.new ≡ running.old) }
 {
     let pc = running.top.pc;
-    let word = functions[running.top.function].code[pc];
-    let Some(i) = decode(word) else {
-        unreachable!();
-    };
-    running.top.pc = pc + 1;
+    let i = take_word(running, functions);
     let crossed = cross(alloc, running, functions, i)?;
     if !crossed {
         running.top.pc = pc;
@@ -122,11 +102,7 @@ pub fn turn(
     requires named { AreNamed running.old.heap (set_told heard hosts.old) }
     ensures { IfOk result (Steps functions.now running.old running.new (set_told heard hosts.old) (set_told heard hosts.new)) }
 {
-    let word = functions[running.top.function].code[running.top.pc];
-    let Some(i) = decode(word) else {
-        unreachable!();
-    };
-    running.top.pc += 1;
+    let i = take_word(running, functions);
     let did = do_word(alloc, running, functions, hosts, i)?;
     settle(alloc, running, functions, hosts, did)
 }

@@ -1,7 +1,6 @@
 // Words in the topmost frame.
-ghost use Rattle.std.specs.Prelude.{◌≡◌, ◌<◌, slice_get, Some, IfOk, OnOk, IfSome, IfNone, OnSome, IsTrue, IsFalse};
+ghost use Rattle.std.specs.Prelude.{◌≡◌, ◌<◌, slice_get, Some, IfOk, OnOk, IfSome, IfNone, OnSome};
 ghost use Rattle.lua_heap.specs.State.{AreOf};
-ghost use Rattle.proto.specs.Chunk.{Chunk};
 ghost use Rattle.rules.specs.State.{State};
 ghost use Rattle.rules.specs.Calls.{land as land_in};
 ghost use Rattle.rules.specs.Step.{effect};
@@ -12,18 +11,15 @@ ghost use Rattle.machine.specs.declared.did.Did.{Did as TheDid};
 ghost use Rattle.machine.specs.Fits.{Fits, IsPlain, IsInner, IsOther};
 ghost use Rattle.machine.specs.Frames.{data_of, landing_of, showing};
 ghost use Rattle.machine.specs.Memory.{NeedsNone};
-ghost use Rattle.machine.specs.Ready.{FitsHere, GoesOn};
-ghost use Rattle.machine.specs.Seen.{Around, seen};
-ghost use Rattle.machine.specs.Whole.{IsWaiting, IsSafe, IsWhole, DoesSeen};
+ghost use Rattle.machine.specs.Whole.{IsWaiting, IsSafe, DoesSeen};
 ghost use Rattle.machine.specs.Words.{Does, Runs, calls_of, calls_left};
 
 use crate::did::{Did, Landing};
 use crate::function::Function;
 use crate::running::Running;
-use crate::upvalues::{close, get_upvalue, set_upvalue};
 use crate::words::{land, perform, quick};
 use lua_heap::ValueList;
-use opcode::{Instr, Op};
+use opcode::Instr;
 use std::alloc::{AllocError, Global};
 
 /// Does a word that works on nothing but the registers of the topmost frame, its function and the heap. The pc of the frame is that behind
@@ -44,46 +40,8 @@ pub fn perform_plain(
     perform_top(alloc, running, &functions[running.top.function], i)
 }
 
-/// Does a common word of the topmost frame in place, and goes on to the pc behind it; the pc of the frame is that behind the word. `false` where
-/// it is no such word, or asks for more: then nothing is done. Takes no memory.
-pub fn do_in_place(running: &mut Running, functions: &[Function], i: Instr) -> bool
-    requires safe { IsSafe functions.now running.old }
-    requires fits { (f : TheFunction) → slice_get functions.now running.old.top.function ≡ Some f → FitsHere functions.now f running.old i }
-    ensures done { IsTrue result → GoesOn functions.now i running.old running.new }
-    ensures not_done { IsFalse result → running.new ≡ running.old }
-    ensures other { IsFalse result → IsOther i.op }
-    ensures taken { IsFalse result → (c : Chunk) (a : Around) → IsWhole c functions.now running.old → NeedsNone i.op (seen c a running.old) i → ⊥ }
-{
-    match i.op {
-        Op::GetUpval => get_upvalue(running, i),
-        Op::SetUpval => set_upvalue(running, i),
-        Op::Close => close(running, i),
-        _ => return do_quick(running, functions, i),
-    }
-    true
-}
-
-/// The same of a word that works on no cells.
-fn do_quick(running: &mut Running, functions: &[Function], i: Instr) -> bool
-    requires safe { IsSafe functions.now running.old }
-    requires inner { IsInner i.op }
-    requires fits { (f : TheFunction) → slice_get functions.now running.old.top.function ≡ Some f → Fits i.op f (top running.old.stack.frames) running.old.top.pc i }
-    ensures done { IsTrue result → GoesOn functions.now i running.old running.new }
-    ensures not_done { IsFalse result → running.new ≡ running.old }
-    ensures other { IsFalse result → IsOther i.op }
-    ensures taken { IsFalse result → (c : Chunk) (a : Around) → IsWhole c functions.now running.old → NeedsNone i.op (seen c a running.old) i → ⊥ }
-{
-    let pc = running.top.pc;
-    match quick_at(running, &functions[running.top.function], pc, i) {
-        Some(next) => {
-            running.top.pc = next;
-            true
-        }
-        None => false,
-    }
-}
-
-/// The same at a pc, that behind the word, whatever the pc of the frame; answers the pc that the word goes on to.
+/// Does a word of the topmost frame in place that works on no cells, where it is a common one, and answers the pc that it goes on to; where it is
+/// not, nothing is done. The pc is that behind the word, whatever the pc of the frame.
 pub fn quick_at(running: &mut Running, function: &Function, pc: usize, i: Instr) -> Option<usize>
     requires shares { Shares running.old.stack running.old.heap }
     requires constants { AreOf running.old.heap function.now.constants.items }

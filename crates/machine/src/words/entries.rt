@@ -1,4 +1,4 @@
-// Words of tables, done in place where no handler is asked: the entry is there, or the table has no metatable.
+// Words of tables, done in place where no function is asked.
 ghost use Rattle.std.specs.Prelude.{◌≡◌, ◌<◌, suc, length, IfSome, IfNone, IsTrue};
 ghost use Rattle.opcode.specs.declared.op.Op.TheVariants as op;
 ghost use Rattle.lua_model.specs.Acts.{value as value_of_act};
@@ -12,9 +12,10 @@ use crate::function::Function;
 use crate::operands::{constant, operand, register};
 use lua_heap::{Heap, is_nil};
 use lua_model::{TableId, Value};
+use meta_ops::{Found, look_up};
 use opcode::Instr;
 
-/// GETTABLE of a table, where no handler is asked. It takes no memory.
+/// GETTABLE, where no function is asked and it does not fail. It takes no memory.
 pub fn get_entry(
     heap: &Heap,
     registers: &mut [Value],
@@ -66,7 +67,7 @@ pub fn set_entry(
     }
 }
 
-/// SELF of a table under a constant, where no handler is asked. It takes no memory.
+/// SELF under a constant, where no function is asked and it does not fail. It takes no memory.
 pub fn get_method_entry(
     heap: &Heap,
     registers: &mut [Value],
@@ -93,31 +94,29 @@ pub fn get_method_entry(
     Some(pc)
 }
 
-/// The entry of a table, where no handler is asked. `None` also where the value is no table.
+/// What is read, where no function is asked for it and nothing fails.
 fn entry(heap: &Heap, on: Value, key: Value) -> Option<Value>
     requires on { IsOf heap.now on }
     requires key { IsOf heap.now key }
     ensures value { IfSome result (λ v. index_in (own_store heap.now) (datum heap.now on) (datum heap.now key) ≡ value_of_act (datum heap.now v)) }
     ensures known { IfSome result (λ v. IsOf heap.now v) }
 {
-    let Value::Table(table) = on else {
-        return None;
-    };
-    let found = heap.raw_get(table, key);
-    if asks_none(heap, table, found) {
-        Some(found)
-    } else {
-        None
+    match look_up(heap, on, key) {
+        Found::Value(value) => Some(value),
+        _ => None,
     }
 }
 
-/// Whether no handler is asked for an entry of a table: it is not nil, or the table has no metatable.
+/// Whether no handler is asked for a write to an entry of a table: it is not nil, or the table has no such handler.
 fn asks_none(heap: &Heap, table: TableId, entry: Value) -> bool
     requires { table.index < length heap.now.tables }
     ensures { IsTrue result → AsksNone (own_store heap.now) table.index (datum heap.now entry) }
 {
-    if is_nil(entry) {
-        return heap.metatable(table).is_none();
+    if !is_nil(entry) {
+        return true;
     }
-    true
+    match heap.metatable(table) {
+        Some(metatable) => is_nil(heap.field(metatable, b"__newindex")),
+        None => true,
+    }
 }

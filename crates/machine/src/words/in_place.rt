@@ -1,4 +1,4 @@
-// Common words, done in place: they take no memory and ask for no call.
+// Common words, done in place: they ask for no call.
 ghost use Rattle.std.specs.Prelude.{◌≡◌, ◌<◌, ℤ, length, Ok, IfSome, IfNone};
 ghost use Rattle.lua_num.specs.Arith.{outcome};
 ghost use Rattle.lua_model.specs.Store.{Store};
@@ -30,7 +30,8 @@ use lua_model::Value;
 use lua_num::{ArithOp, CompareOp, add, div, mul, pow, rem, sub};
 use opcode::{Instr, Op};
 
-/// Does a word in place, where it is a common one that takes no memory and asks for no call, and answers the pc behind it. Else nothing is done.
+/// Does a word in place, where it is a common one that asks for no call, and answers the pc that it goes on to. Else nothing is done. It takes memory
+/// only for a new entry of a table.
 pub fn quick(
     heap: &mut Heap,
     registers: &mut [Value],

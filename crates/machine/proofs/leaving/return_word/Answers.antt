@@ -9,7 +9,8 @@ use Rattle.machine.specs.Seen.{cells_in}
 use Rattle.machine.specs.Words.{IsListed}
 use Rattle.machine.proofs.SeenStates.{safe_at}
 use Rattle.machine.proofs.SeenWords.{top_function}
-use Rattle.machine.proofs.GivenResults.{worked_known, returns_seen}
+use Rattle.machine.proofs.GivenResults.{returns_seen}
+use Rattle.machine.proofs.WorkedValues.{worked_known}
 use Rattle.machine.proofs.leaving.return_word.Goals as goal
 
 pub listed-requires : goal.listed-requires

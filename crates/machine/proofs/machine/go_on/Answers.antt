@@ -1,11 +1,19 @@
-use Rattle.std.proofs.Common.{◌≡◌, ◌+◌, ◌-◌, ◌<◌, suc, List, sym, subst, arith}
+use Rattle.std.proofs.Common.{◌≡◌, ◌+◌, ◌-◌, ◌<◌, ◌≤◌, ℕ, suc, Ok, List, [], sym, ap, subst, arith}
+use Rattle.proto.specs.Chunk.{Chunk}
 use Rattle.proto.specs.View.{view_proto}
+use Rattle.lua_model.specs.Store.{Event, Host}
+use Rattle.host.specs.Hosts.{HostSetState}
+use Rattle.rules.specs.Sound.{Sound}
 use Rattle.machine.specs.declared.function.Function.{Function}
 use Rattle.machine.specs.declared.machine.Machine.{Machine}
 use Rattle.machine.specs.declared.running.Running.{Running}
 use Rattle.machine.specs.At.{IsAt}
+use Rattle.machine.specs.Memory.{NeedsNoneNext, IsBeforeSuch}
+use Rattle.machine.specs.Outside.{around}
 use Rattle.machine.specs.Ready.{IsOtherNext}
-use Rattle.machine.proofs.RunSteps.{whole_in, is_ready, is_ready_onwards, went_next, went_steps}
+use Rattle.machine.specs.Seen.{Around, seen}
+use Rattle.machine.specs.Whole.{IsWhole}
+use Rattle.machine.proofs.RunSteps.{whole_in, before_such, is_ready, is_ready_onwards, went_next, went_steps}
 use Rattle.machine.proofs.machine.go_on.Goals.{then-done-steps-via-then-done-steps, then-done-steps-via-else-done-steps+in_ok-cross_next+then-not-branch}
 use Rattle.machine.proofs.machine.go_on.Goals as goal
 
@@ -101,3 +109,30 @@ returns-then-done-steps-clause-other c = λ fewer.
       | then-done-steps-via-then-done-steps w ↦ subst P (sym w.machine-is) there
       | then-done-steps-via-else-done-steps+in_ok-cross_next+then-not-branch w ↦ subst P (sym w.machine-is) (subst (λ (r : Running). P (record k { running = r })) (sym (w.in_ok-cross_next.ensures.not_done w.if-not-branch.true)) there)
     ]
+
+-- the one word of a row takes memory, where it was not done
+not_done : (c : Chunk) (sound : Sound c) (hosts : List Host) (events : List Event) (n d : ℕ) (now : HostSetState) (k : Machine) (fs : List Function) → fs ≡ k.functions.items → IsAt c hosts events (n + d) now k → d ≡ 0 → IsBeforeSuch c hosts events n → ((e : Chunk) (a : Around) → IsWhole e fs k.running → NeedsNoneNext (seen e a k.running) → ⊥) → ⊥
+not_done c sound hosts events n d now k fs same at none such first =
+    let e : n ≡ n + d = omega (arith, none) in
+    first c (around now events []) (whole_in c sound hosts events (n + d) now k at fs same)
+    (before_such c sound hosts events (n + d) now k at (subst (IsBeforeSuch c hosts events) e such))
+
+pub returns-in_err-cross_next-clause-in_place : goal.returns-in_err-cross_next-clause-in_place
+returns-in_err-cross_next-clause-in_place c = λ one hosts events n now at such.
+    let l = c.loop-done in
+    let r = c.do_row.result in
+    let none : l.done ≡ 0 = omega (arith, one, c.loop-done-test.true) in
+    let not_one : r ≡ 0 = omega (arith, one, none, c.do_row.ensures.no_more, c.if-done-steps.false) in
+    let some : 0 < c.args.steps - l.done = omega (arith, one, none) in
+    absurd (not_done (view_proto c.args.chunk.now) c.proto.ensures.sound hosts events n l.done now l.machine c.as_slice-functions.result.now c.as_slice-functions.ensures.value (l.invariant.1 hosts events n now at) none such (c.do_row.ensures.first not_one some))
+
+pub returns-then-done-steps-clause-in_place : goal.returns-then-done-steps-clause-in_place
+returns-then-done-steps-clause-in_place c = λ one hosts events n now at such.
+    let l = c.loop-done in
+    let r = c.do_row.result in
+    let none : l.done ≡ 0 = omega (arith, one, c.loop-done-test.true) in
+    let some : 0 < c.args.steps - l.done = omega (arith, one, none) in
+    let at_most : r ≤ 1 = omega (arith, one, none, c.do_row.ensures.no_more) in
+    let not_none : r ≡ 0 → ⊥ = λ zero. not_done (view_proto c.args.chunk.now) c.proto.ensures.sound hosts events n l.done now l.machine c.as_slice-functions.result.now c.as_slice-functions.ensures.value (l.invariant.1 hosts events n now at) none such (c.do_row.ensures.first zero some) in
+    let all : l.done + r ≡ 1 = omega (arith, none, at_most, not_none) in
+    ap Ok all

@@ -9,7 +9,7 @@ turn-requires-clause-ready g c =
 
 pub returns-in_default-clause-steps : goal.returns-in_default-clause-steps
 returns-in_default-clause-steps g c hosts events n at =
-    not_stepped (view_proto c.args.chunk.now) c.proto.ensures.sound hosts events n _ c.args.machine.now at (g.S.Sink.taken c.args.out.now) _ _
+    not_stepped (view_proto c.args.chunk.now) hosts events n _ c.args.machine.now at (g.S.Sink.taken c.args.out.now) _ _
 
 pub returns-in-Err-Failed-clause-steps : goal.returns-in-Err-Failed-clause-steps
 returns-in-Err-Failed-clause-steps g c hosts events n at =

@@ -1,7 +1,10 @@
-use Rattle.std.proofs.Common.{◌∙◌, ap, sym, subst, arith}
+use Rattle.std.proofs.Common.{◌≡◌, ◌∙◌, ap, sym, subst, arith}
 use Rattle.machine.specs.declared.running.Running.{Running}
-use Rattle.machine.specs.Ready.{IsOtherNext, with_pc}
-use Rattle.machine.proofs.WordsInRow.{row_function, row_there, row_decoded, row_fits, row_further, row_other}
+use Rattle.machine.specs.Memory.{NeedsNoneNext}
+use Rattle.machine.specs.Ready.{GoesSteps, IsOtherNext, with_pc}
+use Rattle.machine.specs.Seen.{seen}
+use Rattle.machine.specs.Whole.{IsWhole}
+use Rattle.machine.proofs.WordsInRow.{row_function, row_there, row_decoded, row_fits, row_further, row_not_such, row_other}
 use Rattle.machine.proofs.row.do_row.Goals as goal
 
 pub index-requires : goal.index-requires
@@ -66,3 +69,20 @@ returns-in-None-clause-other c = λ fewer.
     let at = row_function fs f old l.running c.requires.safe c.index-functions-running.is same in
     let P : Running → Type 0 = λ k. IsOtherNext fs (with_pc k l.pc) in
     subst P (sym c.in-None.ensures.none) (row_other fs f old l.running l.pc l.done c.requires.ready went at c.index.result.now c.decode.result c.index.ensures c.decode.ensures.reading c.in-Some.i c.in-Some.is c.in-None.ensures.other)
+
+pub returns-in-None-clause-first : goal.returns-in-None-clause-first
+returns-in-None-clause-first c = λ none some d a whole needs.
+    let fs = c.args.functions.now in
+    let old = c.args.running.now in
+    let f = c.index-functions-running.result in
+    let l = c.loop-done in
+    let (bound, went, safe, same) = l.invariant in
+    let at = row_function fs f old l.running c.requires.safe c.index-functions-running.is same in
+    let here = with_pc l.running l.pc in
+    let unmoved : here ≡ old = subst (λ n. GoesSteps fs n old here) none went in
+    row_not_such fs f old l.running l.pc l.done c.requires.ready went at c.index.result.now c.decode.result c.index.ensures c.decode.ensures.reading c.in-Some.i c.in-Some.is c.in-None.ensures.taken d a
+    (subst (IsWhole d fs) (sym unmoved) whole)
+    (subst (λ k. NeedsNoneNext (seen d a k)) (sym unmoved) needs)
+
+pub returns-clause-first : goal.returns-clause-first
+returns-clause-first c = λ none some d a whole needs. omega (arith, none, some, c.loop-done-test.false)

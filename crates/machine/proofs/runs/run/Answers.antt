@@ -23,7 +23,7 @@ returns-in_default-go_on-clause-run g c =
     let chunk = view_proto c.args.chunk.now in
     let k = c.loop-left.machine in
     no_memory chunk (c.args.steps - c.loop-left.left) c.args.steps _ _ _ k k _ _ _ _ _ (omega (arith, c.loop-left-test.true, c.loop-left.invariant.0)) c.loop-left.invariant.1
-    (λ hosts events n at. not_stepped chunk c.proto.ensures.sound hosts events n _ k at _ _ k)
+    (λ hosts events n at. not_stepped chunk hosts events n _ k at _ _ k)
 
 pub returns-then-left-eq0-clause-run : goal.returns-then-left-eq0-clause-run
 returns-then-left-eq0-clause-run g c =

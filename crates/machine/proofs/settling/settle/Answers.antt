@@ -4,7 +4,7 @@ use Rattle.machine.specs.declared.did.Did.TheVariants as done
 use Rattle.machine.specs.declared.settling.Settled.{Settled}
 use Rattle.machine.specs.Settled.{IsAwaitedIn, Descends}
 use Rattle.machine.specs.Words.{IsDidOf}
-use Rattle.machine.proofs.OutsideFirst.{safe_at}
+use Rattle.machine.proofs.SeenStates.{safe_at}
 use Rattle.machine.proofs.SettledSoFar.{begun_so, so_as, named_so, called_so, descended_so, settled_so, failed_so}
 use Rattle.machine.proofs.settling.settle.Goals as goal
 
@@ -27,7 +27,7 @@ returns-in-Jumps g c =
     let now = c.loop-did.running in
     let pc = c.in-Jumps.pc in
     let new = record now { top = record now.top { pc = pc } } in
-    settled_so fs first (done.Jumps pc) start now new _ _ Settled.Going (so_as fs first c.loop-did.did (done.Jumps pc) start now _ _ c.in-Jumps.is c.loop-did.invariant) refl refl (λ safe. safe_at fs now pc now.top.results safe.top_frame.results safe) (λ chunk m0 events left. refl)
+    settled_so fs first (done.Jumps pc) start now new _ _ Settled.Going (so_as fs first c.loop-did.did (done.Jumps pc) start now _ _ c.in-Jumps.is c.loop-did.invariant) refl refl (λ safe. safe_at fs now pc now.top.results safe safe.top_frame.results) (λ chunk m0 events left. refl)
 
 pub returns-in-Opens : goal.returns-in-Opens
 returns-in-Opens g c =
@@ -38,7 +38,7 @@ returns-in-Opens g c =
     let results = c.in-Opens.results in
     let new = record now { top = record now.top { results = Some results } } in
     let so = so_as fs first c.loop-did.did (done.Opens results) start now _ _ c.in-Opens.is c.loop-did.invariant in
-    settled_so fs first (done.Opens results) start now new _ _ Settled.Going so refl refl (λ safe. safe_at fs now now.top.pc (Some results) so.known safe) (λ chunk m0 events left. refl)
+    settled_so fs first (done.Opens results) start now new _ _ Settled.Going so refl refl (λ safe. safe_at fs now now.top.pc (Some results) safe so.known) (λ chunk m0 events left. refl)
 
 pub returns-in-Ends : goal.returns-in-Ends
 returns-in-Ends g c =

@@ -30,7 +30,8 @@ use Rattle.machine.specs.Seen.{Around, cells_in, seen}
 use Rattle.machine.specs.Whole.{IsSafe, DoesSeen}
 use Rattle.machine.specs.Words.{AreResultsOf, IsListed, GivesList}
 use Rattle.machine.proofs.Showing.{one_need}
-use Rattle.machine.proofs.OutsideFirst.{stays, safe_at, safe_outside, does_with_results, results_first, fails_first, enters_first}
+use Rattle.machine.proofs.SeenStates.{safe_at}
+use Rattle.machine.proofs.OutsideFirst.{stays, safe_outside, does_with_results, results_first, fails_first, enters_first}
 use Rattle.machine.proofs.settling.tail_call.Goals as goal
 
 abbrev FitsCall : Function → Running → Instr → Type 0
@@ -88,7 +89,7 @@ module _ (fs : List Function) (old : Running) (i : Instr) (f : Value) (values : 
 
 safe_then : (fs : List Function) (old : Running) (heap : HeapState) (pieces : Vec Text Global) (results : Option OpenResults) → Keeps old.heap heap → OnlyTables old.heap heap → AreResultsOf old.heap results → IsSafe fs old → IsSafe fs (record old { heap = heap; top = record old.top { results = results }; pieces = pieces })
 safe_then fs old heap pieces results keeps only known safe =
-    safe_outside fs (record old { top = record old.top { results = results } }) heap pieces keeps only (safe_at fs old old.top.pc results known safe)
+    safe_outside fs (record old { top = record old.top { results = results } }) heap pieces keeps only (safe_at fs old old.top.pc results safe known)
 
 -- within protected calls the function has a frame of its own
 protected : (fs : List Function) (k new : Running) (a n p : ℕ) (o : State → Option rules.Closure) (args : List Datum) (did : Did) → p ≡ suc n → DoesSeen fs (λ m. entered (push (open_at a) (land (open_at a))) (land (open_at a)) p m (o m) args) k new did → DoesSeen fs (λ m. entered (replace a) (land (open_at a)) p m (o m) args) k new did
