@@ -19,7 +19,7 @@ use Rattle.meta_ops.specs.Acts.{callee_of, IsCalleeOf}
 use Rattle.meta_ops.proofs.Tries.{texts_both, grown_itself, grown_both}
 use Rattle.host.specs.Hosts.{HostSetState}
 use Rattle.rules.specs.State.{State, Effect}
-use Rattle.rules.specs.Calls.{worked, failed_in, apply, apply_to, call_within, call_by}
+use Rattle.rules.specs.Calls.{failed_in, apply, apply_to, call_within, call_by}
 use Rattle.machine.specs.declared.calling.Applied.{Applied}
 use Rattle.machine.specs.declared.calling.Called.{Called}
 use Rattle.machine.specs.declared.calling.invoking.Target.{Target}
@@ -27,7 +27,7 @@ use Rattle.machine.specs.declared.calling.invoking.Turn.{Turn}
 use Rattle.machine.specs.Frames.{data_of}
 use Rattle.machine.specs.Seen.{Around, closure_seen}
 use Rattle.machine.specs.Outside.{AreNamed, around, pieces_in, calls_in, replies_in, Happened}
-use Rattle.machine.specs.Called.{Enters, Lands, beside, applied_as, IsAppliedOf, NothingHappened, Applies, called_as, IsCalledOf, Invokes, worked_values, failed_with, asked_to, GoesTo, turn_of, turned_as, IsTurnOf, NothingTurned, Turns, ahead, Protected}
+use Rattle.machine.specs.Called.{Enters, Lands, beside, applied_as, IsAppliedOf, NothingHappened, Applies, called_as, IsCalledOf, Invokes, failed_with, asked_to, GoesTo, turn_of, turned_as, IsTurnOf, NothingTurned, Turns, ahead, Protected}
 use Rattle.machine.proofs.Beside.{callee_beside}
 use Rattle.machine.proofs.WorkedValues.{worked_is, worked_known}
 

@@ -1,19 +1,17 @@
 -- Results that are given to the frame below: what they come to, and how much there is to do then.
-use Rattle.std.proofs.Common.{◌≡◌, ◌*◌, ◌<◌, ◌≤◌, ℕ, zero, suc, true, Vec, Global, List, [], ◌∷◌, length, reverse, replicate, Option, refl, sym, ap, subst, ◌∙◌, arith}
+use Rattle.std.proofs.Common.{◌≡◌, ◌*◌, ◌<◌, ◌≤◌, ℕ, suc, Vec, Global, List, [], ◌∷◌, length, reverse, Option, refl, sym, ap, subst, ◌∙◌, arith}
 use Rattle.std.proofs.lemmas.List.{length-reverse}
-use Rattle.std.proofs.lemmas.List.Elements.{All-append, All-replicate}
 use Rattle.opcode.specs.declared.op.Op.TheVariants as op
 use Rattle.opcode.specs.declared.word.Instr.{Instr}
 use Rattle.proto.specs.Chunk.{Chunk}
 use Rattle.lua_model.specs.declared.Value.{Value}
-use Rattle.lua_model.specs.declared.Value.TheVariants.{Bool as Boolean}
-use Rattle.lua_model.specs.Datum.{Datum, boolean}
-use Rattle.lua_heap.specs.State.{HeapState, IsOf, AreOf, Keeps}
+use Rattle.lua_model.specs.Datum.{Datum}
+use Rattle.lua_heap.specs.State.{HeapState, AreOf, Keeps}
 use Rattle.lua_heap.proofs.Callers.{keeps_both, data_are_kept}
 use Rattle.rules.specs.State as rules
 use Rattle.rules.specs.State.{State, Effect}
 use Rattle.rules.specs.Cells.{close_from}
-use Rattle.rules.specs.Calls.{give_to, land as land_in, worked, leave}
+use Rattle.rules.specs.Calls.{give_to, land as land_in, leave}
 use Rattle.rules.specs.Step.{effect, count_of}
 use Rattle.upvalue.specs.State.{top, below}
 use Rattle.machine.specs.declared.function.Function.{Function}

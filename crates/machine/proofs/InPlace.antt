@@ -4,28 +4,23 @@ use Rattle.std.specs.Prelude.{slice_get}
 use Rattle.std.proofs.lemmas.List.{append-nil}
 use Rattle.opcode.specs.declared.op.Op.{Op}
 use Rattle.opcode.specs.declared.word.Instr.{Instr}
-use Rattle.lua_heap.proofs.Callers.{keeps_itself}
 use Rattle.host.specs.Hosts.{HostSetState}
-use Rattle.rules.specs.Run.{Going}
 use Rattle.rules.specs.State.{State, Effect}
 use Rattle.rules.specs.Step.{effect}
 use Rattle.upvalue.specs.State.{top, with_top}
 use Rattle.upvalue.specs.Shared.{Shares}
 use Rattle.machine.specs.declared.function.Function.{Function}
-use Rattle.machine.specs.declared.frame.Frame.{Frame}
 use Rattle.machine.specs.declared.running.Running.{Running}
 use Rattle.machine.specs.declared.did.Did.{Did}
-use Rattle.machine.specs.declared.settling.Settled.{Settled}
 use Rattle.machine.specs.Fits.{FitsFrame}
 use Rattle.machine.specs.Frames.{effect_of}
 use Rattle.machine.specs.Outside.{around}
 use Rattle.machine.specs.Ready.{FitsHere, GoesOn, with_pc}
 use Rattle.machine.specs.Seen.{seen, cells_in}
-use Rattle.machine.specs.Settled.{DoesOutside, Settles}
-use Rattle.machine.specs.Whole.{IsSafe, DoesSeen}
+use Rattle.machine.specs.Settled.{DoesOutside}
+use Rattle.machine.specs.Whole.{DoesSeen}
 use Rattle.machine.specs.Words.{Does}
-use Rattle.machine.proofs.SeenStates.{safe_at}
-use Rattle.machine.proofs.SeenWords.{top_function, does_seen}
+use Rattle.machine.proofs.SeenWords.{does_seen}
 
 -- a word that did nothing outside
 pub quiet : {fs : List Function} {act : State → Effect} {old new : Running} {set : HostSetState} {did : Did} → DoesSeen fs act old new did → DoesOutside fs act old new set set did

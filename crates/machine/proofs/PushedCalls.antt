@@ -1,5 +1,5 @@
 -- Calls of closures: which function is called, whether a frame of it may be put above, and what it comes to where none may.
-use Rattle.std.proofs.Common.{◌≡◌, ℕ, zero, suc, ◌-◌, ◌<◌, ◌≤◌, List, [], ◌∷◌, length, map, reverse, get_or, Some, true, false, refl, sym, ap, subst, ◌∙◌, arith}
+use Rattle.std.proofs.Common.{◌≡◌, ℕ, zero, suc, ◌-◌, ◌<◌, ◌≤◌, List, [], ◌∷◌, length, map, reverse, get_or, Some, false, refl, sym, ap, subst, ◌∙◌, arith}
 use Rattle.std.specs.Prelude.{slice_get, option_map, if◌then◌else◌}
 use Rattle.std.proofs.lemmas.Bool.{lt-ltb, le-ltb}
 use Rattle.std.proofs.lemmas.List.{length-reverse}
@@ -16,7 +16,7 @@ use Rattle.lua_heap.specs.Grown.{Grown}
 use Rattle.lua_heap.proofs.Callers.{keeps_itself, keeps_both}
 use Rattle.rules.specs.State as rules
 use Rattle.rules.specs.State.{State, Effect, Fails}
-use Rattle.rules.specs.Calls.{worked, broke, begin, frame_of, failed_in, push}
+use Rattle.rules.specs.Calls.{broke, begin, frame_of, failed_in, push}
 use Rattle.upvalue.specs.State.{top, below, cell_of}
 use Rattle.machine.specs.declared.function.Function.{Function}
 use Rattle.machine.specs.declared.running.Running.{Running}

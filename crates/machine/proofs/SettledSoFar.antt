@@ -1,9 +1,9 @@
 -- What a step has come to so far: from what was to be done at first to what is to be done now, with all that happened outside between.
-use Rattle.std.proofs.Common.{◌≡◌, List, [], ◌∷◌, ◌++◌, append_assoc, append-nil, None, Some, refl, sym, ap, subst, ◌∙◌}
+use Rattle.std.proofs.Common.{◌≡◌, List, [], ◌++◌, append_assoc, append-nil, None, Some, refl, sym, ap, subst, ◌∙◌}
 use Rattle.lua_num.specs.Bytes.{Text}
 use Rattle.proto.specs.Chunk.{Chunk}
 use Rattle.lua_model.specs.declared.Value.{Value}
-use Rattle.lua_model.specs.Store.{Reply, Event, printed, asked, closed}
+use Rattle.lua_model.specs.Store.{Reply, Event}
 use Rattle.lua_model.specs.Builtins.{failure_text}
 use Rattle.lua_heap.specs.State.{HeapState, datum, Keeps}
 use Rattle.lua_heap.proofs.Callers.{keeps_itself, keeps_both}
@@ -17,13 +17,13 @@ use Rattle.machine.specs.declared.settling.Settled.{Settled}
 use Rattle.machine.specs.declared.did.Did.{Did}
 use Rattle.machine.specs.declared.did.Landing.{Landing}
 use Rattle.machine.specs.Frames.{data_of, landing_of, effect_of}
-use Rattle.machine.specs.Outside.{around, pieces_in, replies_in, calls_in, logged, Happened, AreNamed}
+use Rattle.machine.specs.Outside.{around, replies_in, Happened, AreNamed}
 use Rattle.machine.specs.Seen.{seen}
 use Rattle.machine.specs.Settled.{IsAwaitedIn, DoesOutside, Descends, Settles, conf_of}
 use Rattle.machine.specs.Whole.{IsSafe, IsWhole}
 use Rattle.machine.specs.Words.{IsDidOf}
 use Rattle.machine.proofs.SeenStates.{whole_later}
-use Rattle.machine.proofs.EventsInRow.{replies_in-append, calls_in-append, happened_in_row}
+use Rattle.machine.proofs.EventsInRow.{replies_in-append, happened_in_row}
 
 -- ---- so far
 

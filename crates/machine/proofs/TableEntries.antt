@@ -1,9 +1,8 @@
 -- A write to an entry for which no handler is asked.
-use Rattle.std.proofs.Common.{◌≡◌, ◌⊎◌, inl, inr, ℕ, Bool, true, false, [], ◌∷◌, codes, None, Some, ap, refl}
+use Rattle.std.proofs.Common.{◌≡◌, ◌⊎◌, inl, inr, ℕ, Bool, true, false, [], ◌∷◌, codes, ap, refl}
 use Rattle.std.specs.Prelude.{not, ◌||◌, if◌then◌else◌}
-use Rattle.lua_num.specs.Bytes.{Text}
-use Rattle.lua_model.specs.Datum.{Datum, nil, text, table, is_nil, is_function}
-use Rattle.lua_model.specs.Store.{Store, table_at, raw_get, raw_set}
+use Rattle.lua_model.specs.Datum.{Datum, nil, table, is_nil, is_function}
+use Rattle.lua_model.specs.Store.{Store, raw_get, raw_set}
 use Rattle.lua_model.specs.Acts.{Act, discard, value, call}
 use Rattle.lua_model.specs.Operators.{handler, set_index, set_index_within}
 use Rattle.machine.specs.Words.{AsksNone}

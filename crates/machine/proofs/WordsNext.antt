@@ -1,12 +1,11 @@
 -- The word that is done next: what is read, and what a word that was done in place comes to.
-use Rattle.std.proofs.Common.{◌≡◌, ◌∙◌, ◌+◌, ◌<◌, ℕ, suc, Bool, true, false, List, [], length, Option, Some, None, refl, sym, ap, subst, append-nil, arith}
+use Rattle.std.proofs.Common.{◌≡◌, ◌∙◌, ◌+◌, ◌<◌, ℕ, suc, Bool, true, false, List, length, Option, Some, None, refl, sym, ap, subst, arith}
 use Rattle.std.specs.Prelude.{get_or, slice_get, option_and_then, if◌then◌else◌}
 use Rattle.std.proofs.lemmas.Option.{slice_get_within, slice_get-get_or, slice_get_read, option_and_then_some, same_Some}
 use Rattle.opcode.specs.Reading.{instr_of}
 use Rattle.opcode.specs.declared.word.Instr.{Instr}
 use Rattle.proto.specs.Chunk.{Chunk}
 use Rattle.lua_heap.specs.State.{Keeps}
-use Rattle.host.specs.Hosts.{HostSetState}
 use Rattle.rules.specs.State.{need, at_pc}
 use Rattle.rules.specs.Words.{instr_at}
 use Rattle.rules.specs.Places.{is_further}
@@ -14,10 +13,8 @@ use Rattle.rules.specs.Run.{Going, current, after}
 use Rattle.rules.specs.Step.{effect}
 use Rattle.machine.specs.declared.function.Function.{Function}
 use Rattle.machine.specs.declared.running.Running.{Running}
-use Rattle.machine.specs.declared.settling.Settled.{Settled}
 use Rattle.machine.specs.Memory.{NeedsNone, NeedsNoneNext}
-use Rattle.machine.specs.Outside.{around}
-use Rattle.machine.specs.Ready.{FitsHere, GoesNext, GoesOn, HasWord, IsReady, Steps, with_pc}
+use Rattle.machine.specs.Ready.{FitsHere, GoesNext, GoesOn, HasWord, IsReady, with_pc}
 use Rattle.machine.specs.Seen.{Around, seen}
 use Rattle.machine.specs.Whole.{IsSafe, IsWhole}
 use Rattle.machine.proofs.FramesAbove.{loaded_at}
