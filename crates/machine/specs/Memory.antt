@@ -1,13 +1,15 @@
 -- To be believed. Words that take no memory, at a state.
-use Rattle.std.specs.Prelude.{◌≡◌, ℕ, suc, ◌+◌, ℤ, List, None, Some, Ok}
+use Rattle.std.specs.Prelude.{◌≡◌, ◌≤◌, false, ℕ, suc, ◌+◌, ℤ, List, None, Some, Ok}
 use Rattle.opcode.specs.declared.op.Op.{Op}
 use Rattle.opcode.specs.declared.word.Instr.{Instr}
 use Rattle.proto.specs.Chunk.{Chunk}
 use Rattle.lua_num.specs.declared.arith.ArithOp.{ArithOp}
 use Rattle.lua_num.specs.Arith.{outcome}
-use Rattle.lua_model.specs.Datum.{number}
-use Rattle.lua_model.specs.Store.{Event, Host}
-use Rattle.rules.specs.State.{State, operand, at_pc}
+use Rattle.lua_model.specs.Datum.{Datum, number, table, is_nil}
+use Rattle.lua_model.specs.Store.{Event, Host, raw_get}
+use Rattle.lua_model.specs.Acts.{value}
+use Rattle.lua_model.specs.Operators.{index}
+use Rattle.rules.specs.State.{State, register, operand, at_pc}
 use Rattle.rules.specs.Step.{loop_number}
 use Rattle.rules.specs.Run.{Going, current, ran}
 use Rattle.machine.specs.Outside.{replies_in}
@@ -30,6 +32,14 @@ Computes op m i = (x y n : ℤ) × AreNumbers m i x y × (outcome op x y ≡ Ok 
 abbrev pub Compares : State → Instr → Type 0
 Compares m i = (x y : ℤ) × AreNumbers m i x y
 
+-- what is read is a value, with no function asked
+abbrev pub Reads : State → Instr → Type 0
+Reads m i = (on key v : Datum) × (register m i.b ≡ Some on) × (operand m i.c ≡ Some key) × (index m.store on key ≡ value v)
+
+-- an entry of a table that is there is written
+abbrev pub Rewrites : State → Instr → Type 0
+Rewrites m i = (t : ℕ) × (key v : Datum) × (register m i.a ≡ Some (table t)) × (operand m i.b ≡ Some key) × (operand m i.c ≡ Some v) × (is_nil key ≡ false) × (is_nil (raw_get m.store t key) ≡ false)
+
 abbrev pub NeedsNone : Op → State → Instr → Type 0
 NeedsNone Op.Move m i = Unit {0}
 NeedsNone Op.LoadK m i = Unit {0}
@@ -38,6 +48,9 @@ NeedsNone Op.LoadNil m i = Unit {0}
 NeedsNone Op.GetUpval m i = Unit {0}
 NeedsNone Op.SetUpval m i = Unit {0}
 NeedsNone Op.GetGlobal m i = Unit {0}
+NeedsNone Op.GetTable m i = Reads m i
+NeedsNone Op.SetTable m i = Rewrites m i
+NeedsNone Op.Self_ m i = (256 ≤ i.c) × Reads m i
 NeedsNone Op.Not m i = Unit {0}
 NeedsNone Op.Jmp m i = Unit {0}
 NeedsNone Op.Test m i = Unit {0}

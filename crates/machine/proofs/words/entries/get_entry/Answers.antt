@@ -7,7 +7,8 @@ use Rattle.rules.specs.Step.{give, effect}
 use Rattle.machine.specs.declared.did.Did.{Did}
 use Rattle.machine.specs.Frames.{showing}
 use Rattle.machine.proofs.Beside.{index_beside}
-use Rattle.machine.proofs.QuickSteps.{step_does}
+use Rattle.machine.proofs.QuickSteps.{step_does, if_none}
+use Rattle.machine.proofs.TableEntries.{reads_none}
 use Rattle.machine.proofs.Showing.{two_needs, set_does}
 use Rattle.machine.proofs.words.entries.get_entry.Goals as goal
 
@@ -30,3 +31,9 @@ returns-clause-some c =
     let s = showing m h values in
     two_needs (register s i.b) (operand s i.c) on key (λ on key. give s i.a (index s.store on key)) (c.register-on.ensures.value h) (c.operand-key.ensures.value h m c.args.pc runs)
     ∙ ap (give s i.a) (index_beside h m.store.hosts on key ∙ c.in_ok-found.ensures.value)))
+
+pub returns-in_err-found-clause-taken : goal.returns-in_err-found-clause-taken
+returns-in_err-found-clause-taken c =
+    let h = c.args.heap.now in
+    let values = c.args.registers.now in
+    if_none c.from_residual.result _ (λ m runs needs. reads_none h m values c.args.i (datum h c.register-on.result) (datum h c.operand-key.result) (c.register-on.ensures.value h) (c.operand-key.ensures.value h m c.args.pc runs) c.in_err-found.ensures.none needs)

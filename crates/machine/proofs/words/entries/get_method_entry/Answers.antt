@@ -10,7 +10,8 @@ use Rattle.machine.specs.declared.did.Did.{Did}
 use Rattle.machine.specs.Frames.{showing}
 use Rattle.machine.proofs.Beside.{index_beside}
 use Rattle.machine.proofs.Methods.{method_of, self_is, constant_operand}
-use Rattle.machine.proofs.QuickSteps.{step_does}
+use Rattle.machine.proofs.QuickSteps.{step_does, if_none}
+use Rattle.machine.proofs.TableEntries.{reads_none}
 use Rattle.machine.proofs.Showing.{one_need, set_does, does_from}
 use Rattle.machine.proofs.words.entries.get_method_entry.Goals as goal
 
@@ -43,3 +44,10 @@ returns-clause-some c =
     let s = showing m h between in
     one_need (operand s i.c) key (λ key. give s i.a (index s.store on key)) (constant_operand s i.c c.if-i-lt256.false ∙ c.constant-key.ensures.value h m pc runs)
     ∙ ap (give s i.a) (index_beside h m.store.hosts on key ∙ c.in_ok-found.ensures.value))))
+
+pub returns-in_err-found-clause-taken : goal.returns-in_err-found-clause-taken
+returns-in_err-found-clause-taken c =
+    let h = c.args.heap.now in
+    let values = c.args.registers.now in
+    let i = c.args.i in
+    if_none c.from_residual.result _ (λ m runs above needs. reads_none h m values i (datum h c.register-on.result) (datum h c.constant-key.result) (c.register-on.ensures.value h) (constant_operand (showing m h values) i.c c.if-i-lt256.false ∙ c.constant-key.ensures.value h m c.args.pc runs) c.in_err-found.ensures.none needs)

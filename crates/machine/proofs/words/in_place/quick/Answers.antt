@@ -79,3 +79,31 @@ returns-in-SetTable-clause-some c = if_some c.set_entry.result _ _ (λ next does
 
 pub returns-in-Self_-clause-some : goal.returns-in-Self_-clause-some
 returns-in-Self_-clause-some c = if_some c.get_method_entry.result _ _ (λ next does. for_op c.args.i Op.Self_ c.in-Self_.is does) c.get_method_entry.ensures.some
+
+pub returns-in-GetTable-clause-taken : goal.returns-in-GetTable-clause-taken
+returns-in-GetTable-clause-taken c =
+    let i = c.args.i in
+    none_weaker c.get_entry.result _ _
+    (λ taken m runs needs.
+    let P : Op → Type 0 = λ o. NeedsNone o (showing m c.args.heap.now c.args.registers.now) i in
+    taken m runs (subst P c.in-GetTable.is needs))
+    c.get_entry.ensures.taken
+
+pub returns-in-SetTable-clause-taken : goal.returns-in-SetTable-clause-taken
+returns-in-SetTable-clause-taken c =
+    let i = c.args.i in
+    none_weaker c.set_entry.result _ _
+    (λ taken m runs needs.
+    let P : Op → Type 0 = λ o. NeedsNone o (showing m c.args.heap.now c.args.registers.now) i in
+    taken m runs (subst P c.in-SetTable.is needs))
+    c.set_entry.ensures.taken
+
+pub returns-in-Self_-clause-taken : goal.returns-in-Self_-clause-taken
+returns-in-Self_-clause-taken c =
+    let i = c.args.i in
+    none_weaker c.get_method_entry.result _ _
+    (λ taken m runs needs.
+    let P : Op → Type 0 = λ o. NeedsNone o (showing m c.args.heap.now c.args.registers.now) i in
+    let such = subst P c.in-Self_.is needs in
+    taken m runs such.0 such.1)
+    c.get_method_entry.ensures.taken
