@@ -109,6 +109,13 @@ fn entry(heap: &Heap, on: Value, key: Value) -> Option<Value>
     ensures known { IfSome result (λ v. IsOf heap.now v) }
     ensures none { IfNone result ((v : Datum) → index_in (own_store heap.now) (datum heap.now on) (datum heap.now key) ≡ value_of_act v → ⊥) }
 {
+    // Most reads find an entry at once.
+    if let Value::Table(table) = on {
+        let found = heap.raw_get(table, key);
+        if !is_nil(found) {
+            return Some(found);
+        }
+    }
     match look_up(heap, on, key) {
         Found::Value(value) => Some(value),
         Found::Handler { .. } => None,
