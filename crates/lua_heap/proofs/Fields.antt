@@ -1,7 +1,8 @@
 -- No table has an entry under a text that is no text of the heap.
-use Rattle.std.proofs.Common.{◌≡◌, ℕ, zero, suc, ◌<◌, Bool, true, false, ◌||◌, List, [], ◌∷◌, length, get_or, if◌then◌else◌, refl, ap, ◌∙◌, arith, true≢false}
+use Rattle.std.proofs.Common.{◌≡◌, ℕ, zero, suc, ◌<◌, false, List, [], ◌∷◌, length, get_or, if◌then◌else◌, refl, ap, ◌∙◌, arith}
 use Rattle.std.specs.List.{list_any}
 use Rattle.std.specs.Str.{bytes_eq}
+use Rattle.std.proofs.lemmas.Bool.{or_parts}
 use Rattle.std.proofs.lemmas.List.Elements.{All-head, All-tail}
 use Rattle.lua_num.specs.Bytes.{Text}
 use Rattle.lua_model.specs.declared.Value.{Value}
@@ -11,14 +12,10 @@ use Rattle.lua_model.specs.Store.{pair_value}
 use Rattle.lua_table.specs.Entries.{Entries}
 use Rattle.lua_heap.specs.State.{HeapState, datum, IsOf, ArePairsOf, pairs_of}
 
-none_first : (a b : Bool) → a || b ≡ false → (a ≡ false) × (b ≡ false)
-none_first true b e = absurd (true≢false e)
-none_first false b e = (refl, e)
-
 none_at : (n : Text) (texts : List Text) (i : ℕ) → i < length texts → list_any (bytes_eq n) texts ≡ false → bytes_eq n (get_or texts i []) ≡ false
 none_at n [] i l e = absurd (omega (arith, l))
-none_at n (t ∷ texts) zero l e = (none_first (bytes_eq n t) (list_any (bytes_eq n) texts) e).0
-none_at n (t ∷ texts) (suc i) l e = none_at n texts i (omega (arith, l)) (none_first (bytes_eq n t) (list_any (bytes_eq n) texts) e).1
+none_at n (t ∷ texts) zero l e = (or_parts (bytes_eq n t) (list_any (bytes_eq n) texts) e).0
+none_at n (t ∷ texts) (suc i) l e = none_at n texts i (omega (arith, l)) (or_parts (bytes_eq n t) (list_any (bytes_eq n) texts) e).1
 
 other_key : (s : HeapState) (n : Text) → list_any (bytes_eq n) s.texts ≡ false → (k : Value) → IsOf s k → raw_equal (text n) (datum s k) ≡ false
 other_key s n e Nil h = refl

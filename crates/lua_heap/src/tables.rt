@@ -64,8 +64,8 @@ impl Heap {
         match self.texts.find(name) {
             Some(text) => self.raw_get(id, Value::Text(text)),
             None => {
-                // the keys of a table are values of the heap
-                let _table = self.table(id);
+                // Called for its clause that the keys of a table are values of the heap.
+                let _ = self.table(id);
                 Value::Nil
             }
         }

@@ -6,4 +6,4 @@ use Rattle.lua_heap.proofs.heap.Heap.field.Goals as goal
 
 pub returns-in-None-clause-value : goal.returns-in-None-clause-value
 returns-in-None-clause-value c =
-    sym (ap (λ ps. pair_value ps (text c.args.name.now)) (sym c.table-table.ensures.pairs) ∙ no_field c.args.self.now c.args.name.now (search rules) c.table-table.result.now c.table-table.ensures.known)
+    sym (ap (λ ps. pair_value ps (text c.args.name.now)) (sym c.table.ensures.pairs) ∙ no_field c.args.self.now c.args.name.now (search rules) c.table.result.now c.table.ensures.known)
