@@ -1,5 +1,5 @@
 -- A read or a write that tries one value after another comes to what the definition gives with so many tries.
-use Rattle.std.proofs.Common.{◌≡◌, ℕ, suc, ◌+◌, ◌-◌, ◌<◌, refl, ap, sym, subst, ◌∙◌, codes, arith}
+use Rattle.std.proofs.Common.{◌≡◌, ℕ, suc, ◌+◌, ◌-◌, ◌<◌, refl, ap, sym, subst, ◌∙◌, ControlFlow, Break, Continue, codes, arith}
 use Rattle.lua_model.specs.declared.Value.{Value}
 use Rattle.lua_model.specs.Datum.{Datum, text}
 use Rattle.lua_model.specs.Store.{Store}
@@ -10,8 +10,6 @@ use Rattle.lua_heap.specs.State.{HeapState, datum, IsOf, own_store, Keeps, OnlyT
 use Rattle.lua_heap.proofs.Callers.{keeps_itself, keeps_both}
 use Rattle.meta_ops.specs.Acts.{act_of, found_of, IsFoundOf}
 use Rattle.meta_ops.specs.declared.act.Act.{Act}
-use Rattle.meta_ops.specs.declared.indexing.Step.{Step}
-use Rattle.meta_ops.specs.declared.indexing.Tried.{Tried}
 use Rattle.meta_ops.specs.declared.indexing.Found.{Found}
 use Rattle.lua_heap.specs.Grown.{Grown}
 use Rattle.meta_ops.specs.Steps.{IsRead, IsWritten, IsReading, IsWriting}
@@ -38,12 +36,12 @@ reading_start h on key limit known = record {
   left = λ more e. ap (λ n. index_within n (own_store h) (datum h on) (datum h key)) (omega arith);
 }
 
-read_is : (h : HeapState) (at key : Value) (r tried : Tried) → r ≡ tried → IsRead h at key r → IsRead h at key tried
-read_is h at key r tried is read = let P : Tried → Type 0 = λ x. IsRead h at key x in subst P is read
+read_is : (h : HeapState) (at key : Value) (r tried : ControlFlow Found Value) → r ≡ tried → IsRead h at key r → IsRead h at key tried
+read_is h at key r tried is read = let P : ControlFlow Found Value → Type 0 = λ x. IsRead h at key x in subst P is read
 
-pub reading_next : {h : HeapState} {on key at v : Value} {limit tried : ℕ} → IsReading h on key at limit tried → (r : Tried) → r ≡ Tried.Next v → IsRead h at key r → IsReading h on key v limit (tried + 1)
+pub reading_next : {h : HeapState} {on key at v : Value} {limit tried : ℕ} → IsReading h on key at limit tried → (r : ControlFlow Found Value) → r ≡ Continue v → IsRead h at key r → IsReading h on key v limit (tried + 1)
 reading_next {h} {on} {key} {at} {v} {limit} {tried} reading r is read =
-    let next = read_is h at key r (Tried.Next v) is read in
+    let next = read_is h at key r (Continue v) is read in
     record {
       known = next.1;
       left = λ more e.
@@ -51,9 +49,9 @@ reading_next {h} {on} {key} {at} {v} {limit} {tried} reading r is read =
           reading.left (suc more) f ∙ next.0 more;
     }
 
-pub reading_done : {h : HeapState} {on key at : Value} {limit tried : ℕ} (found : Found) → IsReading h on key at limit tried → tried < limit → (r : Tried) → r ≡ Tried.Done found → IsRead h at key r → (found_of h (datum h key) found ≡ index_within limit (own_store h) (datum h on) (datum h key)) × IsFoundOf h found
+pub reading_done : {h : HeapState} {on key at : Value} {limit tried : ℕ} (found : Found) → IsReading h on key at limit tried → tried < limit → (r : ControlFlow Found Value) → r ≡ Break found → IsRead h at key r → (found_of h (datum h key) found ≡ index_within limit (own_store h) (datum h on) (datum h key)) × IsFoundOf h found
 reading_done {h} {on} {key} {at} {limit} {tried} found reading below r is read =
-    let done = read_is h at key r (Tried.Done found) is read in
+    let done = read_is h at key r (Break found) is read in
     let more = limit - (tried + 1) in
     let f : suc more + tried ≡ limit = omega arith in
     (done.0 more ∙ sym (reading.left (suc more) f), done.1)
@@ -63,9 +61,9 @@ reading_over {h} {on} {key} {at} {limit} {tried} reading e = reading.left 0 (ome
 
 -- ---- writes
 
-written_is : (s t : HeapState) (at key value : Value) (r step : Step) → r ≡ step → IsWritten s t at key value r → IsWritten s t at key value step
+written_is : (s t : HeapState) (at key value : Value) (r step : ControlFlow Act Value) → r ≡ step → IsWritten s t at key value r → IsWritten s t at key value step
 written_is s t at key value r step is written =
-    let P : Step → Type 0 = λ x. IsWritten s t at key value x in subst P is written
+    let P : ControlFlow Act Value → Type 0 = λ x. IsWritten s t at key value x in subst P is written
 
 write_from : (s t : Store) (k l v w : Datum) → t ≡ s → l ≡ k → w ≡ v → (n m : ℕ) (x y : Datum) → set_index_within n t x l w ≡ set_index_within m t y l w → set_index_within n s x k v ≡ set_index_within m s y k v
 write_from s t k l v w e f g n m x y h =
@@ -81,9 +79,9 @@ outcome_from s t k l v w e f g n x a h =
     let R : Datum → Type 0 = λ z. a ≡ set_index_within n s x k z in
     subst R g (subst Q f (subst P e h))
 
-pub writing_next : {first s t : HeapState} {on key value at v : Value} {limit tried : ℕ} → IsWriting first s on key value at limit tried → IsOf first key → IsOf first value → Keeps s t → (r : Step) → r ≡ Step.Next v → IsWritten s t at key value r → IsWriting first t on key value v limit (tried + 1)
+pub writing_next : {first s t : HeapState} {on key value at v : Value} {limit tried : ℕ} → IsWriting first s on key value at limit tried → IsOf first key → IsOf first value → Keeps s t → (r : ControlFlow Act Value) → r ≡ Continue v → IsWritten s t at key value r → IsWriting first t on key value v limit (tried + 1)
 writing_next {first} {s} {t} {on} {key} {value} {at} {v} {limit} {tried} writing k x keeps r is written =
-    let step = written_is s t at key value r (Step.Next v) is written in
+    let step = written_is s t at key value r (Continue v) is written in
     record {
       grown = grown_both first s t writing.grown (record { only_texts = step.2; keeps = keeps });
       known = step.1;
@@ -93,9 +91,9 @@ writing_next {first} {s} {t} {on} {key} {value} {at} {v} {limit} {tried} writing
           ∙ write_from (own_store first) (own_store s) (datum first key) (datum s key) (datum first value) (datum s value) (same_store first s writing.grown.only_texts) (writing.grown.keeps key k).1 (writing.grown.keeps value x).1 (suc more) more (datum s at) (datum t v) (step.0 more);
     }
 
-pub writing_done : {first s : HeapState} {on key value at : Value} {limit tried : ℕ} (t : HeapState) (act : Act) → IsWriting first s on key value at limit tried → IsOf first key → IsOf first value → tried < limit → (r : Step) → r ≡ Step.Done act → IsWritten s t at key value r → (act_of t act, own_store t) ≡ set_index_within limit (own_store first) (datum first on) (datum first key) (datum first value)
+pub writing_done : {first s : HeapState} {on key value at : Value} {limit tried : ℕ} (t : HeapState) (act : Act) → IsWriting first s on key value at limit tried → IsOf first key → IsOf first value → tried < limit → (r : ControlFlow Act Value) → r ≡ Break act → IsWritten s t at key value r → (act_of t act, own_store t) ≡ set_index_within limit (own_store first) (datum first on) (datum first key) (datum first value)
 writing_done {first} {s} {on} {key} {value} {at} {limit} {tried} t act writing k x below r is written =
-    let step = written_is s t at key value r (Step.Done act) is written in
+    let step = written_is s t at key value r (Break act) is written in
     let more = limit - (tried + 1) in
     let f : suc more + tried ≡ limit = omega arith in
     outcome_from (own_store first) (own_store s) (datum first key) (datum s key) (datum first value) (datum s value) (same_store first s writing.grown.only_texts) (writing.grown.keeps key k).1 (writing.grown.keeps value x).1 (suc more) (datum s at) (act_of t act, own_store t) (step.0 more)

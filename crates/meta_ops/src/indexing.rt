@@ -2,7 +2,7 @@
 ghost use Rattle.std.specs.Prelude.{◌≡◌, ◌<◌, false, length, IfOk, OnOk, OnErr};
 ghost use Rattle.lua_model.specs.Datum.{is_nil as is_nil_datum};
 ghost use Rattle.lua_model.specs.Store.{raw_set};
-ghost use Rattle.lua_model.specs.Operators.{index as index_in, set_index as set_index_in, set_index_within as set_index_within_in, index_fault};
+ghost use Rattle.lua_model.specs.Operators.{index as index_in, set_index as set_index_in, index_fault};
 ghost use Rattle.lua_heap.specs.State.{datum, IsOf, own_store, with_store, Keeps, OnlyTexts, OnlyTables};
 ghost use Rattle.meta_ops.specs.Acts.{act_of, found_of, IsActOf, IsFoundOf};
 ghost use Rattle.lua_heap.specs.Grown.{Grown};
@@ -14,6 +14,7 @@ use crate::handlers::{call_with, handler, is_function};
 use lua_heap::{Heap, is_nil, text_value};
 use lua_model::{TableId, Value};
 use std::alloc::{AllocError, Global};
+use std::ops::ControlFlow;
 
 /// How many values an index may try.
 const CHAIN_LIMIT: usize = 100;
@@ -26,13 +27,6 @@ pub enum Found {
     Handler { handler: Value, table: Value },
     NoTable(Value),
     NoEnd,
-}
-
-/// What one try of a read comes to: it is done, or goes on at a handler that is no function.
-#[derive(Clone, Copy, PartialEq, Eq, Debug)]
-enum Tried {
-    Done(Found),
-    Next(Value),
 }
 
 /// `on[key]`: the entry of a table, or what its handler gives, which is asked where it is a function and is read in turn
@@ -64,40 +58,34 @@ pub fn look_up(heap: &Heap, on: Value, key: Value) -> Found
     let mut at = on;
     for _ in 0..CHAIN_LIMIT {
         match read_step(heap, at, key) {
-            Tried::Done(found) => return found,
-            Tried::Next(next) => at = next,
+            ControlFlow::Break(found) => return found,
+            ControlFlow::Continue(next) => at = next,
         }
     }
     Found::NoEnd
 }
 
-fn read_step(heap: &Heap, on: Value, key: Value) -> Tried
+/// One try of a read: it is done, or goes on at a handler that is no function.
+fn read_step(heap: &Heap, on: Value, key: Value) -> ControlFlow<Found, Value>
     requires on { IsOf heap.now on }
     requires key { IsOf heap.now key }
     ensures { IsRead heap.now on key result }
 {
     let Value::Table(table) = on else {
-        return Tried::Done(Found::NoTable(on));
+        return ControlFlow::Break(Found::NoTable(on));
     };
     let entry = heap.raw_get(table, key);
     if !is_nil(entry) {
-        return Tried::Done(Found::Value(entry));
+        return ControlFlow::Break(Found::Value(entry));
     }
     let handler = handler(heap, on, b"__index");
     if is_nil(handler) {
-        Tried::Done(Found::Value(Value::Nil))
+        ControlFlow::Break(Found::Value(Value::Nil))
     } else if is_function(handler) {
-        Tried::Done(Found::Handler { handler, table: on })
+        ControlFlow::Break(Found::Handler { handler, table: on })
     } else {
-        Tried::Next(handler)
+        ControlFlow::Continue(handler)
     }
-}
-
-/// What one try of a write comes to: it is done, or goes on at a handler that is no function.
-#[derive(Drop)]
-enum Step {
-    Done(Act),
-    Next(Value),
 }
 
 /// Sets `on[key]`: the entry of a table, or what its handler makes of it, which is asked where it is a function and is
@@ -119,44 +107,24 @@ pub fn set_index(
     ensures err { OnErr result (OnlyTexts heap.old heap.new) }
     ensures keeps { Keeps heap.old heap.new }
 {
-    set_index_within(alloc, heap, on, key, value, CHAIN_LIMIT)
-}
-
-/// Sets `on[key]`, where so many values may be tried.
-fn set_index_within(
-    alloc: Global,
-    heap: &mut Heap,
-    on: Value,
-    key: Value,
-    value: Value,
-    limit: usize,
-) -> Result<Act, AllocError>
-    requires on { IsOf heap.old on }
-    requires key { IsOf heap.old key }
-    requires value { IsOf heap.old value }
-    ensures act { IfOk result (λ r. (act_of heap.new r, own_store heap.new) ≡ set_index_within_in limit (own_store heap.old) (datum heap.old on) (datum heap.old key) (datum heap.old value)) }
-    ensures known { IfOk result (IsActOf heap.new) }
-    ensures only_tables { OnlyTables heap.old heap.new }
-    ensures err { OnErr result (OnlyTexts heap.old heap.new) }
-    ensures keeps { Keeps heap.old heap.new }
-{
     let mut at = on;
-    for _ in 0..limit {
+    for _ in 0..CHAIN_LIMIT {
         match write_step(alloc, heap, at, key, value)? {
-            Step::Done(act) => return Ok(act),
-            Step::Next(next) => at = next,
+            ControlFlow::Break(act) => return Ok(act),
+            ControlFlow::Continue(next) => at = next,
         }
     }
     Ok(Act::Fail(text_value(alloc, heap, b"loop in settable")?))
 }
 
+/// One try of a write: it is done, or goes on at a handler that is no function.
 fn write_step(
     alloc: Global,
     heap: &mut Heap,
     on: Value,
     key: Value,
     value: Value,
-) -> Result<Step, AllocError>
+) -> Result<ControlFlow<Act, Value>, AllocError>
     requires on { IsOf heap.old on }
     requires key { IsOf heap.old key }
     requires value { IsOf heap.old value }
@@ -167,25 +135,25 @@ fn write_step(
 {
     let Value::Table(table) = on else {
         let failure = index_failure(alloc, heap, on)?;
-        return Ok(Step::Done(Act::Fail(failure)));
+        return Ok(ControlFlow::Break(Act::Fail(failure)));
     };
     if is_nil(key) {
         let failure = text_value(alloc, heap, b"table index is nil")?;
-        return Ok(Step::Done(Act::Fail(failure)));
+        return Ok(ControlFlow::Break(Act::Fail(failure)));
     }
     if !is_nil(heap.raw_get(table, key)) {
         set_entry(heap, table, key, value)?;
-        return Ok(Step::Done(Act::Value(Value::Nil)));
+        return Ok(ControlFlow::Break(Act::Value(Value::Nil)));
     }
     let handler = handler(heap, on, b"__newindex");
     if is_nil(handler) {
         set_entry(heap, table, key, value)?;
-        Ok(Step::Done(Act::Value(Value::Nil)))
+        Ok(ControlFlow::Break(Act::Value(Value::Nil)))
     } else if is_function(handler) {
         let call = call_with(alloc, handler, &[on, key, value], Then::Discard)?;
-        Ok(Step::Done(call))
+        Ok(ControlFlow::Break(call))
     } else {
-        Ok(Step::Next(handler))
+        Ok(ControlFlow::Continue(handler))
     }
 }
 
