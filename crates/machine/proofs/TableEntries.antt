@@ -1,25 +1,19 @@
--- A write to an entry for which no handler is asked.
-use Rattle.std.proofs.Common.{◌≡◌, ◌⊎◌, inl, inr, ℕ, Bool, true, false, [], ◌∷◌, codes, ap, refl}
+-- Reads and writes of entries of tables for which no function is asked.
+use Rattle.std.proofs.Common.{◌≡◌, ◌⊎◌, inl, inr, ℕ, Bool, true, false, List, [], ◌∷◌, codes, Some, Result, Err, ap, refl, sym, subst, ◌∙◌}
 use Rattle.std.specs.Prelude.{not, ◌||◌, if◌then◌else◌}
+use Rattle.std.proofs.lemmas.Option.{same_Some}
+use Rattle.opcode.specs.declared.word.Instr.{Instr}
+use Rattle.lua_model.specs.declared.Value.{Value}
 use Rattle.lua_model.specs.Datum.{Datum, nil, table, is_nil, is_function}
 use Rattle.lua_model.specs.Store.{Store, raw_get, raw_set}
 use Rattle.lua_model.specs.Acts.{Act, discard, value, call}
-use Rattle.lua_model.specs.Operators.{handler, set_index, set_index_within}
-use Rattle.machine.specs.Words.{AsksNone}
-use Rattle.std.proofs.Common.{List, sym, subst, ◌∙◌, Some, Result, Err}
+use Rattle.lua_model.specs.Operators.{handler, index, set_index, set_index_within}
 use Rattle.lua_table.specs.declared.fault.SetFault.{SetFault}
-use Rattle.std.proofs.lemmas.Option.{same_Some}
-use Rattle.opcode.specs.declared.word.Instr.{Instr}
-use Rattle.lua_model.specs.declared.TableId.{TableId}
-use Rattle.lua_model.specs.declared.Value.{Value}
-use Rattle.lua_model.specs.declared.Value.TheVariants.{Nil, Bool as Boolean, Number, Text as TextValue, Table as TableValue, Closure as ClosureValue, Native, Host as HostValue}
-use Rattle.lua_model.specs.Datum.{raw_equal}
-use Rattle.lua_model.specs.Store.{pair_value}
-use Rattle.lua_model.specs.Operators.{index}
-use Rattle.lua_heap.specs.State.{HeapState, datum, own_store, store_of, has_key}
+use Rattle.lua_heap.specs.State.{HeapState, own_store, store_of}
 use Rattle.rules.specs.State.{State, register, operand}
 use Rattle.machine.specs.Frames.{showing}
 use Rattle.machine.specs.Memory.{Reads, Rewrites}
+use Rattle.machine.specs.Words.{AsksNone}
 use Rattle.machine.proofs.Beside.{index_beside}
 
 -- how many more values an index may try behind its first
@@ -47,25 +41,6 @@ reads_none h m values i on key on_is key_is none (a, b, v, a_is, b_is, read) =
     let same_key = same_Some b key (sym b_is ∙ key_is) in
     let moved : index (store_of h m.store.hosts) on key ≡ index (store_of h m.store.hosts) a b = λ j. index (store_of h m.store.hosts) (sym same_on j) (sym same_key j) in
     none v (sym (index_beside h m.store.hosts on key) ∙ moved ∙ read)
-
--- a key with a value has a place
-pub place_there : (ps : List (Datum × Datum)) (k : Datum) → is_nil (pair_value ps k) ≡ false → has_key ps k ≡ true
-place_there [] k there = cc
-place_there (p ∷ ps) k there = by (raw_equal k p.0) refl (place_there ps k)
-  where
-    by : (b : Bool) → raw_equal k p.0 ≡ b → (is_nil (pair_value ps k) ≡ false → has_key ps k ≡ true) → (if b then true else has_key ps k) ≡ true
-    by true e rest = refl
-    by false e rest = rest (sym (ap (λ b. is_nil (if b then p.1 else pair_value ps k)) e) ∙ there)
-
-pub is_table : (h : HeapState) (v : Value) (t : ℕ) → datum h v ≡ table t → (id : TableId) × (v ≡ TableValue id)
-is_table h Nil t e = cc
-is_table h (Boolean b) t e = cc
-is_table h (Number n) t e = cc
-is_table h (TextValue x) t e = cc
-is_table h (TableValue id) t e = (id, refl)
-is_table h (ClosureValue x) t e = cc
-is_table h (Native n) t e = cc
-is_table h (HostValue x) t e = cc
 
 -- what is written, where it is such a write
 pub rewritten : (h : HeapState) (m : State) (values : List Value) (i : Instr) (on key : Datum) → register (showing m h values) i.a ≡ Some on → operand (showing m h values) i.b ≡ Some key → Rewrites (showing m h values) i → (t : ℕ) × (on ≡ table t) × (is_nil key ≡ false) × (is_nil (raw_get (own_store h) t key) ≡ false)

@@ -118,9 +118,7 @@ fn entry(heap: &Heap, on: Value, key: Value) -> Option<Value>
     }
     match look_up(heap, on, key) {
         Found::Value(value) => Some(value),
-        Found::Handler { .. } => None,
-        Found::NoTable(_) => None,
-        Found::NoEnd => None,
+        Found::Handler { .. } | Found::NoTable(_) | Found::NoEnd => None,
     }
 }
 

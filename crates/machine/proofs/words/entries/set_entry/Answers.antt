@@ -4,6 +4,7 @@ use Rattle.lua_model.specs.Datum.{table, is_nil}
 use Rattle.lua_model.specs.Store.{raw_get, raw_set, table_at}
 use Rattle.lua_model.specs.Operators.{set_index}
 use Rattle.lua_heap.specs.State.{datum, own_store, store_of, has_key}
+use Rattle.lua_heap.proofs.Callers.{place_there}
 use Rattle.rules.specs.State.{register, operand}
 use Rattle.rules.specs.Step.{give_write, effect}
 use Rattle.machine.specs.declared.did.Did.{Did}
@@ -12,7 +13,7 @@ use Rattle.machine.specs.Words.{AsksNone}
 use Rattle.machine.proofs.QuickSteps.{step_does}
 use Rattle.machine.proofs.Showing.{three_needs}
 use Rattle.machine.proofs.Stores.{store_does, only_this_store}
-use Rattle.machine.proofs.TableEntries.{write_is, rewritten, place_there, not_refused}
+use Rattle.machine.proofs.TableEntries.{write_is, rewritten, not_refused}
 use Rattle.machine.proofs.words.entries.set_entry.Goals as goal
 
 pub raw_get-requires-clause-table : goal.raw_get-requires-clause-table
