@@ -7,8 +7,7 @@ use Rattle.lua_model.specs.Endings as ending
 use Rattle.source_meaning.specs.Meaning.{meaning}
 use Rattle.rules.specs.Run.{Conf, Going, Ended, Failed, Waiting, Stuck, course, events_of, IsNotStuck, ran}
 use Rattle.scheme.specs.Scheme.{scheme}
-use Rattle.first_form.specs.declared.tree.Statement.{Statement}
-use Rattle.first_form.specs.Source.{IsPrintList}
+use Rattle.agrees.specs.Printed.{IsPrintList}
 use Rattle.agrees.specs.Agrees.{AgreesFor}
 use Rattle.agrees.proofs.Said.{said_grows, SaidGrows, act_of}
 use Rattle.agrees.proofs.Globals.{printer, say_with, outside_at_start}
@@ -34,23 +33,23 @@ course_not_stuck Stuck c e = cc
 one_course : (o : Option Course) (a b : Course) → o ≡ Some a → o ≡ Some b → a ≡ b
 one_course o a b h k = cc
 
-module _ (source : Source) (tree : List Statement) (name : List ℕ) (p : IsPrintList source.body tree) (hosts : List Host) (replies : List Reply) where
+module _ (source : Source) (numbers : List ℤ) (name : List ℕ) (p : IsPrintList source.body numbers) (hosts : List Host) (replies : List Reply) where
   abbrev at_pace : ℕ → Course
-  at_pace n = paced (say_with hosts) tree n (outside_at_start replies)
+  at_pace n = paced (say_with hosts) numbers n (outside_at_start replies)
 
   run_is : (n : ℕ) → course (ran (scheme source name) hosts replies n) ≡ Some (at_pace n)
-  run_is n = ran-paced source tree name p hosts replies n
+  run_is n = ran-paced source numbers name p hosts replies n
 
   grows : (n : ℤ) (w : Outside) → SaidGrows w (say_with hosts n w)
   grows n w = said_grows (act_of (printer hosts) n (start hosts)) w
 
   source_followed : (ticks : ℕ) → IsFollowed (meaning source hosts replies ticks) (at_pace (8 * ticks))
   source_followed ticks =
-      subst (λ c. IsFollowed c (at_pace (8 * ticks))) (sym (meaning-meant source tree p.printed hosts replies ticks)) (meaning_followed (say_with hosts) grows tree ticks (outside_at_start replies))
+      subst (λ c. IsFollowed c (at_pace (8 * ticks))) (sym (meaning-meant source numbers p.printed hosts replies ticks)) (meaning_followed (say_with hosts) grows numbers ticks (outside_at_start replies))
 
   chunk_followed : (n : ℕ) → IsFollowed (at_pace n) (meaning source hosts replies (suc (2 * n)))
   chunk_followed n =
-      subst (λ c. IsFollowed (at_pace n) c) (sym (meaning-meant source tree p.printed hosts replies (suc (2 * n)))) (run_followed (say_with hosts) grows tree n (outside_at_start replies))
+      subst (λ c. IsFollowed (at_pace n) c) (sym (meaning-meant source numbers p.printed hosts replies (suc (2 * n)))) (run_followed (say_with hosts) grows numbers n (outside_at_start replies))
 
   events_are : (n : ℕ) → events_of (ran (scheme source name) hosts replies n) ≡ (at_pace n).events
   events_are n = course_told (ran (scheme source name) hosts replies n) (at_pace n) (run_is n)

@@ -6,5 +6,4 @@ pub mod Pool
 pub mod Making
 pub mod Steps
 pub mod Ticks
-pub mod Early
 pub mod Agreeing

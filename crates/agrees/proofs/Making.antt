@@ -17,9 +17,7 @@ use Rattle.scheme.specs.Making.{Maker, put, end_locals}
 use Rattle.scheme.specs.Functions.{words_from, lines_of, Heading, chunk_of}
 use Rattle.scheme.specs.Scheme.{statements_made, statement_made, scheme}
 use Rattle.scheme.specs.Statements.{settle}
-use Rattle.first_form.specs.declared.tree.Statement.{Statement}
-use Rattle.first_form.specs.declared.tree.Statement.TheVariants.{Print}
-use Rattle.first_form.specs.Source.{ArePrinted}
+use Rattle.agrees.specs.Printed.{ArePrinted}
 use Rattle.agrees.proofs.Names.{AreGlobal, names_are_global}
 use Rattle.agrees.proofs.Pool.{name_number, value_number, with_both, pool_of}
 
@@ -38,31 +36,31 @@ abbrev pub give_none : Instr
 give_none = record { op = Op.Return; a = 0; b = 1; c = 0; bx = 0; sbx = pos 0 }
 
 -- the words of statements, by the constants that were taken before
-abbrev pub words_of : List Constant → List Statement → List ℕ
+abbrev pub words_of : List Constant → List ℤ → List ℕ
 words_of ks [] = word_of give_none ∷ []
-words_of ks (Print n ∷ rest) = word_of (get_print (name_number ks)) ∷ word_of (load_number (value_number ks n)) ∷ word_of call_one ∷ words_of (with_both ks n) rest
+words_of ks (n ∷ rest) = word_of (get_print (name_number ks)) ∷ word_of (load_number (value_number ks n)) ∷ word_of call_one ∷ words_of (with_both ks n) rest
 
 -- ---- what is made
 
 abbrev item : ℕ → Piece → Item
 item line piece = record { line = line; piece = piece }
 
-abbrev items_of : List Constant → (body : Statements) → (tree : List Statement) → ArePrinted body tree → List Item
-items_of ks (syntax.statement line semi s rest) (Print n ∷ tree) p =
-    item p.0.name_line (Piece.Abx Op.GetGlobal 0 (name_number ks)) ∷ item p.0.number_line (Piece.Abx Op.LoadK 1 (value_number ks n)) ∷ item p.0.call_line (Piece.Abc Op.Call 0 2 1) ∷ items_of (with_both ks n) rest tree p.1
-items_of ks body tree p = []
+abbrev items_of : List Constant → (body : Statements) → (numbers : List ℤ) → ArePrinted body numbers → List Item
+items_of ks (syntax.statement line semi s rest) (n ∷ numbers) p =
+    item p.0.name_line (Piece.Abx Op.GetGlobal 0 (name_number ks)) ∷ item p.0.number_line (Piece.Abx Op.LoadK 1 (value_number ks n)) ∷ item p.0.call_line (Piece.Abc Op.Call 0 2 1) ∷ items_of (with_both ks n) rest numbers p.1
+items_of ks body numbers p = []
 
-abbrev high_of : ℕ → List Statement → ℕ
+abbrev high_of : ℕ → List ℤ → ℕ
 high_of h [] = h
-high_of h (Print n ∷ rest) = high_of (max (max (max h 1) 2) 0) rest
+high_of h (n ∷ rest) = high_of (max (max (max h 1) 2) 0) rest
 
 abbrev behind : List Use → List Use
 behind [] = []
 behind (u ∷ uses) = uses
 
-abbrev names_behind : List Use → List Statement → List Use
+abbrev names_behind : List Use → List ℤ → List Use
 names_behind names [] = names
-names_behind names (Print n ∷ rest) = names_behind (behind names) rest
+names_behind names (n ∷ rest) = names_behind (behind names) rest
 
 module _ (captures : List Bool) (sources : List (List Use)) where
   abbrev maker : List Item → List Constant → ℕ → List Use → Maker
@@ -91,19 +89,19 @@ module _ (captures : List Bool) (sources : List (List Use)) where
   all_behind (global_use ∷ uses) g = g
   all_behind (u ∷ uses) g = absurd g
 
-  made : (body : Statements) (tree : List Statement) (p : ArePrinted body tree) (items : List Item) (ks : List Constant) (h : ℕ) (names : List Use) → AreGlobal names → statements_made body None (maker items ks h names) ≡ maker (items ++ items_of ks body tree p) (pool_of ks tree) (high_of h tree) (names_behind names tree)
+  made : (body : Statements) (numbers : List ℤ) (p : ArePrinted body numbers) (items : List Item) (ks : List Constant) (h : ℕ) (names : List Use) → AreGlobal names → statements_made body None (maker items ks h names) ≡ maker (items ++ items_of ks body numbers p) (pool_of ks numbers) (high_of h numbers) (names_behind names numbers)
   made no_statements [] p items ks h names g = ap (λ l. maker l ks h names) (sym (append-nil items))
-  made no_statements (Print n ∷ tree) p items ks h names g = absurd p
+  made no_statements (n ∷ numbers) p items ks h names g = absurd p
   made (syntax.statement line semi s rest) [] p items ks h names g = absurd p
-  made (syntax.statement line semi s rest) (Print n ∷ tree) p items ks h names g =
+  made (syntax.statement line semi s rest) (n ∷ numbers) p items ks h names g =
       let a : Item = item p.0.name_line (Piece.Abx Op.GetGlobal 0 (name_number ks)) in
       let b : Item = item p.0.number_line (Piece.Abx Op.LoadK 1 (value_number ks n)) in
       let c : Item = item p.0.call_line (Piece.Abc Op.Call 0 2 1) in
-      let others = items_of (with_both ks n) rest tree p.1 in
+      let others = items_of (with_both ks n) rest numbers p.1 in
       ap (λ c. statements_made rest None (settle (statement_made c line None (maker items ks h names)))) p.0.is
       ∙ ap (statements_made rest None) (one_made line p.0.call_line p.0.name_line p.0.number_line p.0.on_line n items ks h names g)
-      ∙ made rest tree p.1 (((items ++ a ∷ []) ++ b ∷ []) ++ c ∷ []) (with_both ks n) (max (max (max h 1) 2) 0) (behind names) (all_behind names g)
-      ∙ ap (λ l. maker l (pool_of (with_both ks n) tree) (high_of (max (max (max h 1) 2) 0) tree) (names_behind (behind names) tree))
+      ∙ made rest numbers p.1 (((items ++ a ∷ []) ++ b ∷ []) ++ c ∷ []) (with_both ks n) (max (max (max h 1) 2) 0) (behind names) (all_behind names g)
+      ∙ ap (λ l. maker l (pool_of (with_both ks n) numbers) (high_of (max (max (max h 1) 2) 0) numbers) (names_behind (behind names) numbers))
       (append_assoc ((items ++ a ∷ []) ++ b ∷ []) (c ∷ []) others ∙ append_assoc (items ++ a ∷ []) (b ∷ []) (c ∷ others) ∙ append_assoc items (a ∷ []) (b ∷ c ∷ others))
 
 -- ---- the chunk
@@ -111,16 +109,16 @@ module _ (captures : List Bool) (sources : List (List Use)) where
 abbrev last_item : ℕ → Item
 last_item line = item line (Piece.Abc Op.Return 0 1 0)
 
-words_made : (body : Statements) (tree : List Statement) (p : ArePrinted body tree) (ks : List Constant) (pc last : ℕ) → words_from [] pc (items_of ks body tree p ++ last_item last ∷ []) ≡ words_of ks tree
+words_made : (body : Statements) (numbers : List ℤ) (p : ArePrinted body numbers) (ks : List Constant) (pc last : ℕ) → words_from [] pc (items_of ks body numbers p ++ last_item last ∷ []) ≡ words_of ks numbers
 words_made no_statements [] p ks pc last = refl
-words_made no_statements (Print n ∷ tree) p ks pc last = absurd p
+words_made no_statements (n ∷ numbers) p ks pc last = absurd p
 words_made (syntax.statement line semi s rest) [] p ks pc last = absurd p
-words_made (syntax.statement line semi s rest) (Print n ∷ tree) p ks pc last =
-    ap (λ (l : List ℕ). word_of (get_print (name_number ks)) ∷ word_of (load_number (value_number ks n)) ∷ word_of call_one ∷ l) (words_made rest tree p.1 (with_both ks n) (suc (suc (suc pc))) last)
+words_made (syntax.statement line semi s rest) (n ∷ numbers) p ks pc last =
+    ap (λ (l : List ℕ). word_of (get_print (name_number ks)) ∷ word_of (load_number (value_number ks n)) ∷ word_of call_one ∷ l) (words_made rest numbers p.1 (with_both ks n) (suc (suc (suc pc))) last)
 
-high_small : (tree : List Statement) (h : ℕ) → h ≤ 2 → high_of h tree ≤ 2
+high_small : (numbers : List ℤ) (h : ℕ) → h ≤ 2 → high_of h numbers ≤ 2
 high_small [] h l = l
-high_small (Print n ∷ rest) h l = high_small rest (max (max (max h 1) 2) 0) (max-le (max-le (max-le l (omega arith)) (omega arith)) (omega arith))
+high_small (n ∷ rest) h l = high_small rest (max (max (max h 1) 2) 0) (max-le (max-le (max-le l (omega arith)) (omega arith)) (omega arith))
 
 -- a chunk of these words and constants
 abbrev pub chunk_with : (name code : List ℕ) → List Constant → (lines : List ℕ) → (registers : ℕ) → Chunk
@@ -140,13 +138,13 @@ chunk_with name code constants lines registers = function (record {
 }) no_functions
 
 -- the scheme's chunk has the words and constants of the statements
-pub scheme-words : (source : Source) (tree : List Statement) (name : List ℕ) → ArePrinted source.body tree → (lines : List ℕ) × (scheme source name ≡ chunk_with name (words_of [] tree) (pool_of [] tree) lines 2)
-scheme-words source tree name p =
+pub scheme-words : (source : Source) (numbers : List ℤ) (name : List ℕ) → ArePrinted source.body numbers → (lines : List ℕ) × (scheme source name ≡ chunk_with name (words_of [] numbers) (pool_of [] numbers) lines 2)
+scheme-words source numbers name p =
     let scopes : Resolved = resolved source in
-    let items : List Item = items_of [] source.body tree p ++ last_item source.last_line ∷ [] in
+    let items : List Item = items_of [] source.body numbers p ++ last_item source.last_line ∷ [] in
     let heading : Heading = record { source = Some name; first_line = 0; last_line = 0; params = 0; vararg = true } in (
       lines_of items,
-      ap (λ m. chunk_of heading (put source.last_line (Piece.Abc Op.Return 0 1 0) (end_locals 0 m))) (made scopes.captured (drop 1 scopes.upvalues) source.body tree p [] [] 0 scopes.names (names_are_global source tree p))
-          ∙ ap (λ code. chunk_with name code (pool_of [] tree) (lines_of items) (max 2 (high_of 0 tree))) (words_made source.body tree p [] 0 source.last_line)
-          ∙ ap (λ r. chunk_with name (words_of [] tree) (pool_of [] tree) (lines_of items) r) (max-eq_left (high_small tree 0 (omega arith))),
+      ap (λ m. chunk_of heading (put source.last_line (Piece.Abc Op.Return 0 1 0) (end_locals 0 m))) (made scopes.captured (drop 1 scopes.upvalues) source.body numbers p [] [] 0 scopes.names (names_are_global source numbers p))
+          ∙ ap (λ code. chunk_with name code (pool_of [] numbers) (lines_of items) (max 2 (high_of 0 numbers))) (words_made source.body numbers p [] 0 source.last_line)
+          ∙ ap (λ r. chunk_with name (words_of [] numbers) (pool_of [] numbers) (lines_of items) r) (max-eq_left (high_small numbers 0 (omega arith))),
     )

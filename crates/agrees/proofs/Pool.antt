@@ -7,8 +7,6 @@ use Rattle.std.proofs.lemmas.Slice.Eq.{bytes_eq-Decides}
 use Rattle.lua_num.specs.Bytes.{Text}
 use Rattle.proto.specs.declared.parts.Constant.{Constant}
 use Rattle.proto.specs.Constants.{same_constant, constant_number, with_constant}
-use Rattle.first_form.specs.declared.tree.Statement.{Statement}
-use Rattle.first_form.specs.declared.tree.Statement.TheVariants.{Print}
 
 -- the test decides whether a constant is this one
 pub record IsTold (c : Constant) : Type 0 where
@@ -83,28 +81,28 @@ name_number ks = constant_number print_name ks
 abbrev pub value_number : List Constant → ℤ → ℕ
 value_number ks n = constant_number (Constant.Number n) (with_constant print_name ks)
 
-abbrev pub pool_of : List Constant → List Statement → List Constant
+abbrev pub pool_of : List Constant → List ℤ → List Constant
 pool_of ks [] = ks
-pool_of ks (Print n ∷ rest) = pool_of (with_both ks n) rest
+pool_of ks (n ∷ rest) = pool_of (with_both ks n) rest
 
-all_kept : (tree : List Statement) (ks : List Constant) (n : ℕ) (x : Constant) → IsAt ks n x → IsAt (pool_of ks tree) n x
+all_kept : (numbers : List ℤ) (ks : List Constant) (n : ℕ) (x : Constant) → IsAt ks n x → IsAt (pool_of ks numbers) n x
 all_kept [] ks n x h = h
-all_kept (Print v ∷ rest) ks n x h = all_kept rest (with_both ks v) n x (kept (Constant.Number v) (with_constant print_name ks) n x (kept print_name ks n x h))
+all_kept (v ∷ rest) ks n x h = all_kept rest (with_both ks v) n x (kept (Constant.Number v) (with_constant print_name ks) n x (kept print_name ks n x h))
 
 -- all that statements take is found
-abbrev pub AreFound : List Constant → List Constant → List Statement → Type 0
+abbrev pub AreFound : List Constant → List Constant → List ℤ → Type 0
 AreFound pool ks [] = Unit {0}
-AreFound pool ks (Print n ∷ rest) = IsAt pool (name_number ks) print_name × IsAt pool (value_number ks n) (Constant.Number n) × AreFound pool (with_both ks n) rest
+AreFound pool ks (n ∷ rest) = IsAt pool (name_number ks) print_name × IsAt pool (value_number ks n) (Constant.Number n) × AreFound pool (with_both ks n) rest
 
-pub all_found : (tree : List Statement) (ks : List Constant) → AreFound (pool_of ks tree) ks tree
+pub all_found : (numbers : List ℤ) (ks : List Constant) → AreFound (pool_of ks numbers) ks numbers
 all_found [] ks = tt
-all_found (Print n ∷ rest) ks = (
+all_found (n ∷ rest) ks = (
   all_kept rest (with_both ks n) (name_number ks) print_name (kept (Constant.Number n) (with_constant print_name ks) (name_number ks) print_name (found print_name (text_told (codes "print")) ks)),
   all_kept rest (with_both ks n) (value_number ks n) (Constant.Number n) (found (Constant.Number n) (number_told n) (with_constant print_name ks)),
   all_found rest (with_both ks n),
 )
 
-pub pool_length : (tree : List Statement) (ks : List Constant) → length (pool_of ks tree) ≤ length ks + 2 * length tree
+pub pool_length : (numbers : List ℤ) (ks : List Constant) → length (pool_of ks numbers) ≤ length ks + 2 * length numbers
 pool_length [] ks = omega arith
-pool_length (Print n ∷ rest) ks =
+pool_length (n ∷ rest) ks =
     omega (arith, pool_length rest (with_both ks n), with_length (Constant.Number n) (with_constant print_name ks), with_length print_name ks)

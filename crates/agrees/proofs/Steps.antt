@@ -22,9 +22,7 @@ use Rattle.rules.specs.Step.{effect}
 use Rattle.rules.specs.Run.{Conf, Going, Ended, Failed, Waiting, after, current, run, course, ran}
 use Rattle.lua_tree.specs.Syntax.{Source}
 use Rattle.scheme.specs.Scheme.{scheme}
-use Rattle.first_form.specs.Source.{IsPrintList}
-use Rattle.first_form.specs.declared.tree.Statement.{Statement}
-use Rattle.first_form.specs.declared.tree.Statement.TheVariants.{Print}
+use Rattle.agrees.specs.Printed.{IsPrintList}
 use Rattle.agrees.proofs.Said.{Said, goes_on, breaks_off, waits, by_reply, by_replies, said_by, IsSaid, IsPrinter, act_of, act_is_said}
 use Rattle.agrees.proofs.Globals.{start_prints, printer, say_with, outside_at_start}
 use Rattle.agrees.proofs.Pace.{told, paced}
@@ -62,9 +60,9 @@ single i r h = ap (belonging no_functions) (word_is_read i r) ∙ h
 within_pool : (pool : List Constant) (k : ℕ) (c : Constant) → length pool ≤ 400 → slice_get pool k ≡ Some c → k < 262144
 within_pool pool k c few at = omega (arith, slice_get_within pool k c at)
 
-words_are_single : (pool : List Constant) → length pool ≤ 400 → (tree : List Statement) (ks : List Constant) → AreFound pool ks tree → AreSingle (words_of ks tree)
+words_are_single : (pool : List Constant) → length pool ≤ 400 → (numbers : List ℤ) (ks : List Constant) → AreFound pool ks numbers → AreSingle (words_of ks numbers)
 words_are_single pool few [] ks found = (single give_none give_in_range refl, tt)
-words_are_single pool few (Print n ∷ rest) ks found =
+words_are_single pool few (n ∷ rest) ks found =
     let get = single (get_print (name_number ks)) (get_in_range (name_number ks) (within_pool pool (name_number ks) print_name few found.0)) refl in
     let load = single (load_number (value_number ks n)) (load_in_range (value_number ks n) (within_pool pool (value_number ks n) (Constant.Number n) few found.1)) refl in
     (get, (load, (single call_one call_in_range refl, words_are_single pool few rest (with_both ks n) found.2)))
@@ -177,21 +175,21 @@ module _ (name : List ℕ) (lines : List ℕ) (code : List ℕ) (pool : List Con
   follows n pc registers w (breaks_off d v) next h = ap course (failed_stays n (failure_text d) store v)
   follows n pc registers w waits next h = ap course (waiting_stays n (state pc registers w))
 
-  keeps : (tree : List Statement) (n pc : ℕ) (a b : Datum) (w : Outside) (ks : List Constant) → HasAt code pc (words_of ks tree) → AreFound pool ks tree → course (run n (Going (state pc (a ∷ b ∷ []) w))) ≡ Some (paced say tree n w)
+  keeps : (numbers : List ℤ) (n pc : ℕ) (a b : Datum) (w : Outside) (ks : List Constant) → HasAt code pc (words_of ks numbers) → AreFound pool ks numbers → course (run n (Going (state pc (a ∷ b ∷ []) w))) ≡ Some (paced say numbers n w)
   keeps [] zero pc a b w ks has found = refl
   keeps [] (suc n) pc a b w ks has found = ap course (step_end n pc a b w has.0)
-  keeps (Print k ∷ rest) zero pc a b w ks has found = refl
-  keeps (Print k ∷ rest) (suc zero) pc a b w ks has found = ap course (step_name 0 pc (name_number ks) a b w has.0 found.0)
-  keeps (Print k ∷ rest) (suc (suc zero)) pc a b w ks has found =
+  keeps (k ∷ rest) zero pc a b w ks has found = refl
+  keeps (k ∷ rest) (suc zero) pc a b w ks has found = ap course (step_name 0 pc (name_number ks) a b w has.0 found.0)
+  keeps (k ∷ rest) (suc (suc zero)) pc a b w ks has found =
       ap course (step_name 1 pc (name_number ks) a b w has.0 found.0 ∙ step_number 0 (suc pc) (value_number ks k) k f b w has.1.0 found.1)
-  keeps (Print k ∷ rest) (suc (suc (suc n))) pc a b w ks has found =
+  keeps (k ∷ rest) (suc (suc (suc n))) pc a b w ks has found =
       ap course (step_name (suc (suc n)) pc (name_number ks) a b w has.0 found.0 ∙ step_number (suc n) (suc pc) (value_number ks k) k f b w has.1.0 found.1 ∙ step_call n (suc (suc pc)) k w has.1.1.0)
       ∙ follows n (suc (suc pc)) (f ∷ number k ∷ []) w (say k w) (λ v. paced say rest n v) (λ v. keeps rest n (suc (suc (suc pc))) f (number k) v (with_both ks k) has.1.1.1 found.2)
 
-pub ran-paced : (source : Source) (tree : List Statement) (name : List ℕ) → IsPrintList source.body tree → (hosts : List Host) (replies : List Reply) (n : ℕ) → course (ran (scheme source name) hosts replies n) ≡ Some (paced (say_with hosts) tree n (outside_at_start replies))
-ran-paced source tree name p hosts replies n =
-    let is = scheme-words source tree name p.printed in
-    let few : length (pool_of [] tree) ≤ 400 = omega (arith, pool_length tree [], p.few) in
-    let found = all_found tree [] in
+pub ran-paced : (source : Source) (numbers : List ℤ) (name : List ℕ) → IsPrintList source.body numbers → (hosts : List Host) (replies : List Reply) (n : ℕ) → course (ran (scheme source name) hosts replies n) ≡ Some (paced (say_with hosts) numbers n (outside_at_start replies))
+ran-paced source numbers name p hosts replies n =
+    let is = scheme-words source numbers name p.printed in
+    let few : length (pool_of [] numbers) ≤ 400 = omega (arith, pool_length numbers [], p.few) in
+    let found = all_found numbers [] in
     ap (λ c. course (ran c hosts replies n)) is.1
-    ∙ keeps name is.0 (words_of [] tree) (pool_of [] tree) few (words_are_single (pool_of [] tree) few tree [] found) (start hosts) (printer hosts) (start_prints hosts) refl tree n 0 nil nil (outside_at_start replies) [] (has_all (words_of [] tree)) found
+    ∙ keeps name is.0 (words_of [] numbers) (pool_of [] numbers) few (words_are_single (pool_of [] numbers) few numbers [] found) (start hosts) (printer hosts) (start_prints hosts) refl numbers n 0 nil nil (outside_at_start replies) [] (has_all (words_of [] numbers)) found

@@ -8,15 +8,12 @@ use Rattle.lua_model.specs.Store.{Store, Host, Reply, replies_values, replies_fa
 use Rattle.lua_model.specs.declared.plain.Plain.{Plain}
 use Rattle.lua_model.specs.Acts.{NativeAct, prints, asks, fails}
 use Rattle.lua_model.specs.Builtins.{call_host, failure_text, start}
-use Rattle.lua_model.specs.Operators.{callee}
 use Rattle.lua_model.specs.Endings.{Failed, Waiting, Going, Course}
 use Rattle.source_meaning.specs.State.{State, Flow, goes}
 use Rattle.source_meaning.specs.Tasks as task
 use Rattle.source_meaning.specs.Programs.{World, Answer, ended, failed, waiting, going, after, heard, run, eval}
 use Rattle.source_meaning.specs.Meaning.{program, sequence, apply_value, outside_call, reply_results, results_of, main_place, course_of, meaning}
-use Rattle.first_form.specs.declared.tree.Statement as early
-use Rattle.first_form.specs.declared.tree.Statement.TheVariants.{Print}
-use Rattle.first_form.specs.Source.{PrintsNumber, ArePrinted}
+use Rattle.agrees.specs.Printed.{PrintsNumber, ArePrinted}
 use Rattle.agrees.proofs.Said.{Said, goes_on, breaks_off, waits, by_reply, by_replies, said_by, IsSaid, IsPrinter, act_of, act_is_said}
 use Rattle.agrees.proofs.Globals.{start_prints, printer, say_with, outside_at_start}
 use Rattle.agrees.proofs.Pace.{told, meant, meant_whole}
@@ -123,21 +120,21 @@ module _ (store : Store) (f : Datum) (prints_by : IsPrinter f) (meant_is : globa
         ap (λ c. block_course (syntax.statement line semi c rest) (suc (suc (suc (suc n)))) (suc (suc (suc (suc (suc (suc k)))))) w) p.is
         ∙ sequence_told self rest line semi (print_call p.call_line p.name_line p.number_line p.on_line v) (suc (suc (suc (suc n)))) (suc (suc (suc (suc (suc (suc k)))))) w k (say v w) next (statement_told p.call_line p.name_line p.number_line p.on_line v n k w) h
 
-    block_told : (body : Statements) (tree : List early.Statement) → ArePrinted body tree → (n k : ℕ) (w : Outside) → k ≤ n → block_course body n k w ≡ meant say tree k w
+    block_told : (body : Statements) (numbers : List ℤ) → ArePrinted body numbers → (n k : ℕ) (w : Outside) → k ≤ n → block_course body n k w ≡ meant say numbers k w
     block_told no_statements [] p n k w h = refl
-    block_told no_statements (Print v ∷ tree) p n k w h = absurd p
+    block_told no_statements (v ∷ numbers) p n k w h = absurd p
     block_told (syntax.statement line semi c rest) [] p n k w h = absurd p
-    block_told (syntax.statement line semi c rest) (Print v ∷ tree) p (suc (suc (suc (suc n)))) (suc (suc (suc (suc (suc (suc k)))))) w h =
-        first_told line semi c rest v p.0 n k w (λ u. meant say tree k u) (λ u. block_told rest tree p.1 (suc (suc (suc (suc n)))) k u (omega arith))
-    block_told (syntax.statement line semi c rest) (Print v ∷ tree) p n zero w h = first_going line semi c rest v p.0 n 0 w h (omega arith)
-    block_told (syntax.statement line semi c rest) (Print v ∷ tree) p n (suc zero) w h = first_going line semi c rest v p.0 n 1 w h (omega arith)
-    block_told (syntax.statement line semi c rest) (Print v ∷ tree) p n (suc (suc zero)) w h = first_going line semi c rest v p.0 n 2 w h (omega arith)
-    block_told (syntax.statement line semi c rest) (Print v ∷ tree) p n (suc (suc (suc zero))) w h = first_going line semi c rest v p.0 n 3 w h (omega arith)
-    block_told (syntax.statement line semi c rest) (Print v ∷ tree) p n (suc (suc (suc (suc zero)))) w h = first_going line semi c rest v p.0 n 4 w h (omega arith)
-    block_told (syntax.statement line semi c rest) (Print v ∷ tree) p n (suc (suc (suc (suc (suc zero))))) w h = first_going line semi c rest v p.0 n 5 w h (omega arith)
-    block_told (syntax.statement line semi c rest) (Print v ∷ tree) p n k w h = absurd (omega arith)
+    block_told (syntax.statement line semi c rest) (v ∷ numbers) p (suc (suc (suc (suc n)))) (suc (suc (suc (suc (suc (suc k)))))) w h =
+        first_told line semi c rest v p.0 n k w (λ u. meant say numbers k u) (λ u. block_told rest numbers p.1 (suc (suc (suc (suc n)))) k u (omega arith))
+    block_told (syntax.statement line semi c rest) (v ∷ numbers) p n zero w h = first_going line semi c rest v p.0 n 0 w h (omega arith)
+    block_told (syntax.statement line semi c rest) (v ∷ numbers) p n (suc zero) w h = first_going line semi c rest v p.0 n 1 w h (omega arith)
+    block_told (syntax.statement line semi c rest) (v ∷ numbers) p n (suc (suc zero)) w h = first_going line semi c rest v p.0 n 2 w h (omega arith)
+    block_told (syntax.statement line semi c rest) (v ∷ numbers) p n (suc (suc (suc zero))) w h = first_going line semi c rest v p.0 n 3 w h (omega arith)
+    block_told (syntax.statement line semi c rest) (v ∷ numbers) p n (suc (suc (suc (suc zero)))) w h = first_going line semi c rest v p.0 n 4 w h (omega arith)
+    block_told (syntax.statement line semi c rest) (v ∷ numbers) p n (suc (suc (suc (suc (suc zero))))) w h = first_going line semi c rest v p.0 n 5 w h (omega arith)
+    block_told (syntax.statement line semi c rest) (v ∷ numbers) p n k w h = absurd (omega arith)
 
-pub meaning-meant : (source : Source) (tree : List early.Statement) → ArePrinted source.body tree → (hosts : List Host) (replies : List Reply) (ticks : ℕ) → meaning source hosts replies ticks ≡ meant_whole (say_with hosts) tree ticks (outside_at_start replies)
-meaning-meant source tree p hosts replies zero = refl
-meaning-meant source tree p hosts replies (suc ticks) =
-    block_told (start hosts) (printer hosts) (start_prints hosts) refl (eval program (suc ticks)) source.body tree p ticks ticks (outside_at_start replies) (omega arith)
+pub meaning-meant : (source : Source) (numbers : List ℤ) → ArePrinted source.body numbers → (hosts : List Host) (replies : List Reply) (ticks : ℕ) → meaning source hosts replies ticks ≡ meant_whole (say_with hosts) numbers ticks (outside_at_start replies)
+meaning-meant source numbers p hosts replies zero = refl
+meaning-meant source numbers p hosts replies (suc ticks) =
+    block_told (start hosts) (printer hosts) (start_prints hosts) refl (eval program (suc ticks)) source.body numbers p ticks ticks (outside_at_start replies) (omega arith)

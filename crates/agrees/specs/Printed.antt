@@ -1,18 +1,23 @@
--- Serves a body: what an early meaning is as a course.
-use Rattle.std.specs.Prelude.{List, [], ◌∷◌, Option, Some, None}
-use Rattle.lua_model.specs.Store.{Event, printed}
-use Rattle.lua_model.specs.Endings.{Ending, Ended, Failed, Going, Course}
-use Rattle.first_form.specs.Progress.{Piece, End, Done, Failed as FailedSo, Progress}
+-- To be believed. Lists of printed numbers: 0 to 200 calls of the name `print`, each with a list of one number.
+use Rattle.std.specs.Prelude.{◌≡◌, ℕ, ◌≤◌, List, [], ◌∷◌, length, codes, ℤ}
+use Rattle.lua_tree.specs.Syntax as syntax
+use Rattle.lua_tree.specs.Syntax.{Statements, no_statements, call_statement, call_expression, name_expression, argument_list, expression, no_expressions, number_literal}
 
--- pieces are printed, one after another
-abbrev pub prints_of : List Piece → List Event
-prints_of [] = []
-prints_of (piece ∷ pieces) = printed piece ∷ prints_of pieces
+-- the statement calls the name `print` with a list of the number n
+pub record PrintsNumber (s : syntax.Statement) (n : ℤ) : Type 0 where
+  pub call_line : ℕ
+  pub name_line : ℕ
+  pub number_line : ℕ
+  pub on_line : ℕ
+  pub is : s ≡ call_statement (call_expression call_line (name_expression name_line (codes "print")) (argument_list (expression (number_literal number_line n) no_expressions)) on_line)
 
-abbrev pub ending_of : Option End → Ending
-ending_of None = Going
-ending_of (Some Done) = Ended
-ending_of (Some (FailedSo text)) = Failed text
+-- the statements print these numbers, one after another; a semicolon may follow each
+abbrev pub ArePrinted : Statements → List ℤ → Type 0
+ArePrinted no_statements [] = Unit {0}
+ArePrinted (syntax.statement line semi s rest) (n ∷ numbers) = PrintsNumber s n × ArePrinted rest numbers
+ArePrinted body numbers = ⊥
 
-abbrev pub course_of : Progress → Course
-course_of progress = record { ending = ending_of progress.end; events = prints_of progress.pieces }
+-- the statements are at most 200 printed numbers
+pub record IsPrintList (body : Statements) (numbers : List ℤ) : Type 0 where
+  pub printed : ArePrinted body numbers
+  pub few : length numbers ≤ 200

@@ -1,4 +1,4 @@
-// What no clause says: that calls succeed, and what the system's files and writers do.
+// What no clause says: what the system's files and writers do.
 mod faulty_system;
 
 use faulty_system::FaultySystem;
@@ -7,10 +7,7 @@ use std::alloc::{AllocError, Global};
 use std::io::{ErrorKind, Write};
 use std::test::Fail;
 use std::{env, fs, io};
-use suite_io::{
-    FileCall, FileCalls, FileFault, Files, MemoryFiles, MemorySink, RealFiles, RealSink, Sink,
-    SinkFault, Word,
-};
+use suite_io::{FileFault, Files, RealFiles, RealSink, Sink, SinkFault, Word};
 
 fn word(alloc: Global, text: &str) -> Result<Word, AllocError> {
     String::from_str(alloc, text)
@@ -18,75 +15,6 @@ fn word(alloc: Global, text: &str) -> Result<Word, AllocError> {
 
 fn text(alloc: Global, bytes: &[u8]) -> Result<ByteText, AllocError> {
     ByteText::from_slice(alloc, bytes)
-}
-
-#[test]
-fn calls_are_listed_in_order(rt: HostRuntime) -> Result<(), Fail> {
-    let mut calls = FileCalls::new(rt.alloc());
-    for failed in [false, true] {
-        calls.push(FileCall {
-            store: !failed,
-            name: text(rt.alloc(), b"a")?,
-            failed,
-        })?;
-    }
-    let outcomes = calls.items().iter().map(|call| call.failed);
-    assert_eq!(rt;
-        outcomes.collect::<Vec<bool>>(rt.alloc())?.as_slice(),
-        [false, true].as_slice()
-    );
-    Ok(())
-}
-
-#[test]
-fn memory_files_give_what_they_were_given(rt: HostRuntime) -> Result<(), Fail> {
-    let alloc = rt.alloc();
-    let mut files = MemoryFiles::new(alloc, &[])?;
-    files.set(alloc, &word(alloc, "a")?, b"one")?;
-    assert_eq!(rt;
-        files.fetch(alloc, &word(alloc, "a")?),
-        Ok(text(alloc, b"one")?)
-    );
-    assert_eq!(rt; files.store(alloc, &word(alloc, "b")?, b"\0two"), Ok(()));
-    assert_eq!(rt;
-        files.fetch(alloc, &word(alloc, "b")?),
-        Ok(text(alloc, b"\0two")?)
-    );
-    assert_eq!(rt;
-        files.fetch(alloc, &word(alloc, "c")?),
-        Err(FileFault::Failed)
-    );
-    assert_eq!(rt; files.get(&word(alloc, "a")?), Some(b"one".as_slice()));
-    assert_eq!(rt; files.calls().len(), 4);
-    Ok(())
-}
-
-#[test]
-fn a_failed_store_changes_no_bytes(rt: HostRuntime) -> Result<(), Fail> {
-    let alloc = rt.alloc();
-    let name = word(alloc, "a")?;
-    let mut files = MemoryFiles::new(alloc, &[2])?;
-    assert_eq!(rt; files.store(alloc, &name, b"old"), Ok(()));
-    assert_eq!(rt; files.store(alloc, &name, b"new"), Err(FileFault::Failed));
-    assert_eq!(rt; files.fetch(alloc, &name), Ok(text(alloc, b"old")?));
-    let outcomes = files.calls().iter().map(|call| call.failed);
-    assert_eq!(rt;
-        outcomes.collect::<Vec<bool>>(alloc)?.as_slice(),
-        [false, true, false].as_slice()
-    );
-    Ok(())
-}
-
-#[test]
-fn a_memory_sink_keeps_what_it_took_before_a_fault(rt: HostRuntime) -> Result<(), Fail> {
-    let mut sink = MemorySink::new(rt.alloc(), &[3])?;
-    assert_eq!(rt; sink.put(b"one"), Ok(3));
-    assert_eq!(rt; sink.put(b"two"), Ok(3));
-    assert_eq!(rt; sink.put(b"three"), Err(SinkFault::Failed));
-    assert_eq!(rt; sink.taken(), b"onetwo".as_slice());
-    assert_eq!(rt; sink.put(b"four"), Ok(4));
-    assert_eq!(rt; sink.taken(), b"onetwofour".as_slice());
-    Ok(())
 }
 
 #[test]

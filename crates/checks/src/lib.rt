@@ -1,17 +1,9 @@
-//! Tests of what no clause says, over the public items of the crates below.
+//! Tests of what no clause says: what files, writers and readers of the system do, and that a long table is quick.
 #![tactic(auto)]
 
 #[cfg(test)]
-mod arith;
-#[cfg(test)]
 mod files;
-#[cfg(test)]
-mod heap;
 #[cfg(test)]
 mod hosts;
 #[cfg(test)]
-mod instructions;
-#[cfg(test)]
-mod numbers;
-#[cfg(test)]
-mod values;
+mod tables;

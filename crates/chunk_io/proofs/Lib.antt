@@ -17,3 +17,4 @@ pub mod Whole
 pub mod OneAnswer
 pub mod Fitted
 pub mod FittedFunctions
+pub mod Shortness

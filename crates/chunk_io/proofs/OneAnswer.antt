@@ -5,7 +5,7 @@ use Rattle.proto.specs.Chunk.{Chunk}
 use Rattle.chunk_io.specs.declared.layout.Layout.{Layout}
 use Rattle.chunk_io.specs.declared.fault.ChunkFault.{ChunkFault}
 use Rattle.chunk_io.specs.declared.miss.Miss.{Miss}
-use Rattle.chunk_io.specs.Items.{header, spelling, IsChunkOf, Spelled, HasLayout}
+use Rattle.chunk_io.specs.Items.{header, spelling, IsChunkOf, HasLayout}
 use Rattle.chunk_io.specs.Faults.{IsFault, StopsBy}
 use Rattle.chunk_io.specs.Laws.{LayoutsAreOne, ChunksAreOne, FaultsAreOne, NeverBoth, ChunkOrFault}
 use Rattle.chunk_io.specs.declared.miss.ReadError.{ReadError}

@@ -1,7 +1,6 @@
 -- The spelling of a function, part by part.
 use Rattle.std.proofs.Common.{◌≡◌, ℕ, suc, List, [], ◌∷◌, ◌++◌, length, refl, ap, ◌∙◌, append_assoc}
 use Rattle.std.specs.Int.{w32}
-use Rattle.std.specs.List.{flat_map}
 use Rattle.std.proofs.lemmas.List.Concat.{flat_map-append}
 use Rattle.proto.specs.Chunk.{Own, Chunk, Functions, function, function_count, functions_of}
 use Rattle.chunk_io.specs.declared.layout.Layout.{Layout}

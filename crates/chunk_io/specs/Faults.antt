@@ -1,5 +1,5 @@
 -- To be believed. Why bytes are no chunk: the first item, from the left, that they do not give.
-use Rattle.std.specs.Prelude.{◌≡◌, ◌≢◌, ◌<◌, ◌≤◌, ◌^◌, ◌+◌, ◌==◌, ◌||◌, ℕ, zero, suc, Bool, false, List, [], ◌∷◌, ◌++◌, length, take}
+use Rattle.std.specs.Prelude.{◌≡◌, ◌≢◌, ◌<◌, ◌≤◌, ◌^◌, ◌+◌, ◌==◌, ◌||◌, ℕ, zero, Bool, false, List, ◌∷◌, ◌++◌, length, take}
 use Rattle.std.specs.List.{AllByRecursion}
 use Rattle.proto.specs.Chunk.{Chunk}
 use Rattle.chunk_io.specs.declared.layout.Layout.{Layout}

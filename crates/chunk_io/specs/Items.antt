@@ -1,6 +1,6 @@
 -- To be believed. The bytes of a chunk (the binary chunks of Lua 5.1, as `luac` writes them): a chunk is a list of items in a layout,
 -- in order, and each item has its bytes.
-use Rattle.std.specs.Prelude.{◌≡◌, ◌<◌, ◌≤◌, ◌^◌, ℕ, suc, ◌==◌, ℤ, FitsSigned, Bool, true, false, List, [], ◌∷◌, ◌++◌, length, take, map, Option, None, Some, refl, if◌then◌else◌}
+use Rattle.std.specs.Prelude.{◌≡◌, ◌<◌, ◌≤◌, ◌^◌, ℕ, suc, ◌==◌, ℤ, FitsSigned, Bool, true, false, List, [], ◌∷◌, ◌++◌, length, take, Option, None, Some, refl, if◌then◌else◌}
 use Rattle.std.specs.List.{flat_map, AllByRecursion}
 use Rattle.std.specs.Int.{Width, w32, w64, to_le_bytes, to_be_bytes, cast_unsigned}
 use Rattle.lua_num.specs.Bytes.{Text}
@@ -139,9 +139,23 @@ pub record Spelled (bytes : List ℕ) (l : Layout) (c : Chunk) : Type 0 where
 abbrev pub IsChunkOf : List ℕ → Chunk → Type 0
 IsChunkOf bytes c = (l : Layout) × Spelled bytes l c
 
--- the layout of this suite's own chunks
+-- the four layouts, by the order of a number's bytes and the bytes of a size; `le8` is that of this suite's own chunks
+abbrev pub le4 : Layout
+le4 = record { little = true; size = 4; is_size = refl }
+
 abbrev pub le8 : Layout
 le8 = record { little = true; size = 8; is_size = refl }
+
+abbrev pub be4 : Layout
+be4 = record { little = false; size = 4; is_size = refl }
+
+abbrev pub be8 : Layout
+be8 = record { little = false; size = 8; is_size = refl }
+
+-- a file whose first byte is 1B hexadecimal, the first of each header, is a chunk; any other file is source
+abbrev pub is_chunk : List ℕ → Bool
+is_chunk [] = false
+is_chunk (byte ∷ bytes) = byte == 27
 
 -- bytes that begin with the header of a layout
 abbrev pub HasLayout : List ℕ → Layout → Type 0

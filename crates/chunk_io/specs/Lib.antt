@@ -3,3 +3,4 @@ pub mod Faults
 pub mod Reading
 pub mod Laws
 pub mod Fitting
+pub mod Texts

@@ -1,13 +1,26 @@
 // The header of a chunk.
 ghost use Rattle.std.specs.Prelude.{◌≡◌, ℕ, List, [], ◌∷◌, IsErrOf};
 ghost use Rattle.chunk_io.specs.declared.miss.ReadError.{ReadError as OneError};
-ghost use Rattle.chunk_io.specs.Items.{le8 as the_le8};
+ghost use Rattle.chunk_io.specs.Items.{is_chunk as the_is_chunk, le4 as the_le4, le8 as the_le8, be4 as the_be4, be8 as the_be8};
 ghost use Rattle.chunk_io.specs.Reading.{Gives, sign_at, signs_at, order_at, width_at, integral_at, header_at, layout_of};
 
 use crate::layout::Layout;
 use crate::miss::{Miss, ReadError};
 
+/// The first byte of every chunk.
+const CHUNK_MARK: u8 = 0x1b;
+
 impl Layout {
+    /// Little endian, sizes of 4 bytes.
+    pub fn le4() -> Self
+        ensures { result ≡ the_le4 }
+    {
+        Self {
+            little: true,
+            size: 4,
+        }
+    }
+
     /// Little endian, sizes of 8 bytes: the layout of this suite's own chunks.
     pub fn le8() -> Self
         ensures { result ≡ the_le8 }
@@ -16,6 +29,36 @@ impl Layout {
             little: true,
             size: 8,
         }
+    }
+
+    /// Big endian, sizes of 4 bytes.
+    pub fn be4() -> Self
+        ensures { result ≡ the_be4 }
+    {
+        Self {
+            little: false,
+            size: 4,
+        }
+    }
+
+    /// Big endian, sizes of 8 bytes.
+    pub fn be8() -> Self
+        ensures { result ≡ the_be8 }
+    {
+        Self {
+            little: false,
+            size: 8,
+        }
+    }
+}
+
+/// Whether a file of these bytes is a chunk, by its first byte; any other file is source.
+pub fn is_chunk(bytes: &[u8]) -> bool
+    ensures { result ≡ the_is_chunk bytes.now }
+{
+    match bytes {
+        [first, ..] => *first == CHUNK_MARK,
+        [] => false,
     }
 }
 
@@ -101,7 +144,7 @@ fn signature_of(bytes: &[u8]) -> Result<&[u8], ReadError>
     ensures given { Gives (λ x. (tt, x.now)) result (signs_at (27 ∷ 76 ∷ 117 ∷ 97 ∷ 81 ∷ 0 ∷ []) bytes.now) }
     ensures no_memory { IsErrOf result OneError.Memory → ⊥ }
 {
-    let rest = sign_of(0x1b, bytes)?;
+    let rest = sign_of(CHUNK_MARK, bytes)?;
     let rest = sign_of(b'L', rest)?;
     let rest = sign_of(b'u', rest)?;
     let rest = sign_of(b'a', rest)?;

@@ -3,3 +3,4 @@ pub mod Faults
 pub mod Made
 pub mod Places
 pub mod Locals
+pub mod Texts

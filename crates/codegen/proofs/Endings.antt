@@ -1,14 +1,12 @@
 -- Lists by what is last in them.
-use Rattle.std.proofs.Common.{◌≡◌, ◌+◌, ◌-◌, ◌≤◌, List, [], ◌∷◌, ◌++◌, length, take, get_or, refl, sym, ap, ◌∙◌, arith}
+use Rattle.std.proofs.Common.{◌≡◌, ◌+◌, ◌-◌, ◌≤◌, List, [], ◌∷◌, ◌++◌, length, take, get_or, sym, ap, ◌∙◌, arith}
 use Rattle.std.proofs.lemmas.List.{take_more, take_all}
 use Rattle.lua_tree.specs.View.{view_exp}
 use Rattle.lua_tree.specs.TreeLists.{expressions_of}
 use Rattle.lua_tree.specs.declared.tree.Exp.{Exp}
-use Rattle.opcode.specs.declared.op.Op.{Op}
-use Rattle.scheme.specs.Making.{Maker}
-use Rattle.scheme.specs.Expressions.{Want, is_multiple}
-use Rattle.scheme.specs.Lists.{all_next, all_multi, ends_open}
-use Rattle.scheme.specs.Scheme.{coded, all_coded}
+use Rattle.scheme.specs.Expressions.{is_multiple}
+use Rattle.scheme.specs.Lists.{ends_open}
+use Rattle.scheme.specs.Scheme.{all_coded}
 use Rattle.codegen.proofs.Parts.{coded_e}
 
 -- a list is its front and its last element

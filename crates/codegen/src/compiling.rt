@@ -3,7 +3,6 @@ ghost use Rattle.std.specs.Prelude.{◌≡◌, IfOk, IfErr, OnOk};
 ghost use Rattle.lua_tree.specs.View.{view_tree};
 ghost use Rattle.lua_tree.specs.Resolved.{resolved};
 ghost use Rattle.proto.specs.View.{view_proto};
-ghost use Rattle.chunk_io.specs.Items.{Fits as ChunkFits, le8};
 ghost use Rattle.scheme.specs.Scheme.{scheme, scheme_of, Fits};
 ghost use Rattle.code_builder.specs.Drafts.{finished_draft};
 ghost use Rattle.code_builder.specs.Made.{ahead_of};
@@ -11,7 +10,6 @@ ghost use Rattle.codegen.specs.Compiled.{StopsBy};
 ghost use Rattle.codegen.specs.Drafted.{IsDraftOf};
 
 use crate::functions::whole_function;
-use chunk_io::{Layout, fits};
 use code_builder::{Ahead, Builder, CodeFault, Draft, Heading, encode};
 use lua_num::{ByteText, Names};
 use lua_tree::Tree;
@@ -20,9 +18,8 @@ use scopes::Scopes;
 use std::alloc::{AllocError, Global};
 
 /// The chunk that the code scheme has for a tree under a source name, by what the names of the tree mean; or a limit of a
-/// chunk that the scheme does not keep. What it gives has a spelling in this suite's own layout; a chunk without one is taken as want of
-/// memory. The time is about linear in the tree: it is gone over once, its words once more for their jumps, and the chunk once more for
-/// its spelling. (A No-Frills Introduction to Lua 5.1 VM Instructions; at most 250 registers, 262,144 constants and 262,144 functions directly in
+/// chunk that the scheme does not keep. The time is about linear in the tree: it is gone over once, and its words once more for their
+/// jumps. (A No-Frills Introduction to Lua 5.1 VM Instructions; at most 250 registers, 262,144 constants and 262,144 functions directly in
 /// a function, and jumps of at most 131,071.)
 pub fn compile(
     alloc: Global,
@@ -33,25 +30,11 @@ pub fn compile(
     requires { scopes.now ≡ resolved (view_tree tree.now) }
     ensures chunk { IfOk result (λ proto. view_proto proto ≡ scheme (view_tree tree.now) name.now) }
     ensures fits { OnOk result (Fits (view_tree tree.now)) }
-    ensures spelled { IfOk result (λ proto. ChunkFits le8 (view_proto proto)) }
     ensures fault { IfErr result (StopsBy (view_tree tree.now)) }
 {
     let draft = draft_of(alloc, tree, scopes, name)?;
     let proto = encode(alloc, draft)?;
-    spelled(proto)
-}
-
-// Gives a chunk back where it has a spelling; one without is taken as want of memory.
-fn spelled(proto: Proto) -> Result<Proto, CodeFault>
-    ensures same { IfOk result (λ kept. kept ≡ proto) }
-    ensures spelled { IfOk result (λ kept. ChunkFits le8 (view_proto kept)) }
-    ensures fault { IfErr result (λ fault. fault ≡ CodeFault.OutOfMemory) }
-{
-    if fits(&proto, Layout::le8()) {
-        Ok(proto)
-    } else {
-        Err(CodeFault::OutOfMemory)
-    }
+    Ok(proto)
 }
 
 // The main chunk as it is made.

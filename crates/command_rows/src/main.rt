@@ -1,8 +1,10 @@
 // Reads rows such as `run a.lua: print(3)`: words, and what the file `a.lua` holds. Prints behind each row what the suite comes to
 // over files and sinks in memory: the status, what each sink took, the calls of files, and what the file `b` then holds, where it is
-// there, and last the calls of hosts. The host `ask`, number 0, replies true and 5, and the host `readline` replies `x`,
-// and then fails with `closed pipe`. A row may begin with a put that fails or finds no memory, as `out fails 3: ` or `err full 2: `, or with a call of files that
-// fails, as `files fails 2: `. A row with no `: ` is a heading.
+// there, and last the calls of hosts. The words of several calls, as in `compile a.lua b; run b: print(3)`, stand before one source:
+// the files stay from call to call, and sinks and hosts are new. The host `ask`, number 0, replies true and 5, and the host
+// `readline` replies `x`, and then fails with `closed pipe`. A row may begin with a put that fails or finds no memory, as
+// `out fails 3: ` or `err full 2: `, with a call of files that fails, as `files fails 2: `, or with a text, as `lines WORD: `: of
+// what `out` took, only the lines that hold it are then printed. A row with no `: ` is a heading.
 #![tactic(auto)]
 
 mod full_sink;
@@ -32,10 +34,19 @@ fn main(rt: HostRuntime) -> io::Result<()> {
 fn answer(alloc: Global, row: &Row) -> Result<String, AllocError> {
     let mut files = MemoryFiles::new(alloc, &[row.files_end])?;
     files.set(alloc, &String::from_str(alloc, "a.lua")?, &row.source)?;
-    let (mut text, asked) = match row.ending {
-        Ending::Full => over_full_sinks(alloc, row, &mut files)?,
-        Ending::Fails => over_memory(alloc, row, &mut files)?,
-    };
+    let mut text = String::new(alloc);
+    let mut asked = String::new(alloc);
+    for (at, words) in row.calls.iter().enumerate() {
+        if at > 0 {
+            text.push_str("; ")?;
+        }
+        let (ended, of_hosts) = match row.ending {
+            Ending::Full => over_full_sinks(alloc, row, words, &mut files)?,
+            Ending::Fails => over_memory(alloc, row, words, &mut files)?,
+        };
+        text.push_str(ended.as_str())?;
+        asked.push_str(of_hosts.as_str())?;
+    }
     if let Some(stored) = files.get(&String::from_str(alloc, "b")?) {
         let shown = stored.escape_ascii();
         text.push_str(format!(in alloc; ", b <{shown}>")?.as_str())?;
@@ -47,31 +58,47 @@ fn answer(alloc: Global, row: &Row) -> Result<String, AllocError> {
 fn over_memory(
     alloc: Global,
     row: &Row,
+    words: &[Word],
     files: &mut MemoryFiles,
 ) -> Result<(String, String), AllocError> {
+    let earlier = files.calls().len();
     let mut out = MemorySink::new(alloc, &[row.out_ends])?;
     let mut err = MemorySink::new(alloc, &[row.err_ends])?;
-    let (status, asked) = called(alloc, row, files, &mut out, &mut err)?;
-    let text = outcome(alloc, status, out.taken(), err.taken(), files.calls())?;
-    Ok((text, asked))
+    let (status, asked) = called(alloc, words, files, &mut out, &mut err)?;
+    let out = lines_with(alloc, out.taken(), row.shown.as_str())?;
+    let text = outcome(alloc, status, out.as_slice(), err.taken())?;
+    Ok((with_calls(alloc, text, files.calls(), earlier)?, asked))
 }
 
 fn over_full_sinks(
     alloc: Global,
     row: &Row,
+    words: &[Word],
     files: &mut MemoryFiles,
 ) -> Result<(String, String), AllocError> {
+    let earlier = files.calls().len();
     let mut out = FullSink::new(alloc, row.out_ends);
     let mut err = FullSink::new(alloc, row.err_ends);
-    let (status, asked) = called(alloc, row, files, &mut out, &mut err)?;
-    let text = outcome(alloc, status, out.taken(), err.taken(), files.calls())?;
-    Ok((text, asked))
+    let (status, asked) = called(alloc, words, files, &mut out, &mut err)?;
+    let text = outcome(alloc, status, out.taken(), err.taken())?;
+    Ok((with_calls(alloc, text, files.calls(), earlier)?, asked))
 }
 
-// Calls the suite with the hosts of a row. Answers the status, and what was asked of the hosts.
+// The lines of `taken` that hold this text; all, where it is empty.
+fn lines_with(alloc: Global, taken: &[u8], shown: &str) -> Result<Vec<u8>, AllocError> {
+    let mut lines = Vec::new(alloc);
+    for line in taken.split_inclusive(|byte| *byte == b'\n') {
+        if shown.is_empty() || str::from_utf8(line).is_ok_and(|line| line.contains(shown)) {
+            lines.extend_from_slice(line)?;
+        }
+    }
+    Ok(lines)
+}
+
+// Calls the suite with the hosts of the rows. Answers the status, and what was asked of the hosts.
 fn called<O: Sink, E: Sink>(
     alloc: Global,
-    row: &Row,
+    words: &[Word],
     files: &mut MemoryFiles,
     out: &mut O,
     err: &mut E,
@@ -85,21 +112,24 @@ fn called<O: Sink, E: Sink>(
             .add(alloc, b"readline", lines)
             .map_err(|(_, error)| error)?;
     }
-    let status = suite(alloc, &row.words, files, out, err, &mut hosts);
+    let status = suite(alloc, words, files, out, err, &mut hosts);
     Ok((status, calls_text(alloc, hosts.log())?))
 }
 
-fn outcome(
-    alloc: Global,
-    status: Status,
-    out: &[u8],
-    err: &[u8],
-    calls: &[FileCall],
-) -> Result<String, AllocError> {
+fn outcome(alloc: Global, status: Status, out: &[u8], err: &[u8]) -> Result<String, AllocError> {
     let number = status.number();
     let (out, err) = (out.escape_ascii(), err.escape_ascii());
-    let mut text = format!(in alloc; "{status:?} {number}, out <{out}>, err <{err}>")?;
-    for call in calls {
+    format!(in alloc; "{status:?} {number}, out <{out}>, err <{err}>")
+}
+
+// Behind the text the calls of files but for the earlier ones.
+fn with_calls(
+    alloc: Global,
+    mut text: String,
+    calls: &[FileCall],
+    earlier: usize,
+) -> Result<String, AllocError> {
+    for call in calls.iter().skip(earlier) {
         text.push_str(call_text(alloc, call)?.as_str())?;
     }
     Ok(text)

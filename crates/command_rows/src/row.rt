@@ -1,4 +1,4 @@
-// Rows: the words of a call, the source of `a.lua`, and which puts and calls of files do not go well.
+// Rows: the words of each call, the source of `a.lua`, what is shown, and which puts and calls of files do not go well.
 use row_source::read_source;
 use std::alloc::{AllocError, Global};
 use suite_io::Word;
@@ -10,11 +10,13 @@ pub enum Ending {
     Full,
 }
 
-/// A call of the suite. The puts of these numbers end as `ending` says, and the call of files fails; no put or call has the number 0.
+/// Calls of the suite, one after the other over the same files. The puts of these numbers end as `ending` says, and the call of
+/// files fails; no put or call has the number 0. Of what `out` took, the lines that hold the text `shown` are shown.
 #[derive(Drop)]
 pub struct Row {
-    pub words: Vec<Word>,
+    pub calls: Vec<Vec<Word>>,
     pub source: Vec<u8>,
+    pub shown: String,
     pub ending: Ending,
     pub out_ends: u64,
     pub err_ends: u64,
@@ -34,16 +36,17 @@ pub(crate) fn read_row(alloc: Global, text: &str) -> Result<Option<Row>, AllocEr
 
 fn read_parts(
     alloc: Global,
-    put: &str,
+    front: &str,
     words: &str,
     source: &str,
 ) -> Result<Option<Row>, AllocError> {
-    let (sink, end) = put.split_once(' ').unwrap_or(("", ""));
+    let (sink, end) = front.split_once(' ').unwrap_or(("", ""));
     let (kind, number) = end.split_once(' ').unwrap_or(("", ""));
     let number = number.parse::<u64>().unwrap_or(0);
     Ok(Some(Row {
-        words: read_words(alloc, words)?,
+        calls: read_calls(alloc, words)?,
         source: read_source(alloc, source)?,
+        shown: String::from_str(alloc, if sink == "lines" { end } else { "" })?,
         ending: if kind == "full" {
             Ending::Full
         } else {
@@ -53,6 +56,14 @@ fn read_parts(
         err_ends: if sink == "err" { number } else { 0 },
         files_end: if sink == "files" { number } else { 0 },
     }))
+}
+
+fn read_calls(alloc: Global, text: &str) -> Result<Vec<Vec<Word>>, AllocError> {
+    let mut calls = Vec::new(alloc);
+    for words in text.split("; ") {
+        calls.push(read_words(alloc, words)?)?;
+    }
+    Ok(calls)
 }
 
 fn read_words(alloc: Global, text: &str) -> Result<Vec<Word>, AllocError> {

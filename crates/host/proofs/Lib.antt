@@ -1,3 +1,5 @@
+pub mod Boxes
+pub mod Counts
 pub mod Examples
 pub mod LineFronts
 pub mod Names

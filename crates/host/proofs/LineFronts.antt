@@ -1,10 +1,12 @@
 -- The front of a line is the line that is read, without its line end.
-use Rattle.std.proofs.Common.{◌≡◌, ℕ, ◌+◌, ◌<◌, ◌≤◌, Bool, true, false, cond, not, eqb, List, [], ◌∷◌, ◌++◌, length, drop, refl, sym, ap, ◌∙◌, subst, arith, Some, None, IfSome, le_refl, drop_of_length-le, zero-le, take, get_or, ◌-◌, length-append, length-take-le, get_or-append-add, eq-eqb, suc, ◌&&◌, lt-ltb}
+use Rattle.std.proofs.Common.{◌≡◌, ◌≢◌, ◌⊎◌, inl, inr, All, ℕ, ◌+◌, ◌<◌, ◌≤◌, Bool, true, false, cond, not, eqb, List, [], ◌∷◌, ◌++◌, length, drop, refl, sym, ap, ◌∙◌, subst, arith, Some, None, IfSome, le_refl, drop_of_length-le, zero-le, take, get_or, ◌-◌, length-append, length-take-le, get_or-append-add, eq-eqb, suc, ◌&&◌, lt-ltb}
 use Rattle.std.specs.Prelude.{◌==◌, nat_lt}
 use Rattle.std.specs.declared.option.Option.{Option}
 use Rattle.std.specs.Io.{IsEmptyOrEndsWith}
+use Rattle.std.specs.Io.KnownBytes.{Consumes}
 use Rattle.std.proofs.BufReadLemmas.{take_through_nonempty}
 use Rattle.std.specs.Io.BufRead.{take_through, strip_last, ends_with_byte, first_piece}
+use Rattle.std.proofs.lemmas.Bool.Decides.{eqb_tells}
 use Rattle.std.proofs.lemmas.List.Sums.{take_while-cons}
 use Rattle.lua_model.specs.declared.plain.Plain.TheVariants.{Text}
 use Rattle.lua_model.specs.declared.plain.Reply.TheVariants.{Values}
@@ -93,3 +95,24 @@ short_line line (x ∷ part) room fits ends =
         let at : length (line ++ x ∷ part) ≡ suc (length line) + length part = omega (arith, long) in
         let end : get_or (y ∷ line ++ x ∷ part) (length (line ++ x ∷ part)) 0 ≡ 10 = ap (λ n. get_or (y ∷ line ++ x ∷ part) n 0) at ∙ get_or-append-add (y ∷ line) (x ∷ part) (length part) 0 ∙ ended in
         omega (arith, length-strip_last y (line ++ x ∷ part) end, long)
+
+-- bytes without a line end are a part of the front
+front_long : (line rest : List ℕ) → All (λ x. x ≢ 10) line → length line ≤ length (front (line ++ rest))
+front_long [] rest unended = zero-le
+front_long (x ∷ line) rest unended =
+    let off : eqb x 10 ≡ false = by_tells (eqb_tells x 10) (unended 0 x (omega arith)) in
+    let next : length line ≤ length (front (line ++ rest)) = front_long line rest (λ k d within. unended (suc k) d (omega arith)) in
+    rw (front-cons x (line ++ rest), off) (omega arith)
+  where
+    by_tells : {x : ℕ} → ((eqb x 10 ≡ true) × (x ≡ 10)) ⊎ ((eqb x 10 ≡ false) × (x ≢ 10)) → x ≢ 10 → eqb x 10 ≡ false
+    by_tells (inl is) off = absurd (off is.1)
+    by_tells (inr is) off = is.0
+
+-- where so many were lost, the line is too long
+pub long_front : (known left : Option (List ℕ)) (line : List ℕ) → Consumes known left line → All (λ x. x ≢ 10) line → 67108864 ≤ length line → IfSome known (λ bytes. 67108864 ≤ length (front bytes))
+long_front None left line lost unended long = tt
+long_front (Some bytes) None line lost unended long = absurd lost
+long_front (Some bytes) (Some rest) line lost unended long =
+    let most = front_long line rest unended in
+    let is : length (front bytes) ≡ length (front (line ++ rest)) = ap (λ l. length (front l)) lost in
+    omega arith

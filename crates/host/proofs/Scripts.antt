@@ -1,12 +1,12 @@
 -- What a script has heard after one call more.
-use Rattle.std.proofs.Common.{◌≡◌, refl, ap, sym, ◌∙◌, List, [], ◌∷◌, ◌++◌, length, drop, append_assoc, length-append}
+use Rattle.std.proofs.Common.{◌≡◌, inl, inr, refl, ap, sym, ◌∙◌, List, [], ◌∷◌, ◌++◌, length, drop, append_assoc, length-append}
 use Rattle.std.proofs.Math.Seq.{drop-nil}
 use Rattle.std.proofs.lemmas.List.{append-nil, drop-drop}
 use Rattle.lua_model.specs.declared.plain.Plain.{Plain}
 use Rattle.lua_model.specs.declared.plain.Reply.{Reply}
 use Rattle.lua_model.specs.declared.plain.Reply.TheVariants.{Values, Fail, OutOfMemory}
-use Rattle.host.specs.Heard.{Exchange, heard_after}
-use Rattle.host.specs.Script.{ScriptState, next_reply, heard_of, script_state, script_after}
+use Rattle.host.specs.Heard.{Exchange, heard_after, answered}
+use Rattle.host.specs.Script.{ScriptState, next_reply, heard_of, script_state, script_after, ScriptAnswers}
 
 -- a call is heard behind what was heard before
 heard_after-append : (first second : List Exchange) (args : List Plain) (reply : Reply) → heard_after (first ++ second) args reply ≡ first ++ heard_after second args reply
@@ -33,3 +33,17 @@ script_state-more replies asked args =
     let state : List Reply → List Exchange → ScriptState = λ left heard. record { left = left; heard = heard } in
     ap (λ left. state left (heard_of replies (asked ++ args ∷ []))) shorter
     ∙ ap (λ heard. state (drop 1 (drop (length asked) replies)) heard) (heard_of-more replies asked args)
+
+-- exchanges with one more are what was heard before and behind that call
+answered-more : (before : List Exchange) (args : List Plain) (reply : Reply) → answered (before ++ record { args = args; reply = reply } ∷ []) ≡ heard_after (answered before) args reply
+answered-more [] args reply = append-nil _
+answered-more (exchange ∷ before) args reply =
+    ap (λ heard. heard_after [] exchange.args exchange.reply ++ heard) (answered-more before args reply)
+    ∙ sym (heard_after-append (heard_after [] exchange.args exchange.reply) (answered before) args reply)
+
+pub script_hears : (old new : ScriptState) (args : List Plain) (reply : Reply) (before : List Exchange) → ScriptAnswers old args reply new → old.heard ≡ answered before
+    → new.heard ≡ answered (before ++ record { args = args; reply = reply } ∷ [])
+script_hears old new args reply before (inl given) heard =
+    ap (λ state. state.heard) given.1 ∙ ap (heard_after old.heard args) (sym given.0) ∙ ap (λ heard. heard_after heard args reply) heard ∙ sym (answered-more before args reply)
+script_hears old new args reply before (inr none) heard =
+    ap (λ state. state.heard) none.1 ∙ heard ∙ ap (heard_after (answered before) args) (sym none.0) ∙ sym (answered-more before args reply)

@@ -14,3 +14,8 @@ abbrev pub heard_after : List Exchange → List Plain → Reply → List Exchang
 heard_after heard args (Values values) = heard ++ record { args = args; reply = Values values } ∷ []
 heard_after heard args (Fail text) = heard ++ record { args = args; reply = Fail text } ∷ []
 heard_after heard args OutOfMemory = heard
+
+-- what a host has heard that answered these exchanges from its start: those that found memory for a reply
+abbrev pub answered : List Exchange → List Exchange
+answered [] = []
+answered (exchange ∷ exchanges) = heard_after [] exchange.args exchange.reply ++ answered exchanges

@@ -1,88 +1,41 @@
 // A host that reads lines.
-ghost use Rattle.std.specs.Prelude.{◌≡◌, ◌≢◌, ◌-◌, ◌<◌, ◌≤◌, ◌∷◌, [], true, All, take, length, None, Ok, IfOk, IfSome, OnOk, OnSome, MatchOption, vec_len};
-ghost use Rattle.std.specs.Io.{StartsWith, StopsAt, IsEmptyOrEndsWith, appended_bytes};
-ghost use Rattle.std.specs.Io.KnownBytes.{Consumes, IsAtEnd};
+ghost use Rattle.std.specs.Prelude.{◌≡◌, ◌<◌, ◌∷◌, ◌⊎◌, [], length, None, IfOk, IfSome, IsErrOf, OnOk, MatchOption};
 ghost use Rattle.std.specs.Io.BufRead.{take_through, strip_last, DropsThrough};
 ghost use Rattle.lua_model.specs.declared.plain.Plain.TheVariants.{Nil, Text};
 ghost use Rattle.lua_model.specs.declared.plain.Reply.TheVariants.{Values};
-ghost use Rattle.host.specs.Lines.{line_reply, read_failed, LineAnswers, LineLeaves};
+ghost use Rattle.host.specs.Lines.{line_reply, read_failed, Rises, IsTooLong, Fails, LineAnswers, LineLeaves, LineCause};
 
 use crate::host::Host;
+use crate::reader::{CountedReader, LineReader, ReadFault};
 use lua_model::{Plain, PlainList, Reply};
 use lua_num::ByteText;
 use std::alloc::{AllocError, Global};
-use std::io::{self, BufRead, ErrorKind};
+use std::io::BufRead;
 use std::marker::Model;
 
 /// No line of this many bytes or more is read.
 pub const MAX_LINE_BYTES: u64 = 67_108_864;
 
-// The length up to and including the first line end, or the whole length, at most `most`.
-fn len_through(bytes: &[u8], most: usize) -> usize
-    ensures bound { result ≤ length bytes.now }
-    ensures within { result ≤ most }
-    ensures some { 0 < length bytes.now → 0 < most → 0 < result }
-    ensures before { All (λ x. x ≢ 10) (take (result - 1) bytes.now) }
-{
-    let end = bytes.len().min(most);
-    let mut i = 0;
-    while i < end {
-        if bytes[i] == b'\n' {
-            return i + 1;
-        }
-        i += 1;
-    }
-    i
-}
-
-// Appends the bytes that the reader has at hand, up to and including the first line end and at most `most`. Says whether
-// it met a line end or the end of the reader.
-fn append_part<R: BufRead>(reader: &mut R, most: usize, line: &mut Vec<u8>) -> io::Result<bool>
-    ensures appends { StartsWith line.new.items line.old.items }
-    ensures within { length (appended_bytes line.old.items line.new.items) ≤ most }
-    ensures stops { StopsAt (appended_bytes line.old.items line.new.items) 10 }
-    ensures bytes { Consumes (R.remaining reader.old) (R.remaining reader.new)
-        (appended_bytes line.old.items line.new.items) }
-    ensures end { result ≡ Ok true → 0 < most → length (appended_bytes line.old.items line.new.items) ≡ 0
-        → OnSome (R.remaining reader.old) (IsAtEnd (R.remaining reader.new)) }
-    ensures unfinished { result ≢ Ok true → All (λ x. x ≢ 10) (appended_bytes line.old.items line.new.items) }
-    ensures done { result ≡ Ok true → IsEmptyOrEndsWith (appended_bytes line.old.items line.new.items) 10 }
-{
-    let available = match reader.fill_buf() {
-        Ok(available) => available,
-        Err(e) => {
-            return if e.kind() == ErrorKind::Interrupted {
-                Ok(false)
-            } else {
-                Err(e)
-            };
-        }
-    };
-    let end = len_through(available, most);
-    line.extend_from_slice(&available[..end])?;
-    let is_done = end == 0 || available[end - 1] == b'\n';
-    reader.consume(end);
-    Ok(is_done)
-}
-
 // The bytes up to and including the first line end, or to the end of the reader.
-fn read_line<R: BufRead>(reader: &mut R, alloc: Global) -> io::Result<Vec<u8>>
+fn read_line<R: LineReader>(reader: &mut R, alloc: Global) -> Result<Vec<u8>, ReadFault>
     ensures bytes { IfOk result (λ line. IfSome (R.remaining reader.old) (λ bytes. line.items ≡ take_through 10 bytes)) }
     ensures short { IfOk result (λ line. length (strip_last 10 line.items) < 67108864) }
     ensures rest { OnOk result (DropsThrough (R.remaining reader.old) (R.remaining reader.new) 10) }
+    ensures quiet { OnOk result (R.faults reader.new ≡ R.faults reader.old) }
+    ensures failed { IsErrOf result ReadFault.Failed → Rises (R.faults reader.old) (R.faults reader.new)
+        ⊎ IsTooLong (R.remaining reader.old) (R.given reader.old) (R.given reader.new) }
 {
     let most = MAX_LINE_BYTES as usize;
     let mut line = Vec::new(alloc);
-    for _ in 0..u64::MAX {
+    while line.len() < most {
         let room = most - line.len();
-        if append_part(reader, room, &mut line)? {
-            return Ok(line);
-        }
-        if line.len() >= most {
-            return Err(ErrorKind::InvalidData.into());
+        match reader.append_part(room, &mut line) {
+            Ok(true) => return Ok(line),
+            Ok(false) => {}
+            Err(fault) => return Err(fault),
         }
     }
-    Err(ErrorKind::TimedOut.into())
+    Err(ReadFault::Failed)
 }
 
 // Removes a line end from the end.
@@ -95,36 +48,52 @@ fn drop_line_end(line: &mut Vec<u8>)
 }
 
 /// A host that replies with the lines of a reader, as of standard input. It tells nothing of what it has heard.
-/// Contracts see the bytes that the reader has left, where those are known.
+/// Contracts see the reader: the bytes that it has left, where those are known, and its counts.
 #[derive(Drop)]
-pub struct LineHost<R: BufRead + Drop> {
+pub struct LineHost<R: LineReader + Drop> {
     reader: R,
 }
 
-impl<R: BufRead + Drop> Model for LineHost<R> {
-    ghost use Rattle.std.specs.Prelude.{ℕ, List, Option};
+impl<R: LineReader + Drop> Model for LineHost<R> {
+    ghost use Rattle.host.specs.Lines.{ReaderState};
 
-    ghost Value = { Option (List ℕ) };
+    ghost Value = { ReaderState };
 
-    ghost view = { λ h. R.remaining h.reader };
+    ghost view = { λ h. record { left = R.remaining h.reader; given = R.given h.reader; faults = R.faults h.reader } };
 }
 
-impl<R: BufRead + Drop> LineHost<R> {
+impl<R: BufRead + Drop> LineHost<CountedReader<R>> {
     /// A host of this reader, of which nothing was read yet. Takes no memory.
     pub fn new(reader: R) -> Self
-        ensures { result ≡ R.remaining reader }
+        ensures { result ≡ record { left = R.remaining reader; given = 0; faults = 0 } }
+    {
+        Self {
+            reader: CountedReader::new(reader),
+        }
+    }
+}
+
+impl<R: LineReader + Drop> LineHost<R> {
+    /// A host of this reader. Takes no memory.
+    pub fn of(reader: R) -> Self
+        ensures { result ≡ record { left = R.remaining reader; given = R.given reader; faults = R.faults reader } }
     {
         Self { reader }
     }
 
     // The next line without its line end; none at the end.
-    fn next_line(&mut self, alloc: Global) -> io::Result<Option<ByteText>>
-        ensures answers { IfOk result (λ line. IfSome self.old (λ bytes. MatchOption line
+    fn next_line(&mut self, alloc: Global) -> Result<Option<ByteText>, ReadFault>
+        ensures answers { IfOk result (λ line. IfSome self.old.left (λ bytes. MatchOption line
             (line_reply bytes ≡ Values (Nil ∷ []))
             (λ text. line_reply bytes ≡ Values (Text text ∷ [])))) }
-        ensures rest { OnOk result (DropsThrough self.old self.new 10) }
+        ensures rest { OnOk result (DropsThrough self.old.left self.new.left 10) }
+        ensures quiet { OnOk result (self.new.faults ≡ self.old.faults) }
+        ensures failed { IsErrOf result ReadFault.Failed → Fails self.old self.new }
     {
-        let mut line = read_line(&mut self.reader, alloc)?;
+        let mut line = match read_line(&mut self.reader, alloc) {
+            Ok(line) => line,
+            Err(fault) => return Err(fault),
+        };
         if line.is_empty() {
             return Ok(None);
         }
@@ -148,22 +117,23 @@ fn failed_reply(alloc: Global) -> Result<Reply, AllocError>
     Ok(Reply::Fail(ByteText::from_slice(alloc, b"read failed")?))
 }
 
-impl<R: BufRead + Drop> Host for LineHost<R> {
+impl<R: LineReader + Drop> Host for LineHost<R> {
     ghost heard = { λ _. None };
 
     /// Replies with the next line without its line end, a byte 10, or with nil at the end of the reader. Fails with `read failed` where
-    /// the reader does, and where no line end stands within `MAX_LINE_BYTES` bytes. Behind a reply of values the reader has what follows
-    /// the line end; behind a failure, or where no memory is found, some of its bytes may be lost. The arguments say nothing. In linear
-    /// time in the line.
+    /// the reader does, which raises its count of faults, and where no line end stands within `MAX_LINE_BYTES` bytes, and nowhere else.
+    /// Behind a reply of values the reader has what follows the line end; behind a failure, or where no memory is found, some of its bytes
+    /// may be lost. The arguments say nothing. In linear time in the line.
     fn call(&mut self, alloc: Global, _args: &[Plain]) -> Reply
-        ensures answers { LineAnswers self.old result }
-        ensures rest { LineLeaves self.old result self.new }
+        ensures answers { LineAnswers self.old result self.new }
+        ensures rest { LineLeaves self.old.left result self.new.left }
+        ensures cause { LineCause self.old result self.new }
     {
         let answer = match self.next_line(alloc) {
             Ok(Some(line)) => reply_of(alloc, Plain::Text(line)),
             Ok(None) => reply_of(alloc, Plain::Nil),
-            Err(error) if error.kind() == ErrorKind::OutOfMemory => Err(AllocError),
-            Err(_) => failed_reply(alloc),
+            Err(ReadFault::OutOfMemory) => Err(AllocError),
+            Err(ReadFault::Failed) => failed_reply(alloc),
         };
         answer.unwrap_or(Reply::OutOfMemory)
     }

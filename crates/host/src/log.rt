@@ -53,4 +53,18 @@ impl HostLog {
     {
         self.entries.as_slice()
     }
+
+    /// The calls of a `Vec`, which takes no memory.
+    pub fn from_vec(entries: Vec<LogEntry>) -> Self
+        ensures { result ≡ entries.items }
+    {
+        Self { entries }
+    }
+
+    /// The calls as a `Vec`, given back without taking memory.
+    pub fn into_vec(self) -> Vec<LogEntry>
+        ensures { result.items ≡ self }
+    {
+        self.entries
+    }
 }

@@ -1,5 +1,6 @@
 // A host of replies that are given in turn.
-ghost use Rattle.std.specs.Prelude.{◌≡◌, [], Some, IfOk, OnOk, OnErr};
+ghost use Rattle.std.specs.Prelude.{◌≡◌, List, [], ◌∷◌, ◌++◌, Some, IfOk, OnOk, OnErr};
+ghost use Rattle.host.specs.Heard.{Exchange, answered};
 ghost use Rattle.host.specs.Script.{next_reply, script_after, ScriptAnswers};
 
 use crate::copies::{copy_reply, copy_values};
@@ -66,10 +67,13 @@ impl ScriptHost {
 impl Host for ScriptHost {
     ghost heard = { λ s. Some s.heard };
 
+    ghost hears = { λ s exchanges. s.heard ≡ answered exchanges };
+
     /// Gives the reply that comes next, in linear time in it and in the arguments. Where no memory is found for a copy
     /// of either, it answers `OutOfMemory` and no reply is used up.
     fn call(&mut self, alloc: Global, args: &[Plain]) -> Reply
         ensures answers { ScriptAnswers self.old args.now result self.new }
+        ensures once { (before : List Exchange) → self.old.heard ≡ answered before → self.new.heard ≡ answered (before ++ record { args = args.now; reply = result } ∷ []) }
     {
         match self.answer(alloc, args) {
             Ok(reply) => reply,

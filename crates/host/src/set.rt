@@ -1,5 +1,6 @@
 // A set of hosts by names and numbers.
-ghost use Rattle.std.specs.Prelude.{◌≡◌, ◌<◌, [], true, false, length, map, OnOk, OnErr, IfErr};
+ghost use Rattle.std.specs.Prelude.{◌≡◌, ◌≢◌, ℕ, ◌<◌, List, [], ◌∷◌, ◌++◌, true, false, length, map, OnOk, OnErr, IfErr};
+ghost use Rattle.host.specs.Heard.{Exchange};
 ghost use Rattle.host.specs.Hosts.{NamesDiffer, names_of, has_name, number_of, name_at, is_live_at, with_host, called, last_reply, closed};
 
 use crate::host::Host;
@@ -20,7 +21,7 @@ pub struct HostSet {
 }
 
 impl HostSet {
-    ghost use Rattle.host.specs.Views.{set_state};
+    ghost use Rattle.host.specs.Views.{set_state, HostHears};
 
     /// No hosts and no calls, which takes no memory.
     pub fn new(alloc: Global) -> Self
@@ -89,6 +90,8 @@ impl HostSet {
         ensures ok { OnOk result (set_state heard self.new ≡ with_host (set_state heard self.old) name.now (heard host)) }
         ensures err { OnErr result (set_state heard self.new ≡ set_state heard self.old) }
         ensures returned { IfErr result (λ e. e.0 ≡ host) }
+        ensures added { OnOk result ((before : List Exchange) → hears host before → HostHears hears self.new (length (set_state heard self.old).hosts) before) }
+        ensures others { (other : ℕ) (before : List Exchange) → HostHears hears self.old other before → HostHears hears self.new other before }
     {
         let name = match ByteText::from_slice(alloc, name) {
             Ok(name) => name,
@@ -118,6 +121,10 @@ impl HostSet {
         ensures ok { OnOk result (set_state heard self.new ≡ called (set_state heard self.old) host args (last_reply (set_state heard self.new).log)) }
         ensures logged { OnOk result (0 < length (set_state heard self.new).log) }
         ensures err { OnErr result (set_state heard self.new ≡ set_state heard self.old) }
+        ensures once { OnOk result ((before : List Exchange) → HostHears hears self.old host before
+            → HostHears hears self.new host (before ++ record { args = args; reply = last_reply (set_state heard self.new).log } ∷ [])) }
+        ensures others { OnOk result ((other : ℕ) (before : List Exchange) → other ≢ host → HostHears hears self.old other before → HostHears hears self.new other before) }
+        ensures nobody { OnErr result ((number : ℕ) (before : List Exchange) → HostHears hears self.old number before → HostHears hears self.new number before) }
     {
         let entries = &mut self.log.entries;
         entries.reserve(1)?;
@@ -131,6 +138,7 @@ impl HostSet {
         requires { host < length (set_state heard self.old).hosts }
         ensures was_live { result ≡ is_live_at (set_state heard self.old).hosts host }
         ensures closed { set_state heard self.new ≡ closed (set_state heard self.old) host }
+        ensures others { (other : ℕ) (before : List Exchange) → other ≢ host → HostHears hears self.old other before → HostHears hears self.new other before }
     {
         let slot = &mut self.hosts[host];
         let was_live = slot.is_live();

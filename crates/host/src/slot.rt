@@ -1,9 +1,9 @@
 // One host of a set.
-ghost use Rattle.std.specs.Prelude.{◌≡◌, true, Some, None, is_some, option_map, map, position};
+ghost use Rattle.std.specs.Prelude.{◌≡◌, true, List, [], ◌∷◌, ◌++◌, Some, None, is_some, option_map, map, position};
 ghost use Rattle.std.specs.Str.{bytes_eq};
-ghost use Rattle.host.specs.Heard.{heard_after};
+ghost use Rattle.host.specs.Heard.{Exchange, heard_after};
 ghost use Rattle.host.specs.Hosts.{host_called};
-ghost use Rattle.host.specs.Views.{slot_state};
+ghost use Rattle.host.specs.Views.{slot_state, BoxHears};
 
 use crate::host::Host;
 use lua_model::{Plain, Reply};
@@ -20,7 +20,8 @@ pub(crate) struct HostSlot {
 impl HostSlot {
     // A live host.
     pub(crate) fn new(name: ByteText, host: Box<dyn Host>) -> Self
-        ensures { slot_state heard result ≡ record { name = name; live = Some (heard host) } }
+        ensures state { slot_state heard result ≡ record { name = name; live = Some (heard host) } }
+        ensures kept { result.live ≡ Some host }
     {
         Self {
             name,
@@ -45,7 +46,9 @@ impl HostSlot {
     // Calls the host, which is live.
     pub(crate) fn call(&mut self, alloc: Global, args: &[Plain]) -> Reply
         requires { is_some self.old.live ≡ true }
-        ensures { slot_state heard self.new ≡ host_called (slot_state heard self.old) args.now result }
+        ensures state { slot_state heard self.new ≡ host_called (slot_state heard self.old) args.now result }
+        ensures once { (before : List Exchange) → BoxHears hears self.old.live before
+            → BoxHears hears self.new.live (before ++ record { args = args.now; reply = result } ∷ []) }
     {
         match &mut self.live {
             Some(host) => call_host(host, alloc, args),
@@ -75,7 +78,8 @@ pub(crate) fn position_of(slots: &[HostSlot], name: &[u8]) -> Option<usize>
 
 // Calls a host.
 fn call_host(host: &mut Box<dyn Host>, alloc: Global, args: &[Plain]) -> Reply
-    ensures { heard host.new ≡ option_map (λ h. heard_after h args.now result) (heard host.old) }
+    ensures once { (before : List Exchange) → hears host.old before → hears host.new (before ++ record { args = args.now; reply = result } ∷ []) }
+    ensures heard { heard host.new ≡ option_map (λ h. heard_after h args.now result) (heard host.old) }
 {
     host.call(alloc, args)
 }

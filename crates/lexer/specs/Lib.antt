@@ -6,3 +6,4 @@ pub mod Classes
 pub mod Pieces
 pub mod Marks
 pub mod Openings
+pub mod Texts

@@ -56,4 +56,18 @@ impl ValueList {
     {
         self.values.as_slice()
     }
+
+    /// The values of a `Vec`, which takes no memory.
+    pub fn from_vec(values: Vec<Value>) -> Self
+        ensures { result ≡ values.items }
+    {
+        Self { values }
+    }
+
+    /// The values as a `Vec`, given back without taking memory.
+    pub fn into_vec(self) -> Vec<Value>
+        ensures { result.items ≡ self }
+    {
+        self.values
+    }
 }

@@ -287,6 +287,34 @@ impl Block {
     {
         self.stats.as_slice()
     }
+
+    /// The statements of a `Vec`, which takes no memory.
+    pub fn from_vec(stats: Vec<Stat>) -> Self
+        ensures items { (out-Block result).stats.items ≡ stats.items }
+        ensures view { view_block result ≡ statements_of stats.items }
+    {
+        Self::hold(stats)
+    }
+
+    /// The statements as a `Vec`, given back without taking memory.
+    pub fn into_vec(self) -> Vec<Stat>
+        ensures items { result.items ≡ (out-Block self).stats.items }
+        ensures view { statements_of result.items ≡ view_block self }
+    {
+        self.give()
+    }
+
+    fn hold(stats: Vec<Stat>) -> Self
+        ensures { (out-Block result).stats.items ≡ stats.items }
+    {
+        Self { stats }
+    }
+
+    fn give(self) -> Vec<Stat>
+        ensures { result.items ≡ (out-Block self).stats.items }
+    {
+        self.stats
+    }
 }
 
 impl Exps {
@@ -333,6 +361,34 @@ impl Exps {
         ensures view { view_exps self.now ≡ expressions_of result.now }
     {
         self.exps.as_slice()
+    }
+
+    /// The expressions of a `Vec`, which takes no memory.
+    pub fn from_vec(exps: Vec<Exp>) -> Self
+        ensures items { (out-Exps result).exps.items ≡ exps.items }
+        ensures view { view_exps result ≡ expressions_of exps.items }
+    {
+        Self::hold(exps)
+    }
+
+    /// The expressions as a `Vec`, given back without taking memory.
+    pub fn into_vec(self) -> Vec<Exp>
+        ensures items { result.items ≡ (out-Exps self).exps.items }
+        ensures view { expressions_of result.items ≡ view_exps self }
+    {
+        self.give()
+    }
+
+    fn hold(exps: Vec<Exp>) -> Self
+        ensures { (out-Exps result).exps.items ≡ exps.items }
+    {
+        Self { exps }
+    }
+
+    fn give(self) -> Vec<Exp>
+        ensures { result.items ≡ (out-Exps self).exps.items }
+    {
+        self.exps
     }
 }
 
@@ -381,6 +437,34 @@ impl Arms {
     {
         self.arms.as_slice()
     }
+
+    /// The arms of a `Vec`, which takes no memory.
+    pub fn from_vec(arms: Vec<Arm>) -> Self
+        ensures items { (out-Arms result).arms.items ≡ arms.items }
+        ensures view { view_arms result ≡ branches_of arms.items }
+    {
+        Self::hold(arms)
+    }
+
+    /// The arms as a `Vec`, given back without taking memory.
+    pub fn into_vec(self) -> Vec<Arm>
+        ensures items { result.items ≡ (out-Arms self).arms.items }
+        ensures view { branches_of result.items ≡ view_arms self }
+    {
+        self.give()
+    }
+
+    fn hold(arms: Vec<Arm>) -> Self
+        ensures { (out-Arms result).arms.items ≡ arms.items }
+    {
+        Self { arms }
+    }
+
+    fn give(self) -> Vec<Arm>
+        ensures { result.items ≡ (out-Arms self).arms.items }
+    {
+        self.arms
+    }
 }
 
 impl Items {
@@ -427,5 +511,33 @@ impl Items {
         ensures view { view_items self.now ≡ fields_of result.now }
     {
         self.items.as_slice()
+    }
+
+    /// The items of a `Vec`, which takes no memory.
+    pub fn from_vec(items: Vec<Item>) -> Self
+        ensures items { (out-Items result).items.items ≡ items.items }
+        ensures view { view_items result ≡ fields_of items.items }
+    {
+        Self::hold(items)
+    }
+
+    /// The items as a `Vec`, given back without taking memory.
+    pub fn into_vec(self) -> Vec<Item>
+        ensures items { result.items ≡ (out-Items self).items.items }
+        ensures view { fields_of result.items ≡ view_items self }
+    {
+        self.give()
+    }
+
+    fn hold(items: Vec<Item>) -> Self
+        ensures { (out-Items result).items.items ≡ items.items }
+    {
+        Self { items }
+    }
+
+    fn give(self) -> Vec<Item>
+        ensures { result.items ≡ (out-Items self).items.items }
+    {
+        self.items
     }
 }

@@ -26,7 +26,7 @@ use Rattle.machine.specs.declared.calling.invoking.Target.{Target}
 use Rattle.machine.specs.declared.calling.invoking.Turn.{Turn}
 use Rattle.machine.specs.Frames.{data_of}
 use Rattle.machine.specs.Seen.{Around, closure_seen}
-use Rattle.machine.specs.Outside.{AreNamed, around, pieces_in, calls_in, replies_in, Happened}
+use Rattle.machine.specs.Outside.{AreNamed, around, pieces_in, calls_in, replies_in, hosts_behind, Happened}
 use Rattle.machine.specs.Called.{Enters, Lands, beside, applied_as, IsAppliedOf, NothingHappened, Applies, called_as, IsCalledOf, Invokes, failed_with, asked_to, GoesTo, turn_of, turned_as, IsTurnOf, NothingTurned, Turns, ahead, Protected}
 use Rattle.machine.proofs.Beside.{callee_beside}
 use Rattle.machine.proofs.WorkedValues.{worked_is, worked_known}
@@ -36,7 +36,7 @@ use Rattle.machine.proofs.WorkedValues.{worked_is, worked_known}
 same_state : (m : State) (old new : HeapState) (a : Around) → OnlyTexts old new → beside m new a ≡ beside m old a
 same_state m old new a only i = record m { store = store_of (only i) a.hosts; outside = a.outside }
 
-same_closures : (c : Chunk) (m : State) (old new : HeapState) → OnlyTexts old new → m.closures ≡ map (closure_seen c) old.closures → m.closures ≡ map (closure_seen c) new.closures
+pub same_closures : (c : Chunk) (m : State) (old new : HeapState) → OnlyTexts old new → m.closures ≡ map (closure_seen c) old.closures → m.closures ≡ map (closure_seen c) new.closures
 same_closures c m old new only is = is ∙ sym (ap (λ (h : HeapState). map (closure_seen c) h.closures) only)
 
 tables_behind : (s t u : HeapState) → OnlyTexts s t → OnlyTables t u → OnlyTables s u
@@ -140,7 +140,7 @@ turns_by {f} {g} {args} {xs} {items} {p} {old} {between} {new} {pieces_before} {
     })
 
 nothing_happened : (pieces : List Text) (set : HostSetState) → Happened [] pieces pieces set set
-nothing_happened pieces set = record { pieces = sym (append-nil pieces); log = sym (append-nil set.log); names = refl }
+nothing_happened pieces set = record { pieces = sym (append-nil pieces); log = sym (append-nil set.log); names = refl; closes = refl }
 
 no_events : (set : HostSetState) (events : List Event) (left : List Reply) → around set events left ≡ around set (events ++ []) left
 no_events set events left = ap (λ es. around set es left) (sym (append-nil events))
@@ -169,6 +169,7 @@ happened_both es first between last before middle behind a b = record {
   pieces = b.pieces ∙ ap (λ (ps : List Text). ps ++ pieces_in es) (a.pieces ∙ append-nil first);
   log = b.log ∙ ap (λ log. log ++ calls_in es) (a.log ∙ append-nil before.log);
   names = b.names ∙ a.names;
+  closes = b.closes ∙ ap (hosts_behind es) a.closes;
 }
 
 ahead_turn : (enters : Enters) (lands : Lands) (left p : ℕ) (m : State) (f : Datum) (args : List Datum) → ahead enters lands (suc left) p m f args ≡ asked_to enters lands p (λ g xs. ahead enters lands left (suc p) m g xs) m f args
@@ -200,7 +201,7 @@ module _ {limit left p : ℕ} {f g : Value} {args xs : List Value} {old now : He
   abbrev next_in : ℕ → Enters → Lands → State → Datum → List Datum → Effect
   next_in n enters lands s d ds = ahead enters lands n (suc p) s d ds
 
-  one_turn : (n : ℕ) → left ≡ suc n → (c : Chunk) (enters : Enters) (lands : Lands) (m : State) (events : List Event) (replies : List Reply) → m.closures ≡ map (closure_seen c) old.closures → call_within enters lands limit 0 (beside m old (around before events replies)) (datum old f) (data_of old args) ≡ asked_to enters lands p (next_in n enters lands (present m events replies)) (present m events replies) (datum now g) (data_of now xs)
+  pub one_turn : (n : ℕ) → left ≡ suc n → (c : Chunk) (enters : Enters) (lands : Lands) (m : State) (events : List Event) (replies : List Reply) → m.closures ≡ map (closure_seen c) old.closures → call_within enters lands limit 0 (beside m old (around before events replies)) (datum old f) (data_of old args) ≡ asked_to enters lands p (next_in n enters lands (present m events replies)) (present m events replies) (datum now g) (data_of now xs)
   one_turn n is_left c enters lands m events replies closures =
       protected.leaves c enters lands m events replies closures
       ∙ (λ i. ahead enters lands (is_left i) p (present m events replies) (datum now g) (data_of now xs))

@@ -30,6 +30,7 @@ quiet {fs} {act} {old} {new} {set} {did} does = record {
     pieces = ap (λ ps. ps.items) does.pieces ∙ sym (append-nil old.pieces.items);
     log = sym (append-nil set.log);
     names = refl;
+    closes = refl;
   };
   is = λ c events left whole.
       does.is c (around set events left) whole

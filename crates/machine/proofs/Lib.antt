@@ -43,3 +43,8 @@ pub mod WordsNext
 pub mod WordsInRow
 pub mod TableEntries
 pub mod Methods
+pub mod EventsGrow
+pub mod BrokenOff
+pub mod BrokenCalls
+pub mod StepsBegun
+pub mod BrokenSteps

@@ -34,7 +34,7 @@ use Rattle.machine.proofs.HostsBeside.{names_are, host_is, hosts_called, names_c
 -- ---- nothing happened
 
 pub nothing : (pieces : List Text) (set : HostSetState) → Happened [] pieces pieces set set
-nothing pieces set = record { pieces = sym (append-nil pieces); log = sym (append-nil set.log); names = refl }
+nothing pieces set = record { pieces = sym (append-nil pieces); log = sym (append-nil set.log); names = refl; closes = refl }
 
 -- what goes on from a state with no more events
 none_more : (on : State → Effect) (m : State) (h : HeapState) (set : HostSetState) (events : List Event) (left : List Reply) → on (beside m h (around set events left)) ≡ on (beside m h (around set (events ++ []) left))
@@ -93,7 +93,7 @@ results_apply old new n args pieces set vs named answers known only keeps = reco
 pub print_applies : (old new : HeapState) (n : ℕ) (args : List Value) (before behind : List Text) (set : HostSetState) (piece : Text) (vs : List Value) → AreNamed old set → Answers (native n) old new args (NativeAct.Print piece) → behind ≡ before ++ piece ∷ [] → vs ≡ [] → OnlyTexts old new → Keeps old new → Applies (Value.Native n) args old new before behind set set (Applied.Results vs)
 print_applies old new n args before behind set piece vs named answers pushed none only keeps = record {
   es = printed piece ∷ [];
-  happened = record { pieces = pushed; log = sym (append-nil set.log); names = refl };
+  happened = record { pieces = pushed; log = sym (append-nil set.log); names = refl; closes = refl };
   is = λ c enters lands p again m events left closures.
       let hosts = hosts_of set in
       ap (answered enters lands p again (beside m old (around set events left))) (answers hosts (names_are old set named))
@@ -172,14 +172,14 @@ closes_none name set none = record {
 closes_as : (name : Text) (set : HostSetState) (k : ℕ) (was_live : Bool) → is_live_at set.hosts k ≡ was_live → live_host (hosts_of set) 0 name ≡ (if was_live then Some k else None) → Closes name set (closed set k) was_live
 closes_as name set k true was live = record {
   es = closed_event k ∷ [];
-  happened = λ pieces. record { pieces = sym (append-nil pieces); log = sym (append-nil set.log); names = names_closed set k };
+  happened = λ pieces. record { pieces = sym (append-nil pieces); log = sym (append-nil set.log); names = names_closed set k; closes = hosts_closed set k };
   is = λ enters lands p again m old new events left.
       ap (λ live. answered enters lands p again (beside m old (around set events left)) (closing_of live (store_of new (hosts_of set)))) live
       ∙ (λ i. given enters lands p (record (beside m new (around set (events ++ closed_event k ∷ []) left)) { store = store_of new (sym (hosts_closed set k) i) }) (boolean true ∷ []));
 }
 closes_as name set k false was live = record {
   es = [];
-  happened = λ pieces. record { pieces = sym (append-nil pieces); log = sym (append-nil set.log); names = names_closed set k };
+  happened = λ pieces. record { pieces = sym (append-nil pieces); log = sym (append-nil set.log); names = names_closed set k; closes = hosts_closed_again set k was };
   is = λ enters lands p again m old new events left.
       ap (λ live. answered enters lands p again (beside m old (around set events left)) (closing_of live (store_of new (hosts_of set)))) live
       ∙ (λ i. given enters lands p (record (beside m new (around set (sym (append-nil events) i) left)) { store = store_of new (sym (hosts_closed_again set k was) i) }) (boolean false ∷ []));
@@ -192,7 +192,7 @@ closes_one name set behind k was_live differ found was is =
 
 -- ---- a host
 
-host_is_live : (h : HeapState) (set : HostSetState) (k : ℕ) (live : Bool) → is_live_at set.hosts k ≡ live → (host_at (store_of h (hosts_of set)) k).live ≡ live
+pub host_is_live : (h : HeapState) (set : HostSetState) (k : ℕ) (live : Bool) → is_live_at set.hosts k ≡ live → (host_at (store_of h (hosts_of set)) k).live ≡ live
 host_is_live h set k live is = ap (λ (host : Host). host.live) (host_is set.hosts k) ∙ is
 
 pub host_fails : (old new : HeapState) (k : ℕ) (live : Bool) (args : List Value) (pieces : List Text) (set : HostSetState) (v : Value) → AreNamed old set → live ≡ is_live_at set.hosts k → HostAnswers old new k live args (HostAct.Fail v) → IsOf new v → OnlyTexts old new → Keeps old new → Applies (Value.Host k) args old new pieces pieces set set (Applied.Fails v)
@@ -200,11 +200,12 @@ host_fails old new k live args pieces set v named is answers known only keeps =
     fails_applies (Value.Host k) (call_host k (data_of old args)) old new args pieces set v (λ enters lands p again m. refl) (answers (hosts_of set) (names_are old set named) (host_is_live old set k live (sym is))) known only keeps
 
 -- what happened where a host was asked
-asked_once : (pieces : List Text) (set behind : HostSetState) (k : ℕ) (args : List Plain) (reply : Reply) → behind ≡ called set k args (logged reply) → Happened (asked k args reply ∷ []) pieces pieces set behind
+pub asked_once : (pieces : List Text) (set behind : HostSetState) (k : ℕ) (args : List Plain) (reply : Reply) → behind ≡ called set k args (logged reply) → Happened (asked k args reply ∷ []) pieces pieces set behind
 asked_once pieces set behind k args reply is = record {
   pieces = sym (append-nil pieces);
   log = ap (λ (s : HostSetState). s.log) is;
   names = ap (λ (s : HostSetState). names_of s.hosts) is ∙ names_called set k args (logged reply);
+  closes = ap hosts_of is ∙ hosts_called set k args (logged reply);
 }
 
 -- a host is asked, and its reply comes to this

@@ -1,7 +1,7 @@
 -- What a step of a machine comes to in the run that it is at.
-use Rattle.std.proofs.Common.{◌≡◌, ◌+◌, ℕ, zero, suc, Vec, Global, List, [], ◌∷◌, ◌++◌, Option, Some, refl, sym, ap, subst, ◌∙◌, append_assoc, append-nil, arith}
+use Rattle.std.proofs.Common.{◌≡◌, ◌+◌, ◌≤◌, ℕ, zero, suc, Vec, Global, List, [], ◌∷◌, ◌++◌, Option, Some, refl, sym, ap, subst, ◌∙◌, append-nil, arith}
 use Rattle.std.specs.List.{concat}
-use Rattle.suite_io.specs.Taken.{Takes}
+use Rattle.suite_io.specs.Taken.{Takes, Rises}
 use Rattle.suite_io.specs.Parts.{TakesPart}
 use Rattle.suite_io.proofs.TakenPieces.{takes_none}
 use Rattle.lua_num.specs.Bytes.{Text}
@@ -14,21 +14,26 @@ use Rattle.rules.specs.Sound.{Sound}
 use Rattle.rules.specs.State.{State}
 use Rattle.rules.specs.Run.{Conf, Going, ran, course}
 use Rattle.rules.proofs.Invariant.{Inv}
+use Rattle.rules.proofs.NeverStuck.{sound_never_stuck}
 use Rattle.machine.specs.declared.function.Function.{Function}
 use Rattle.machine.specs.declared.machine.Machine.{Machine}
 use Rattle.machine.specs.declared.machine.StepEnd.{StepEnd}
 use Rattle.machine.specs.declared.running.Running.{Running}
 use Rattle.machine.specs.declared.settling.Settled.{Settled}
-use Rattle.machine.specs.At.{IsAt, RanTo, hosts_at, Stepped}
+use Rattle.machine.specs.At.{IsAt, RanTo, LeavesHosts, hosts_at, surroundings, BeginsStep, GaveUp, Stepped}
+use Rattle.machine.specs.Begun.{BrokeOff, BeginsWhole, BeginsConf}
+use Rattle.machine.specs.Closing.{SteppedClosing}
 use Rattle.machine.specs.Memory.{IsBeforeSuch, NeedsNoneNext}
-use Rattle.machine.specs.Outside.{around, pieces_in, replies_in}
+use Rattle.machine.specs.Outside.{around, hosts_of, pieces_in, replies_in, calls_in, hosts_behind}
 use Rattle.machine.specs.Ready.{GoesNext, GoesSteps, IsReady, IsReadyOnwards, Steps}
 use Rattle.machine.specs.Seen.{seen}
 use Rattle.machine.specs.Settled.{conf_of}
 use Rattle.machine.specs.Whole.{IsWhole}
 use Rattle.machine.proofs.Readiness.{ready, current_there, inv_of_run, one_more}
 use Rattle.machine.proofs.SeenStates.{whole_later}
-use Rattle.machine.proofs.EventsInRow.{replies_in-append}
+use Rattle.machine.proofs.BrokenOff.{first_none, replies_first, nothing_broke}
+use Rattle.machine.proofs.EventsGrow.{step_begins}
+use Rattle.machine.proofs.StepsBegun.{nothing_begun, not_stuck_begins}
 
 output_is : (es : List Event) → concat (pieces_in es) ≡ output es
 output_is [] = refl
@@ -69,22 +74,20 @@ abbrev at_state : State → Conf → State
 at_state other (Going m) = m
 at_state other conf = other
 
--- no memory was found for the step: the run stands where it stood
-pub not_stepped : (c : Chunk) (hosts : List Host) (events : List Event) (n : ℕ) (before : HostSetState) (k : Machine) → IsAt c hosts events n before k → (taken : Option (List ℕ)) (behind : HostSetState) (new : Machine) → Stepped c hosts events n before behind taken taken new StepEnd.OutOfMemory
-not_stepped c hosts events n before k at taken behind new = record {
-  es = [];
-  ends = (n, ending.Going, λ left. subst (λ es. course (ran c hosts (replies_in es ++ left) n) ≡ Some (record { ending = ending.Going; events = es })) (sym (append-nil events)) (ap course (at.runs left)));
-  puts = ([], ([], refl), takes_none taken);
-  log = λ differs. absurd (differs refl);
-}
+hosts_of_conf : (settled : Settled) (m : State) → hosts_at (conf_of settled m) ≡ m.store.hosts
+hosts_of_conf Settled.Going m = refl
+hosts_of_conf Settled.Done m = refl
+hosts_of_conf (Settled.Failed text) m = refl
 
 -- a step in which nothing happened outside
-pub stepped_in_place : (c : Chunk) (hosts : List Host) (events : List Event) (n : ℕ) (before : HostSetState) (new : Machine) → IsAt c hosts events (suc n) before new → (taken : Option (List ℕ)) → Stepped c hosts events n before before taken taken new StepEnd.Going
-stepped_in_place c hosts events n before new at taken = record {
+pub stepped_in_place : (c : Chunk) (hosts : List Host) (events : List Event) (n : ℕ) (before : HostSetState) (new : Machine) → IsAt c hosts events (suc n) before new → (taken : Option (List ℕ)) (faults : ℕ) → Stepped c hosts events n (surroundings before taken faults) (surroundings before taken faults) new StepEnd.Going
+stepped_in_place c hosts events n before new at taken faults = record {
   es = [];
   ends = subst (λ es. IsAt c hosts es (suc n) before new) (sym (append-nil events)) at;
   puts = takes_none taken;
   log = λ differs. sym (append-nil before.log);
+  never_falls = omega arith;
+  risen = λ same. cc;
 }
 
 module _ (c : Chunk) (sound : Sound c) (hosts : List Host) (events : List Event) (n : ℕ) (before : HostSetState) (k : Machine) (at : IsAt c hosts events n before k) where
@@ -117,6 +120,49 @@ module _ (c : Chunk) (sound : Sound c) (hosts : List Host) (events : List Event)
         put = ap (λ ps. ps.items) goes.pieces ∙ at.put;
       }
 
+  -- memory ran out within the step, or before it
+  gave_up : (behind : HostSetState) → BrokeOff (BeginsWhole k.functions.items k.running before) before behind → GaveUp c hosts events n 1 before behind []
+  gave_up behind broke =
+      let ran_to : RanTo c hosts events n ending.Going = λ left. ap course (at.runs left) in
+      let none_more : n ≡ n + 0 = omega arith in
+      let At : List Event → ℕ → Type 0 = λ es m. BeginsStep c hosts es m broke.begun in
+      record {
+        done = 0;
+        few = omega arith;
+        ending = ending.Going;
+        ran = subst (λ m. RanTo c hosts (events ++ []) m ending.Going) none_more (subst (λ es. RanTo c hosts es n ending.Going) (sym (append-nil events)) ran_to);
+        begun = broke.begun;
+        begins = subst (At (events ++ [])) none_more (subst (λ es. At es n) (sym (append-nil events)) (λ left.
+            let rest = replies_in broke.begun ++ left in
+            let here = seen c (around before events rest) k.running in
+            let comes =
+            ap (λ rs. ran c hosts rs (suc n)) (replies_first events broke.begun left)
+            ∙ one_more c hosts (replies_in events ++ rest) n here (at.runs rest)
+            in
+            not_stuck_begins (events ++ broke.begun) _ (sound_never_stuck c sound hosts (replies_in (events ++ broke.begun) ++ left) (suc n))
+            (subst (BeginsConf (events ++ broke.begun)) (sym comes) (broke.begins c events left at.whole))));
+        none = λ same. absurd (omega (arith, same));
+        closed = broke.closes;
+        unanswered = broke.unanswered;
+        no_reply = broke.no_reply;
+        log = broke.log;
+      }
+
+  pub broke_off : (behind : HostSetState) (fs : List Function) → fs ≡ k.functions.items → BrokeOff (BeginsWhole fs k.running before) before behind → (taken : Option (List ℕ)) (faults : ℕ) (new : Machine) → Stepped c hosts events n (surroundings before taken faults) (surroundings behind taken faults) new StepEnd.OutOfMemory
+  broke_off behind fs same broke taken faults new = record {
+    es = [];
+    ends = gave_up behind (subst (λ (fs : List Function). BrokeOff (BeginsWhole fs k.running before) before behind) same broke);
+    puts = ([], ([], refl), takes_none taken);
+    log = λ differs. absurd (differs refl);
+    never_falls = omega arith;
+    risen = λ same. cc;
+  }
+
+  -- no memory was found for the step
+  pub not_stepped : (taken : Option (List ℕ)) (faults : ℕ) (new : Machine) → Stepped c hosts events n (surroundings before taken faults) (surroundings before taken faults) new StepEnd.OutOfMemory
+  not_stepped taken faults new =
+      broke_off before k.functions.items refl (nothing_broke (λ chunk events left whole. step_begins (events ++ []) (seen chunk (around before events left) k.running) (first_none events))) taken faults new
+
   -- the step was done
   module _ (new : Running) (behind : HostSetState) (settled : Settled) (fs : List Function) (same : fs ≡ k.functions.items) (done : Steps fs k.running new before behind settled) where
     steps : Steps k.functions.items k.running new before behind settled
@@ -125,9 +171,8 @@ module _ (c : Chunk) (sound : Sound c) (hosts : List Host) (events : List Event)
     next : (left : List Reply) → ran c hosts (replies_in (events ++ steps.es) ++ left) (suc n) ≡ conf_of settled (seen c (around behind (events ++ steps.es) left) new)
     next left =
         let rest = replies_in steps.es ++ left in
-        let replies : replies_in (events ++ steps.es) ++ left ≡ replies_in events ++ rest = ap (λ rs. rs ++ left) (replies_in-append events steps.es) ∙ append_assoc (replies_in events) (replies_in steps.es) left in
         let word = current_there c (around before events rest) k.functions.items k.running at.whole (inv rest) in
-        ap (λ rs. ran c hosts rs (suc n)) replies
+        ap (λ rs. ran c hosts rs (suc n)) (replies_first events steps.es left)
         ∙ one_more c hosts (replies_in events ++ rest) n (seen c (around before events rest) k.running) (at.runs rest)
         ∙ steps.is c events left word.0 at.whole word.1
 
@@ -146,50 +191,81 @@ module _ (c : Chunk) (sound : Sound c) (hosts : List Host) (events : List Event)
     part_put : (old_taken new_taken : Option (List ℕ)) → TakesPart old_taken new_taken (concat new.pieces.items) → TakesPart old_taken new_taken (output steps.es)
     part_put old_taken new_taken puts = subst (TakesPart old_taken new_taken) pieces_are puts
 
+    leaves : LeavesHosts c hosts (events ++ steps.es) (suc n) behind
+    leaves left = ap hosts_at (next left) ∙ hosts_of_conf settled (seen c (around behind (events ++ steps.es) left) new)
+
     -- its output was not put whole
-    pub not_put : (old_taken new_taken : Option (List ℕ)) (behind_put : Machine) → TakesPart old_taken new_taken (concat new.pieces.items) → Stepped c hosts events n before behind old_taken new_taken behind_put StepEnd.OutFault
-    not_put old_taken new_taken behind_put puts = record {
+    pub not_put : (old_taken new_taken : Option (List ℕ)) (faults_old faults_new : ℕ) (behind_put : Machine) → TakesPart old_taken new_taken (concat new.pieces.items) → faults_old ≤ faults_new → Rises faults_old faults_new → Stepped c hosts events n (surroundings before old_taken faults_old) (surroundings behind new_taken faults_new) behind_put StepEnd.OutFault
+    not_put old_taken new_taken faults_old faults_new behind_put puts never_falls rises = record {
       es = steps.es;
-      ends = (suc n, ending_of settled, ran_to);
+      ends = (ending_of settled, ran_to, leaves);
       puts = part_put old_taken new_taken puts;
       log = λ differs. steps.happened.log;
+      never_falls = never_falls;
+      risen = λ same. rises;
     }
 
-    pub no_memory_to_put : (old_taken new_taken : Option (List ℕ)) (behind_put : Machine) → TakesPart old_taken new_taken (concat new.pieces.items) → Stepped c hosts events n before behind old_taken new_taken behind_put StepEnd.OutOfMemory
-    no_memory_to_put old_taken new_taken behind_put puts = record {
-      es = steps.es;
-      ends = (suc n, ending_of settled, ran_to);
-      puts = part_put old_taken new_taken puts;
-      log = λ differs. steps.happened.log;
-    }
+    pub no_memory_to_put : (old_taken new_taken : Option (List ℕ)) (faults_old faults_new : ℕ) (behind_put : Machine) → TakesPart old_taken new_taken (concat new.pieces.items) → faults_old ≤ faults_new → Stepped c hosts events n (surroundings before old_taken faults_old) (surroundings behind new_taken faults_new) behind_put StepEnd.OutOfMemory
+    no_memory_to_put old_taken new_taken faults_old faults_new behind_put puts never_falls =
+        let one : suc n ≡ n + 1 = omega arith in
+        let ran_to_one = subst (λ m. RanTo c hosts (events ++ steps.es) m (ending_of settled)) one ran_to in
+        record {
+          es = steps.es;
+          ends = record {
+            done = 1;
+            few = omega arith;
+            ending = ending_of settled;
+            ran = ran_to_one;
+            begun = [];
+            begins = nothing_begun c sound hosts (events ++ steps.es) (n + 1) (ending_of settled) ran_to_one;
+            none = λ same. refl;
+            closed = steps.happened.closes ∙ ap (λ es. hosts_behind es (hosts_of before)) (sym (append-nil steps.es));
+            unanswered = [];
+            no_reply = tt;
+            log = steps.happened.log ∙ ap (λ es. before.log ++ calls_in es) (sym (append-nil steps.es)) ∙ sym (append-nil (before.log ++ calls_in (steps.es ++ [])));
+          };
+          puts = part_put old_taken new_taken puts;
+          log = λ differs. absurd (differs refl);
+          never_falls = never_falls;
+          risen = λ same. cc;
+        }
 
-    pub going_on : (old_taken new_taken : Option (List ℕ)) (pieces : Vec Text Global) → settled ≡ Settled.Going → Takes old_taken new_taken (concat new.pieces.items) → pieces.items ≡ [] → Stepped c hosts events n before behind old_taken new_taken (record k { running = record new { pieces = pieces } }) StepEnd.Going
-    going_on old_taken new_taken pieces is puts none = record {
-      es = steps.es;
-      ends = record {
-        runs = comes Settled.Going is;
-        whole = without_pieces c k.functions.items new pieces (whole_later c k.functions.items k.running new at.whole steps.keeps (steps.safe at.whole.safe));
-        named = steps.named ∙ at.named ∙ sym steps.happened.names;
-        put = none;
+    pub going_on : (old_taken new_taken : Option (List ℕ)) (faults_old faults_new : ℕ) (pieces : Vec Text Global) → settled ≡ Settled.Going → Takes old_taken new_taken (concat new.pieces.items) → pieces.items ≡ [] → faults_old ≤ faults_new → SteppedClosing c hosts events n (surroundings before old_taken faults_old) (surroundings behind new_taken faults_new) (record k { running = record new { pieces = pieces } })
+    going_on old_taken new_taken faults_old faults_new pieces is puts none never_falls = record {
+      stepped = record {
+        es = steps.es;
+        ends = record {
+          runs = comes Settled.Going is;
+          whole = without_pieces c k.functions.items new pieces (whole_later c k.functions.items k.running new at.whole steps.keeps (steps.safe at.whole.safe));
+          named = steps.named ∙ at.named ∙ sym steps.happened.names;
+          put = none;
+        };
+        puts = all_put old_taken new_taken puts;
+        log = λ differs. steps.happened.log;
+        never_falls = never_falls;
+        risen = λ same. cc;
       };
-      puts = all_put old_taken new_taken puts;
-      log = λ differs. steps.happened.log;
+      closes = steps.happened.closes;
     }
 
-    pub at_end : (old_taken new_taken : Option (List ℕ)) (behind_put : Machine) → settled ≡ Settled.Done → Takes old_taken new_taken (concat new.pieces.items) → Stepped c hosts events n before behind old_taken new_taken behind_put StepEnd.Done
-    at_end old_taken new_taken behind_put is puts = record {
+    pub at_end : (old_taken new_taken : Option (List ℕ)) (faults_old faults_new : ℕ) (behind_put : Machine) → settled ≡ Settled.Done → Takes old_taken new_taken (concat new.pieces.items) → faults_old ≤ faults_new → Stepped c hosts events n (surroundings before old_taken faults_old) (surroundings behind new_taken faults_new) behind_put StepEnd.Done
+    at_end old_taken new_taken faults_old faults_new behind_put is puts never_falls = record {
       es = steps.es;
-      ends = (λ left. ap course (comes Settled.Done is left), λ left. ap hosts_at (comes Settled.Done is left));
+      ends = (λ left. ap course (comes Settled.Done is left), leaves);
       puts = all_put old_taken new_taken puts;
       log = λ differs. steps.happened.log;
+      never_falls = never_falls;
+      risen = λ same. cc;
     }
 
-    pub has_failed : (old_taken new_taken : Option (List ℕ)) (behind_put : Machine) (text : Text) → settled ≡ Settled.Failed text → Takes old_taken new_taken (concat new.pieces.items) → Stepped c hosts events n before behind old_taken new_taken behind_put (StepEnd.Failed text)
-    has_failed old_taken new_taken behind_put text is puts = record {
+    pub has_failed : (old_taken new_taken : Option (List ℕ)) (faults_old faults_new : ℕ) (behind_put : Machine) (text : Text) → settled ≡ Settled.Failed text → Takes old_taken new_taken (concat new.pieces.items) → faults_old ≤ faults_new → Stepped c hosts events n (surroundings before old_taken faults_old) (surroundings behind new_taken faults_new) behind_put (StepEnd.Failed text)
+    has_failed old_taken new_taken faults_old faults_new behind_put text is puts never_falls = record {
       es = steps.es;
-      ends = (λ left. ap course (comes (Settled.Failed text) is left), λ left. ap hosts_at (comes (Settled.Failed text) is left));
+      ends = (λ left. ap course (comes (Settled.Failed text) is left), leaves);
       puts = all_put old_taken new_taken puts;
       log = λ differs. steps.happened.log;
+      never_falls = never_falls;
+      risen = λ same. cc;
     }
 
 -- so many steps were done in which nothing happened outside

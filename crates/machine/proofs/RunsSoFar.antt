@@ -1,31 +1,25 @@
 -- What a run of a machine has come to so far, step after step, and when it is over.
-use Rattle.std.proofs.Common.{◌≡◌, ℕ, suc, ◌+◌, ◌-◌, ◌<◌, ◌≤◌, Bool, true, false, List, [], ◌∷◌, ◌++◌, length, Option, None, Some, refl, sym, ap, subst, ◌∙◌, append_assoc, append-nil, add-one, arith}
-use Rattle.std.specs.Prelude.{nat_le, slice_set, if◌then◌else◌}
+use Rattle.std.proofs.Common.{◌≡◌, inl, inr, ℕ, suc, ◌+◌, ◌-◌, ◌<◌, ◌≤◌, List, [], ◌∷◌, ◌++◌, Option, None, Some, refl, sym, ap, subst, ◌∙◌, append_assoc, append-nil, add-one, arith}
 use Rattle.suite_io.specs.Taken.{Takes}
 use Rattle.suite_io.specs.Parts.{TakesPart}
-use Rattle.suite_io.proofs.TakenPieces.{takes_none, takes_both}
+use Rattle.suite_io.proofs.TakenPieces.{takes_none, takes_both, rises_later}
 use Rattle.lua_num.specs.Bytes.{Text}
-use Rattle.proto.specs.Chunk.{Chunk, own}
-use Rattle.lua_model.specs.Datum.{Datum, table}
-use Rattle.lua_model.specs.Store.{Store, Event, Reply, Host, printed, asked, closed, output}
-use Rattle.lua_model.specs.Builtins.{start as first_store}
+use Rattle.proto.specs.Chunk.{Chunk}
+use Rattle.lua_model.specs.Store.{Event, Reply, Host, printed, asked, closed, output}
 use Rattle.lua_model.specs.Endings.{Ending, Course}
 use Rattle.lua_model.specs.Endings as ending
+use Rattle.host.specs.declared.log.LogEntry.{LogEntry}
 use Rattle.host.specs.Hosts.{HostSetState}
-use Rattle.rules.specs.Sound.{Sound}
-use Rattle.rules.specs.Words.{has_arg_table}
-use Rattle.rules.specs.State.{State, Goes, need, check, register, with_store, with_registers}
-use Rattle.rules.specs.Calls.{with_arg_table}
-use Rattle.rules.specs.Run.{Conf, Going, Ended, Failed, Waiting, Stuck, after, first_state, start, ran, course, IsNotStuck}
-use Rattle.rules.proofs.NeverStuck.{sound_never_stuck}
+use Rattle.rules.specs.Run.{Conf, Going, Ended, Failed, Waiting, Stuck, ran, course}
 use Rattle.machine.specs.declared.machine.Machine.{Machine}
 use Rattle.machine.specs.declared.machine.StepEnd.{StepEnd}
 use Rattle.machine.specs.declared.runs.RunEnd.{RunEnd}
-use Rattle.machine.specs.At.{IsAt, RanTo, hosts_at, Stepped, Runs}
-use Rattle.machine.specs.Outside.{hosts_of, replies_in, calls_in}
+use Rattle.machine.specs.At.{IsAt, RanTo, hosts_at, Surroundings, surroundings, BeginsStep, GaveUp, Stepped, Runs}
+use Rattle.machine.specs.Closing.{SteppedClosing}
+use Rattle.machine.specs.Outside.{hosts_of, replies_in, calls_in, hosts_behind}
 use Rattle.machine.proofs.Readiness.{IsOver, stays_ended}
 use Rattle.machine.proofs.PutPieces.{part_then}
-use Rattle.machine.proofs.EventsInRow.{calls_in-append}
+use Rattle.machine.proofs.EventsInRow.{calls_in-append, closed_in_row}
 
 output_both : (es fs : List Event) → output (es ++ fs) ≡ output es ++ output fs
 output_both [] fs = refl
@@ -33,28 +27,15 @@ output_both (printed piece ∷ es) fs = ap (λ t. piece ++ t) (output_both es fs
 output_both (asked host args reply ∷ es) fs = output_both es fs
 output_both (closed host ∷ es) fs = output_both es fs
 
--- ---- the beginning
-
-begun_so : (m0 m : State) (fits has_table : Bool) (there : Option Datum) (next : Datum → State) → ((d : Datum) → (next d).outside ≡ m.outside) → IsNotStuck (after m0 (check fits (if has_table then need there (λ d. Goes (next d)) else Goes m))) → course (after m0 (check fits (if has_table then need there (λ d. Goes (next d)) else Goes m))) ≡ Some (record { ending = ending.Going; events = m.outside.events })
-begun_so m0 m false has_table there next same fine = absurd fine
-begun_so m0 m true false there next same fine = refl
-begun_so m0 m true true None next same fine = absurd fine
-begun_so m0 m true true (Some d) next same fine = ap (λ o. Some (record { ending = ending.Going; events = o.events })) (same d)
-
--- before the first step a run is going, and nothing has happened
-begins : (c : Chunk) (store : Store) (replies : List Reply) → IsNotStuck (start c store replies) → course (start c store replies) ≡ Some (record { ending = ending.Going; events = [] })
-begins c store replies fine =
-    let m = first_state c store replies in
-    let m1 = with_store m (with_arg_table m.store m.top.extra) in
-    begun_so m m (nat_le (own c).params (length m.top.registers)) (has_arg_table (own c).flags) (register m1 (own c).params) (λ d. with_registers m1 (slice_set m1.top.registers (own c).params (table (length m.store.tables)))) (λ d. refl) fine
-
 -- no memory was found for the machine
-pub not_begun : (c : Chunk) → Sound c → (steps : ℕ) (before behind : HostSetState) (taken : Option (List ℕ)) → Runs c steps before behind taken taken RunEnd.OutOfMemory
-not_begun c sound steps before behind taken = record {
+pub not_begun : (c : Chunk) (steps : ℕ) (before : HostSetState) (taken : Option (List ℕ)) (faults : ℕ) → Runs c steps (surroundings before taken faults) (surroundings before taken faults) RunEnd.OutOfMemory
+not_begun c steps before taken faults = record {
   es = [];
-  ends = (0, ending.Going, λ left. begins c (first_store (hosts_of before)) left (sound_never_stuck c sound (hosts_of before) left 0));
+  ends = inl (refl, refl);
   puts = ([], ([], refl), takes_none taken);
   log = λ differs. absurd (differs refl);
+  never_falls = omega arith;
+  risen = λ same. cc;
 }
 
 -- ---- an end
@@ -90,6 +71,7 @@ pub record RanSoFar (c : Chunk) (n : ℕ) (before now : HostSetState) (k : Machi
   pub at : IsAt c (hosts_of before) es n now k
   pub taken : Takes old_taken now_taken (output es)
   pub log : now.log ≡ before.log ++ calls_in es
+  pub closes : hosts_of now ≡ hosts_behind es (hosts_of before)
   pub risen : faults_old ≤ faults_now
 
 pub nothing_yet : (c : Chunk) (before : HostSetState) (k : Machine) (taken : Option (List ℕ)) (faults : ℕ) → IsAt c (hosts_of before) [] 0 before k → RanSoFar c 0 before before k taken taken faults faults
@@ -98,6 +80,7 @@ nothing_yet c before k taken faults at = record {
   at = at;
   taken = takes_none taken;
   log = sym (append-nil before.log);
+  closes = refl;
   risen = omega arith;
 }
 
@@ -108,11 +91,12 @@ went_further c n done before now k new old_taken now_taken faults_old faults_now
   at = went (hosts_of before) so.es n now so.at;
   taken = so.taken;
   log = so.log;
+  closes = so.closes;
   risen = so.risen;
 }
 
 -- all steps were done, and the run is going
-pub unfinished : (c : Chunk) (n steps : ℕ) (before now : HostSetState) (k : Machine) (old_taken now_taken : Option (List ℕ)) (faults_old faults_now : ℕ) → n ≡ steps → RanSoFar c n before now k old_taken now_taken faults_old faults_now → Runs c steps before now old_taken now_taken RunEnd.Unfinished
+pub unfinished : (c : Chunk) (n steps : ℕ) (before now : HostSetState) (k : Machine) (old_taken now_taken : Option (List ℕ)) (faults_old faults_now : ℕ) → n ≡ steps → RanSoFar c n before now k old_taken now_taken faults_old faults_now → Runs c steps (surroundings before old_taken faults_old) (surroundings now now_taken faults_now) RunEnd.Unfinished
 unfinished c n steps before now k old_taken now_taken faults_old faults_now all so =
     let at = subst (λ m. IsAt c (hosts_of before) so.es m now k) all so.at in
     record {
@@ -120,6 +104,8 @@ unfinished c n steps before now k old_taken now_taken faults_old faults_now all 
       ends = (λ left. ap course (at.runs left), λ left. ap hosts_at (at.runs left));
       puts = so.taken;
       log = λ differs. so.log;
+      never_falls = so.risen;
+      risen = λ same. cc;
     }
 
 -- ---- a step more
@@ -135,26 +121,30 @@ logged_on es fs before now behind first more =
     more ∙ ap (λ cs. cs ++ calls_in fs) first ∙ append_assoc before.log (calls_in es) (calls_in fs) ∙ ap (λ cs. before.log ++ cs) (sym (calls_in-append es fs))
 
 -- what a step ensures, wherever in a run its machine is at
-abbrev StepsTo : Chunk → HostSetState → HostSetState → Machine → Machine → Option (List ℕ) → Option (List ℕ) → StepEnd → Type 0
-StepsTo c now behind k new now_taken new_taken end =
-    (hosts : List Host) (events : List Event) (m : ℕ) → IsAt c hosts events m now k → Stepped c hosts events m now behind now_taken new_taken new end
+abbrev StepsTo : Chunk → Surroundings → Surroundings → Machine → Machine → StepEnd → Type 0
+StepsTo c now behind k new end = (hosts : List Host) (events : List Event) (m : ℕ) → IsAt c hosts events m now.hosts k → Stepped c hosts events m now behind new end
 
-module _ (c : Chunk) (n steps : ℕ) (before now behind : HostSetState) (k new : Machine) (old_taken now_taken new_taken : Option (List ℕ)) (faults_old faults_now : ℕ) (within : n < steps) (so : RanSoFar c n before now k old_taken now_taken faults_old faults_now) where
-  pub went_on : (faults_new : ℕ) → StepsTo c now behind k new now_taken new_taken StepEnd.Going → faults_now ≤ faults_new → RanSoFar c (n + 1) before behind new old_taken new_taken faults_old faults_new
-  went_on faults_new step rises =
-      let stepped = step (hosts_of before) so.es n so.at in
+abbrev GoesOn : Chunk → Surroundings → Surroundings → Machine → Machine → Type 0
+GoesOn c now behind k new = (hosts : List Host) (events : List Event) (m : ℕ) → IsAt c hosts events m now.hosts k → SteppedClosing c hosts events m now behind new
+
+module _ (c : Chunk) (n steps : ℕ) (before now behind : HostSetState) (k new : Machine) (old_taken now_taken new_taken : Option (List ℕ)) (faults_old faults_now faults_new : ℕ) (within : n < steps) (so : RanSoFar c n before now k old_taken now_taken faults_old faults_now) where
+  pub went_on : GoesOn c (surroundings now now_taken faults_now) (surroundings behind new_taken faults_new) k new → RanSoFar c (n + 1) before behind new old_taken new_taken faults_old faults_new
+  went_on step =
+      let closing = step (hosts_of before) so.es n so.at in
+      let stepped = closing.stepped in
       record {
         es = so.es ++ stepped.es;
         at = subst (λ m. IsAt c (hosts_of before) (so.es ++ stepped.es) m behind new) (sym (add-one n)) stepped.ends;
         taken = takes_on so.es stepped.es old_taken now_taken new_taken so.taken stepped.puts;
         log = logged_on so.es stepped.es before now behind so.log (stepped.log (λ same. cc));
-        risen = omega (arith, so.risen);
+        closes = closed_in_row so.es stepped.es before now behind so.closes closing.closes;
+        risen = omega (arith, so.risen, stepped.never_falls);
       }
 
   reach : suc n ≤ steps
   reach = omega arith
 
-  pub ended : StepsTo c now behind k new now_taken new_taken StepEnd.Done → Runs c steps before behind old_taken new_taken RunEnd.Done
+  pub ended : StepsTo c (surroundings now now_taken faults_now) (surroundings behind new_taken faults_new) k new StepEnd.Done → Runs c steps (surroundings before old_taken faults_old) (surroundings behind new_taken faults_new) RunEnd.Done
   ended step =
       let stepped = step (hosts_of before) so.es n so.at in
       let events = so.es ++ stepped.es in
@@ -164,9 +154,11 @@ module _ (c : Chunk) (n steps : ℕ) (before now behind : HostSetState) (k new :
         ends = (λ left. ap course (stays left) ∙ stepped.ends.0 left, λ left. ap hosts_at (stays left) ∙ stepped.ends.1 left);
         puts = takes_on so.es stepped.es old_taken now_taken new_taken so.taken stepped.puts;
         log = λ differs. logged_on so.es stepped.es before now behind so.log (stepped.log (λ same. cc));
+        never_falls = omega (arith, so.risen, stepped.never_falls);
+        risen = λ same. cc;
       }
 
-  pub failed : (text : Text) → StepsTo c now behind k new now_taken new_taken (StepEnd.Failed text) → Runs c steps before behind old_taken new_taken (RunEnd.Failed text)
+  pub failed : (text : Text) → StepsTo c (surroundings now now_taken faults_now) (surroundings behind new_taken faults_new) k new (StepEnd.Failed text) → Runs c steps (surroundings before old_taken faults_old) (surroundings behind new_taken faults_new) (RunEnd.Failed text)
   failed text step =
       let stepped = step (hosts_of before) so.es n so.at in
       let events = so.es ++ stepped.es in
@@ -176,24 +168,56 @@ module _ (c : Chunk) (n steps : ℕ) (before now behind : HostSetState) (k new :
         ends = (λ left. ap course (stays left) ∙ stepped.ends.0 left, λ left. ap hosts_at (stays left) ∙ stepped.ends.1 left);
         puts = takes_on so.es stepped.es old_taken now_taken new_taken so.taken stepped.puts;
         log = λ differs. logged_on so.es stepped.es before now behind so.log (stepped.log (λ same. cc));
+        never_falls = omega (arith, so.risen, stepped.never_falls);
+        risen = λ same. cc;
       }
 
-  pub refused : StepsTo c now behind k new now_taken new_taken StepEnd.OutFault → Runs c steps before behind old_taken new_taken RunEnd.OutFault
+  pub refused : StepsTo c (surroundings now now_taken faults_now) (surroundings behind new_taken faults_new) k new StepEnd.OutFault → Runs c steps (surroundings before old_taken faults_old) (surroundings behind new_taken faults_new) RunEnd.OutFault
   refused step =
       let stepped = step (hosts_of before) so.es n so.at in
       record {
         es = so.es ++ stepped.es;
-        ends = stepped.ends;
+        ends = (suc n, reach, stepped.ends.0, stepped.ends.1, stepped.ends.2);
         puts = part_on so.es stepped.es old_taken now_taken new_taken so.taken stepped.puts;
         log = λ differs. logged_on so.es stepped.es before now behind so.log (stepped.log (λ same. cc));
+        never_falls = omega (arith, so.risen, stepped.never_falls);
+        risen = λ same. rises_later _ _ _ so.risen stepped.never_falls (stepped.risen refl);
       }
 
-  pub no_memory : StepsTo c now behind k new now_taken new_taken StepEnd.OutOfMemory → Runs c steps before behind old_taken new_taken RunEnd.OutOfMemory
+  -- the run gave up where its step did
+  gave_up : (es : List Event) → GaveUp c (hosts_of before) so.es n 1 now behind es → GaveUp c (hosts_of before) [] 0 steps before behind (so.es ++ es)
+  gave_up es gave =
+      let all = so.es ++ es in
+      let place : n + gave.done ≡ 0 + (n + gave.done) = omega arith in
+      record {
+        done = n + gave.done;
+        few = omega (arith, gave.few);
+        ending = gave.ending;
+        ran = subst (λ m. RanTo c (hosts_of before) all m gave.ending) place gave.ran;
+        begun = gave.begun;
+        begins = subst (λ m. BeginsStep c (hosts_of before) all m gave.begun) place gave.begins;
+        none = λ same. gave.none (omega (arith, gave.few, same));
+        closed =
+            closed_in_row so.es (es ++ gave.begun) before now behind so.closes gave.closed
+            ∙ ap (λ fs. hosts_behind fs (hosts_of before)) (sym (append_assoc so.es es gave.begun));
+        unanswered = gave.unanswered;
+        no_reply = gave.no_reply;
+        log =
+            gave.log
+            ∙ ap (λ (log : List LogEntry). (log ++ calls_in (es ++ gave.begun)) ++ gave.unanswered) so.log
+            ∙ ap (λ (log : List LogEntry). log ++ gave.unanswered) (append_assoc before.log (calls_in so.es) (calls_in (es ++ gave.begun)))
+            ∙ ap (λ (log : List LogEntry). (before.log ++ log) ++ gave.unanswered) (sym (calls_in-append so.es (es ++ gave.begun)))
+            ∙ ap (λ fs. (before.log ++ calls_in fs) ++ gave.unanswered) (sym (append_assoc so.es es gave.begun));
+      }
+
+  pub no_memory : StepsTo c (surroundings now now_taken faults_now) (surroundings behind new_taken faults_new) k new StepEnd.OutOfMemory → Runs c steps (surroundings before old_taken faults_old) (surroundings behind new_taken faults_new) RunEnd.OutOfMemory
   no_memory step =
       let stepped = step (hosts_of before) so.es n so.at in
       record {
         es = so.es ++ stepped.es;
-        ends = stepped.ends;
+        ends = inr (gave_up stepped.es stepped.ends);
         puts = part_on so.es stepped.es old_taken now_taken new_taken so.taken stepped.puts;
         log = λ differs. absurd (differs refl);
+        never_falls = omega (arith, so.risen, stepped.never_falls);
+        risen = λ same. cc;
       }

@@ -40,7 +40,7 @@ pub record SoFar (fs : List Function) (first : Did) (start now : Running) (befor
 pub begun_so : (fs : List Function) (k : Running) (hosts : HostSetState) (did : Did) → IsDidOf k.heap did → IsAwaitedIn fs k did → SoFar fs did k k hosts hosts did
 begun_so fs k hosts did known awaited = record {
   es = [];
-  happened = record { pieces = sym (append-nil k.pieces.items); log = sym (append-nil hosts.log); names = refl };
+  happened = record { pieces = sym (append-nil k.pieces.items); log = sym (append-nil hosts.log); names = refl; closes = refl };
   is = λ c m0 events left whole i. after m0 (effect_of k.heap did (seen c (around hosts (sym (append-nil events) i) left) k));
   safe = λ safe. safe;
   known = known;
@@ -76,7 +76,7 @@ called_so fs first did start now new before between behind landing f args so doe
 }
 
 happened_still : (es : List Event) (first now new : List Text) (before behind : HostSetState) → new ≡ now → Happened es first now before behind → Happened es first new before behind
-happened_still es first now new before behind same happened = record { pieces = same ∙ happened.pieces; log = happened.log; names = happened.names }
+happened_still es first now new before behind same happened = record { pieces = same ∙ happened.pieces; log = happened.log; names = happened.names; closes = happened.closes }
 
 -- a failure went down a frame
 pub descended_so : (fs : List Function) (first did : Did) (start now new : Running) (before behind : HostSetState) (v : Value) → SoFar fs first start now before behind (Did.Fails v) → Descends fs v now new (Some did) → SoFar fs first start new before behind did

@@ -8,7 +8,9 @@ pub mod Whole
 pub mod Words
 pub mod Outside
 pub mod Called
+pub mod Begun
 pub mod Captures
 pub mod Settled
 pub mod Ready
 pub mod At
+pub mod Closing

@@ -1,6 +1,7 @@
 // The functions of a chunk, made ready to run.
 ghost use Rattle.std.specs.Prelude.{◌≡◌, List, map, IfOk};
 ghost use Rattle.proto.specs.Chunk.{Chunk, functions, functions_of};
+ghost use Rattle.proto.specs.Short.{IsShort, AreShort};
 ghost use Rattle.proto.specs.View.{view_proto};
 ghost use Rattle.lua_heap.specs.State.{datum, IsOf, AreOf};
 ghost use Rattle.lua_heap.specs.Grown.{Grown};
@@ -16,8 +17,9 @@ use proto::{Constant, Proto};
 use std::alloc::{AllocError, Global};
 
 /// The functions of a chunk, those in a function before it, so that the main function is the last. Text constants are
-/// interned. A function of 2^32 words or more is taken as want of memory, after which only texts of the heap changed.
+/// interned. Only texts of the heap change.
 pub fn load(alloc: Global, heap: &mut Heap, proto: &Proto) -> Result<Vec<Function>, AllocError>
+    requires short { IsShort (view_proto proto.now) }
     ensures loaded { IfOk result (λ loaded. AreLoaded heap.new (all_functions (view_proto proto.now)) loaded.items) }
     ensures grown { Grown heap.old heap.new }
 {
@@ -34,6 +36,7 @@ fn load_function(
     loaded: &mut Vec<Function>,
     proto: &Proto,
 ) -> Result<usize, AllocError>
+    requires short { IsShort (view_proto proto.now) }
     ensures loads { IfOk result (Loads heap.old heap.new loaded.old.items loaded.new.items (view_proto proto.now)) }
     ensures grown { Grown heap.old heap.new }
 {
@@ -52,6 +55,7 @@ fn load_all(
     loaded: &mut Vec<Function>,
     protos: &[Proto],
 ) -> Result<Vec<usize>, AllocError>
+    requires short { AreShort (functions_of (map view_proto protos.now)) }
     ensures loads { IfOk result (λ numbers. LoadsAll heap.old heap.new loaded.old.items loaded.new.items (functions_of (map view_proto protos.now)) numbers.items) }
     ensures grown { Grown heap.old heap.new }
 {
@@ -70,15 +74,13 @@ fn made(
     proto: &Proto,
     inner: Vec<usize>,
 ) -> Result<Function, AllocError>
+    requires short { IsShort (view_proto proto.now) }
     ensures made { IfOk result (λ f. (all : List Chunk) → LeadTo all inner.items (functions (view_proto proto.now)) → IsLoadedAs heap.new all (view_proto proto.now) f) }
     ensures inner { IfOk result (λ f. f.inner.items ≡ inner.items) }
     ensures grown { Grown heap.old heap.new }
 {
     let constants = constant_values(alloc, heap, proto.constants.items())?;
     let code = proto.code.items().to_vec(alloc)?;
-    if code.len() > u32::MAX as usize {
-        return Err(AllocError);
-    }
     Ok(Function {
         code,
         constants,

@@ -7,7 +7,8 @@ ghost use Rattle.proto.specs.View.{view_proto};
 ghost use Rattle.lua_model.specs.Store.{Event, Host};
 ghost use Rattle.host.specs.Hosts.{HostSetState};
 ghost use Rattle.host.specs.Views.{set_told};
-ghost use Rattle.machine.specs.At.{IsAt, Stepped};
+ghost use Rattle.machine.specs.At.{IsAt, Stepped, surroundings};
+ghost use Rattle.machine.specs.Closing.{SteppedClosing};
 ghost use Rattle.machine.specs.Memory.{IsBeforeSuch};
 ghost use Rattle.machine.specs.Outside.{hosts_of};
 ghost use Rattle.machine.specs.Ready.{IsOtherNext};
@@ -65,11 +66,12 @@ impl Machine {
         hosts: &mut HostSet,
     ) -> StepEnd
         requires { (hosts_then : List Host) × (events : List Event) × (n : ℕ) × IsAt (view_proto chunk.now) hosts_then events n (set_told heard hosts.old) self.old }
-        ensures steps { (hosts_then : List Host) (events : List Event) (n : ℕ) → IsAt (view_proto chunk.now) hosts_then events n (set_told heard hosts.old) self.old → Stepped (view_proto chunk.now) hosts_then events n (set_told heard hosts.old) (set_told heard hosts.new) (S.taken out.old) (S.taken out.new) self.new result }
-        ensures never_falls { S.faults out.old ≤ S.faults out.new }
-        ensures risen { result ≡ StepEnd.OutFault → Rises (S.faults out.old) (S.faults out.new) }
+        ensures steps { (hosts_then : List Host) (events : List Event) (n : ℕ) → IsAt (view_proto chunk.now) hosts_then events n (set_told heard hosts.old) self.old
+            → Stepped (view_proto chunk.now) hosts_then events n (surroundings (set_told heard hosts.old) (S.taken out.old) (S.faults out.old)) (surroundings (set_told heard hosts.new) (S.taken out.new) (S.faults out.new)) self.new result }
         ensures memory { (hosts_then : List Host) (events : List Event) (n : ℕ) → IsAt (view_proto chunk.now) hosts_then events n (set_told heard hosts.old) self.old → IsBeforeSuch (view_proto chunk.now) hosts_then events n → result ≡ StepEnd.OutOfMemory → ⊥ }
     {
+        // Called for its clause that the chunk is sound.
+        let _ = chunk.proto();
         match go_on(alloc, self, chunk, 1) {
             Ok(0) => step_on(alloc, self, chunk, out, hosts),
             Ok(_) => StepEnd::Going,
@@ -88,9 +90,10 @@ pub fn step_on<S: Sink>(
 ) -> StepEnd
     requires at { (hosts_then : List Host) × (events : List Event) × (n : ℕ) × IsAt (view_proto chunk.now) hosts_then events n (set_told heard hosts.old) machine.old }
     requires other { IsOtherNext machine.old.functions.items machine.old.running }
-    ensures steps { (hosts_then : List Host) (events : List Event) (n : ℕ) → IsAt (view_proto chunk.now) hosts_then events n (set_told heard hosts.old) machine.old → Stepped (view_proto chunk.now) hosts_then events n (set_told heard hosts.old) (set_told heard hosts.new) (S.taken out.old) (S.taken out.new) machine.new result }
-    ensures never_falls { S.faults out.old ≤ S.faults out.new }
-    ensures risen { result ≡ StepEnd.OutFault → Rises (S.faults out.old) (S.faults out.new) }
+    ensures steps { (hosts_then : List Host) (events : List Event) (n : ℕ) → IsAt (view_proto chunk.now) hosts_then events n (set_told heard hosts.old) machine.old
+        → Stepped (view_proto chunk.now) hosts_then events n (surroundings (set_told heard hosts.old) (S.taken out.old) (S.faults out.old)) (surroundings (set_told heard hosts.new) (S.taken out.new) (S.faults out.new)) machine.new result }
+    ensures closes { (hosts_then : List Host) (events : List Event) (n : ℕ) → IsAt (view_proto chunk.now) hosts_then events n (set_told heard hosts.old) machine.old → result ≡ StepEnd.Going
+        → SteppedClosing (view_proto chunk.now) hosts_then events n (surroundings (set_told heard hosts.old) (S.taken out.old) (S.faults out.old)) (surroundings (set_told heard hosts.new) (S.taken out.new) (S.faults out.new)) machine.new }
 {
     // Called for its clause that the chunk is sound.
     let _ = chunk.proto();

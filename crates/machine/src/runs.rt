@@ -4,7 +4,7 @@ ghost use Rattle.suite_io.specs.Taken.{Rises};
 ghost use Rattle.proto.specs.View.{view_proto};
 ghost use Rattle.rules.specs.Sound.{Sound};
 ghost use Rattle.host.specs.Views.{set_told};
-ghost use Rattle.machine.specs.At.{Runs};
+ghost use Rattle.machine.specs.At.{Runs, surroundings};
 
 use crate::machine::{Machine, StepEnd, go_on, step_on};
 use host::HostSet;
@@ -35,9 +35,7 @@ pub fn run<S: Sink>(
     hosts: &mut HostSet,
 ) -> RunEnd
     requires sound { Sound (view_proto chunk.now) }
-    ensures run { Runs (view_proto chunk.now) steps (set_told heard hosts.old) (set_told heard hosts.new) (S.taken out.old) (S.taken out.new) result }
-    ensures never_falls { S.faults out.old ≤ S.faults out.new }
-    ensures risen { result ≡ RunEnd.OutFault → Rises (S.faults out.old) (S.faults out.new) }
+    ensures { Runs (view_proto chunk.now) steps (surroundings (set_told heard hosts.old) (S.taken out.old) (S.faults out.old)) (surroundings (set_told heard hosts.new) (S.taken out.new) (S.faults out.new)) result }
 {
     // Called for its clause that the chunk is sound.
     let _ = chunk.proto();

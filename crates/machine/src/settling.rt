@@ -1,5 +1,5 @@
 // What is left of a step when its word was done: calls, landings and failures.
-ghost use Rattle.std.specs.Prelude.{◌≡◌, ◌*◌, ◌<◌, slice_get, length, Some, IfOk};
+ghost use Rattle.std.specs.Prelude.{◌≡◌, ◌*◌, ◌<◌, slice_get, length, Some, IfOk, OnErr};
 ghost use Rattle.opcode.specs.declared.op.Op.TheVariants as op;
 ghost use Rattle.lua_heap.specs.State.{datum, IsOf, AreOf};
 ghost use Rattle.lua_model.specs.Builtins.{failure_text as failure_text_of};
@@ -10,6 +10,7 @@ ghost use Rattle.upvalue.specs.State.{top};
 ghost use Rattle.machine.specs.declared.did.Did.{Did as TheDid};
 ghost use Rattle.machine.specs.declared.did.Did.TheVariants as done;
 ghost use Rattle.machine.specs.declared.function.Function.{Function as TheFunction};
+ghost use Rattle.machine.specs.Begun.{BeginsSeen, BeginsSettling, BrokeOff};
 ghost use Rattle.machine.specs.Fits.{FitsFrame};
 ghost use Rattle.machine.specs.Frames.{data_of, landing_of};
 ghost use Rattle.machine.specs.Outside.{AreNamed};
@@ -59,6 +60,7 @@ pub fn call(
     requires named { AreNamed running.old.heap (set_told heard hosts.old) }
     ensures does { IfOk result (DoesOutside functions.now (λ m. call_of (landing_of landing) m (datum running.old.heap callee) (data_of running.old.heap args)) running.old running.new (set_told heard hosts.old) (set_told heard hosts.new)) }
     ensures falls { IfOk result (λ did. to_do (length running.new.below.items) did < to_do (length running.old.below.items) (done.Calls landing callee args)) }
+    ensures broke_off { OnErr result (BrokeOff (BeginsSeen functions.now (λ m. call_of (landing_of landing) m (datum running.old.heap callee) (data_of running.old.heap args)) running.old (set_told heard hosts.old)) (set_told heard hosts.old) (set_told heard hosts.new)) }
 {
     let heap = &mut running.heap;
     match invoke(alloc, heap, &mut running.pieces, hosts, callee, args)? {
@@ -92,6 +94,7 @@ pub fn tail_call(
     requires fits { (f : TheFunction) → slice_get functions.now running.old.top.function ≡ Some f → FitsFrame op.TailCall f (top running.old.stack.frames) running.old.top.results (length (cells_in running.old.heap running.old.top.closure)) running.old.top.pc i }
     requires named { AreNamed running.old.heap (set_told heard hosts.old) }
     ensures does { IfOk result (DoesOutside functions.now (λ m. effect op.TailCall m i) running.old running.new (set_told heard hosts.old) (set_told heard hosts.new)) }
+    ensures broke_off { OnErr result (BrokeOff (BeginsSeen functions.now (λ m. effect op.TailCall m i) running.old (set_told heard hosts.old)) (set_told heard hosts.old) (set_told heard hosts.new)) }
 {
     let callee = running.stack.read(i.a as usize);
     let registers = running.stack.registers();
@@ -169,7 +172,8 @@ pub fn settle(
     requires known { IsDidOf running.old.heap did }
     requires awaited { IsAwaitedIn functions.now running.old did }
     requires named { AreNamed running.old.heap (set_told heard hosts.old) }
-    ensures { IfOk result (Settles functions.now did running.old running.new (set_told heard hosts.old) (set_told heard hosts.new)) }
+    ensures settles { IfOk result (Settles functions.now did running.old running.new (set_told heard hosts.old) (set_told heard hosts.new)) }
+    ensures broke_off { OnErr result (BrokeOff (BeginsSettling functions.now did running.old (set_told heard hosts.old)) (set_told heard hosts.old) (set_told heard hosts.new)) }
 {
     let mut did = did;
     loop {

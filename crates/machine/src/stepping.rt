@@ -1,9 +1,10 @@
 // Steps: one word with the calls, landings and failures that belong to it.
-ghost use Rattle.std.specs.Prelude.{◌≡◌, ◌+◌, slice_get, option_and_then, Some, IfOk, IsTrue, IsFalse};
+ghost use Rattle.std.specs.Prelude.{◌≡◌, ◌+◌, slice_get, option_and_then, Some, IfOk, OnErr, IsTrue, IsFalse};
 ghost use Rattle.opcode.specs.Reading.{instr_of};
 ghost use Rattle.host.specs.Views.{set_told};
 ghost use Rattle.rules.specs.Step.{effect};
 ghost use Rattle.machine.specs.declared.function.Function.{Function as TheFunction};
+ghost use Rattle.machine.specs.Begun.{BeginsSeen, BeginsWhole, BrokeOff};
 ghost use Rattle.machine.specs.Fits.{IsOther};
 ghost use Rattle.machine.specs.Outside.{AreNamed};
 ghost use Rattle.machine.specs.Ready.{FitsHere, GoesNext, IsOtherNext, IsReady, Steps, with_pc};
@@ -35,7 +36,8 @@ fn do_word(
     requires other { IsOther i.op }
     requires fits { (f : TheFunction) → slice_get functions.now running.old.top.function ≡ Some f → FitsHere functions.now f running.old i }
     requires named { AreNamed running.old.heap (set_told heard hosts.old) }
-    ensures { IfOk result (DoesOutside functions.now (λ m. effect i.op m i) running.old running.new (set_told heard hosts.old) (set_told heard hosts.new)) }
+    ensures does { IfOk result (DoesOutside functions.now (λ m. effect i.op m i) running.old running.new (set_told heard hosts.old) (set_told heard hosts.new)) }
+    ensures broke_off { OnErr result (BrokeOff (BeginsSeen functions.now (λ m. effect i.op m i) running.old (set_told heard hosts.old)) (set_told heard hosts.old) (set_told heard hosts.new)) }
 {
     match i.op {
         Op::GetUpval | Op::SetUpval | Op::Close => unreachable!(),
@@ -100,7 +102,8 @@ pub fn turn(
     requires ready { IsReady functions.now running.old }
     requires other { IsOtherNext functions.now running.old }
     requires named { AreNamed running.old.heap (set_told heard hosts.old) }
-    ensures { IfOk result (Steps functions.now running.old running.new (set_told heard hosts.old) (set_told heard hosts.new)) }
+    ensures steps { IfOk result (Steps functions.now running.old running.new (set_told heard hosts.old) (set_told heard hosts.new)) }
+    ensures broke_off { OnErr result (BrokeOff (BeginsWhole functions.now running.old (set_told heard hosts.old)) (set_told heard hosts.old) (set_told heard hosts.new)) }
 {
     let i = take_word(running, functions);
     let did = do_word(alloc, running, functions, hosts, i)?;

@@ -1,8 +1,12 @@
 // The lists of a function. Contracts see each as a list.
-ghost use Rattle.std.specs.Prelude.{◌≡◌, [], ◌∷◌, ◌++◌, OnOk, OnErr, IfSome, IfNone};
+ghost use Rattle.std.specs.Prelude.{◌≡◌, ◌<◌, [], ◌∷◌, ◌++◌, length, set, OnOk, OnErr, IfSome, IfNone, Some};
+ghost use Rattle.std.specs.Fmt.{DisplaysOnOk};
+ghost use Rattle.std.specs.List.{flat_map};
+ghost use Rattle.proto.specs.Paths.{behind_point};
 
 use crate::parts::{Constant, LocVar};
 use std::alloc::{AllocError, Global};
+use std::fmt;
 use std::marker::Model;
 
 /// The words of a function, by their pc.
@@ -36,6 +40,14 @@ impl Code {
     {
         self.words.push(word)?;
         Ok(())
+    }
+
+    /// Writes a word over the one at a pc, which takes no memory.
+    pub fn set(&mut self, pc: usize, word: u32)
+        requires { pc < length self.old }
+        ensures { self.new ≡ set self.old pc word }
+    {
+        self.words[pc] = word;
     }
 
     /// The words.
@@ -275,4 +287,42 @@ impl Path {
     {
         self.numbers.as_slice()
     }
+
+    /// The numbers of a `Vec`, which takes no memory.
+    pub fn from_vec(numbers: Vec<u32>) -> Self
+        ensures { result ≡ numbers.items }
+    {
+        Self { numbers }
+    }
+
+    /// The numbers as a `Vec`, given back without taking memory.
+    pub fn into_vec(self) -> Vec<u32>
+        ensures { result.items ≡ self }
+    {
+        self.numbers
+    }
+}
+
+impl fmt::Display for Path {
+    ghost use Rattle.proto.specs.Paths.{path_text};
+
+    ghost output = { λ path. Some (path_text path) };
+
+    fn fmt<W: fmt::Write>(&self, f: &mut fmt::Formatter<W>) -> fmt::Result {
+        let [first, rest @ ..] = self.items() else {
+            return write!(f, "main");
+        };
+        write!(f, "{first}")?;
+        write_behind_points(rest, f)
+    }
+}
+
+// Writes numbers, with a point before each.
+fn write_behind_points<W: fmt::Write>(numbers: &[u32], f: &mut fmt::Formatter<W>) -> fmt::Result
+    ensures { DisplaysOnOk W.write_str_gives f.old result (Some (flat_map behind_point numbers.now)) f.new }
+{
+    for number in numbers {
+        write!(f, ".{number}")?;
+    }
+    Ok(())
 }

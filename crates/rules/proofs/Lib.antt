@@ -16,3 +16,4 @@ pub mod Closures
 pub mod NeverStuck
 pub mod Decide
 pub mod SoundChunks
+pub mod Exclusion

@@ -26,6 +26,11 @@ pub fn more_notes_break_more()
     ensures { (f : Chunk) → (a b : Notes) → BreaksMore f a b }
 {}
 
+/// No chunk is both sound and rejected. A law, with nothing to run; that each is one or the other is the verifier's.
+pub fn never_both()
+    ensures { (chunk : Chunk) (path : List ℕ) (pc : ℕ) (rule : Rule) → Sound chunk → Rejected chunk path pc rule → ⊥ }
+{}
+
 /// For all hosts and replies, no step of the run of a sound chunk is stuck. A law, with nothing to
 /// run.
 pub fn sound_is_never_stuck()

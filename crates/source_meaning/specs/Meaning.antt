@@ -1,5 +1,5 @@
 -- To be believed. What each part of a source does (manual 2.2 to 2.8).
-use Rattle.std.specs.Prelude.{ℕ, suc, ◌+◌, ◌==◌, ◌||◌, ℤ, pos, ◌+ℤ◌, nat_lt, nat_eq, Bool, true, false, not, List, [], ◌∷◌, ◌++◌, length, map, drop, Option, Some, None, is_some, codes, if◌then◌else◌}
+use Rattle.std.specs.Prelude.{ℕ, suc, ◌+◌, ◌==◌, ◌||◌, ℤ, pos, ◌+ℤ◌, nat_lt, nat_eq, Bool, true, false, not, List, [], ◌∷◌, ◌++◌, length, map, drop, slice_get, Option, Some, None, is_some, codes, if◌then◌else◌}
 use Rattle.lua_num.specs.declared.arith.ArithOp.{ArithOp}
 use Rattle.lua_num.specs.declared.arith.CompareOp.{CompareOp}
 use Rattle.lua_tree.specs.declared.tree.BinaryOp.{BinaryOp}
@@ -17,7 +17,7 @@ use Rattle.lua_model.specs.Operators.{arith, negate, join, size, compare, index,
 use Rattle.lua_model.specs.Builtins as builtins
 use Rattle.lua_model.specs.Builtins.{call_host, failure_text, start}
 use Rattle.lua_model.specs.Endings.{Ended, Failed, Waiting, Going, Course}
-use Rattle.source_meaning.specs.State.{Env, Closure, State, Place, Flow, goes, breaks, returns, tail_calls, Taken, taken, late, Target, to_cell, to_global, to_entry, cell, with_cell, with_store, find, meant, with_own, declared, new_closure, closure_at, inside}
+use Rattle.source_meaning.specs.State.{Env, Closure, State, Place, Flow, goes, breaks, returns, tail_calls, Taken, taken, late, Target, to_cell, to_global, to_entry, cell, with_cell, with_store, find, meant, with_own, declared, new_closure, inside}
 use Rattle.source_meaning.specs.Tasks.{Task, Gives, block, statement, target, expression, local_taken, called, item, called_item, text_item, table_item, named_item, keyed_item, test, count_test, iterator_test, while_turn, repeat_turn, count_turn, iterator_turn, call, protected_call, refused_call}
 use Rattle.source_meaning.specs.Programs.{Prog, done, fault, happen, hear, ask, attempt, Outcome, worked, broke, and_then, Answer, ended, failed, waiting, going, run, eval}
 
@@ -266,7 +266,8 @@ count_from at name i limit step b s =
     ask (count_test i limit step) s (λ holds s1. elim holds [ true ↦ ask (count_turn at name i limit step b) s1 done | false ↦ goes_on_at at s1 ])
 
 abbrev pub count_loop : LoopNumbers → Place → Text → Statements → State → Prog Flow
-count_loop (counts i limit step) at name b s = count_from at name i limit step b s
+-- this suite's own: the first value is wrapped to 64 bits, as each later one is
+count_loop (counts i limit step) at name b s = count_from at name (wrap i) limit step b s
 count_loop (no_count t) at name b s = fault (text t) s
 
 abbrev pub iterate_from : Place → List Text → (f state control : Datum) → Statements → State → Prog Flow
@@ -401,12 +402,21 @@ outside_call (protects f args) around depth s =
     if around == protection_limit then ask refused_call s (λ u s1. fault stack_overflow s1) else attempt (protected_call (suc around) depth f args) s protected_results
 outside_call (closes h new) around depth s = happen (closed h) (done (boolean true ∷ []) (with_store s new))
 
--- a call of a function of the source at depth 20,001 fails; so many protected calls stand directly around the call
+-- a call of what is no function, or of a closure that is not there, of which a run knows none
+abbrev pub no_such_function : Datum
+no_such_function = text (codes "attempt to call a function value")
+
+-- a call of a function of the source at depth 20,001 fails
+abbrev pub enter_at : Option Closure → (depth : ℕ) → List Datum → State → Prog (List Datum)
+enter_at None depth args s = fault no_such_function s
+enter_at (Some f) depth args s = elim (nat_lt depth_limit depth) [ true ↦ fault stack_overflow s | false ↦ enter f depth args s ]
+
+-- so many protected calls stand directly around the call
 abbrev pub apply : Datum → (around depth : ℕ) → List Datum → State → Prog (List Datum)
-apply (closure c) around depth args s = elim (nat_lt depth_limit depth) [ true ↦ fault stack_overflow s | false ↦ enter (closure_at s c) depth args s ]
+apply (closure c) around depth args s = enter_at (slice_get s.closures c) depth args s
 apply (native n) around depth args s = outside_call (builtins.native n args s.store) around depth s
 apply (host h) around depth args s = outside_call (call_host h args s.store) around depth s
-apply f around depth args s = done [] s
+apply f around depth args s = fault no_such_function s
 
 abbrev pub apply_callee : Callee → (around depth : ℕ) → List Datum → State → Prog (List Datum)
 apply_callee (plain f) around depth args s = apply f around depth args s

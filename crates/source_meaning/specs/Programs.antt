@@ -3,7 +3,7 @@
 use Rattle.std.specs.Prelude.{ℕ, zero, suc, List, [], ◌∷◌}
 use Rattle.lua_model.specs.Datum.{Datum}
 use Rattle.lua_model.specs.declared.plain.Plain.{Plain}
-use Rattle.lua_model.specs.Store.{Reply, Event, asked, Outside, happens, replied}
+use Rattle.lua_model.specs.Store.{Reply, Event, Outside, happens, replied}
 use Rattle.source_meaning.specs.State.{State}
 use Rattle.source_meaning.specs.Tasks.{Task, Gives}
 

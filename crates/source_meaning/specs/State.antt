@@ -1,9 +1,9 @@
 -- To be believed. What a running source has beside the store: cells of locals, closures, and the place where a part runs (manual
 -- 2.3, 2.5.9 and 2.6).
-use Rattle.std.specs.Prelude.{ℕ, Bool, false, List, [], ◌∷◌, ◌++◌, length, drop, Option, Some, None, get_or, slice_set, cond}
+use Rattle.std.specs.Prelude.{ℕ, Bool, List, [], ◌∷◌, ◌++◌, length, drop, Option, Some, None, get_or, slice_set, cond}
 use Rattle.std.specs.Str.{bytes_eq}
 use Rattle.std.specs.Option.{option_or}
-use Rattle.lua_tree.specs.Syntax.{Statements, no_statements, FunctionBody, function_body}
+use Rattle.lua_tree.specs.Syntax.{Statements, FunctionBody, function_body}
 use Rattle.lua_num.specs.Bytes.{Text}
 use Rattle.lua_model.specs.Datum.{Datum, nil, first_of, extra_of}
 use Rattle.lua_model.specs.Store.{Store}
@@ -88,12 +88,6 @@ declared (name ∷ names) vs env s = declared names (drop 1 vs) ((name, length s
 abbrev pub new_closure : Place → FunctionBody → State → State
 new_closure at (function_body params vararg block first last) s =
     record s { closures = s.closures ++ record { params = params; vararg = vararg; block = block; sees = at.own ++ at.outer } ∷ [] }
-
-abbrev pub no_closure : Closure
-no_closure = record { params = []; vararg = false; block = no_statements; sees = [] }
-
-abbrev pub closure_at : State → ℕ → Closure
-closure_at s c = get_or s.closures c no_closure
 
 -- inside a function that is called: its parameters are new locals, and `...` is the arguments behind them
 abbrev pub inside : Closure → (depth : ℕ) → List Datum → Env → Place

@@ -4,20 +4,21 @@ use Rattle.std.proofs.lemmas.List.Sums.{sum_by-append}
 use Rattle.suite_io.specs.declared.calls.FileCall.{FileCall}
 use Rattle.suite_io.specs.Contents.{OthersStay}
 use Rattle.suite_io.specs.Calls.{call_of, fault_count}
+use Rattle.suite_io.specs.Parts.{TakesPart}
 use Rattle.suite_io.specs.Taken.{Takes, Rises}
 use Rattle.chunk_io.specs.declared.fault.ChunkFault.{ChunkFault}
-use Rattle.suite.specs.declared.fault.Fault.{Fault}
-use Rattle.suite.specs.declared.fault.Rejection.{Rejection}
-use Rattle.suite.specs.declared.status.Status.{Status}
+use Rattle.front.specs.declared.fault.Fault.{Fault}
+use Rattle.suite_io.proofs.TakenPieces.{takes_none}
 use Rattle.suite.specs.declared.outcome.Outcome.{Outcome}
-use Rattle.suite_io.specs.Parts.{TakesPart}
-use Rattle.suite.specs.Words.{Words, Job, run_file, list_file, verify_file, compile_file, job_in, texts, Reads, NoCommand, Asks, file_of, file_or_none, named}
-use Rattle.suite.specs.Worlds.{World}
+use Rattle.suite.specs.declared.rejection.Rejection.{Rejection}
+use Rattle.suite.specs.declared.status.Status.{Status}
+use Rattle.suite.specs.Words.{Words, Job, run_file, put_product, store_product, job_in, texts, Reads, NoCommand, Asks, file_of, file_or_none, named}
+use Rattle.suite.specs.Worlds.{World, Unasked}
+use Rattle.suite.specs.Seen.{Outside}
 use Rattle.suite.specs.Lines.{status_of, line_of, Reported}
 use Rattle.suite.specs.Jobs.{End, stored, put, failed, unfinished, bad_source, bad_chunk, rejected, Comes}
-use Rattle.suite.specs.Work.{Outside, IsCompilation, IsStop, MayPut, fetched, FilesStay, CarriesOut, Carried, Does, DoesFetched, Works, out_of}
-use Rattle.suite.specs.Causes.{Becomes, Fetched, StoreFailed, FilesFor, NoFault, Leaves, HasNoOutput, status_at}
-use Rattle.suite_io.proofs.TakenPieces.{takes_none}
+use Rattle.suite.specs.Work.{IsStore, IsRun, MayAsk, MayPut, StopsSo, fetched, FilesStay, CarriesOut, Carried, Does, DoesFetched, Works, out_of}
+use Rattle.suite.specs.Causes.{Becomes, Fetched, StoreFailed, FilesFor, NoFault, Leaves, HasNoOutput, IsRefusal, status_at}
 use Rattle.suite.proofs.Facts.{Laws, count_snoc, same_bytes, whole_part, settled_is, becomes, put_becomes, no_memory_is, quiet_is, write_cause}
 use Rattle.suite.proofs.Ends.{alike, alike_status, alike_leaves, alike_none, refused_not_run, put_may, failed_may, unfinished_may}
 
@@ -26,12 +27,11 @@ later_both : (calls : List FileCall) (a b : FileCall) (xs ys : List FileCall) �
 later_both [] a b xs ys e = cc
 later_both (c ∷ calls) a b xs ys e = later_both calls a b xs ys (cc)
 
--- only a compilation comes to a text that is stored
-stores_in : (job : Job) (bytes : List ℕ) (w : World) (text : List ℕ) → Comes job bytes w (stored text) → IsCompilation job
+-- only a job that stores comes to a text that is stored
+stores_in : (job : Job) (bytes : List ℕ) (w : World) (text : List ℕ) → Comes job bytes w (stored text) → IsStore job
 stores_in (run_file file steps) bytes w text comes = comes
-stores_in (list_file file) bytes w text comes = comes
-stores_in (verify_file file) bytes w text comes = comes
-stores_in (compile_file file out strip) bytes w text comes = tt
+stores_in (put_product p file) bytes w text comes = comes
+stores_in (store_product p file out) bytes w text comes = tt
 
 -- what an outcome says of the end that was carried out
 abbrev Tells : Outcome → End → Type 0
@@ -64,7 +64,7 @@ module _ (job : Job) (w : World) (old new : Outside) where
   abbrev FilesBehind : Type 0
   FilesBehind =
       ((new.calls ≡ old.calls) × (new.contents ≡ old.contents))
-      ⊎ (IsCompilation job × (failed : Bool) × (new.calls ≡ old.calls ++ call_of true (out_of job) failed ∷ []) × OthersStay old.contents new.contents (out_of job))
+      ⊎ (IsStore job × (failed : Bool) × (new.calls ≡ old.calls ++ call_of true (out_of job) failed ∷ []) × OthersStay old.contents new.contents (out_of job))
 
   same_files : FilesStay old new → FilesBehind
   same_files stay = inl (stay.calls, stay.contents)
@@ -130,7 +130,7 @@ module _ (job : Job) (w : World) (old new : Outside) where
   part_put bytes (rejected rejection) outcome comes c = inl c.1.1
 
   -- a fault of writing: the sink's count rose, or the store failed
-  pub written : (bytes : List ℕ) (end : End) → Comes job bytes w end → CarriesOut job end Outcome.WriteFault old new → Rises old.faults new.faults ⊎ (IsCompilation job × (new.calls ≡ old.calls ++ call_of true (out_of job) true ∷ []))
+  pub written : (bytes : List ℕ) (end : End) → Comes job bytes w end → CarriesOut job end Outcome.WriteFault old new → Rises old.faults new.faults ⊎ (IsStore job × (new.calls ≡ old.calls ++ call_of true (out_of job) true ∷ []))
   written bytes (put text) comes c = inl c.2
   written bytes (stored text) comes c = inr (stores_in job bytes w text comes, c.0.calls)
   written bytes (failed why text) comes c = let differ = c.0 in cc
@@ -185,11 +185,30 @@ module _ (job : Job) (w : World) (old new : Outside) where
   unfinished_as bytes steps (bad_chunk fault) comes c = let differ = c.0 in absurd (cc)
   unfinished_as bytes steps (rejected rejection) comes c = let differ = c.0 in absurd (cc)
 
--- a run stops where the sink's count rose, or memory ran out
-stop_is : (outcome : Outcome) (before later : ℕ) → IsStop outcome before later → ((outcome ≡ Outcome.WriteFault) × Rises before later) ⊎ (outcome ≡ Outcome.OutOfMemory)
-stop_is Outcome.WriteFault before later risen = inl (refl, risen)
-stop_is Outcome.OutOfMemory before later stop = inr refl
-stop_is outcome before later stop = absurd stop
+-- a run alone asks hosts, and none where its outcome is a refusal
+may_runs : (job : Job) (end : End) → MayAsk job end → IsRun (Some job)
+may_runs (run_file file steps) end may = tt
+may_runs (put_product p file) end may = absurd may
+may_runs (store_product p file out) end may = absurd may
+
+not_refusal : (job : Job) (w : World) (old new : Outside) (end : End) (outcome : Outcome) → MayAsk job end → CarriesOut job end outcome old new → IsRefusal (status_of outcome) → ⊥
+not_refusal (run_file file steps) w old new (put text) Outcome.Done may c refuses = refuses
+not_refusal (run_file file steps) w old new (put text) Outcome.WriteFault may c refuses = refuses
+not_refusal (run_file file steps) w old new (put text) Outcome.OutOfMemory may c refuses = refuses
+not_refusal (run_file file steps) w old new (put text) outcome may c refuses = c
+not_refusal (run_file file steps) w old new (failed why text) outcome may c refuses = subst (λ o. IsRefusal (status_of o)) c.0 refuses
+not_refusal (run_file file steps) w old new (unfinished n text) outcome may c refuses = subst (λ o. IsRefusal (status_of o)) c.0 refuses
+not_refusal (run_file file steps) w old new end outcome may c refuses = may
+not_refusal (put_product p file) w old new end outcome may c refuses = may
+not_refusal (store_product p file out) w old new end outcome may c refuses = may
+
+-- only a run stops, where the sink's count rose, or memory ran out
+stop_is : (job : Job) (bytes : List ℕ) (w : World) (text : List ℕ) (outcome : Outcome) (before later : ℕ) → StopsSo job bytes w text outcome before later → IsRun (Some job) × (((outcome ≡ Outcome.WriteFault) × Rises before later) ⊎ (outcome ≡ Outcome.OutOfMemory))
+stop_is (run_file file steps) bytes w text Outcome.WriteFault before later so = (tt, inl (refl, so.1))
+stop_is (run_file file steps) bytes w text Outcome.OutOfMemory before later so = (tt, inr refl)
+stop_is (run_file file steps) bytes w text outcome before later so = absurd so
+stop_is (put_product p file) bytes w text outcome before later so = absurd so
+stop_is (store_product p file out) bytes w text outcome before later so = absurd so
 
 -- a fetch that succeeds changes neither what files hold nor what the sink took
 pub leaves_before : (job : Job) (old new : Outside) (end : End) → Leaves job end (fetched job false old) new → Leaves job end old new
@@ -319,6 +338,41 @@ module _ (laws : Laws) (words : Words) (job : Job) (reads : Reads words job) (w 
       by (inr (inl w)) = inl (ap (λ (o : Outside). o.calls) w.1, ap (λ (o : Outside). o.contents) w.1)
       by (inr (inr f)) = carried f.bytes f.does
 
+  -- a run alone asks hosts
+  pub hosts_clause : IsRun (job_in (texts words)) ⊎ Unasked w
+  hosts_clause = subst (λ o. IsRun o ⊎ Unasked w) (sym reads) (by works)
+    where
+      carried : (bytes : List ℕ) → Does job bytes w outcome (fetched job false old) new → IsRun (Some job) ⊎ Unasked w
+      carried bytes (inl c) = elim (c.asks) [ inl may ↦ inl (may_runs job c.end may) | inr unasked ↦ inr unasked ]
+      carried bytes (inr (inl stopped)) = inl (stop_is job bytes w stopped.text outcome old.faults new.faults stopped.so).0
+      carried bytes (inr (inr none)) = inr none.2
+
+      by : Works (Some job) w outcome old new → IsRun (Some job) ⊎ Unasked w
+      by (inl fault) = inr fault.2
+      by (inr (inl want)) = inr want.2
+      by (inr (inr f)) = carried f.bytes f.does
+
+  -- and none where the status is that of a refusal
+  refusal_asks_none : IsRefusal (status_of outcome) → Unasked w
+  refusal_asks_none refuses = by works
+    where
+      stops : ((outcome ≡ Outcome.WriteFault) × Rises old.faults new.faults) ⊎ (outcome ≡ Outcome.OutOfMemory) → ⊥
+      stops (inl e) = subst (λ o. IsRefusal (status_of o)) e.0 refuses
+      stops (inr e) = subst (λ o. IsRefusal (status_of o)) e refuses
+
+      carried : (bytes : List ℕ) → Does job bytes w outcome (fetched job false old) new → Unasked w
+      carried bytes (inl c) = elim (c.asks) [
+        | inl may ↦ absurd (not_refusal job w (fetched job false old) new c.end outcome may c.carried refuses)
+        | inr unasked ↦ unasked
+      ]
+      carried bytes (inr (inl stopped)) = absurd (stops (stop_is job bytes w stopped.text outcome old.faults new.faults stopped.so).1)
+      carried bytes (inr (inr none)) = none.2
+
+      by : Works (Some job) w outcome old new → Unasked w
+      by (inl fault) = fault.2
+      by (inr (inl want)) = want.2
+      by (inr (inr f)) = carried f.bytes f.does
+
   -- the job that was carried out with this outcome, unless that is one of the fetch or want of memory
   job_done : outcome ≢ Outcome.ReadFault → outcome ≢ Outcome.OutOfMemory → DoesFetched job w outcome old new
   job_done no_fault no_want = by works
@@ -331,7 +385,7 @@ module _ (laws : Laws) (words : Words) (job : Job) (reads : Reads words job) (w 
   job_carried : (bytes : List ℕ) → outcome ≢ Outcome.WriteFault → outcome ≢ Outcome.OutOfMemory → Does job bytes w outcome (fetched job false old) new → Carried job bytes w outcome (fetched job false old) new
   job_carried bytes no_fault no_want (inl c) = c
   job_carried bytes no_fault no_want (inr (inl stopped)) =
-      absurd (elim (stop_is outcome old.faults new.faults stopped.stop) [ inl e ↦ no_fault e.0 | inr e ↦ no_want e ])
+      absurd (elim ((stop_is job bytes w stopped.text outcome old.faults new.faults stopped.so).1) [ inl e ↦ no_fault e.0 | inr e ↦ no_want e ])
   job_carried bytes no_fault no_want (inr (inr none)) = absurd (no_want none.0)
 
   module _ (err_before err_later : Option (List ℕ)) (err_old err_new : ℕ) (result : Status) (reported : Reported outcome (file_of job) result err_before err_later err_old err_new) where
@@ -342,6 +396,9 @@ module _ (laws : Laws) (words : Words) (job : Job) (reads : Reads words job) (w 
 
     pub line_clause : result ≢ Status.WriteFault → result ≢ Status.OutOfMemory → (o : Outcome) × (status_of o ≡ result) × Takes err_before err_later (line_of o (named words))
     line_clause no_fault no_want = let s = settled result refl no_fault no_want in (outcome, s.0, s.1)
+
+    pub unasked_clause : IsRefusal result → Unasked w
+    unasked_clause refuses = refusal_asks_none (subst IsRefusal (sym (settled result refl (λ e. subst IsRefusal e refuses) (λ e. subst IsRefusal e refuses)).0) refuses)
 
     pub carried_out_clause : (other : Job) (bytes : List ℕ) (end : End) → Asks words old.contents other bytes → Comes other bytes w end → NoFault old.calls new.calls → (Rises old.faults new.faults → ⊥) → (Rises err_old err_new → ⊥) → ((result ≡ status_at end) × Leaves other end old new) ⊎ (result ≡ Status.OutOfMemory)
     carried_out_clause other bytes end asks comes files quiet err = by works
@@ -374,7 +431,7 @@ module _ (laws : Laws) (words : Words) (job : Job) (reads : Reads words job) (w 
           | inl l ↦ ended c.end c.comes l.0 l.1
           | inr e ↦ inr (no_memory e)
         ]
-        carried (inr (inl stopped)) = elim (stop_is outcome old.faults new.faults stopped.stop) [
+        carried (inr (inl stopped)) = elim ((stop_is job bytes w stopped.text outcome old.faults new.faults stopped.so).1) [
           | inl e ↦ absurd (quiet e.1)
           | inr e ↦ inr (no_memory e)
         ]
@@ -516,7 +573,7 @@ module _ (laws : Laws) (words : Words) (job : Job) (reads : Reads words job) (w 
         carried (inl c) =
             let same = alike laws job bytes w c.end end c.comes its in
             become (status_at end) (refused_as job w (fetched job false old) new c.end outcome c.carried (alike_none c.end end same none) ∙ alike_status c.end end same)
-        carried (inr (inl stopped)) = absurd (refused_not_run laws job bytes w stopped.text end stopped.runs stopped.output its none)
+        carried (inr (inl stopped)) = absurd (refused_not_run laws job bytes w stopped.text end (stop_is job bytes w stopped.text outcome old.faults new.faults stopped.so).0 stopped.output its none)
         carried (inr (inr want)) = inr (no_memory want.0)
 
         by : Works (Some job) w outcome old new → Becomes (status_at end) result err_old err_new ⊎ (result ≡ Status.OutOfMemory)
@@ -533,12 +590,12 @@ module _ (laws : Laws) (words : Words) (job : Job) (reads : Reads words job) (w 
         by_end : (bytes : List ℕ) (end : End) → Comes job bytes w end → CarriesOut job end Outcome.WriteFault (fetched job false old) new → Rises old.faults new.faults ⊎ Rises err_old err_new ⊎ StoreFailed words old.calls new.calls
         by_end bytes end comes c = elim (written job w (fetched job false old) new bytes end comes c) [
           | inl risen ↦ inl risen
-          | inr listed ↦ inr (inr (record { job = job; reads = reads; compiles = listed.0; listed = listed.1 }))
+          | inr listed ↦ inr (inr (record { job = job; reads = reads; stores = listed.0; listed = listed.1 }))
         ]
 
         by : outcome ≡ Outcome.WriteFault → (bytes : List ℕ) → Does job bytes w outcome (fetched job false old) new → Rises old.faults new.faults ⊎ Rises err_old err_new ⊎ StoreFailed words old.calls new.calls
         by is bytes (inl c) = by_end bytes c.end c.comes (subst (λ o. CarriesOut job c.end o (fetched job false old) new) is c.carried)
-        by is bytes (inr (inl stopped)) = elim (stop_is outcome old.faults new.faults stopped.stop) [
+        by is bytes (inr (inl stopped)) = elim ((stop_is job bytes w stopped.text outcome old.faults new.faults stopped.so).1) [
           | inl e ↦ inl e.1
           | inr e ↦ absurd (cc)
         ]
@@ -546,7 +603,3 @@ module _ (laws : Laws) (words : Words) (job : Job) (reads : Reads words job) (w 
 
         by_outcome : outcome ≡ Outcome.WriteFault → Rises old.faults new.faults ⊎ Rises err_old err_new ⊎ StoreFailed words old.calls new.calls
         by_outcome is = let f = job_done (λ w. cc (is)) (λ w. cc (is)) in by is f.bytes f.does
-
--- words that ask for nothing
-pub no_job : (words : Words) (w : World) (o : Outside) → NoCommand words → Works (job_in (texts words)) w Outcome.BadWords o o
-no_job words w o none = subst (λ j. Works j w Outcome.BadWords o o) (sym none) (refl, refl)

@@ -1,143 +1,144 @@
 -- What a job comes to is one, but for which fault is told.
-use Rattle.std.proofs.Common.{◌≡◌, ℕ, zero, suc, Bool, true, false, List, [], ◌∷◌, ◌⊎◌, inl, inr, Some, refl, sym, ap, ap₂, subst, ◌∙◌}
-use Rattle.proto.specs.Chunk.{Chunk, function, Functions, no_functions, and_function}
+use Rattle.std.proofs.Common.{◌≡◌, ℕ, true, false, List, [], ◌⊎◌, inl, inr, Some, refl, sym, ap, ap₂, subst, ◌∙◌}
+use Rattle.lua_num.specs.Bytes.{Text}
 use Rattle.lua_model.specs.Store.{Event, output}
 use Rattle.lua_model.specs.Endings.{Ending, Ended, Failed, Waiting, Going, Course}
-use Rattle.rules.specs.declared.rule.Rule.{Rule}
-use Rattle.rules.specs.Breaks.{breaks}
-use Rattle.rules.specs.Run.{course}
-use Rattle.rules.specs.Sound.{Sound, Rejected, IsSound, AreSound, IsRejected, AreRejected, HasNotes, RejectedAt}
-use Rattle.suite_io.specs.Taken.{Takes}
+use Rattle.proto.specs.Chunk.{Chunk}
 use Rattle.chunk_io.specs.declared.fault.ChunkFault.{ChunkFault}
 use Rattle.chunk_io.specs.Faults.{IsFault}
-use Rattle.chunk_io.specs.Items.{items, spelling, le8}
-use Rattle.lister.specs.Listing.{listing}
-use Rattle.lua_num.specs.Bytes.{Text}
-use Rattle.first_form.specs.Source.{is_chunk}
-use Rattle.suite.specs.declared.fault.Fault.{Fault}
-use Rattle.suite.specs.declared.fault.Rejection.{Rejection}
+use Rattle.chunk_io.specs.Items.{is_chunk}
+use Rattle.rules.specs.Run.{course}
+use Rattle.rules.specs.Sound.{Sound}
+use Rattle.front.specs.declared.fault.Fault.{Fault}
+use Rattle.front.specs.Sources.{IsFaultIn}
+use Rattle.suite_io.specs.Taken.{Takes}
+use Rattle.suite.specs.declared.product.Product.{Product}
 use Rattle.suite.specs.declared.status.Status.{Status}
-use Rattle.suite.specs.Words.{Job, run_file, list_file, verify_file, compile_file}
-use Rattle.suite.specs.Worlds.{World, replies_of}
-use Rattle.suite.specs.Outcome.{IsFaultIn}
-use Rattle.suite.specs.Jobs.{End, stored, put, failed, unfinished, bad_source, bad_chunk, rejected, Comes, HasChunk, HasRun, HasPut, IsVerified, IsRejectedAt, IsListingOf, IsSpellingOf, ran_in, stripped_if}
-use Rattle.suite.specs.Work.{Outside, MayPut, IsRun}
+use Rattle.suite.specs.Words.{Job, run_file, put_product, store_product}
+use Rattle.suite.specs.Worlds.{World, hosts_first, replies_of}
+use Rattle.suite.specs.Seen.{Outside}
+use Rattle.suite.specs.Jobs.{End, stored, put, failed, unfinished, bad_source, bad_chunk, rejected, source_name, HasChunk, ChunkFor, IsTextOf, Makes, IsSourceFor, IsChunkFor, Refuses, HasRun, HasPut, ran_in, Comes}
+use Rattle.suite.specs.Work.{MayPut, IsRun}
 use Rattle.suite.specs.Causes.{status_at, Leaves, HasNoOutput}
-use Rattle.suite.proofs.Facts.{Laws, no_fault, one_chunk}
+use Rattle.suite.proofs.Facts.{Laws}
 
--- what is seen of what a job comes to: the status at which it is carried out, and the text that is stored or put
-pub data Seen : Type 0 where
-  stores : (text : List ℕ) → Seen
-  puts : Status → (text : List ℕ) → Seen
-  refuses : Status → Seen
+-- what is shown of what a job comes to: the status at which it is carried out, and the text that is stored or put
+pub data Shown : Type 0 where
+  stores : (text : List ℕ) → Shown
+  puts : Status → (text : List ℕ) → Shown
+  refuses : Status → Shown
 
-abbrev pub seen : End → Seen
-seen (stored text) = stores text
-seen (put text) = puts Status.Done text
-seen (failed why text) = puts Status.ScriptFailed text
-seen (unfinished steps text) = puts Status.Unfinished text
-seen (bad_source fault) = refuses Status.BadSource
-seen (bad_chunk fault) = refuses Status.BadChunk
-seen (rejected rejection) = refuses Status.Rejected
+abbrev pub shown : End → Shown
+shown (stored text) = stores text
+shown (put text) = puts Status.Done text
+shown (failed why text) = puts Status.ScriptFailed text
+shown (unfinished steps text) = puts Status.Unfinished text
+shown (bad_source fault) = refuses Status.BadSource
+shown (bad_chunk fault) = refuses Status.BadChunk
+shown (rejected rejection) = refuses Status.Rejected
 
 abbrev pub Alike : End → End → Type 0
-Alike one other = seen one ≡ seen other
-
--- a chunk is not sound and rejected
-function_not_rejected : (f : Chunk) (main : Bool) (pc : ℕ) (rule : Rule) → HasNotes f main → RejectedAt f main pc rule → ⊥
-function_not_rejected f main pc rule has at =
-    let broken : breaks f main has.0 pc rule ≡ true = at.always has.0 has.1.consistent in
-    let kept : breaks f main has.0 pc rule ≡ false = has.1.keeps pc rule in
-    cc
-
-mutual
-  is_not_rejected : (c : Chunk) (main : Bool) (path : List ℕ) (pc : ℕ) (rule : Rule) → IsSound c main → IsRejected c main path pc rule → ⊥
-  is_not_rejected (function f inner) main [] pc rule sound at = function_not_rejected (function f inner) main pc rule sound.0 at
-  is_not_rejected (function f inner) main (n ∷ path) pc rule sound at = are_not_rejected inner n path pc rule sound.1 at.1
-
-  are_not_rejected : (inner : Functions) (n : ℕ) (path : List ℕ) (pc : ℕ) (rule : Rule) → AreSound inner → AreRejected inner n path pc rule → ⊥
-  are_not_rejected no_functions n path pc rule sound at = at
-  are_not_rejected (and_function c rest) zero path pc rule sound at = is_not_rejected c false path pc rule sound.0 at
-  are_not_rejected (and_function c rest) (suc n) path pc rule sound at = are_not_rejected rest n path pc rule sound.1 at.1
-
-sound_not_rejected : (c : Chunk) (path : List ℕ) (pc : ℕ) (rule : Rule) → Sound c → Rejected c path pc rule → ⊥
-sound_not_rejected c path pc rule sound at = is_not_rejected c true path pc rule sound at
+Alike one other = shown one ≡ shown other
 
 abbrev course_so : Ending → List Event → Course
 course_so ending events = record { ending = ending; events = events }
 
--- what is seen of a run that is so
-abbrev seen_run : Ending → List ℕ → Seen
-seen_run Ended text = puts Status.Done text
-seen_run (Failed why) text = puts Status.ScriptFailed text
-seen_run Going text = puts Status.Unfinished text
-seen_run Waiting text = refuses Status.Done
+-- what is shown of a run that is so
+abbrev shown_run : Ending → List ℕ → Shown
+shown_run Ended text = puts Status.Done text
+shown_run (Failed why) text = puts Status.ScriptFailed text
+shown_run Going text = puts Status.Unfinished text
+shown_run Waiting text = refuses Status.Done
 
--- what is seen of what a file comes to whose chunk is wanted: something good, or its fault, or a place where it is rejected
-abbrev Story : List ℕ → (Seen → Type 0) → (Rejection → Type 0) → Seen → Type 0
-Story bytes Good Bad s =
-    Good s
-    ⊎ ((fault : Fault) × (is_chunk bytes ≡ false) × IsFaultIn bytes fault × (s ≡ refuses Status.BadSource))
-    ⊎ ((fault : ChunkFault) × (is_chunk bytes ≡ true) × IsFault bytes fault × (s ≡ refuses Status.BadChunk))
-    ⊎ ((r : Rejection) × Bad r × (s ≡ refuses Status.Rejected))
+text_one : (p : Product) (c : Chunk) (a b : List ℕ) → IsTextOf p c a → IsTextOf p c b → a ≡ b
+text_one Product.Listing c a b one other = one ∙ sym other
+text_one Product.Verdict c a b one other = one.1 ∙ sym other.1
+text_one (Product.Spelling strip layout) c a b one other = one.is ∙ sym other.is
 
 module _ (laws : Laws) where
   same_chunk : (file : Text) (bytes : List ℕ) (c d : Chunk) → HasChunk file bytes c → HasChunk file bytes d → c ≡ d
-  same_chunk file bytes c d (inl one) (inl other) = laws.chunks_are_one bytes c d one.1 other.1
-  same_chunk file bytes c d (inr one) (inr other) = one_chunk laws file bytes c d one.1 other.1
+  same_chunk file bytes c d (inl one) (inl other) = laws.spelled_are_one bytes c d one.1 other.1
+  same_chunk file bytes c d (inr one) (inr other) = laws.compiled_are_one (source_name file) bytes c d one.1 other.1
   same_chunk file bytes c d (inl one) (inr other) = let yes : is_chunk bytes ≡ true = one.0 in let no : is_chunk bytes ≡ false = other.0 in cc
   same_chunk file bytes c d (inr one) (inl other) = let no : is_chunk bytes ≡ false = one.0 in let yes : is_chunk bytes ≡ true = other.0 in cc
 
   has_no_fault : (file : Text) (bytes : List ℕ) (c : Chunk) (fault : Fault) → HasChunk file bytes c → is_chunk bytes ≡ false → IsFaultIn bytes fault → ⊥
   has_no_fault file bytes c fault (inl one) source is = let yes : is_chunk bytes ≡ true = one.0 in cc
-  has_no_fault file bytes c fault (inr one) source is = no_fault laws bytes one.1.source fault one.1.accepts is
+  has_no_fault file bytes c fault (inr one) source is = laws.source_or_fault (source_name file) bytes c fault one.1 is
 
   spells_no_fault : (file : Text) (bytes : List ℕ) (c : Chunk) (fault : ChunkFault) → HasChunk file bytes c → is_chunk bytes ≡ true → IsFault bytes fault → ⊥
   spells_no_fault file bytes c fault (inl one) chunk is = laws.chunk_or_fault bytes c fault one.1 is
   spells_no_fault file bytes c fault (inr one) chunk is = let no : is_chunk bytes ≡ false = one.0 in cc
 
-  sound_not_here : (file : Text) (bytes : List ℕ) (c : Chunk) (r : Rejection) → HasChunk file bytes c → Sound c → IsRejectedAt file bytes r → ⊥
-  sound_not_here file bytes c r has sound at =
-      sound_not_rejected at.chunk r.path r.pc r.rule (subst Sound (same_chunk file bytes c at.chunk has at.has) sound) at.rejected
+  -- the chunk of which a text is made is one, and its file has no fault
+  chunk_for_one : (p : Product) (file : Text) (bytes : List ℕ) (c d : Chunk) → ChunkFor p file bytes c → ChunkFor p file bytes d → c ≡ d
+  chunk_for_one Product.Listing file bytes c d one other = same_chunk file bytes c d one other
+  chunk_for_one Product.Verdict file bytes c d one other = same_chunk file bytes c d one other
+  chunk_for_one (Product.Spelling strip layout) file bytes c d one other = laws.compiled_are_one (source_name file) bytes c d one other
 
-  -- two such stories are alike, where those of good chunks are
-  module _ (file : Text) (bytes : List ℕ) (Good : Seen → Type 0) (Bad : Rejection → Type 0)
-      (good_is_one : (s t : Seen) → Good s → Good t → s ≡ t)
-      (good_has : (s : Seen) → Good s → (c : Chunk) × HasChunk file bytes c)
-      (bad_has : (r : Rejection) → Bad r → (c : Chunk) × HasChunk file bytes c)
-      (not_both : (s : Seen) (r : Rejection) → Good s → Bad r → ⊥) where
-    not_two : is_chunk bytes ≡ false → is_chunk bytes ≡ true → ⊥
-    not_two source chunk = cc
+  no_source_fault : (p : Product) (file : Text) (bytes : List ℕ) (c : Chunk) (fault : Fault) → ChunkFor p file bytes c → IsSourceFor p bytes → IsFaultIn bytes fault → ⊥
+  no_source_fault Product.Listing file bytes c fault has source is = has_no_fault file bytes c fault has source is
+  no_source_fault Product.Verdict file bytes c fault has source is = has_no_fault file bytes c fault has source is
+  no_source_fault (Product.Spelling strip layout) file bytes c fault has source is = laws.source_or_fault (source_name file) bytes c fault has is
 
-    no_source : (c : Chunk) × HasChunk file bytes c → (fault : Fault) → is_chunk bytes ≡ false → IsFaultIn bytes fault → ⊥
-    no_source c fault source is = has_no_fault file bytes c.0 fault c.1 source is
+  no_chunk_fault : (p : Product) (file : Text) (bytes : List ℕ) (c : Chunk) (fault : ChunkFault) → ChunkFor p file bytes c → IsChunkFor p bytes → IsFault bytes fault → ⊥
+  no_chunk_fault Product.Listing file bytes c fault has chunk is = spells_no_fault file bytes c fault has chunk is
+  no_chunk_fault Product.Verdict file bytes c fault has chunk is = spells_no_fault file bytes c fault has chunk is
+  no_chunk_fault (Product.Spelling strip layout) file bytes c fault has chunk is = chunk
 
-    no_chunk : (c : Chunk) × HasChunk file bytes c → (fault : ChunkFault) → is_chunk bytes ≡ true → IsFault bytes fault → ⊥
-    no_chunk c fault chunk is = spells_no_fault file bytes c.0 fault c.1 chunk is
+  not_source_and_chunk : (p : Product) (bytes : List ℕ) → IsSourceFor p bytes → IsChunkFor p bytes → ⊥
+  not_source_and_chunk Product.Listing bytes source chunk = let no : is_chunk bytes ≡ false = source in let yes : is_chunk bytes ≡ true = chunk in cc
+  not_source_and_chunk Product.Verdict bytes source chunk = let no : is_chunk bytes ≡ false = source in let yes : is_chunk bytes ≡ true = chunk in cc
+  not_source_and_chunk (Product.Spelling strip layout) bytes source chunk = chunk
 
-    stories : (s t : Seen) → Story bytes Good Bad s → Story bytes Good Bad t → s ≡ t
-    stories s t (inl x) (inl y) = good_is_one s t x y
-    stories s t (inl x) (inr (inl y)) = absurd (no_source (good_has s x) y.0 y.1 y.2)
-    stories s t (inl x) (inr (inr (inl y))) = absurd (no_chunk (good_has s x) y.0 y.1 y.2)
-    stories s t (inl x) (inr (inr (inr y))) = absurd (not_both s y.0 x y.1)
-    stories s t (inr (inl x)) (inl y) = absurd (no_source (good_has t y) x.0 x.1 x.2)
-    stories s t (inr (inl x)) (inr (inl y)) = x.3 ∙ sym y.3
-    stories s t (inr (inl x)) (inr (inr (inl y))) = absurd (not_two x.1 y.1)
-    stories s t (inr (inl x)) (inr (inr (inr y))) = absurd (no_source (bad_has y.0 y.1) x.0 x.1 x.2)
-    stories s t (inr (inr (inl x))) (inl y) = absurd (no_chunk (good_has t y) x.0 x.1 x.2)
-    stories s t (inr (inr (inl x))) (inr (inl y)) = absurd (not_two y.1 x.1)
-    stories s t (inr (inr (inl x))) (inr (inr (inl y))) = x.3 ∙ sym y.3
-    stories s t (inr (inr (inl x))) (inr (inr (inr y))) = absurd (no_chunk (bad_has y.0 y.1) x.0 x.1 x.2)
-    stories s t (inr (inr (inr x))) (inl y) = absurd (not_both t x.0 y x.1)
-    stories s t (inr (inr (inr x))) (inr (inl y)) = absurd (no_source (bad_has x.0 x.1) y.0 y.1 y.2)
-    stories s t (inr (inr (inr x))) (inr (inr (inl y))) = absurd (no_chunk (bad_has x.0 x.1) y.0 y.1 y.2)
-    stories s t (inr (inr (inr x))) (inr (inr (inr y))) = x.2 ∙ sym y.2
+  makes_one : (p : Product) (file : Text) (bytes a b : List ℕ) → Makes p file bytes a → Makes p file bytes b → a ≡ b
+  makes_one p file bytes a b one other =
+      text_one p other.chunk a b (subst (λ c. IsTextOf p c a) (chunk_for_one p file bytes one.chunk other.chunk one.has other.has) one.is) other.is
+
+  -- a file of which a text is made is not refused
+  sound_refused : (file : Text) (bytes : List ℕ) (c : Chunk) (end : End) → HasChunk file bytes c → Sound c → Refuses Product.Verdict file bytes end → ⊥
+  sound_refused file bytes c (bad_source fault) has sound refused = has_no_fault file bytes c fault has refused.0 refused.1
+  sound_refused file bytes c (bad_chunk fault) has sound refused = spells_no_fault file bytes c fault has refused.0 refused.1
+  sound_refused file bytes c (rejected r) has sound refused =
+      laws.sound_or_rejected refused.chunk r.path r.pc r.rule (subst Sound (same_chunk file bytes c refused.chunk has refused.has) sound) refused.rejected
+  sound_refused file bytes c end has sound refused = refused
+
+  makes_refused : (p : Product) (file : Text) (bytes text : List ℕ) (end : End) → Makes p file bytes text → Refuses p file bytes end → ⊥
+  makes_refused Product.Verdict file bytes text end makes refused = sound_refused file bytes makes.chunk end makes.has makes.is.0 refused
+  makes_refused p file bytes text (bad_source fault) makes refused = no_source_fault p file bytes makes.chunk fault makes.has refused.0 refused.1
+  makes_refused p file bytes text (bad_chunk fault) makes refused = no_chunk_fault p file bytes makes.chunk fault makes.has refused.0 refused.1
+  makes_refused p file bytes text (rejected r) makes refused = refused.wants
+  makes_refused p file bytes text end makes refused = refused
+
+  -- one kind of refusal
+  refused_alike : (p : Product) (file : Text) (bytes : List ℕ) (a b : End) → Refuses p file bytes a → Refuses p file bytes b → Alike a b
+  refused_alike p file bytes (bad_source f) (bad_source g) one other = refl
+  refused_alike p file bytes (bad_chunk f) (bad_chunk g) one other = refl
+  refused_alike p file bytes (rejected r) (rejected s) one other = refl
+  refused_alike p file bytes (bad_source f) (bad_chunk g) one other = absurd (not_source_and_chunk p bytes one.0 other.0)
+  refused_alike p file bytes (bad_chunk f) (bad_source g) one other = absurd (not_source_and_chunk p bytes other.0 one.0)
+  refused_alike p file bytes (bad_source f) (rejected s) one other = absurd (no_source_fault p file bytes other.chunk f other.has one.0 one.1)
+  refused_alike p file bytes (rejected r) (bad_source g) one other = absurd (no_source_fault p file bytes one.chunk g one.has other.0 other.1)
+  refused_alike p file bytes (bad_chunk f) (rejected s) one other = absurd (no_chunk_fault p file bytes other.chunk f other.has one.0 one.1)
+  refused_alike p file bytes (rejected r) (bad_chunk g) one other = absurd (no_chunk_fault p file bytes one.chunk g one.has other.0 other.1)
+  refused_alike p file bytes (bad_source f) b one other = absurd other
+  refused_alike p file bytes (bad_chunk f) b one other = absurd other
+  refused_alike p file bytes (rejected r) b one other = absurd other
+  refused_alike p file bytes a b one other = absurd one
+
+  -- what a job comes to is good, or refused
+  module _ (p : Product) (file : Text) (bytes : List ℕ) (Good : Shown → Type 0) (one_good : (s t : Shown) → Good s → Good t → s ≡ t) (not_refused : (s : Shown) (end : End) → Good s → Refuses p file bytes end → ⊥) where
+    stories : (a b : End) → Good (shown a) ⊎ Refuses p file bytes a → Good (shown b) ⊎ Refuses p file bytes b → Alike a b
+    stories a b (inl x) (inl y) = one_good (shown a) (shown b) x y
+    stories a b (inl x) (inr y) = absurd (not_refused (shown a) b x y)
+    stories a b (inr x) (inl y) = absurd (not_refused (shown b) a y x)
+    stories a b (inr x) (inr y) = refused_alike p file bytes a b x y
 
   -- runs
-  abbrev IsRunSeen : Text → List ℕ → World → ℕ → Seen → Type 0
-  IsRunSeen file bytes w steps s = (ending : Ending) × (text : List ℕ) × HasRun file bytes w steps ending text × (s ≡ seen_run ending text)
+  abbrev IsRunShown : Text → List ℕ → World → ℕ → Shown → Type 0
+  IsRunShown file bytes w steps s = (ending : Ending) × (text : List ℕ) × HasRun file bytes w steps ending text × (s ≡ shown_run ending text)
 
-  one_run : (file : Text) (bytes : List ℕ) (w : World) (steps : ℕ) (s t : Seen) → IsRunSeen file bytes w steps s → IsRunSeen file bytes w steps t → s ≡ t
+  one_run : (file : Text) (bytes : List ℕ) (w : World) (steps : ℕ) (s t : Shown) → IsRunShown file bytes w steps s → IsRunShown file bytes w steps t → s ≡ t
   one_run file bytes w steps s t one other =
       let a : HasRun file bytes w steps one.0 one.1 = one.2 in
       let b : HasRun file bytes w steps other.0 other.1 = other.2 in
@@ -146,111 +147,57 @@ module _ (laws : Laws) where
       let the_course : course_so one.0 a.events ≡ course_so other.0 b.events = cc in
       let endings : one.0 ≡ other.0 = ap (λ (c : Course). c.ending) the_course in
       let events : a.events ≡ b.events = ap (λ (c : Course). c.events) the_course in
-      one.3 ∙ ap₂ seen_run endings (a.is ∙ ap output events ∙ sym b.is) ∙ sym other.3
+      one.3 ∙ ap₂ shown_run endings (a.is ∙ ap output events ∙ sym b.is) ∙ sym other.3
 
-  run_story : (file : Text) (bytes : List ℕ) (w : World) (steps : ℕ) (end : End) → Comes (run_file file steps) bytes w end → Story bytes (IsRunSeen file bytes w steps) (IsRejectedAt file bytes) (seen end)
+  run_story : (file : Text) (bytes : List ℕ) (w : World) (steps : ℕ) (end : End) → Comes (run_file file steps) bytes w end → IsRunShown file bytes w steps (shown end) ⊎ Refuses Product.Verdict file bytes end
   run_story file bytes w steps (put text) is = inl (Ended, text, is, refl)
   run_story file bytes w steps (failed why text) is = inl (Failed why, text, is, refl)
   run_story file bytes w steps (unfinished n text) is = inl (Going, text, is.1, refl)
-  run_story file bytes w steps (bad_source fault) is = inr (inl (fault, is.0, is.1, refl))
-  run_story file bytes w steps (bad_chunk fault) is = inr (inr (inl (fault, is.0, is.1, refl)))
-  run_story file bytes w steps (rejected r) is = inr (inr (inr (r, is, refl)))
-  run_story file bytes w steps (stored text) is = absurd is
+  run_story file bytes w steps end is = inr is
 
-  run_alike : (file : Text) (bytes : List ℕ) (w : World) (steps : ℕ) (a b : End) → Comes (run_file file steps) bytes w a → Comes (run_file file steps) bytes w b → Alike a b
-  run_alike file bytes w steps a b one other =
-      stories file bytes (IsRunSeen file bytes w steps) (IsRejectedAt file bytes)
-      (one_run file bytes w steps)
-      (λ s g. (g.2.chunk, g.2.has))
-      (λ r at. (at.chunk, at.has))
-      (λ s r g at. sound_not_here file bytes g.2.chunk r g.2.has g.2.sound at)
-      (seen a) (seen b) (run_story file bytes w steps a one) (run_story file bytes w steps b other)
+  put_story : (p : Product) (file : Text) (bytes : List ℕ) (w : World) (end : End) → Comes (put_product p file) bytes w end → ((text : List ℕ) × Makes p file bytes text × (shown end ≡ puts Status.Done text)) ⊎ Refuses p file bytes end
+  put_story p file bytes w (put text) is = inl (text, is, refl)
+  put_story p file bytes w end is = inr is
 
-  -- listings
-  abbrev IsListSeen : Text → List ℕ → Seen → Type 0
-  IsListSeen file bytes s = (text : List ℕ) × IsListingOf file bytes text × (s ≡ puts Status.Done text)
-
-  one_listing : (file : Text) (bytes : List ℕ) (s t : Seen) → IsListSeen file bytes s → IsListSeen file bytes t → s ≡ t
-  one_listing file bytes s t one other =
-      let a : IsListingOf file bytes one.0 = one.1 in
-      let b : IsListingOf file bytes other.0 = other.1 in
-      one.2 ∙ ap (puts Status.Done) (a.is ∙ ap listing (same_chunk file bytes a.chunk b.chunk a.has b.has) ∙ sym b.is) ∙ sym other.2
-
-  list_story : (file : Text) (bytes : List ℕ) (w : World) (end : End) → Comes (list_file file) bytes w end → Story bytes (IsListSeen file bytes) (λ r. ⊥) (seen end)
-  list_story file bytes w (put text) is = inl (text, is, refl)
-  list_story file bytes w (bad_source fault) is = inr (inl (fault, is.0, is.1, refl))
-  list_story file bytes w (bad_chunk fault) is = inr (inr (inl (fault, is.0, is.1, refl)))
-  list_story file bytes w end is = absurd is
-
-  list_alike : (file : Text) (bytes : List ℕ) (w : World) (a b : End) → Comes (list_file file) bytes w a → Comes (list_file file) bytes w b → Alike a b
-  list_alike file bytes w a b one other =
-      stories file bytes (IsListSeen file bytes) (λ r. ⊥)
-      (one_listing file bytes)
-      (λ s g. (g.1.chunk, g.1.has))
-      (λ r at. absurd at)
-      (λ s r g at. at)
-      (seen a) (seen b) (list_story file bytes w a one) (list_story file bytes w b other)
-
-  -- verdicts
-  abbrev IsVerifySeen : Text → List ℕ → Seen → Type 0
-  IsVerifySeen file bytes s = (text : List ℕ) × IsVerified file bytes text × (s ≡ puts Status.Done text)
-
-  verify_story : (file : Text) (bytes : List ℕ) (w : World) (end : End) → Comes (verify_file file) bytes w end → Story bytes (IsVerifySeen file bytes) (IsRejectedAt file bytes) (seen end)
-  verify_story file bytes w (put text) is = inl (text, is, refl)
-  verify_story file bytes w (bad_source fault) is = inr (inl (fault, is.0, is.1, refl))
-  verify_story file bytes w (bad_chunk fault) is = inr (inr (inl (fault, is.0, is.1, refl)))
-  verify_story file bytes w (rejected r) is = inr (inr (inr (r, is, refl)))
-  verify_story file bytes w end is = absurd is
-
-  verify_alike : (file : Text) (bytes : List ℕ) (w : World) (a b : End) → Comes (verify_file file) bytes w a → Comes (verify_file file) bytes w b → Alike a b
-  verify_alike file bytes w a b one other =
-      stories file bytes (IsVerifySeen file bytes) (IsRejectedAt file bytes)
-      (λ s t g h. g.2 ∙ ap (puts Status.Done) (g.1.is ∙ sym h.1.is) ∙ sym h.2)
-      (λ s g. (g.1.chunk, g.1.has))
-      (λ r at. (at.chunk, at.has))
-      (λ s r g at. sound_not_here file bytes g.1.chunk r g.1.has g.1.sound at)
-      (seen a) (seen b) (verify_story file bytes w a one) (verify_story file bytes w b other)
-
-  -- compilations
-  one_spelling : (file : Text) (stripped : Bool) (bytes a b : List ℕ) → IsSpellingOf file stripped bytes a → IsSpellingOf file stripped bytes b → a ≡ b
-  one_spelling file stripped bytes a b one other =
-      one.spelled.is ∙ ap (λ c. spelling (items le8 (stripped_if stripped c))) (one_chunk laws file bytes one.chunk other.chunk one.compiled other.compiled) ∙ sym other.spelled.is
-
-  compile_alike : (file out : Text) (strip : Bool) (bytes : List ℕ) (w : World) (a b : End) → Comes (compile_file file out strip) bytes w a → Comes (compile_file file out strip) bytes w b → Alike a b
-  compile_alike file out strip bytes w (stored a) (stored b) one other = ap stores (one_spelling file strip bytes a b one other)
-  compile_alike file out strip bytes w (stored a) (bad_source fault) one other = absurd (no_fault laws bytes one.compiled.source fault one.compiled.accepts other)
-  compile_alike file out strip bytes w (bad_source fault) (stored b) one other = absurd (no_fault laws bytes other.compiled.source fault other.compiled.accepts one)
-  compile_alike file out strip bytes w (bad_source f) (bad_source g) one other = refl
-  compile_alike file out strip bytes w (stored a) b one other = absurd other
-  compile_alike file out strip bytes w (bad_source f) b one other = absurd other
-  compile_alike file out strip bytes w a b one other = absurd one
+  store_story : (p : Product) (file out : Text) (bytes : List ℕ) (w : World) (end : End) → Comes (store_product p file out) bytes w end → ((text : List ℕ) × Makes p file bytes text × (shown end ≡ stores text)) ⊎ Refuses p file bytes end
+  store_story p file out bytes w (stored text) is = inl (text, is, refl)
+  store_story p file out bytes w end is = inr is
 
   pub alike : (job : Job) (bytes : List ℕ) (w : World) (a b : End) → Comes job bytes w a → Comes job bytes w b → Alike a b
-  alike (run_file file steps) bytes w a b one other = run_alike file bytes w steps a b one other
-  alike (list_file file) bytes w a b one other = list_alike file bytes w a b one other
-  alike (verify_file file) bytes w a b one other = verify_alike file bytes w a b one other
-  alike (compile_file file out strip) bytes w a b one other = compile_alike file out strip bytes w a b one other
+  alike (run_file file steps) bytes w a b one other =
+      stories Product.Verdict file bytes (IsRunShown file bytes w steps) (one_run file bytes w steps)
+      (λ s end g refused. sound_refused file bytes g.2.chunk end g.2.has g.2.sound refused)
+      a b (run_story file bytes w steps a one) (run_story file bytes w steps b other)
+  alike (put_product p file) bytes w a b one other =
+      stories p file bytes (λ s. (text : List ℕ) × Makes p file bytes text × (s ≡ puts Status.Done text))
+      (λ s t x y. x.2 ∙ ap (puts Status.Done) (makes_one p file bytes x.0 y.0 x.1 y.1) ∙ sym y.2)
+      (λ s end g refused. makes_refused p file bytes g.0 end g.1 refused)
+      a b (put_story p file bytes w a one) (put_story p file bytes w b other)
+  alike (store_product p file out) bytes w a b one other =
+      stories p file bytes (λ s. (text : List ℕ) × Makes p file bytes text × (s ≡ stores text))
+      (λ s t x y. x.2 ∙ ap stores (makes_one p file bytes x.0 y.0 x.1 y.1) ∙ sym y.2)
+      (λ s end g refused. makes_refused p file bytes g.0 end g.1 refused)
+      a b (store_story p file out bytes w a one) (store_story p file out bytes w b other)
 
   -- what is refused is not run
-  not_run : (file : Text) (steps : ℕ) (bytes : List ℕ) (w : World) (text : List ℕ) (end : End) → HasPut file bytes w.hosts text → Comes (run_file file steps) bytes w end → HasNoOutput end → ⊥
-  not_run file steps bytes w text (bad_source fault) has comes none = has_no_fault file bytes has.chunk fault has.has comes.0 comes.1
-  not_run file steps bytes w text (bad_chunk fault) has comes none = spells_no_fault file bytes has.chunk fault has.has comes.0 comes.1
-  not_run file steps bytes w text (rejected r) has comes none = sound_not_here file bytes has.chunk r has.has has.sound comes
-  not_run file steps bytes w text end has comes none = none
+  run_refused : (file : Text) (steps : ℕ) (bytes : List ℕ) (w : World) (end : End) → Comes (run_file file steps) bytes w end → HasNoOutput end → Refuses Product.Verdict file bytes end
+  run_refused file steps bytes w (bad_source fault) comes none = comes
+  run_refused file steps bytes w (bad_chunk fault) comes none = comes
+  run_refused file steps bytes w (rejected r) comes none = comes
+  run_refused file steps bytes w end comes none = absurd none
 
   pub refused_not_run : (job : Job) (bytes : List ℕ) (w : World) (text : List ℕ) (end : End) → IsRun (Some job) → MayPut job bytes w text → Comes job bytes w end → HasNoOutput end → ⊥
-  refused_not_run (run_file file steps) bytes w text end runs may comes none = not_run file steps bytes w text end may comes none
-  refused_not_run (list_file file) bytes w text end runs may comes none = runs
-  refused_not_run (verify_file file) bytes w text end runs may comes none = runs
-  refused_not_run (compile_file file out strip) bytes w text end runs may comes none = runs
+  refused_not_run (run_file file steps) bytes w text end runs may comes none = sound_refused file bytes may.chunk end may.has may.sound (run_refused file steps bytes w end comes none)
+  refused_not_run (put_product p file) bytes w text end runs may comes none = runs
+  refused_not_run (store_product p file out) bytes w text end runs may comes none = runs
 
 -- of a run that came so far its output may be put
-run_put : (file : Text) (bytes : List ℕ) (w : World) (steps : ℕ) (ending : Ending) (text : List ℕ) → HasRun file bytes w steps ending text → HasPut file bytes w.hosts text
+pub run_put : (file : Text) (bytes : List ℕ) (w : World) (steps : ℕ) (ending : Ending) (text : List ℕ) → HasRun file bytes w steps ending text → HasPut file bytes (hosts_first w) text
 run_put file bytes w steps ending text has = record {
   chunk = has.chunk;
   has = has.has;
   sound = has.sound;
-  replies = replies_of w.calls;
+  replies = replies_of w;
   steps = steps;
   ending = ending;
   events = has.events;
@@ -260,29 +207,26 @@ run_put file bytes w steps ending text has = record {
 
 pub put_may : (job : Job) (bytes : List ℕ) (w : World) (text : List ℕ) → Comes job bytes w (put text) → MayPut job bytes w text
 put_may (run_file file steps) bytes w text comes = run_put file bytes w steps Ended text comes
-put_may (list_file file) bytes w text comes = comes
-put_may (verify_file file) bytes w text comes = comes
-put_may (compile_file file out strip) bytes w text comes = comes
+put_may (put_product p file) bytes w text comes = comes
+put_may (store_product p file out) bytes w text comes = comes
 
 pub failed_may : (job : Job) (bytes : List ℕ) (w : World) (why text : List ℕ) → Comes job bytes w (failed why text) → MayPut job bytes w text
 failed_may (run_file file steps) bytes w why text comes = run_put file bytes w steps (Failed why) text comes
-failed_may (list_file file) bytes w why text comes = absurd comes
-failed_may (verify_file file) bytes w why text comes = absurd comes
-failed_may (compile_file file out strip) bytes w why text comes = absurd comes
+failed_may (put_product p file) bytes w why text comes = absurd comes
+failed_may (store_product p file out) bytes w why text comes = absurd comes
 
 pub unfinished_may : (job : Job) (bytes : List ℕ) (w : World) (n : ℕ) (text : List ℕ) → Comes job bytes w (unfinished n text) → MayPut job bytes w text
 unfinished_may (run_file file steps) bytes w n text comes = run_put file bytes w steps Going text comes.1
-unfinished_may (list_file file) bytes w n text comes = absurd comes
-unfinished_may (verify_file file) bytes w n text comes = absurd comes
-unfinished_may (compile_file file out strip) bytes w n text comes = absurd comes
+unfinished_may (put_product p file) bytes w n text comes = absurd comes
+unfinished_may (store_product p file out) bytes w n text comes = absurd comes
 
 -- so they have one status, and leave the same outside
-abbrev status_seen : Seen → Status
-status_seen (stores text) = Status.Done
-status_seen (puts status text) = status
-status_seen (refuses status) = status
+abbrev status_shown : Shown → Status
+status_shown (stores text) = Status.Done
+status_shown (puts status text) = status
+status_shown (refuses status) = status
 
-status_is : (end : End) → status_seen (seen end) ≡ status_at end
+status_is : (end : End) → status_shown (shown end) ≡ status_at end
 status_is (stored text) = refl
 status_is (put text) = refl
 status_is (failed why text) = refl
@@ -292,51 +236,51 @@ status_is (bad_chunk fault) = refl
 status_is (rejected rejection) = refl
 
 pub alike_status : (a b : End) → Alike a b → status_at a ≡ status_at b
-alike_status a b same = sym (status_is a) ∙ ap status_seen same ∙ status_is b
+alike_status a b same = sym (status_is a) ∙ ap status_shown same ∙ status_is b
 
 -- nor is anything put or stored at one of them where it is not at the other
-abbrev IsRefusedSeen : Seen → Type 0
-IsRefusedSeen (stores text) = ⊥
-IsRefusedSeen (puts status text) = ⊥
-IsRefusedSeen (refuses status) = Unit {0}
+abbrev IsRefusedShown : Shown → Type 0
+IsRefusedShown (stores text) = ⊥
+IsRefusedShown (puts status text) = ⊥
+IsRefusedShown (refuses status) = Unit {0}
 
-none_seen : (end : End) → HasNoOutput end → IsRefusedSeen (seen end)
-none_seen (bad_source fault) none = tt
-none_seen (bad_chunk fault) none = tt
-none_seen (rejected rejection) none = tt
-none_seen end none = absurd none
+none_shown : (end : End) → HasNoOutput end → IsRefusedShown (shown end)
+none_shown (bad_source fault) none = tt
+none_shown (bad_chunk fault) none = tt
+none_shown (rejected rejection) none = tt
+none_shown end none = absurd none
 
-seen_none : (end : End) → IsRefusedSeen (seen end) → HasNoOutput end
-seen_none (bad_source fault) none = tt
-seen_none (bad_chunk fault) none = tt
-seen_none (rejected rejection) none = tt
-seen_none end none = absurd none
+shown_none : (end : End) → IsRefusedShown (shown end) → HasNoOutput end
+shown_none (bad_source fault) none = tt
+shown_none (bad_chunk fault) none = tt
+shown_none (rejected rejection) none = tt
+shown_none end none = absurd none
 
 pub alike_none : (a b : End) → Alike a b → HasNoOutput b → HasNoOutput a
-alike_none a b same none = seen_none a (subst IsRefusedSeen (sym same) (none_seen b none))
+alike_none a b same none = shown_none a (subst IsRefusedShown (sym same) (none_shown b none))
 
-abbrev LeavesSeen : Job → Seen → Outside → Outside → Type 0
-LeavesSeen job (stores text) old new = Leaves job (stored text) old new
-LeavesSeen job (puts status text) old new = Leaves job (put text) old new
-LeavesSeen job (refuses status) old new = (new.contents ≡ old.contents) × Takes old.taken new.taken []
+abbrev LeavesShown : Job → Shown → Outside → Outside → Type 0
+LeavesShown job (stores text) old new = Leaves job (stored text) old new
+LeavesShown job (puts status text) old new = Leaves job (put text) old new
+LeavesShown job (refuses status) old new = (new.contents ≡ old.contents) × Takes old.taken new.taken []
 
-leaves_seen : (job : Job) (end : End) (old new : Outside) → Leaves job end old new → LeavesSeen job (seen end) old new
-leaves_seen job (stored text) old new l = l
-leaves_seen job (put text) old new l = l
-leaves_seen job (failed why text) old new l = l
-leaves_seen job (unfinished steps text) old new l = l
-leaves_seen job (bad_source fault) old new l = l
-leaves_seen job (bad_chunk fault) old new l = l
-leaves_seen job (rejected rejection) old new l = l
+leaves_shown : (job : Job) (end : End) (old new : Outside) → Leaves job end old new → LeavesShown job (shown end) old new
+leaves_shown job (stored text) old new l = l
+leaves_shown job (put text) old new l = l
+leaves_shown job (failed why text) old new l = l
+leaves_shown job (unfinished steps text) old new l = l
+leaves_shown job (bad_source fault) old new l = l
+leaves_shown job (bad_chunk fault) old new l = l
+leaves_shown job (rejected rejection) old new l = l
 
-seen_leaves : (job : Job) (end : End) (old new : Outside) → LeavesSeen job (seen end) old new → Leaves job end old new
-seen_leaves job (stored text) old new l = l
-seen_leaves job (put text) old new l = l
-seen_leaves job (failed why text) old new l = l
-seen_leaves job (unfinished steps text) old new l = l
-seen_leaves job (bad_source fault) old new l = l
-seen_leaves job (bad_chunk fault) old new l = l
-seen_leaves job (rejected rejection) old new l = l
+shown_leaves : (job : Job) (end : End) (old new : Outside) → LeavesShown job (shown end) old new → Leaves job end old new
+shown_leaves job (stored text) old new l = l
+shown_leaves job (put text) old new l = l
+shown_leaves job (failed why text) old new l = l
+shown_leaves job (unfinished steps text) old new l = l
+shown_leaves job (bad_source fault) old new l = l
+shown_leaves job (bad_chunk fault) old new l = l
+shown_leaves job (rejected rejection) old new l = l
 
 pub alike_leaves : (job : Job) (a b : End) (old new : Outside) → Alike a b → Leaves job a old new → Leaves job b old new
-alike_leaves job a b old new same l = seen_leaves job b old new (subst (λ s. LeavesSeen job s old new) same (leaves_seen job a old new l))
+alike_leaves job a b old new same l = shown_leaves job b old new (subst (λ s. LeavesShown job s old new) same (leaves_shown job a old new l))

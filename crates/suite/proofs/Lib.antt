@@ -1,7 +1,6 @@
 pub mod Putting
-pub mod SourceLemmas
+pub mod Reporting
 pub mod FitsStripped
-pub mod Verified
 mod WordLemmas
 pub mod Working
 pub mod Ran
@@ -9,3 +8,4 @@ pub mod Facts
 pub mod Ends
 pub mod Clauses
 pub mod Meant
+pub mod Promised

@@ -5,97 +5,111 @@ use Rattle.std.specs.Prelude.{Option, option_map, option_and_then, codes, if◌t
 use Rattle.std.specs.String.{string_bytes}
 use Rattle.std.specs.Str.{bytes_eq}
 use Rattle.lua_num.specs.Bytes.{Text}
-use Rattle.suite.specs.Words.{Words, Job, list_file, verify_file, Arguments, is_flag, steps_mark, arguments, behind_steps, with_file, with_strip, with_steps, files_alone, one_file, run_of, compilation, job_with, texts, NoCommand}
+use Rattle.chunk_io.specs.declared.layout.Layout.{Layout}
+use Rattle.suite.specs.declared.product.Product.{Product}
+use Rattle.suite.specs.Words.{Words, Job, put_product, Arguments, is_flag, steps_mark, layout_mark, arguments, behind_flag, with_file, with_strip, with_steps, with_layout, files_alone, one_file, run_of, layout_in, spelling_as, compilation, job_with, texts, NoCommand}
 
--- how many words these are at the most, but for `--`: each number of steps is one behind `--steps`
+-- how many words these are at the most, but for `--`: each value of a flag is one behind the flag
 abbrev words_of : Arguments → ℕ
-words_of found = length found.files + found.strips + 2 * length found.steps
+words_of found = length found.files + found.strips + 2 * length found.steps + 2 * length found.layouts
 
--- this many words are files, flags and numbers of steps, but for one
+-- this many words are files, flags and their values, but for one
 abbrev IsMore : ℕ → Option Arguments → Type 0
 IsMore n None = Unit {0}
 IsMore n (Some found) = n ≤ suc (words_of found)
 
-more_file : (word : Text) (n : ℕ) (o : Option Arguments) → IsMore n o → IsMore (suc n) (option_map (with_file word) o)
-more_file word n None h = tt
-more_file word n (Some found) h = omega arith
+-- with one thing more these are so many words more
+record Adds (n : ℕ) (add : Arguments → Arguments) : Type 0 where
+  more : (found : Arguments) → words_of (add found) ≡ words_of found + n
 
-more_strip : (n : ℕ) (o : Option Arguments) → IsMore n o → IsMore (suc n) (option_map with_strip o)
-more_strip n None h = tt
-more_strip n (Some found) h = omega arith
+adds_file : (word : Text) → Adds 1 (with_file word)
+adds_file word = record { more = λ found. omega arith }
 
-more_steps : (number : Text) (n : ℕ) (o : Option Arguments) → IsMore n o → IsMore (suc (suc n)) (option_map (with_steps number) o)
-more_steps number n None h = tt
-more_steps number n (Some found) h = omega arith
+adds_strip : Adds 1 with_strip
+adds_strip = record { more = λ found. omega arith }
 
--- a number of steps in one word
-more_steps_alone : (number : Text) (n : ℕ) (o : Option Arguments) → IsMore n o → IsMore (suc n) (option_map (with_steps number) o)
-more_steps_alone number n None h = tt
-more_steps_alone number n (Some found) h = omega arith
+adds_steps : (number : Text) → Adds 2 (with_steps number)
+adds_steps number = record { more = λ found. omega arith }
 
-word_more : (word : Text) (words : List Text) → IsMore (length words) (arguments words) → IsMore (suc (length words)) (behind_steps words) → IsMore (suc (length words)) (arguments (word ∷ words))
-word_more word words h steps = by (bytes_eq word (codes "--")) (bytes_eq word (codes "--strip")) (bytes_eq word (codes "--steps")) (bytes_eq (take 8 word) steps_mark) (is_flag word)
+adds_layout : (name : Text) → Adds 2 (with_layout name)
+adds_layout name = record { more = λ found. omega arith }
+
+adds_more : (n k m : ℕ) (add : Arguments → Arguments) → Adds k add → m ≤ n + k → (o : Option Arguments) → IsMore n o → IsMore m (option_map add o)
+adds_more n k m add adds within None h = tt
+adds_more n k m add adds within (Some found) h = let more = adds.more found in omega (arith, more, within, h)
+
+word_more : (word : Text) (words : List Text) → IsMore (length words) (arguments words) → IsMore (suc (length words)) (behind_flag with_steps words) → IsMore (suc (length words)) (behind_flag with_layout words) → IsMore (suc (length words)) (arguments (word ∷ words))
+word_more word words h steps layouts = by (bytes_eq word (codes "--")) (bytes_eq word (codes "--strip")) (bytes_eq word (codes "--steps")) (bytes_eq (take 8 word) steps_mark) (bytes_eq word (codes "--layout")) (bytes_eq (take 9 word) layout_mark) (is_flag word)
   where
-    by : (a b c d e : Bool) → IsMore (suc (length words)) (if a then Some (files_alone words) else (if b then option_map with_strip (arguments words) else (if c then behind_steps words else (if d then option_map (with_steps (drop 8 word)) (arguments words) else (if e then None else option_map (with_file word) (arguments words))))))
-    by true b c d e = omega arith
-    by false true c d e = more_strip (length words) (arguments words) h
-    by false false true d e = steps
-    by false false false true e = more_steps_alone (drop 8 word) (length words) (arguments words) h
-    by false false false false true = tt
-    by false false false false false = more_file word (length words) (arguments words) h
+    by : (a b c d e f g : Bool) → IsMore (suc (length words)) (if a then Some (files_alone words) else (if b then option_map with_strip (arguments words) else (if c then behind_flag with_steps words else (if d then option_map (with_steps (drop 8 word)) (arguments words) else (if e then behind_flag with_layout words else (if f then option_map (with_layout (drop 9 word)) (arguments words) else (if g then None else option_map (with_file word) (arguments words))))))))
+    by true b c d e f g = omega arith
+    by false true c d e f g = adds_more (length words) 1 (suc (length words)) with_strip adds_strip (omega arith) (arguments words) h
+    by false false true d e f g = steps
+    by false false false true e f g = adds_more (length words) 2 (suc (length words)) (with_steps (drop 8 word)) (adds_steps (drop 8 word)) (omega arith) (arguments words) h
+    by false false false false true f g = layouts
+    by false false false false false true g = adds_more (length words) 2 (suc (length words)) (with_layout (drop 9 word)) (adds_layout (drop 9 word)) (omega arith) (arguments words) h
+    by false false false false false false true = tt
+    by false false false false false false false = adds_more (length words) 1 (suc (length words)) (with_file word) (adds_file word) (omega arith) (arguments words) h
 
 mutual
   arguments_more : (words : List Text) → IsMore (length words) (arguments words)
   arguments_more [] = omega arith
-  arguments_more (word ∷ words) = word_more word words (arguments_more words) (behind_more words)
+  arguments_more (word ∷ words) = word_more word words (arguments_more words) (behind_more with_steps adds_steps words) (behind_more with_layout adds_layout words)
 
-  behind_more : (words : List Text) → IsMore (suc (length words)) (behind_steps words)
-  behind_more [] = tt
-  behind_more (number ∷ words) = more_steps number (length words) (arguments words) (arguments_more words)
+  behind_more : (with_value : Text → Arguments → Arguments) → ((value : Text) → Adds 2 (with_value value)) → (words : List Text) → IsMore (suc (length words)) (behind_flag with_value words)
+  behind_more with_value adds [] = tt
+  behind_more with_value adds (value ∷ words) = adds_more (length words) 2 (suc (suc (length words))) (with_value value) (adds value) (omega arith) (arguments words) (arguments_more words)
 
-no_file : (f : Text → Job) (files : List Text) (strips : ℕ) (steps : List Text) → 4 ≤ length files + strips + 2 * length steps → option_map f (one_file files strips steps) ≡ None
-no_file f [] strips steps many = refl
-no_file f (file ∷ []) zero [] many = absurd (omega arith)
-no_file f (file ∷ []) zero (number ∷ steps) many = refl
-no_file f (file ∷ []) (suc n) steps many = refl
-no_file f (file ∷ other ∷ files) strips steps many = refl
+no_file : (f : Text → Job) (files : List Text) (strips : ℕ) (steps layouts : List Text) → 6 ≤ length files + strips + 2 * length steps + 2 * length layouts → option_map f (one_file files strips steps layouts) ≡ None
+no_file f [] strips steps layouts many = refl
+no_file f (file ∷ []) zero [] [] many = absurd (omega arith)
+no_file f (file ∷ []) zero [] (name ∷ layouts) many = refl
+no_file f (file ∷ []) zero (number ∷ steps) layouts many = refl
+no_file f (file ∷ []) (suc n) steps layouts many = refl
+no_file f (file ∷ other ∷ files) strips steps layouts many = refl
 
-no_run : (files : List Text) (strips : ℕ) (steps : List Text) → 4 ≤ length files + strips + 2 * length steps → run_of files strips steps ≡ None
-no_run [] strips steps many = refl
-no_run (file ∷ []) zero [] many = absurd (omega arith)
-no_run (file ∷ []) zero (number ∷ []) many = absurd (omega arith)
-no_run (file ∷ []) zero (number ∷ other ∷ steps) many = refl
-no_run (file ∷ []) (suc n) steps many = refl
-no_run (file ∷ other ∷ files) strips steps many = refl
+no_run : (files : List Text) (strips : ℕ) (steps layouts : List Text) → 6 ≤ length files + strips + 2 * length steps + 2 * length layouts → run_of files strips steps layouts ≡ None
+no_run [] strips steps layouts many = refl
+no_run (file ∷ []) zero [] [] many = absurd (omega arith)
+no_run (file ∷ []) zero [] (name ∷ layouts) many = refl
+no_run (file ∷ []) zero (number ∷ []) [] many = absurd (omega arith)
+no_run (file ∷ []) zero (number ∷ []) (name ∷ layouts) many = refl
+no_run (file ∷ []) zero (number ∷ other ∷ steps) layouts many = refl
+no_run (file ∷ []) (suc n) steps layouts many = refl
+no_run (file ∷ other ∷ files) strips steps layouts many = refl
 
-no_compilation : (files : List Text) (strips : ℕ) (steps : List Text) → 4 ≤ length files + strips + 2 * length steps → compilation files strips steps ≡ None
-no_compilation [] strips steps many = refl
-no_compilation (file ∷ []) strips steps many = refl
-no_compilation (file ∷ out ∷ []) zero [] many = absurd (omega arith)
-no_compilation (file ∷ out ∷ []) zero (number ∷ steps) many = refl
-no_compilation (file ∷ out ∷ []) (suc zero) [] many = absurd (omega arith)
-no_compilation (file ∷ out ∷ []) (suc zero) (number ∷ steps) many = refl
-no_compilation (file ∷ out ∷ []) (suc (suc n)) steps many = refl
-no_compilation (file ∷ out ∷ more ∷ files) strips steps many = refl
+no_layout : (f : Layout → Option Job) (layouts : List Text) → 2 ≤ length layouts → option_and_then f (layout_in layouts) ≡ None
+no_layout f [] many = absurd (omega arith)
+no_layout f (name ∷ []) many = absurd (omega arith)
+no_layout f (name ∷ other ∷ layouts) many = refl
 
-no_job : (first : Text) (found : Arguments) → 4 ≤ words_of found → job_with first found ≡ None
+no_compilation : (files : List Text) (strips : ℕ) (steps layouts : List Text) → 6 ≤ length files + strips + 2 * length steps + 2 * length layouts → compilation files strips steps layouts ≡ None
+no_compilation [] strips steps layouts many = refl
+no_compilation (file ∷ []) strips steps layouts many = refl
+no_compilation (file ∷ out ∷ []) zero [] layouts many = no_layout (spelling_as file out false) layouts (omega arith)
+no_compilation (file ∷ out ∷ []) (suc zero) [] layouts many = no_layout (spelling_as file out true) layouts (omega arith)
+no_compilation (file ∷ out ∷ []) (suc (suc n)) [] layouts many = refl
+no_compilation (file ∷ out ∷ []) strips (number ∷ steps) layouts many = refl
+no_compilation (file ∷ out ∷ more ∷ files) strips steps layouts many = refl
+
+no_job : (first : Text) (found : Arguments) → 6 ≤ words_of found → job_with first found ≡ None
 no_job first found many = by (bytes_eq first (codes "run")) (bytes_eq first (codes "list")) (bytes_eq first (codes "verify")) (bytes_eq first (codes "compile"))
   where
-    by : (a b c d : Bool) → (if a then run_of found.files found.strips found.steps else (if b then option_map list_file (one_file found.files found.strips found.steps) else (if c then option_map verify_file (one_file found.files found.strips found.steps) else (if d then compilation found.files found.strips found.steps else None)))) ≡ None
-    by true b c d = no_run found.files found.strips found.steps many
-    by false true c d = no_file list_file found.files found.strips found.steps many
-    by false false true d = no_file verify_file found.files found.strips found.steps many
-    by false false false true = no_compilation found.files found.strips found.steps many
+    by : (a b c d : Bool) → (if a then run_of found.files found.strips found.steps found.layouts else (if b then option_map (put_product Product.Listing) (one_file found.files found.strips found.steps found.layouts) else (if c then option_map (put_product Product.Verdict) (one_file found.files found.strips found.steps found.layouts) else (if d then compilation found.files found.strips found.steps found.layouts else None)))) ≡ None
+    by true b c d = no_run found.files found.strips found.steps found.layouts many
+    by false true c d = no_file (put_product Product.Listing) found.files found.strips found.steps found.layouts many
+    by false false true d = no_file (put_product Product.Verdict) found.files found.strips found.steps found.layouts many
+    by false false false true = no_compilation found.files found.strips found.steps found.layouts many
     by false false false false = refl
 
--- more than four words behind the first are no command
-too_many_words : (first : Text) (words : Words) → 4 < length words → option_and_then (job_with first) (arguments (texts words)) ≡ None
+-- more than six words behind the first are no command
+too_many_words : (first : Text) (words : Words) → 6 < length words → option_and_then (job_with first) (arguments (texts words)) ≡ None
 too_many_words first words many = by (arguments (texts words)) (subst (λ n. IsMore n (arguments (texts words))) (length-map words string_bytes) (arguments_more (texts words)))
   where
     by : (o : Option Arguments) → IsMore (length words) o → option_and_then (job_with first) o ≡ None
     by None more = refl
     by (Some found) more = no_job first found (omega arith)
 
-pub too_long : (words : Words) → 5 < length words → NoCommand words
+pub too_long : (words : Words) → 7 < length words → NoCommand words
 too_long [] many = absurd (omega arith)
 too_long (first ∷ rest) many = too_many_words (string_bytes first) rest (omega arith)

@@ -1,68 +1,86 @@
 -- What is refused, and for which memory ran out, is carried out by putting and storing nothing.
-use Rattle.std.proofs.Common.{◌≡◌, ℕ, true, false, List, [], ◌∷◌, ◌++◌, Option, Some, IfSome, inl, inr, refl, subst}
+use Rattle.std.proofs.Common.{◌≡◌, ℕ, Bool, false, List, [], ◌∷◌, ◌++◌, Option, Some, IfSome, inl, inr, refl, subst}
 use Rattle.std.specs.FinMap.{get}
 use Rattle.lua_num.specs.Bytes.{Text}
+use Rattle.proto.specs.Chunk.{Chunk}
 use Rattle.chunk_io.specs.declared.fault.ChunkFault.{ChunkFault}
-use Rattle.chunk_io.specs.Faults.{IsFault}
-use Rattle.first_form.specs.Source.{is_chunk}
-use Rattle.suite.specs.declared.fault.Fault.{Fault}
-use Rattle.suite.specs.declared.outcome.Outcome.{Outcome}
-use Rattle.suite.specs.declared.source.SourceFault.{SourceFault}
-use Rattle.suite.specs.Words.{Job, run_file, list_file, verify_file, file_of}
-use Rattle.suite.specs.Worlds.{World}
-use Rattle.suite.specs.Outcome.{IsFaultIn}
-use Rattle.suite.specs.Jobs.{put, bad_source, bad_chunk, rejected, Comes}
-use Rattle.suite.specs.Reading.{IsRefusal, HasNone, outcome_of}
-use Rattle.suite.specs.Work.{Outside, Unasked, Nothing, Does, PutsText, Works, outside, fetched}
-use Rattle.host.specs.Hosts.{HostSetState}
+use Rattle.chunk_io.specs.declared.layout.Layout.{Layout}
+use Rattle.chunk_io.specs.Items.{is_chunk}
+use Rattle.front.specs.declared.fault.Fault.{Fault}
 use Rattle.suite_io.specs.declared.calls.FileCall.{FileCall}
 use Rattle.suite_io.specs.Calls.{call_of}
 use Rattle.suite_io.specs.Contents.{Contents}
 use Rattle.suite_io.proofs.TakenPieces.{takes_none}
+use Rattle.suite.specs.declared.outcome.Outcome.{Outcome}
+use Rattle.suite.specs.declared.product.Product.{Product}
+use Rattle.suite.specs.declared.rejection.Rejection.{Rejection}
+use Rattle.suite.specs.Words.{Job, run_file, put_product, store_product, file_of}
+use Rattle.suite.specs.Worlds.{World, Unasked}
+use Rattle.suite.specs.Seen.{Outside, outside}
+use Rattle.suite.specs.Jobs.{put, stored, bad_source, bad_chunk, rejected, HasChunk, Makes, Refuses, Comes}
+use Rattle.suite.specs.Refusing.{IsBadSource, HasNone, IsRefused, IsRefusal}
+use Rattle.suite.specs.Work.{Nothing, Does, DoesAlone, PutsText, StoresText, Works, fetched}
 
-pub nothing : (o : Outside) → Nothing o o
+nothing : (o : Outside) → Nothing o o
 nothing o = (record { contents = refl; calls = refl }, takes_none o.taken)
 
-pub refusal : (job : Job) (bytes : List ℕ) (w : World) (outcome : Outcome) (o : Outside) → IsRefusal job bytes outcome → Does job bytes w outcome o o
-refusal job bytes w (Outcome.BadSource fault) o is = inl (record { end = bad_source fault; comes = is w; carried = (refl, nothing o) })
-refusal job bytes w (Outcome.BadChunk fault) o is = inl (record { end = bad_chunk fault; comes = is w; carried = (refl, nothing o) })
-refusal job bytes w (Outcome.Rejected rejection) o is = inl (record { end = rejected rejection; comes = is w; carried = (refl, nothing o) })
-refusal job bytes w Outcome.OutOfMemory o is = inr (inr (refl, nothing o))
-refusal job bytes w outcome o is = absurd is
+-- a job for which a file is refused as for a text
+module _ (job : Job) (p : Product) (file : Text) (bytes : List ℕ) (w : World) (o : Outside)
+    (source : (fault : Fault) → Refuses p file bytes (bad_source fault) → Comes job bytes w (bad_source fault))
+    (chunk : (fault : ChunkFault) → Refuses p file bytes (bad_chunk fault) → Comes job bytes w (bad_chunk fault))
+    (reject : (r : Rejection) → Refuses p file bytes (rejected r) → Comes job bytes w (rejected r)) where
+  refused_does : (outcome : Outcome) → Unasked w → IsRefusal p file bytes outcome → Does job bytes w outcome o o
+  refused_does (Outcome.BadSource fault) unasked is = inl (record { end = bad_source fault; comes = source fault is; carried = (refl, nothing o); asks = inr unasked })
+  refused_does (Outcome.BadChunk fault) unasked is = inl (record { end = bad_chunk fault; comes = chunk fault is; carried = (refl, nothing o); asks = inr unasked })
+  refused_does (Outcome.Rejected r) unasked is = inl (record { end = rejected r; comes = reject r is; carried = (refl, nothing o); asks = inr unasked })
+  refused_does Outcome.OutOfMemory unasked is = inr (inr (refl, nothing o, unasked))
+  refused_does outcome unasked is = absurd is
 
--- where hosts are as they were, they are so at each outcome
-pub unasked_same : (outcome : Outcome) (before behind : HostSetState) → behind ≡ before → Unasked outcome before behind
-unasked_same Outcome.BadWords before behind same = same
-unasked_same (Outcome.BadSource fault) before behind same = same
-unasked_same (Outcome.BadChunk fault) before behind same = same
-unasked_same (Outcome.Rejected rejection) before behind same = same
-unasked_same Outcome.ReadFault before behind same = same
-unasked_same outcome before behind same = tt
+pub run_refused : (file : Text) (steps : ℕ) (bytes : List ℕ) (w : World) (outcome : Outcome) (o : Outside) → Unasked w → IsRefusal Product.Verdict file bytes outcome → Does (run_file file steps) bytes w outcome o o
+run_refused file steps bytes w outcome o = refused_does (run_file file steps) Product.Verdict file bytes w o (λ f r. r) (λ f r. r) (λ f r. r) outcome
 
--- what a fault of reading comes to is a refusal
-pub fault_refused : (job : Job) (bytes : List ℕ) (fault : SourceFault) → ((why : Fault) → fault ≡ SourceFault.Bad why → (w : World) → Comes job bytes w (bad_source why)) → IsRefusal job bytes (outcome_of fault)
-fault_refused job bytes (SourceFault.Bad why) bad = bad why refl
-fault_refused job bytes SourceFault.OutOfMemory bad = tt
+pub put_refused : (p : Product) (file : Text) (bytes : List ℕ) (outcome : Outcome) (o : Outside) → IsRefusal p file bytes outcome → DoesAlone (put_product p file) bytes outcome o o
+put_refused p file bytes outcome o is = λ w unasked. refused_does (put_product p file) p file bytes w o (λ f r. r) (λ f r. r) (λ f r. r) outcome unasked is
 
--- a file without a chunk is refused for each job that wants one
-none_refused : (job : Job) (bytes : List ℕ) (outcome : Outcome) → ((fault : Fault) (w : World) → (is_chunk bytes ≡ false) × IsFaultIn bytes fault → Comes job bytes w (bad_source fault)) → ((fault : ChunkFault) (w : World) → (is_chunk bytes ≡ true) × IsFault bytes fault → Comes job bytes w (bad_chunk fault)) → HasNone bytes outcome → IsRefusal job bytes outcome
-none_refused job bytes (Outcome.BadSource fault) source chunk none = λ w. source fault w none
-none_refused job bytes (Outcome.BadChunk fault) source chunk none = λ w. chunk fault w none
-none_refused job bytes Outcome.OutOfMemory source chunk none = tt
-none_refused job bytes outcome source chunk none = absurd none
+pub store_refused : (p : Product) (file out : Text) (bytes : List ℕ) (outcome : Outcome) (o : Outside) → IsRefusal p file bytes outcome → DoesAlone (store_product p file out) bytes outcome o o
+store_refused p file out bytes outcome o is = λ w unasked. refused_does (store_product p file out) p file bytes w o (λ f r. r) (λ f r. r) (λ f r. r) outcome unasked is
 
-pub run_refused : (file : Text) (steps : ℕ) (bytes : List ℕ) (outcome : Outcome) → HasNone bytes outcome → IsRefusal (run_file file steps) bytes outcome
-run_refused file steps bytes outcome none = none_refused (run_file file steps) bytes outcome (λ fault w is. is) (λ fault w is. is) none
+-- a text that was made is put or stored
+pub put_does : (p : Product) (file : Text) (bytes text : List ℕ) (outcome : Outcome) (old new : Outside) → Makes p file bytes text → PutsText text outcome old new → DoesAlone (put_product p file) bytes outcome old new
+put_does p file bytes text outcome old new makes puts = λ w unasked. inl (record { end = put text; comes = makes; carried = puts; asks = inr unasked })
 
-pub list_refused : (file : Text) (bytes : List ℕ) (outcome : Outcome) → HasNone bytes outcome → IsRefusal (list_file file) bytes outcome
-list_refused file bytes outcome none = none_refused (list_file file) bytes outcome (λ fault w is. is) (λ fault w is. is) none
+pub store_does : (p : Product) (file out : Text) (bytes text : List ℕ) (outcome : Outcome) (old new : Outside) → Makes p file bytes text → StoresText out text outcome old new → DoesAlone (store_product p file out) bytes outcome old new
+store_does p file out bytes text outcome old new makes stores = λ w unasked. inl (record { end = stored text; comes = makes; carried = stores; asks = inr unasked })
 
-pub verify_refused : (file : Text) (bytes : List ℕ) (outcome : Outcome) → HasNone bytes outcome → IsRefusal (verify_file file) bytes outcome
-verify_refused file bytes outcome none = none_refused (verify_file file) bytes outcome (λ fault w is. is) (λ fault w is. is) none
+-- a file without a chunk is refused for each text
+pub none_listed : (file : Text) (bytes : List ℕ) (outcome : Outcome) → HasNone bytes outcome → IsRefusal Product.Listing file bytes outcome
+none_listed file bytes (Outcome.BadSource fault) none = none
+none_listed file bytes (Outcome.BadChunk fault) none = none
+none_listed file bytes Outcome.OutOfMemory none = tt
+none_listed file bytes outcome none = absurd none
 
--- what is put is what the job comes to
-pub put_does : (job : Job) (bytes : List ℕ) (w : World) (text : List ℕ) (outcome : Outcome) (old new : Outside) → Comes job bytes w (put text) → PutsText text outcome old new → Does job bytes w outcome old new
-put_does job bytes w text outcome old new comes puts = inl (record { end = put text; comes = comes; carried = puts })
+pub none_verified : (file : Text) (bytes : List ℕ) (outcome : Outcome) → HasNone bytes outcome → IsRefusal Product.Verdict file bytes outcome
+none_verified file bytes (Outcome.BadSource fault) none = none
+none_verified file bytes (Outcome.BadChunk fault) none = none
+none_verified file bytes Outcome.OutOfMemory none = tt
+none_verified file bytes outcome none = absurd none
+
+pub none_spelled : (file : Text) (strip : Bool) (layout : Layout) (bytes : List ℕ) (outcome : Outcome) → IsBadSource bytes outcome → IsRefusal (Product.Spelling strip layout) file bytes outcome
+none_spelled file strip layout bytes (Outcome.BadSource fault) bad = (tt, bad)
+none_spelled file strip layout bytes Outcome.OutOfMemory bad = tt
+none_spelled file strip layout bytes outcome bad = absurd bad
+
+-- a file that is no chunk has none where it is no good source
+pub bad_none : (bytes : List ℕ) (outcome : Outcome) → is_chunk bytes ≡ false → IsBadSource bytes outcome → HasNone bytes outcome
+bad_none bytes (Outcome.BadSource fault) other bad = (other, bad)
+bad_none bytes Outcome.OutOfMemory other bad = tt
+bad_none bytes outcome other bad = absurd bad
+
+-- nor has one a good verdict whose chunk is rejected
+pub not_sound : (file : Text) (bytes : List ℕ) (chunk : Chunk) (outcome : Outcome) → HasChunk file bytes chunk → IsRefused chunk outcome → IsRefusal Product.Verdict file bytes outcome
+not_sound file bytes chunk (Outcome.Rejected r) has is = record { wants = tt; chunk = chunk; has = has; rejected = is }
+not_sound file bytes chunk Outcome.OutOfMemory has is = tt
+not_sound file bytes chunk outcome has is = absurd is
 
 -- a command comes to what is done with the bytes that were fetched
 pub fetched_does : (job : Job) (w : World) (name : Text) (bytes given : List ℕ) (outcome : Outcome) (contents then : Option Contents) (calls later : List FileCall) (taken : Option (List ℕ)) (faults : ℕ) (new : Outside) → name ≡ file_of job → given ≡ bytes → then ≡ contents → later ≡ calls ++ call_of false name false ∷ [] → IfSome contents (λ held. get held name ≡ Some bytes) → Does job given w outcome (outside then later taken faults) new → Works (Some job) w outcome (outside contents calls taken faults) new

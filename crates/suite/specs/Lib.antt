@@ -1,10 +1,12 @@
 pub mod Words
 pub mod Arguments
+pub mod Rejections
 pub mod Lines
-pub mod Outcome
 pub mod Worlds
+pub mod Seen
 pub mod Jobs
 pub mod Work
 pub mod Causes
-pub mod Reading
-pub mod Verifying
+pub mod Meant
+pub mod Promises
+pub mod Refusing

@@ -4,21 +4,14 @@ use Rattle.std.specs.FinMap.{get}
 use Rattle.lua_num.specs.Bytes.{Text}
 use Rattle.suite_io.specs.declared.calls.FileCall.{FileCall}
 use Rattle.suite_io.specs.Calls.{call_of}
-use Rattle.suite_io.specs.Contents.{Contents, Stores, OthersStay}
+use Rattle.suite_io.specs.Contents.{Stores, OthersStay}
+use Rattle.suite_io.specs.Parts.{TakesPart}
 use Rattle.suite_io.specs.Taken.{Takes, Rises}
 use Rattle.suite.specs.declared.outcome.Outcome.{Outcome}
-use Rattle.suite_io.specs.Parts.{TakesPart}
-use Rattle.host.specs.Hosts.{HostSetState}
-use Rattle.suite.specs.Words.{Job, run_file, list_file, verify_file, compile_file, file_of}
-use Rattle.suite.specs.Worlds.{World}
-use Rattle.suite.specs.Jobs.{End, stored, put, failed, unfinished, bad_source, bad_chunk, rejected, Comes, HasPut, HasStopped}
-
--- what is seen of the outside: what files hold and the calls of them, what the sink took and its count of faults
-pub record Outside : Type 0 where
-  pub contents : Option Contents
-  pub calls : List FileCall
-  pub taken : Option (List ℕ)
-  pub faults : ℕ
+use Rattle.suite.specs.Words.{Job, run_file, put_product, store_product, file_of}
+use Rattle.suite.specs.Seen.{Outside}
+use Rattle.suite.specs.Worlds.{World, hosts_first, Unasked}
+use Rattle.suite.specs.Jobs.{End, stored, put, failed, unfinished, bad_source, bad_chunk, rejected, Comes, HasPut, HasStopped, HasGivenUp}
 
 -- one call of files more, which changes nothing else
 abbrev pub with_call : FileCall → Outside → Outside
@@ -56,16 +49,15 @@ StoresText out text outcome old new = ⊥
 abbrev pub Nothing : Outside → Outside → Type 0
 Nothing old new = FilesStay old new × Takes old.taken new.taken []
 
--- the file into which a job compiles
+-- the file under which a job stores
 abbrev pub out_of : Job → Text
 out_of (run_file file steps) = []
-out_of (list_file file) = []
-out_of (verify_file file) = []
-out_of (compile_file file out strip) = out
+out_of (put_product product file) = []
+out_of (store_product product file out) = out
 
-abbrev pub IsCompilation : Job → Type 0
-IsCompilation (compile_file file out strip) = Unit {0}
-IsCompilation job = ⊥
+abbrev pub IsStore : Job → Type 0
+IsStore (store_product product file out) = Unit {0}
+IsStore job = ⊥
 
 -- how what a job comes to is carried out
 abbrev pub CarriesOut : Job → End → Outcome → Outside → Outside → Type 0
@@ -77,45 +69,50 @@ CarriesOut job (bad_source fault) outcome old new = (outcome ≡ Outcome.BadSour
 CarriesOut job (bad_chunk fault) outcome old new = (outcome ≡ Outcome.BadChunk fault) × Nothing old new
 CarriesOut job (rejected rejection) outcome old new = (outcome ≡ Outcome.Rejected rejection) × Nothing old new
 
+-- a run alone asks hosts, where it is begun
+abbrev pub MayAsk : Job → End → Type 0
+MayAsk (run_file file steps) (put text) = Unit {0}
+MayAsk (run_file file steps) (failed why text) = Unit {0}
+MayAsk (run_file file steps) (unfinished n text) = Unit {0}
+MayAsk job end = ⊥
+
 -- a job with the bytes that were fetched
 pub record Carried (job : Job) (bytes : List ℕ) (w : World) (outcome : Outcome) (old new : Outside) : Type 0 where
   pub end : End
   pub comes : Comes job bytes w end
   pub carried : CarriesOut job end outcome old new
+  pub asks : MayAsk job end ⊎ Unasked w
 
 -- it is a run that is asked for
 abbrev pub IsRun : Option Job → Type 0
 IsRun (Some (run_file file steps)) = Unit {0}
 IsRun asked = ⊥
 
--- a run stopped where the sink failed or memory ran out
-abbrev pub IsStop : Outcome → ℕ → ℕ → Type 0
-IsStop Outcome.WriteFault old new = Rises old new
-IsStop Outcome.OutOfMemory old new = Unit {0}
-IsStop outcome old new = ⊥
-
 -- what is put for a job, whole or a first part of it: of a run its output after some steps
 abbrev pub MayPut : Job → List ℕ → World → List ℕ → Type 0
-MayPut (run_file file steps) bytes w text = HasPut file bytes w.hosts text
+MayPut (run_file file steps) bytes w text = HasPut file bytes (hosts_first w) text
 MayPut job bytes w text = Comes job bytes w (put text)
 
--- it is the output of a run with the replies that the hosts gave
-abbrev pub IsLogged : Job → List ℕ → World → List ℕ → Type 0
-IsLogged (run_file file steps) bytes w text = HasStopped file bytes w text
-IsLogged job bytes w text = ⊥
+-- how a run stopped: where the sink failed, whose count of faults rose, or where memory ran out
+abbrev pub StopsSo : Job → List ℕ → World → List ℕ → Outcome → ℕ → ℕ → Type 0
+StopsSo (run_file file steps) bytes w text Outcome.WriteFault old new = HasStopped file bytes w steps text × Rises old new
+StopsSo (run_file file steps) bytes w text Outcome.OutOfMemory old new = HasGivenUp file bytes w steps text
+StopsSo job bytes w text outcome old new = ⊥
 
 pub record Stopped (job : Job) (bytes : List ℕ) (w : World) (outcome : Outcome) (old new : Outside) : Type 0 where
-  pub runs : IsRun (Some job)
-  pub stop : IsStop outcome old.faults new.faults
-  pub files : FilesStay old new
   pub text : List ℕ
+  pub so : StopsSo job bytes w text outcome old.faults new.faults
   pub output : MayPut job bytes w text
-  pub logged : outcome ≡ Outcome.WriteFault → IsLogged job bytes w text
+  pub files : FilesStay old new
   pub part : TakesPart old.taken new.taken text
 
 -- it is carried out, or its run stopped, or memory ran out before it was known what it comes to
 abbrev pub Does : Job → List ℕ → World → Outcome → Outside → Outside → Type 0
-Does job bytes w outcome old new = Carried job bytes w outcome old new ⊎ Stopped job bytes w outcome old new ⊎ ((outcome ≡ Outcome.OutOfMemory) × Nothing old new)
+Does job bytes w outcome old new = Carried job bytes w outcome old new ⊎ Stopped job bytes w outcome old new ⊎ ((outcome ≡ Outcome.OutOfMemory) × Nothing old new × Unasked w)
+
+-- the same whatever hosts there are, which are not asked
+abbrev pub DoesAlone : Job → List ℕ → Outcome → Outside → Outside → Type 0
+DoesAlone job bytes outcome old new = (w : World) → Unasked w → Does job bytes w outcome old new
 
 pub record DoesFetched (job : Job) (w : World) (outcome : Outcome) (old new : Outside) : Type 0 where
   pub bytes : List ℕ
@@ -124,20 +121,8 @@ pub record DoesFetched (job : Job) (w : World) (outcome : Outcome) (old new : Ou
 
 -- what words come to that ask for a job, or for none: the order is words, the fetch of their file, and then the job
 abbrev pub Works : Option Job → World → Outcome → Outside → Outside → Type 0
-Works None w outcome old new = (outcome ≡ Outcome.BadWords) × (new ≡ old)
+Works None w outcome old new = (outcome ≡ Outcome.BadWords) × (new ≡ old) × Unasked w
 Works (Some job) w outcome old new =
-    ((outcome ≡ Outcome.ReadFault) × (new ≡ fetched job true old))
-    ⊎ ((outcome ≡ Outcome.OutOfMemory) × (new ≡ old))
+    ((outcome ≡ Outcome.ReadFault) × (new ≡ fetched job true old) × Unasked w)
+    ⊎ ((outcome ≡ Outcome.OutOfMemory) × (new ≡ old) × Unasked w)
     ⊎ DoesFetched job w outcome old new
-
--- hosts are as they were, where the work ended before a run began
-abbrev pub Unasked : Outcome → HostSetState → HostSetState → Type 0
-Unasked Outcome.BadWords before behind = behind ≡ before
-Unasked (Outcome.BadSource fault) before behind = behind ≡ before
-Unasked (Outcome.BadChunk fault) before behind = behind ≡ before
-Unasked (Outcome.Rejected rejection) before behind = behind ≡ before
-Unasked Outcome.ReadFault before behind = behind ≡ before
-Unasked outcome before behind = Unit {0}
-
-abbrev pub outside : Option Contents → List FileCall → Option (List ℕ) → ℕ → Outside
-outside contents calls taken faults = record { contents = contents; calls = calls; taken = taken; faults = faults }

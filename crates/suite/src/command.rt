@@ -1,19 +1,23 @@
 // Carrying out a command.
-ghost use Rattle.std.specs.Prelude.{◌≡◌, ◌≤◌, ◌⊎◌, Some, Option, List};
+ghost use Rattle.std.specs.Prelude.{Some, ℕ, List, Option};
+ghost use Rattle.std.specs.String.{string_bytes};
+ghost use Rattle.suite_io.specs.declared.calls.FileCall.{FileCall};
+ghost use Rattle.suite_io.specs.Contents.{Contents};
 ghost use Rattle.host.specs.Views.{set_told};
-ghost use Rattle.suite.specs.Words.{job_of};
-ghost use Rattle.suite.specs.Worlds.{world};
-ghost use Rattle.suite.specs.Work.{Works, Does, IsRun, Unasked, outside};
+ghost use Rattle.suite.specs.Words.{job_of, put_product as put_job, store_product as store_job};
+ghost use Rattle.suite.specs.Seen.{outside};
+ghost use Rattle.suite.specs.Worlds.{World, world};
+ghost use Rattle.suite.specs.Work.{Works, Does, DoesAlone};
 
-use crate::compiling::compile_file;
-use crate::listing::list_bytes;
+use crate::making::made_text;
 use crate::outcome::Outcome;
+use crate::output::{put_text, store_text};
+use crate::product::Product;
 use crate::running::run_bytes;
-use crate::verifying::verify_bytes;
 use crate::words::Command;
 use host::HostSet;
 use std::alloc::Global;
-use suite_io::{FileFault, Files, Sink};
+use suite_io::{FileFault, Files, Sink, Word};
 
 /// Fetches the file of a command, and does with its bytes what the command asks for.
 pub fn do_command<F: Files, O: Sink>(
@@ -23,10 +27,7 @@ pub fn do_command<F: Files, O: Sink>(
     out: &mut O,
     hosts: &mut HostSet,
 ) -> Outcome
-    ensures works { Works (Some (job_of command.entry)) (world (set_told heard hosts.old) (set_told heard hosts.new)) result (outside (F.contents files.old) (F.calls files.old) (O.taken out.old) (O.faults out.old)) (outside (F.contents files.new) (F.calls files.new) (O.taken out.new) (O.faults out.new)) }
-    ensures hosts { IsRun (Some (job_of command.entry)) ⊎ (set_told heard hosts.new ≡ set_told heard hosts.old) }
-    ensures unasked { Unasked result (set_told heard hosts.old) (set_told heard hosts.new) }
-    ensures never_falls { O.faults out.old ≤ O.faults out.new }
+    ensures { Works (Some (job_of command.entry)) (world (set_told heard hosts.old) (set_told heard hosts.new)) result (outside (F.contents files.old) (F.calls files.old) (O.taken out.old) (O.faults out.old)) (outside (F.contents files.new) (F.calls files.new) (O.taken out.new) (O.faults out.new)) }
 {
     match files.fetch(alloc, command.file()) {
         Ok(bytes) => do_bytes(alloc, command, bytes.bytes(), files, out, hosts),
@@ -43,19 +44,48 @@ fn do_bytes<F: Files, O: Sink>(
     out: &mut O,
     hosts: &mut HostSet,
 ) -> Outcome
-    ensures does { Does (job_of command.entry) bytes.now (world (set_told heard hosts.old) (set_told heard hosts.new)) result (outside (F.contents files.old) (F.calls files.old) (O.taken out.old) (O.faults out.old)) (outside (F.contents files.new) (F.calls files.new) (O.taken out.new) (O.faults out.new)) }
-    ensures hosts { IsRun (Some (job_of command.entry)) ⊎ (set_told heard hosts.new ≡ set_told heard hosts.old) }
-    ensures unasked { Unasked result (set_told heard hosts.old) (set_told heard hosts.new) }
-    ensures never_falls { O.faults out.old ≤ O.faults out.new }
+    ensures { Does (job_of command.entry) bytes.now (world (set_told heard hosts.old) (set_told heard hosts.new)) result (outside (F.contents files.old) (F.calls files.old) (O.taken out.old) (O.faults out.old)) (outside (F.contents files.new) (F.calls files.new) (O.taken out.new) (O.faults out.new)) }
 {
     match command {
         Command::Run { file, steps } => run_bytes(alloc, bytes, file, steps, out, hosts),
-        Command::List { file } => list_bytes(alloc, bytes, file, out),
-        Command::Verify { file } => verify_bytes(alloc, bytes, file, out),
-        Command::Compile {
-            source,
+        Command::Put { product, file } => put_product(alloc, bytes, file, product, out),
+        Command::Store {
+            product,
+            file,
             out: name,
-            strip,
-        } => compile_file(alloc, bytes, source, name, strip, files),
+        } => store_product(alloc, bytes, file, product, name, files),
+    }
+}
+
+// Puts the text that is made of a file.
+fn put_product<O: Sink>(
+    alloc: Global,
+    bytes: &[u8],
+    file: &Word,
+    product: Product,
+    out: &mut O,
+) -> Outcome
+    ensures { (contents : Option Contents) (calls : List FileCall) → DoesAlone (put_job product (string_bytes file.now)) bytes.now result (outside contents calls (O.taken out.old) (O.faults out.old)) (outside contents calls (O.taken out.new) (O.faults out.new)) }
+{
+    match made_text(alloc, bytes, file, product) {
+        Ok(text) => put_text(out, text.bytes()),
+        Err(outcome) => outcome,
+    }
+}
+
+// Stores the text that is made of a file.
+fn store_product<F: Files>(
+    alloc: Global,
+    bytes: &[u8],
+    file: &Word,
+    product: Product,
+    name: &Word,
+    files: &mut F,
+) -> Outcome
+    ensures { (taken : Option (List ℕ)) (faults : ℕ) → DoesAlone (store_job product (string_bytes file.now) (string_bytes name.now)) bytes.now result (outside (F.contents files.old) (F.calls files.old) taken faults) (outside (F.contents files.new) (F.calls files.new) taken faults) }
+{
+    match made_text(alloc, bytes, file, product) {
+        Ok(text) => store_text(alloc, files, name, text.bytes()),
+        Err(outcome) => outcome,
     }
 }

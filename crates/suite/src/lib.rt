@@ -1,18 +1,17 @@
 // The top call of the suite.
 #![tactic(auto)]
 
+mod chunk;
 mod command;
-mod compiling;
-mod fault;
-mod listing;
+mod making;
 mod outcome;
 mod output;
+mod product;
+mod rejection;
 mod report;
 mod running;
-mod source;
 mod status;
 mod top;
-mod verifying;
 mod words;
 
 pub use status::Status;

@@ -2,9 +2,10 @@
 ghost use Rattle.std.specs.Prelude.{◌≡◌};
 ghost use Rattle.suite.specs.Lines.{status_of};
 
-use crate::fault::{Fault, Rejection};
+use crate::rejection::Rejection;
 use crate::status::Status;
 use chunk_io::ChunkFault;
+use front::Fault;
 use lua_num::ByteText;
 
 /// What the work came to, before its line is put.

@@ -1,5 +1,5 @@
 // Running a file.
-ghost use Rattle.std.specs.Prelude.{◌≤◌, ℕ, List, Option};
+ghost use Rattle.std.specs.Prelude.{ℕ, List, Option};
 ghost use Rattle.std.specs.String.{string_bytes};
 ghost use Rattle.lua_num.specs.Bytes.{Text};
 ghost use Rattle.proto.specs.View.{view_proto};
@@ -7,13 +7,13 @@ ghost use Rattle.suite_io.specs.declared.calls.FileCall.{FileCall};
 ghost use Rattle.suite_io.specs.Contents.{Contents};
 ghost use Rattle.host.specs.Views.{set_told};
 ghost use Rattle.suite.specs.Words.{run_file};
+ghost use Rattle.suite.specs.Seen.{outside};
 ghost use Rattle.suite.specs.Worlds.{world};
 ghost use Rattle.suite.specs.Jobs.{HasChunk};
-ghost use Rattle.suite.specs.Work.{Does, Unasked, outside};
+ghost use Rattle.suite.specs.Work.{Does};
 
-use crate::listing::chunk_of;
+use crate::chunk::{chunk_of, verified};
 use crate::outcome::Outcome;
-use crate::verifying::verified;
 use host::HostSet;
 use machine::{RunEnd, run};
 use std::alloc::Global;
@@ -29,9 +29,7 @@ pub fn run_bytes<O: Sink>(
     out: &mut O,
     hosts: &mut HostSet,
 ) -> Outcome
-    ensures does { (contents : Option Contents) (calls : List FileCall) → Does (run_file (string_bytes file.now) steps) bytes.now (world (set_told heard hosts.old) (set_told heard hosts.new)) result (outside contents calls (O.taken out.old) (O.faults out.old)) (outside contents calls (O.taken out.new) (O.faults out.new)) }
-    ensures unasked { Unasked result (set_told heard hosts.old) (set_told heard hosts.new) }
-    ensures never_falls { O.faults out.old ≤ O.faults out.new }
+    ensures { (contents : Option Contents) (calls : List FileCall) → Does (run_file (string_bytes file.now) steps) bytes.now (world (set_told heard hosts.old) (set_told heard hosts.new)) result (outside contents calls (O.taken out.old) (O.faults out.old)) (outside contents calls (O.taken out.new) (O.faults out.new)) }
 {
     let proto = match chunk_of(alloc, bytes, file) {
         Ok(proto) => proto,
@@ -50,9 +48,7 @@ fn run_chunk<O: Sink>(
     out: &mut O,
     hosts: &mut HostSet,
 ) -> Outcome
-    ensures does { (file : Text) (bytes : List ℕ) → HasChunk file bytes (view_proto chunk.now) → (contents : Option Contents) (calls : List FileCall) → Does (run_file file steps) bytes (world (set_told heard hosts.old) (set_told heard hosts.new)) result (outside contents calls (O.taken out.old) (O.faults out.old)) (outside contents calls (O.taken out.new) (O.faults out.new)) }
-    ensures unasked { Unasked result (set_told heard hosts.old) (set_told heard hosts.new) }
-    ensures never_falls { O.faults out.old ≤ O.faults out.new }
+    ensures { (file : Text) (bytes : List ℕ) → HasChunk file bytes (view_proto chunk.now) → (contents : Option Contents) (calls : List FileCall) → Does (run_file file steps) bytes (world (set_told heard hosts.old) (set_told heard hosts.new)) result (outside contents calls (O.taken out.old) (O.faults out.old)) (outside contents calls (O.taken out.new) (O.faults out.new)) }
 {
     // Called for its clause that the chunk is sound.
     let _ = chunk.proto();

@@ -1,11 +1,14 @@
 // Reading the words of a call.
-ghost use Rattle.std.specs.Prelude.{◌≡◌, Some, None, IfSome, IfNone, ◌+◌, ◌<◌, ◌≤◌, ◌^◌, length};
+ghost use Rattle.std.specs.Prelude.{◌≡◌, ◌∷◌, List, codes, false, Some, None, IfSome, IfNone, ◌+◌, ◌<◌, ◌≤◌, ◌^◌, length};
 ghost use Rattle.std.specs.List.{list_all};
 ghost use Rattle.std.specs.String.{string_bytes};
-ghost use Rattle.lua_num.specs.Bytes.{is_digit};
-ghost use Rattle.suite.specs.Words.{Reads, NoCommand, Arguments as Asked, job_of, job_with, arguments as the_arguments, files_alone, with_strip as add_strip, with_file as add_file, with_steps as add_steps, one_file as the_one_file, run_of as the_run_of, steps_in as the_steps_in, compilation as the_compilation, is_flag as the_is_flag, texts};
-ghost use Rattle.suite.specs.Arguments.{Shows, IsFound, IsKind};
+ghost use Rattle.std.specs.Str.{bytes_eq};
+ghost use Rattle.lua_num.specs.Bytes.{Text, is_digit};
+ghost use Rattle.suite.specs.Words.{Reads, NoCommand, Arguments as Asked, job_of, job_with, arguments as the_arguments, files_alone, with_strip as add_strip, with_file as add_file, with_steps as add_steps, with_layout as add_layout, one_file as the_one_file, run_of as the_run_of, steps_in as the_steps_in, strip_in as the_strip_in, layout_in as the_layout_in, layout_named as the_layout_named, has_room as the_has_room, compilation as the_compilation, is_flag as the_is_flag, texts};
+ghost use Rattle.suite.specs.Arguments.{Shows, IsFound, IsKind, AreValues};
 
+use crate::product::Product;
+use chunk_io::Layout;
 use lua_num::numeral;
 use suite_io::Word;
 
@@ -17,17 +20,16 @@ pub enum Command<'a> {
         file: &'a Word,
         steps: u64,
     },
-    List {
+    /// A text that is made of the file is put.
+    Put {
+        product: Product,
         file: &'a Word,
     },
-    Verify {
+    /// A text that is made of the file is stored as `out`.
+    Store {
+        product: Product,
         file: &'a Word,
-    },
-    /// The chunk of the source goes to `out`, stripped or not.
-    Compile {
-        source: &'a Word,
         out: &'a Word,
-        strip: bool,
     },
 }
 
@@ -39,18 +41,19 @@ impl<'a> Command<'a> {
         ensures { string_bytes result.now ≡ file_of (job_of self.entry) }
     {
         match self {
-            Command::Run { file, .. } | Command::List { file } | Command::Verify { file } => file,
-            Command::Compile { source, .. } => source,
+            Command::Run { file, .. } | Command::Put { file, .. } | Command::Store { file, .. } =>
+                file,
         }
     }
 }
 
-/// The words behind the first one: those that stand for files, how many of the others are `--strip`, and what stands behind `--steps`.
+/// The words behind the first one: those that stand for files, how many of the others are `--strip`, and what stands behind `--steps` and `--layout`.
 #[derive(Clone, Copy)]
 struct Arguments<'a> {
     files: FileWords<'a>,
     strips: usize,
-    steps: StepWords<'a>,
+    steps: ValueWords<'a>,
+    layouts: ValueWords<'a>,
 }
 
 /// The words that stand for files, of which no command has more than two.
@@ -62,9 +65,9 @@ enum FileWords<'a> {
     More,
 }
 
-/// What stands behind `--steps`, which no command has twice.
+/// What stands behind a flag with a value, which no command has twice.
 #[derive(Clone, Copy)]
-enum StepWords<'a> {
+enum ValueWords<'a> {
     No,
     One(&'a str),
     More,
@@ -80,6 +83,10 @@ enum WordKind<'a> {
     Steps,
     /// `--steps=` and the number.
     StepsWith(&'a str),
+    /// `--layout`: its name is the next word.
+    Layout,
+    /// `--layout=` and its name.
+    LayoutWith(&'a str),
     /// A flag that stands in no command.
     OtherFlag,
     File,
@@ -91,10 +98,13 @@ const DEFAULT_STEPS: u64 = 1_000_000_000;
 /// No number of steps has more digits.
 const MOST_DIGITS: usize = 19;
 
-/// No command has more words than these behind the first: two files, `--strip` and `--`; or a file, `--steps`, a number and `--`.
-const MOST_ARGUMENTS: usize = 4;
+/// No command has more words than these behind the first: two files, `--strip`, `--layout`, its name and `--`.
+const MOST_ARGUMENTS: usize = 6;
 
-/// The command of the words `run FILE [--steps N]`, `list FILE`, `verify FILE` or `compile SRC OUT [--strip]`; `None` for all other words. Flags may stand
+/// Sizes of 4 bytes tell no source name of a file whose name has this many bytes or more.
+const LONG_NAME: usize = 0xffff_fffe;
+
+/// The command of the words `run FILE [--steps N]`, `list FILE`, `verify FILE` or `compile SRC OUT [--strip] [--layout L]`; `None` for all other words. Flags may stand
 /// at any place behind the first word. Behind `--` all words stand for files; before it a word for a file begins with `-` only where
 /// that is the whole word.
 pub fn read_words(words: &[Word]) -> Option<Command<'_>>
@@ -129,6 +139,13 @@ fn read_arguments(words: &[Word]) -> Option<Arguments<'_>>
             Some(with_steps(number.as_str(), read_arguments(behind)?))
         }
         WordKind::StepsWith(number) => Some(with_steps(number, read_arguments(rest)?)),
+        WordKind::Layout => {
+            let [name, behind @ ..] = rest else {
+                return None;
+            };
+            Some(with_layout(name.as_str(), read_arguments(behind)?))
+        }
+        WordKind::LayoutWith(name) => Some(with_layout(name, read_arguments(rest)?)),
         WordKind::OtherFlag => None,
         WordKind::File => Some(with_file(word, read_arguments(rest)?)),
     }
@@ -142,11 +159,29 @@ fn kind_of(word: &str) -> WordKind<'_>
         "--" => WordKind::End,
         "--strip" => WordKind::Strip,
         "--steps" => WordKind::Steps,
-        _ => match word.strip_prefix("--steps=") {
-            Some(number) => WordKind::StepsWith(number),
-            None if is_flag(word) => WordKind::OtherFlag,
-            None => WordKind::File,
-        },
+        "--layout" => WordKind::Layout,
+        _ => with_value(word),
+    }
+}
+
+// What a word is that is no flag by itself.
+fn with_value(word: &str) -> WordKind<'_>
+    requires end { bytes_eq word.now (codes "--") ≡ false }
+    requires strip { bytes_eq word.now (codes "--strip") ≡ false }
+    requires steps { bytes_eq word.now (codes "--steps") ≡ false }
+    requires layout { bytes_eq word.now (codes "--layout") ≡ false }
+    ensures { IsKind result word.now }
+{
+    if let Some(number) = word.strip_prefix("--steps=") {
+        return WordKind::StepsWith(number);
+    }
+    if let Some(name) = word.strip_prefix("--layout=") {
+        return WordKind::LayoutWith(name);
+    }
+    if is_flag(word) {
+        WordKind::OtherFlag
+    } else {
+        WordKind::File
     }
 }
 
@@ -164,7 +199,8 @@ fn file_arguments(words: &[Word]) -> Arguments<'_>
     Arguments {
         files,
         strips: 0,
-        steps: StepWords::No,
+        steps: ValueWords::No,
+        layouts: ValueWords::No,
     }
 }
 
@@ -176,7 +212,7 @@ fn with_strip(found: Arguments<'_>) -> Arguments<'_>
     Arguments {
         files: found.files,
         strips: found.strips + 1,
-        steps: found.steps,
+        ..found
     }
 }
 
@@ -184,14 +220,29 @@ fn with_steps<'a>(number: &'a str, found: Arguments<'a>) -> Arguments<'a>
     ensures shows { (asked : Asked) → Shows found.entry asked → Shows result (add_steps number.now asked) }
     ensures strips { result.strips ≡ found.entry.strips }
 {
-    let steps = match found.steps {
-        StepWords::No => StepWords::One(number),
-        StepWords::One(_) | StepWords::More => StepWords::More,
-    };
     Arguments {
-        files: found.files,
-        strips: found.strips,
-        steps,
+        steps: one_more(number, found.steps),
+        ..found
+    }
+}
+
+fn with_layout<'a>(name: &'a str, found: Arguments<'a>) -> Arguments<'a>
+    ensures shows { (asked : Asked) → Shows found.entry asked → Shows result (add_layout name.now asked) }
+    ensures strips { result.strips ≡ found.entry.strips }
+{
+    Arguments {
+        layouts: one_more(name, found.layouts),
+        ..found
+    }
+}
+
+// The values of a flag, with one before them.
+fn one_more<'a>(value: &'a str, values: ValueWords<'a>) -> ValueWords<'a>
+    ensures { (asked : List Text) → AreValues values.entry asked → AreValues result (value.now ∷ asked) }
+{
+    match values {
+        ValueWords::No => ValueWords::One(value),
+        ValueWords::One(_) | ValueWords::More => ValueWords::More,
     }
 }
 
@@ -204,11 +255,7 @@ fn with_file<'a>(word: &'a Word, found: Arguments<'a>) -> Arguments<'a>
         FileWords::One(other) => FileWords::Two(word, other),
         FileWords::Two(_, _) | FileWords::More => FileWords::More,
     };
-    Arguments {
-        files,
-        strips: found.strips,
-        steps: found.steps,
-    }
+    Arguments { files, ..found }
 }
 
 // The command of the first word, with the words behind it.
@@ -218,10 +265,12 @@ fn command_of<'a>(first: &str, found: Arguments<'a>) -> Option<Command<'a>>
 {
     match first {
         "run" => run_of(found),
-        "list" => Some(Command::List {
+        "list" => Some(Command::Put {
+            product: Product::Listing,
             file: one_file(found)?,
         }),
-        "verify" => Some(Command::Verify {
+        "verify" => Some(Command::Put {
+            product: Product::Verdict,
             file: one_file(found)?,
         }),
         "compile" => compilation(found),
@@ -231,19 +280,19 @@ fn command_of<'a>(first: &str, found: Arguments<'a>) -> Option<Command<'a>>
 
 // The run, where the words name one file, with a number of steps or none.
 fn run_of(found: Arguments<'_>) -> Option<Command<'_>>
-    ensures some { (asked : Asked) → Shows found.entry asked → IfSome result (λ command. the_run_of asked.files asked.strips asked.steps ≡ Some (job_of command)) }
-    ensures none { (asked : Asked) → Shows found.entry asked → IfNone result (the_run_of asked.files asked.strips asked.steps ≡ None) }
+    ensures some { (asked : Asked) → Shows found.entry asked → IfSome result (λ command. the_run_of asked.files asked.strips asked.steps asked.layouts ≡ Some (job_of command)) }
+    ensures none { (asked : Asked) → Shows found.entry asked → IfNone result (the_run_of asked.files asked.strips asked.steps asked.layouts ≡ None) }
 {
-    let FileWords::One(file) = found.files else {
+    let (FileWords::One(file), ValueWords::No) = (found.files, found.layouts) else {
         return None;
     };
     if found.strips != 0 {
         return None;
     }
     let steps = match found.steps {
-        StepWords::No => DEFAULT_STEPS,
-        StepWords::One(number) => steps_in(number)?,
-        StepWords::More => return None,
+        ValueWords::No => DEFAULT_STEPS,
+        ValueWords::One(number) => steps_in(number)?,
+        ValueWords::More => return None,
     };
     Some(Command::Run { file, steps })
 }
@@ -268,30 +317,72 @@ fn is_decimal(text: &str) -> bool
 
 // The file, where the words name one and no more, with no flag.
 fn one_file(found: Arguments<'_>) -> Option<&Word>
-    ensures some { (asked : Asked) → Shows found.entry asked → IfSome result (λ file. the_one_file asked.files asked.strips asked.steps ≡ Some (string_bytes file.now)) }
-    ensures none { (asked : Asked) → Shows found.entry asked → IfNone result (the_one_file asked.files asked.strips asked.steps ≡ None) }
+    ensures some { (asked : Asked) → Shows found.entry asked → IfSome result (λ file. the_one_file asked.files asked.strips asked.steps asked.layouts ≡ Some (string_bytes file.now)) }
+    ensures none { (asked : Asked) → Shows found.entry asked → IfNone result (the_one_file asked.files asked.strips asked.steps asked.layouts ≡ None) }
 {
-    match (found.files, found.steps) {
-        (FileWords::One(file), StepWords::No) if found.strips == 0 => Some(file),
+    match (found.files, found.steps, found.layouts) {
+        (FileWords::One(file), ValueWords::No, ValueWords::No) if found.strips == 0 => Some(file),
         _ => None,
     }
 }
 
-// The compilation, where the words name two files, with `--strip` once or not at all.
+// The compilation, where the words name two files, with `--strip` and a layout or without.
 fn compilation(found: Arguments<'_>) -> Option<Command<'_>>
-    ensures some { (asked : Asked) → Shows found.entry asked → IfSome result (λ command. the_compilation asked.files asked.strips asked.steps ≡ Some (job_of command)) }
-    ensures none { (asked : Asked) → Shows found.entry asked → IfNone result (the_compilation asked.files asked.strips asked.steps ≡ None) }
+    ensures some { (asked : Asked) → Shows found.entry asked → IfSome result (λ command. the_compilation asked.files asked.strips asked.steps asked.layouts ≡ Some (job_of command)) }
+    ensures none { (asked : Asked) → Shows found.entry asked → IfNone result (the_compilation asked.files asked.strips asked.steps asked.layouts ≡ None) }
 {
-    match (found.files, found.steps) {
-        (FileWords::Two(source, out), StepWords::No) if found.strips < 2 => {
-            Some(Command::Compile {
-                source,
-                out,
-                strip: found.strips == 1,
-            })
-        }
+    let (FileWords::Two(file, out), ValueWords::No) = (found.files, found.steps) else {
+        return None;
+    };
+    let strip = strip_in(found.strips)?;
+    let layout = layout_in(found.layouts)?;
+    if !has_room(layout, file) {
+        return None;
+    }
+    let product = Product::Spelling { strip, layout };
+    Some(Command::Store { product, file, out })
+}
+
+// `--strip` once or not at all.
+fn strip_in(strips: usize) -> Option<bool>
+    ensures { result ≡ the_strip_in strips }
+{
+    match strips {
+        0 => Some(false),
+        1 => Some(true),
         _ => None,
     }
+}
+
+// The layout that is named once, or else this suite's own.
+fn layout_in(names: ValueWords<'_>) -> Option<Layout>
+    ensures { (asked : List Text) → AreValues names.entry asked → result ≡ the_layout_in asked }
+{
+    match names {
+        ValueWords::No => Some(Layout::le8()),
+        ValueWords::One(name) => layout_named(name),
+        ValueWords::More => None,
+    }
+}
+
+// The layout of a name.
+fn layout_named(name: &str) -> Option<Layout>
+    ensures { result ≡ the_layout_named name.now }
+{
+    match name {
+        "le4" => Some(Layout::le4()),
+        "le8" => Some(Layout::le8()),
+        "be4" => Some(Layout::be4()),
+        "be8" => Some(Layout::be8()),
+        _ => None,
+    }
+}
+
+// Whether the source name of a file has a size in a layout.
+fn has_room(layout: Layout, file: &Word) -> bool
+    ensures { result ≡ the_has_room layout (string_bytes file.now) }
+{
+    layout.size == 8 || file.len() < LONG_NAME
 }
 
 // A word that begins with `-` and is longer.

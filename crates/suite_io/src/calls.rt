@@ -58,6 +58,20 @@ impl FileCalls {
         self.calls.as_slice()
     }
 
+    /// The calls of a `Vec`, which takes no memory.
+    pub fn from_vec(calls: Vec<FileCall>) -> Self
+        ensures { result ≡ calls.items }
+    {
+        Self { calls }
+    }
+
+    /// The calls as a `Vec`, given back without taking memory.
+    pub fn into_vec(self) -> Vec<FileCall>
+        ensures { result.items ≡ self }
+    {
+        self.calls
+    }
+
     // Appends the entry of a call of this name.
     pub(crate) fn push_call(
         &mut self,

@@ -2,7 +2,7 @@
 use Rattle.std.proofs.Common.{◌∙◌, ◌≡◌, ℕ, suc, ◌+◌, ◌<◌, ◌≤◌, false, List, [], ◌∷◌, ◌++◌, length, length-append, map, drop, None, Some, refl, sym, ap, subst, arith, append_assoc}
 use Rattle.std.specs.Prelude.{Option, IfSome, IfNone, get_or}
 use Rattle.std.proofs.Math.Seq.{drop-cons, drop-length}
-use Rattle.proto.specs.Chunk.{Functions, no_functions, and_function, functions, functions_of}
+use Rattle.proto.specs.Chunk.{Functions, no_functions, and_function, functions_of}
 use Rattle.proto.specs.View.{view_proto}
 use Rattle.proto.specs.declared.proto.Proto.{Proto}
 use Rattle.rules.specs.declared.rule.Rule.{Rule}

@@ -7,3 +7,4 @@ pub mod Moving
 pub mod Reading
 pub mod Scans
 pub mod Tables
+pub mod Shortness

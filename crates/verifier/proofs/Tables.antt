@@ -1,5 +1,5 @@
 -- Tables of notes, with one note joined in.
-use Rattle.std.proofs.Common.{◌∙◌, ◌≡◌, inl, inr, ℕ, zero, suc, ◌+◌, ◌<◌, true, false, List, [], ◌∷◌, ◌++◌, length, None, Some, refl, sym, ap, subst, arith, true≢false, not-suc-le-zero, le_of_suc-le-suc}
+use Rattle.std.proofs.Common.{◌∙◌, ◌≡◌, inl, inr, ℕ, zero, suc, ◌<◌, List, [], ◌∷◌, ◌++◌, length, None, Some, refl, sym, ap, subst, arith, true≢false, not-suc-le-zero, le_of_suc-le-suc}
 use Rattle.std.specs.Prelude.{Option, get_or, slice_set}
 use Rattle.std.specs.List.{Contains}
 use Rattle.proto.specs.Chunk.{Chunk}

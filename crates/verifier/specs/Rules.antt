@@ -2,7 +2,6 @@
 use Rattle.std.specs.Prelude.{ℕ, Bool, ◌++◌, List, [], ◌∷◌, Option, None, Some, if◌then◌else◌}
 use Rattle.proto.specs.Chunk.{Chunk}
 use Rattle.rules.specs.declared.rule.Rule.{Rule}
-use Rattle.rules.specs.Breaks.{operands}
 use Rattle.rules.specs.Sound.{HasNotes, RejectedAt}
 use Rattle.verifier.specs.declared.operands.Operands.{Operands}
 use Rattle.verifier.specs.declared.jumps.Jump.{Jump}

@@ -1,8 +1,10 @@
 // Chunks that are verified.
-ghost use Rattle.std.specs.Prelude.{◌≡◌, ◌+◌, true, false, IfOk, IfErr, map};
+ghost use Rattle.std.specs.Prelude.{◌≡◌, ◌⊎◌, ◌<◌, ◌^◌, ℕ, List, true, false, IfOk, OnOk, IfErr, length, map};
 ghost use Rattle.proto.specs.Chunk.{functions_of};
+ghost use Rattle.proto.specs.Short.{IsShort, AreShort};
 ghost use Rattle.proto.specs.View.{view_proto};
-ghost use Rattle.rules.specs.Sound.{Sound};
+ghost use Rattle.rules.specs.declared.rule.Rule.{Rule as OneRule};
+ghost use Rattle.rules.specs.Sound.{Sound, Rejected};
 ghost use Rattle.verifier.specs.Verify.{Judged, AllJudged};
 ghost use Rattle.verifier.specs.Refusing.{Refuses};
 
@@ -20,6 +22,7 @@ pub struct Verified {
 
 impl Model for Verified {
     ghost use Rattle.proto.specs.declared.proto.Proto.{Proto as TheProto};
+    ghost use Rattle.proto.specs.Short.{IsShort};
     ghost use Rattle.proto.specs.View.{view_proto};
     ghost use Rattle.rules.specs.Sound.{Sound};
     ghost use Rattle.proto.specs.contracts.proto.Proto.{the_row};
@@ -30,7 +33,7 @@ impl Model for Verified {
 
     ghost view = { λ v. v.proto };
 
-    ghost invariant = { λ v. Sound (view_proto v.proto) };
+    ghost invariant = { λ v. Sound (view_proto v.proto) × IsShort (view_proto v.proto) };
 }
 
 impl Verified {
@@ -38,16 +41,9 @@ impl Verified {
     pub fn proto(&self) -> &Proto
         ensures proto { result.now ≡ self.now }
         ensures sound { Sound (view_proto self.now) }
+        ensures short { IsShort (view_proto self.now) }
     {
         &self.proto
-    }
-
-    /// The main function, given back.
-    pub fn into_proto(self) -> Proto
-        ensures proto { result ≡ self }
-        ensures sound { Sound (view_proto self) }
-    {
-        self.proto
     }
 }
 
@@ -62,20 +58,9 @@ pub enum Refusal {
         pc: u32,
         rule: Rule,
     },
-    /// Also where a function has 2^32 words or functions or more.
     OutOfMemory {
         proto: Proto,
     },
-}
-
-/// The next number; fails where it is 2^32.
-fn after(number: u32) -> Result<u32, AllocError>
-    ensures { IfOk result (λ next. next ≡ number + 1) }
-{
-    match number.checked_add(1) {
-        Some(next) => Ok(next),
-        None => Err(AllocError),
-    }
 }
 
 /// The first place where a function, or one in it, breaks a rule. The path goes to the function; where it is rejected it has
@@ -87,6 +72,7 @@ fn judge(
     main: bool,
     path: &mut Path,
 ) -> Result<Option<Broken>, AllocError>
+    requires short { IsShort (view_proto proto.now) }
     ensures { IfOk result (λ broken. Judged (view_proto proto.now) main path.old path.new broken) }
 {
     if let Some(broken) = first_broken(alloc, proto, main)? {
@@ -101,6 +87,8 @@ fn judge_all(
     functions: &[Proto],
     path: &mut Path,
 ) -> Result<Option<Broken>, AllocError>
+    requires few { length functions.now < 2 ^ 32 }
+    requires short { AreShort (functions_of (map view_proto functions.now)) }
     ensures { IfOk result (λ broken. AllJudged (functions_of (map view_proto functions.now)) path.old path.new broken) }
 {
     let mut number: u32 = 0;
@@ -110,7 +98,7 @@ fn judge_all(
             return Ok(Some(broken));
         }
         path.pop();
-        number = after(number)?;
+        number += 1;
     }
     Ok(None)
 }
@@ -118,6 +106,7 @@ fn judge_all(
 /// Whether a chunk is sound. The time is about linear in the words for code that a compiler made, and never more than the
 /// words times the registers.
 pub fn verify(alloc: Global, proto: Proto) -> Result<Verified, Refusal>
+    requires short { IsShort (view_proto proto) }
     ensures ok { IfOk result (λ verified. verified ≡ proto) }
     ensures sound { IfOk result (λ verified. Sound (view_proto verified)) }
     ensures err { IfErr result (Refuses proto) }
@@ -132,5 +121,16 @@ pub fn verify(alloc: Global, proto: Proto) -> Result<Verified, Refusal>
             rule,
         }),
         Err(AllocError) => Err(Refusal::OutOfMemory { proto }),
+    }
+}
+
+/// Each chunk is sound or rejected somewhere, as far as memory is there to find out which. Never both, by a law of `rules`.
+pub fn sound_or_rejected(alloc: Global, proto: Proto) -> Result<(), AllocError>
+    requires short { IsShort (view_proto proto) }
+    ensures { OnOk result (Sound (view_proto proto) ⊎ ((path : List ℕ) × (pc : ℕ) × (rule : OneRule) × Rejected (view_proto proto) path pc rule)) }
+{
+    match verify(alloc, proto) {
+        Ok(_) | Err(Refusal::Rejected { .. }) => Ok(()),
+        Err(Refusal::OutOfMemory { .. }) => Err(AllocError),
     }
 }

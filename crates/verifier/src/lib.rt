@@ -11,4 +11,4 @@ mod registers;
 mod scan;
 mod words;
 
-pub use judging::{Refusal, Verified, verify};
+pub use judging::{Refusal, Verified, sound_or_rejected, verify};

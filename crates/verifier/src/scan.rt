@@ -1,5 +1,5 @@
 // The first place where a function breaks a rule.
-ghost use Rattle.std.specs.Prelude.{◌≡◌, ◌<◌, ◌^◌, ◌&&◌, ◌==◌, not, Bool, IfOk};
+ghost use Rattle.std.specs.Prelude.{◌≡◌, ◌<◌, ◌^◌, ◌&&◌, ◌==◌, not, Bool, IfOk, length};
 ghost use Rattle.proto.specs.Chunk.{own};
 ghost use Rattle.proto.specs.View.{view_proto};
 ghost use Rattle.opcode.specs.Word.{InRange};
@@ -204,6 +204,7 @@ fn first_of_notes(function: &Function<'_>, main: bool, notes: &[Option<Note>]) -
 
 /// The first place where a function breaks a rule, where it has no notes that break none. Says nothing of the functions in it.
 pub fn first_broken(alloc: Global, proto: &Proto, main: bool) -> Result<Option<Broken>, AllocError>
+    requires { length (own (view_proto proto.now)).code < 2 ^ 32 }
     ensures { IfOk result (Finds (view_proto proto.now) main) }
 {
     let function = Function::new(alloc, proto)?;

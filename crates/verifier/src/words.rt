@@ -126,13 +126,11 @@ pub fn decoded(word: u32) -> Option<Instr>
 }
 
 impl<'a> Function<'a> {
-    /// Fails also where there are 2^32 words or more.
+    /// In linear time in the words.
     pub fn new(alloc: Global, proto: &'a Proto) -> Result<Function<'a>, AllocError>
+        requires { length (own (view_proto proto.now)).code < 2 ^ 32 }
         ensures { IfOk result (λ function. function ≡ proto.now) }
     {
-        if code_of(proto).len() > u32::MAX as usize {
-            return Err(AllocError);
-        }
         let further = further_marks(alloc, proto)?;
         Ok(Function { proto, further })
     }

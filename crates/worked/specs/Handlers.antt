@@ -4,7 +4,7 @@ use Rattle.lua_tree.specs.declared.tree.BinaryOp.{BinaryOp}
 use Rattle.lua_tree.specs.declared.tree.Separator.{Separator}
 use Rattle.lua_model.specs.declared.plain.Plain.{Plain}
 use Rattle.lua_model.specs.Store.{Host, Reply, replies_values}
-use Rattle.lua_tree.specs.Syntax.{no_statements, statement, assignment, call_statement, local_statement, return_statement, function_body, no_expressions, expression, nil_literal, number_literal, text_literal, name_expression, function_expression, field_expression, call_expression, binary_expression, constructor, argument_list, no_fields, named, Source}
+use Rattle.lua_tree.specs.Syntax.{no_statements, statement, assignment, call_statement, numeric_for, local_statement, return_statement, no_step, function_body, no_expressions, expression, nil_literal, number_literal, text_literal, name_expression, function_expression, field_expression, call_expression, binary_expression, constructor, argument_list, no_fields, named, Source}
 
 -- `local m={x=1} m.__index=m local f={__index=function(t,k) return k.."!" end} print(setmetatable({},m).x,setmetatable({},f).y)`
 abbrev pub index_handlers : Source
@@ -46,9 +46,29 @@ closed_host = (record { body = (statement 1 false (call_statement (call_expressi
 abbrev pub waiting_host : Source
 waiting_host = (record { body = (statement 1 false (call_statement (call_expression 1 (name_expression 1 (codes "print")) (argument_list (expression (call_expression 1 (name_expression 1 (codes "ask")) (argument_list (expression (number_literal 1 (pos 1)) (expression (text_literal 1 (codes "x")) (expression (nil_literal 1) no_expressions)))) 1) no_expressions)) 1)) (statement 1 false (call_statement (call_expression 1 (name_expression 1 (codes "print")) (argument_list (expression (call_expression 1 (name_expression 1 (codes "ask")) (argument_list no_expressions) 1) no_expressions)) 1)) no_statements)); last_line = 1 })
 
+-- `local m={__eq=function(a,b) return 1 end} local a,b=setmetatable({},m),setmetatable({},m) print(a==b,a~=b,a=={},rawequal(a,b))`
+abbrev pub eq_handler : Source
+eq_handler = (record { body = (statement 1 false (local_statement ((codes "m") ∷ []) (expression (constructor 1 (named (codes "__eq") (function_expression 1 (function_body ((codes "a") ∷ (codes "b") ∷ []) false (statement 1 false (return_statement (expression (number_literal 1 (pos 1)) no_expressions)) no_statements) 1 1)) Separator.Missing no_fields)) no_expressions)) (statement 1 false (local_statement ((codes "a") ∷ (codes "b") ∷ []) (expression (call_expression 1 (name_expression 1 (codes "setmetatable")) (argument_list (expression (constructor 1 no_fields) (expression (name_expression 1 (codes "m")) no_expressions))) 1) (expression (call_expression 1 (name_expression 1 (codes "setmetatable")) (argument_list (expression (constructor 1 no_fields) (expression (name_expression 1 (codes "m")) no_expressions))) 1) no_expressions))) (statement 1 false (call_statement (call_expression 1 (name_expression 1 (codes "print")) (argument_list (expression (binary_expression 1 BinaryOp.Eq (name_expression 1 (codes "a")) (name_expression 1 (codes "b"))) (expression (binary_expression 1 BinaryOp.Ne (name_expression 1 (codes "a")) (name_expression 1 (codes "b"))) (expression (binary_expression 1 BinaryOp.Eq (name_expression 1 (codes "a")) (constructor 1 no_fields)) (expression (call_expression 1 (name_expression 1 (codes "rawequal")) (argument_list (expression (name_expression 1 (codes "a")) (expression (name_expression 1 (codes "b")) no_expressions))) 1) no_expressions))))) 1)) no_statements))); last_line = 1 })
+
+-- `local m={__le=function(a,b) return a.n<=b.n end} local a,b=setmetatable({n=1},m),setmetatable({n=2},m) print(a<=b,a>=b)`
+abbrev pub le_handler : Source
+le_handler = (record { body = (statement 1 false (local_statement ((codes "m") ∷ []) (expression (constructor 1 (named (codes "__le") (function_expression 1 (function_body ((codes "a") ∷ (codes "b") ∷ []) false (statement 1 false (return_statement (expression (binary_expression 1 BinaryOp.Le (field_expression 1 (name_expression 1 (codes "a")) (codes "n")) (field_expression 1 (name_expression 1 (codes "b")) (codes "n"))) no_expressions)) no_statements) 1 1)) Separator.Missing no_fields)) no_expressions)) (statement 1 false (local_statement ((codes "a") ∷ (codes "b") ∷ []) (expression (call_expression 1 (name_expression 1 (codes "setmetatable")) (argument_list (expression (constructor 1 (named (codes "n") (number_literal 1 (pos 1)) Separator.Missing no_fields)) (expression (name_expression 1 (codes "m")) no_expressions))) 1) (expression (call_expression 1 (name_expression 1 (codes "setmetatable")) (argument_list (expression (constructor 1 (named (codes "n") (number_literal 1 (pos 2)) Separator.Missing no_fields)) (expression (name_expression 1 (codes "m")) no_expressions))) 1) no_expressions))) (statement 1 false (call_statement (call_expression 1 (name_expression 1 (codes "print")) (argument_list (expression (binary_expression 1 BinaryOp.Le (name_expression 1 (codes "a")) (name_expression 1 (codes "b"))) (expression (binary_expression 1 BinaryOp.Ge (name_expression 1 (codes "a")) (name_expression 1 (codes "b"))) no_expressions))) 1)) no_statements))); last_line = 1 })
+
+-- `local t=setmetatable({},{__call=pcall}) print(select(200,t()))`
+abbrev pub protected_200 : Source
+protected_200 = (record { body = (statement 1 false (local_statement ((codes "t") ∷ []) (expression (call_expression 1 (name_expression 1 (codes "setmetatable")) (argument_list (expression (constructor 1 no_fields) (expression (constructor 1 (named (codes "__call") (name_expression 1 (codes "pcall")) Separator.Missing no_fields)) no_expressions))) 1) no_expressions)) (statement 1 false (call_statement (call_expression 1 (name_expression 1 (codes "print")) (argument_list (expression (call_expression 1 (name_expression 1 (codes "select")) (argument_list (expression (number_literal 1 (pos 200)) (expression (call_expression 1 (name_expression 1 (codes "t")) (argument_list no_expressions) 1) no_expressions))) 1) no_expressions)) 1)) no_statements)); last_line = 1 })
+
+-- `for i=ask(),3 do print(i) end`
+abbrev pub wrapped_first : Source
+wrapped_first = (record { body = (statement 1 false (numeric_for (codes "i") (call_expression 1 (name_expression 1 (codes "ask")) (argument_list no_expressions) 1) (number_literal 1 (pos 3)) no_step (statement 1 false (call_statement (call_expression 1 (name_expression 1 (codes "print")) (argument_list (expression (name_expression 1 (codes "i")) no_expressions)) 1)) no_statements)) no_statements); last_line = 1 })
+
 -- one live host, and the replies that hosts have left
 abbrev pub ask_host : List Host
 ask_host = record { name = codes "ask"; live = true } ∷ []
 
 abbrev pub one_reply : List Reply
 one_reply = replies_values (Plain.Bool true ∷ Plain.Number (pos 5) ∷ []) ∷ []
+
+-- a reply past 64 bits, which no host of the program can give
+abbrev pub wide_reply : List Reply
+wide_reply = replies_values (Plain.Number (pos 18446744073709551617) ∷ []) ∷ []

@@ -9,9 +9,11 @@ ghost use Rattle.lua_model.specs.Store.{replies_values, asked, closed};
 ghost use Rattle.lua_model.specs.Endings.{Ended, Waiting};
 ghost use Rattle.opcode.specs.Word.{abc, abx, asbx};
 ghost use Rattle.worked.specs.Works.{HasCode, lines, prints, Works, Counts};
+ghost use Rattle.worked.specs.Builtins.{kinds, texts_and_numbers, asserted, selected, raw_equality, walked, paired, metatables, unpacked};
+ghost use Rattle.worked.specs.Constructs.{iterated, self_call, function_statements, keyed_items, inner_block, else_branch, stepped, single_arguments, repeated};
 ghost use Rattle.worked.specs.Straight.{addition, swap, late_left, in_order, copied_key, copied_key_left, least_number, value_logic, condition, late_end, endless_count};
 ghost use Rattle.worked.specs.Functions.{shared_cells, extra_arguments, several_results, tail_call, broken_loop, seen_by_until};
-ghost use Rattle.worked.specs.Handlers.{index_handlers, newindex_handlers, concat_handler, missing_le, called_table, caught_table, caught_twice, kept_cell, closed_host, waiting_host, ask_host, one_reply};
+ghost use Rattle.worked.specs.Handlers.{index_handlers, newindex_handlers, concat_handler, missing_le, called_table, caught_table, caught_twice, kept_cell, eq_handler, le_handler, protected_200, wrapped_first, closed_host, waiting_host, ask_host, one_reply, wide_reply};
 
 /// Sources without loops or functions of their own, and a loop whose test sees an assignment: the words of
 /// their chunks, how many steps these take, and what they print; and so their meaning.
@@ -57,8 +59,38 @@ pub fn handlers_and_hosts()
     ensures caught_table { Works caught_table [] [] 9 (prints ((codes "false" ∷ codes "table: 1" ∷ []) ∷ [])) }
     ensures caught_twice { Works caught_twice [] [] 8 (prints ((codes "true" ∷ codes "false" ∷ codes "7" ∷ []) ∷ [])) }
     ensures kept_cell { Works kept_cell [] [] 29 (prints ((codes "false" ∷ codes "x" ∷ []) ∷ (codes "2" ∷ codes "3" ∷ []) ∷ [])) }
+    ensures eq_handler { Works eq_handler [] [] 29 (prints ((codes "true" ∷ codes "false" ∷ codes "false" ∷ codes "false" ∷ []) ∷ [])) }
+    ensures le_handler { Works le_handler [] [] 30 (prints ((codes "true" ∷ codes "false" ∷ []) ∷ [])) }
+    ensures protected_200 { Works protected_200 [] [] 14 (prints ((codes "false" ∷ codes "stack overflow" ∷ []) ∷ [])) }
     ensures closed_host { Works closed_host ask_host [] 12 (record { ending = Ended; events = closed 0 ∷ lines ((codes "true" ∷ codes "false" ∷ codes "false" ∷ codes "host is closed" ∷ []) ∷ []) }) }
     ensures waiting_host { Works waiting_host ask_host one_reply 10 (record { ending = Waiting; events = asked 0 (Plain.Number (pos 1) ∷ Plain.Text (codes "x") ∷ Plain.Nil ∷ []) (replies_values (Plain.Bool true ∷ Plain.Number (pos 5) ∷ [])) ∷ lines ((codes "true" ∷ codes "5" ∷ []) ∷ []) }) }
+    ensures wrapped_first { Works wrapped_first ask_host wide_reply 19 (record { ending = Ended; events = asked 0 [] (replies_values (Plain.Number (pos 18446744073709551617) ∷ [])) ∷ lines ((codes "1" ∷ []) ∷ (codes "2" ∷ []) ∷ (codes "3" ∷ []) ∷ []) }) }
+{}
+
+/// Constructs that the others have not.
+pub fn constructs()
+    ensures iterated { Works iterated [] [] 27 (prints ((codes "1" ∷ codes "0" ∷ []) ∷ (codes "2" ∷ codes "1" ∷ []) ∷ [])) }
+    ensures self_call { Works self_call [] [] 16 (prints ((codes "3" ∷ codes "3" ∷ []) ∷ [])) }
+    ensures function_statements { Works function_statements [] [] 25 (prints ((codes "8" ∷ []) ∷ [])) }
+    ensures keyed_items { Works keyed_items [] [] 12 (prints ((codes "a" ∷ codes "b" ∷ codes "c" ∷ codes "2" ∷ []) ∷ [])) }
+    ensures inner_block { Works inner_block [] [] 9 (prints ((codes "2" ∷ []) ∷ (codes "1" ∷ []) ∷ [])) }
+    ensures else_branch { Works else_branch [] [] 24 (prints ((codes "one" ∷ codes "some" ∷ codes "none" ∷ []) ∷ [])) }
+    ensures stepped { Works stepped [] [] 23 (prints ((codes "5" ∷ []) ∷ (codes "3" ∷ []) ∷ (codes "1" ∷ []) ∷ [])) }
+    ensures single_arguments { Works single_arguments [] [] 19 (prints ((codes "x" ∷ codes "y" ∷ codes "7" ∷ []) ∷ [])) }
+    ensures repeated { Works repeated [] [] 11 (prints ((codes "3" ∷ []) ∷ [])) }
+{}
+
+/// Calls of built-in functions.
+pub fn built_in_functions()
+    ensures kinds { Works kinds [] [] 21 (prints ((codes "nil" ∷ codes "boolean" ∷ codes "number" ∷ codes "string" ∷ codes "table" ∷ codes "function" ∷ []) ∷ [])) }
+    ensures texts_and_numbers { Works texts_and_numbers [] [] 18 (prints ((codes "16" ∷ codes "nil" ∷ codes "3" ∷ codes "nil" ∷ codes "12" ∷ []) ∷ [])) }
+    ensures asserted { Works asserted [] [] 16 (prints ((codes "1" ∷ codes "false" ∷ codes "false" ∷ codes "m" ∷ []) ∷ [])) }
+    ensures selected { Works selected [] [] 19 (prints ((codes "2" ∷ codes "b" ∷ codes "b" ∷ []) ∷ [])) }
+    ensures raw_equality { Works raw_equality [] [] 15 (prints ((codes "true" ∷ codes "false" ∷ codes "false" ∷ []) ∷ [])) }
+    ensures walked { Works walked [] [] 22 (prints ((codes "x" ∷ codes "6" ∷ []) ∷ (codes "nil" ∷ []) ∷ (codes "1" ∷ codes "5" ∷ []) ∷ [])) }
+    ensures paired { Works paired [] [] 39 (prints ((codes "x" ∷ codes "6" ∷ []) ∷ (codes "1" ∷ codes "5" ∷ []) ∷ (codes "1" ∷ codes "7" ∷ []) ∷ (codes "2" ∷ codes "8" ∷ []) ∷ [])) }
+    ensures metatables { Works metatables [] [] 22 (prints ((codes "nil" ∷ codes "true" ∷ codes "p" ∷ []) ∷ [])) }
+    ensures unpacked { Works unpacked [] [] 20 (prints ((codes "2" ∷ codes "1" ∷ codes "2" ∷ []) ∷ [])) }
 {}
 
 /// The variable of a numeric `for` wraps: a loop up to the greatest number goes on.

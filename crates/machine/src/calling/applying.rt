@@ -1,5 +1,5 @@
 // Calls of one function (manual 2.5.8 and 5.1).
-ghost use Rattle.std.specs.Prelude.{◌≡◌, ◌<◌, List, true, length, map, IfOk};
+ghost use Rattle.std.specs.Prelude.{◌≡◌, ◌<◌, List, true, length, map, IfOk, OnErr};
 ghost use Rattle.lua_num.specs.Bytes.{Text as Bytes};
 ghost use Rattle.lua_model.specs.declared.Value.{Value as TheValue};
 ghost use Rattle.lua_model.specs.Datum.{is_function};
@@ -14,6 +14,7 @@ ghost use Rattle.natives.specs.HostAnswers.{HostAnswers};
 ghost use Rattle.machine.specs.Frames.{data_of};
 ghost use Rattle.machine.specs.Outside.{AreNamed};
 ghost use Rattle.machine.specs.Called.{Applies, Closes};
+ghost use Rattle.machine.specs.Begun.{BeginsApply, BrokeOff};
 
 use crate::calling::Applied;
 use host::HostSet;
@@ -37,7 +38,8 @@ pub fn apply(
     requires function { is_function (datum heap.old f) ≡ true }
     requires args { AreOf heap.old args.now }
     requires named { AreNamed heap.old (set_told heard hosts.old) }
-    ensures { IfOk result (Applies f args.now heap.old heap.new pieces.old.items pieces.new.items (set_told heard hosts.old) (set_told heard hosts.new)) }
+    ensures applies { IfOk result (Applies f args.now heap.old heap.new pieces.old.items pieces.new.items (set_told heard hosts.old) (set_told heard hosts.new)) }
+    ensures broke_off { OnErr result (BrokeOff (BeginsApply f args.now heap.old (set_told heard hosts.old)) (set_told heard hosts.old) (set_told heard hosts.new)) }
 {
     match f {
         Value::Closure(id) => Ok(Applied::Enters(id)),
@@ -59,7 +61,8 @@ fn apply_native(
     requires id { id < length builtin_names }
     requires args { AreOf heap.old args.now }
     requires named { AreNamed heap.old (set_told heard hosts.old) }
-    ensures { IfOk result (Applies (TheValue.Native id) args.now heap.old heap.new pieces.old.items pieces.new.items (set_told heard hosts.old) (set_told heard hosts.new)) }
+    ensures applies { IfOk result (Applies (TheValue.Native id) args.now heap.old heap.new pieces.old.items pieces.new.items (set_told heard hosts.old) (set_told heard hosts.new)) }
+    ensures broke_off { OnErr result (BrokeOff (BeginsApply (TheValue.Native id) args.now heap.old (set_told heard hosts.old)) (set_told heard hosts.old) (set_told heard hosts.new)) }
 {
     let act = native(alloc, heap, id, args)?;
     match act {
@@ -99,7 +102,8 @@ fn apply_host(
     requires host { host < length heap.old.host_names }
     requires args { AreOf heap.old args.now }
     requires named { AreNamed heap.old (set_told heard hosts.old) }
-    ensures { IfOk result (λ applied. (pieces : List Bytes) → Applies (TheValue.Host host) args.now heap.old heap.new pieces pieces (set_told heard hosts.old) (set_told heard hosts.new) applied) }
+    ensures applies { IfOk result (λ applied. (pieces : List Bytes) → Applies (TheValue.Host host) args.now heap.old heap.new pieces pieces (set_told heard hosts.old) (set_told heard hosts.new) applied) }
+    ensures broke_off { OnErr result (BrokeOff (BeginsApply (TheValue.Host host) args.now heap.old (set_told heard hosts.old)) (set_told heard hosts.old) (set_told heard hosts.new)) }
 {
     let live = hosts.is_live(host);
     let act = host_call(alloc, heap, host, live, args)?;
@@ -119,7 +123,8 @@ fn ask(
 ) -> Result<Applied, AllocError>
     requires in_range { host < length (set_told heard hosts.old).hosts }
     requires live { is_live_at (set_told heard hosts.old).hosts host ≡ true }
-    ensures { IfOk result (λ applied. (before : HeapState) (given : List TheValue) (pieces : List Bytes) → AreNamed before (set_told heard hosts.old) → HostAnswers before heap.old host true given (TheHostAct.Ask args) → Grown before heap.old → Applies (TheValue.Host host) given before heap.new pieces pieces (set_told heard hosts.old) (set_told heard hosts.new) applied) }
+    ensures applies { IfOk result (λ applied. (before : HeapState) (given : List TheValue) (pieces : List Bytes) → AreNamed before (set_told heard hosts.old) → HostAnswers before heap.old host true given (TheHostAct.Ask args) → Grown before heap.old → Applies (TheValue.Host host) given before heap.new pieces pieces (set_told heard hosts.old) (set_told heard hosts.new) applied) }
+    ensures broke_off { OnErr result ((before : HeapState) (given : List TheValue) → AreNamed before (set_told heard hosts.old) → HostAnswers before heap.old host true given (TheHostAct.Ask args) → BrokeOff (BeginsApply (TheValue.Host host) given before (set_told heard hosts.old)) (set_told heard hosts.old) (set_told heard hosts.new)) }
 {
     hosts.call(alloc, host, args)?;
     match hosts.last_reply() {

@@ -1,10 +1,11 @@
 // Calls with the handlers of called tables, and protected calls (manual 2.8 and 5.1).
-ghost use Rattle.std.specs.Prelude.{◌≡◌, ◌≤◌, true, false, [], ◌∷◌, IfOk};
+ghost use Rattle.std.specs.Prelude.{◌≡◌, ◌≤◌, true, false, [], ◌∷◌, IfOk, OnErr};
 ghost use Rattle.lua_model.specs.declared.Value.TheVariants.{Bool as Boolean};
 ghost use Rattle.lua_heap.specs.State.{IsOf, AreOf};
 ghost use Rattle.host.specs.Views.{set_told};
 ghost use Rattle.machine.specs.Outside.{AreNamed};
 ghost use Rattle.machine.specs.Called.{Invokes, worked_values, failed_with, GoesTo, turn_of, Turns};
+ghost use Rattle.machine.specs.Begun.{BeginsTurn, BeginsCall, BrokeOff};
 
 use crate::calling::{Applied, Called, apply};
 use crate::words::joined;
@@ -45,7 +46,8 @@ pub fn invoke(
     requires f { IsOf heap.old f }
     requires args { AreOf heap.old args }
     requires named { AreNamed heap.old (set_told heard hosts.old) }
-    ensures { IfOk result (Invokes f args heap.old heap.new pieces.old.items pieces.new.items (set_told heard hosts.old) (set_told heard hosts.new)) }
+    ensures invokes { IfOk result (Invokes f args heap.old heap.new pieces.old.items pieces.new.items (set_told heard hosts.old) (set_told heard hosts.new)) }
+    ensures broke_off { OnErr result (BrokeOff (BeginsCall f args heap.old (set_told heard hosts.old)) (set_told heard hosts.old) (set_told heard hosts.new)) }
 {
     let mut f = f;
     let mut args = args;
@@ -79,7 +81,8 @@ fn call_once(
     requires args { AreOf heap.old args }
     requires named { AreNamed heap.old (set_told heard hosts.old) }
     requires protections { protections ≤ 200 }
-    ensures { IfOk result (Turns f args protections heap.old heap.new pieces.old.items pieces.new.items (set_told heard hosts.old) (set_told heard hosts.new)) }
+    ensures turns { IfOk result (Turns f args protections heap.old heap.new pieces.old.items pieces.new.items (set_told heard hosts.old) (set_told heard hosts.new)) }
+    ensures broke_off { OnErr result (BrokeOff (BeginsTurn f args protections heap.old (set_told heard hosts.old)) (set_told heard hosts.old) (set_told heard hosts.new)) }
 {
     match target_of(alloc, heap, f, args)? {
         Target::Calls { f, args } => {

@@ -41,3 +41,19 @@ returns-clause-closed_host c = record { before = refl; runs = refl; means = refl
 pub returns-clause-waiting_host : goal.returns-clause-waiting_host
 unfolding digits
 returns-clause-waiting_host c = record { before = refl; runs = refl; means = refl }
+
+pub returns-clause-eq_handler : goal.returns-clause-eq_handler
+unfolding digits
+returns-clause-eq_handler c = record { before = refl; runs = refl; means = refl }
+
+pub returns-clause-le_handler : goal.returns-clause-le_handler
+unfolding digits
+returns-clause-le_handler c = record { before = refl; runs = refl; means = refl }
+
+pub returns-clause-protected_200 : goal.returns-clause-protected_200
+unfolding digits
+returns-clause-protected_200 c = record { before = refl; runs = refl; means = refl }
+
+pub returns-clause-wrapped_first : goal.returns-clause-wrapped_first
+unfolding digits
+returns-clause-wrapped_first c = record { before = refl; runs = refl; means = refl }

@@ -1,4 +1,4 @@
-use Rattle.std.proofs.Common.{◌≡◌, ◌++◌, [], ◌∷◌, drop}
+use Rattle.std.proofs.Common.{◌≡◌, ◌++◌, drop}
 use Rattle.std.specs.List.{flat_map}
 use Rattle.chunk_io.specs.Items.{spelling, constant_items}
 use Rattle.chunk_io.proofs.writing.put_constants.Given as goal

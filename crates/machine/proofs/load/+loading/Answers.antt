@@ -1,6 +1,8 @@
-use Rattle.std.proofs.Common.{◌≡◌, ℕ, length, map, subst, arith}
+use Rattle.std.proofs.Common.{◌≡◌, ◌∙◌, ℕ, length, map, ap, subst, arith}
 use Rattle.proto.specs.Chunk.{Functions, functions, functions_of}
 use Rattle.proto.specs.View.{view_proto}
+use Rattle.proto.proofs.Views.{view_proto_fields}
+use Rattle.verifier.proofs.Shortness.{each_short, each_smaller, functions_short, functions_smaller}
 use Rattle.meta_ops.proofs.Tries.{grown_both}
 use Rattle.machine.specs.Loading.{Loads, LoadsAll}
 use Rattle.machine.proofs.Loading.{inner_are, loads_one, loads_more}
@@ -30,3 +32,15 @@ load_function-returns-clause-loads t c =
     let loads : LoadsAll old now before between (functions chunk) numbers = subst (λ (fs : Functions). LoadsAll old now before between fs numbers) inner c.in_ok-inner.ensures.loads in
     let place : length between ≡ c.len-number.result = omega arith in
     subst (λ (n : ℕ). Loads old behind before c.push.new.self.items chunk n) place (loads_one old now behind before between c.push.new.self.items chunk numbers c.in_ok-function.function loads c.made.ensures.grown.keeps c.in_ok-function.ensures.inner c.in_ok-function.ensures.made c.in_ok-push.ensures.items)
+
+pub load_function-load_all-requires : goal.load_function-load_all-requires
+load_function-load_all-requires t c =
+    let chunk = view_proto c.args.proto.now in
+    let same = ap functions (view_proto_fields c.args.proto.now) ∙ c.items.ensures.view in
+    let smaller = functions_smaller chunk c.items.result.now same in
+    (omega (arith, smaller, c.decreases), functions_short chunk c.items.result.now same c.requires.short)
+
+pub load_all-load_function-requires : goal.load_all-load_function-requires
+load_all-load_function-requires t c =
+    let smaller = each_smaller c.args.protos.now c.loop-proto.proto-index c.proto-item.result c.loop-proto-test.true c.proto-item.is in
+    (omega (arith, smaller, c.decreases), each_short c.args.protos.now c.loop-proto.proto-index c.proto-item.result c.loop-proto-test.true c.proto-item.is c.requires.short)

@@ -1,5 +1,4 @@
 use Rattle.std.proofs.Common.{◌≡◌, ◌+◌, ◌-◌, ◌<◌, refl, subst, arith}
-use Rattle.suite_io.proofs.TakenPieces.{rises_later}
 use Rattle.proto.specs.View.{view_proto}
 use Rattle.host.specs.Views.{set_told}
 use Rattle.machine.specs.Outside.{hosts_of}
@@ -7,8 +6,8 @@ use Rattle.machine.proofs.RunSteps.{not_stepped}
 use Rattle.machine.proofs.RunsSoFar.{RanSoFar, not_begun, nothing_yet, unfinished, went_further, went_on, ended, failed, refused, no_memory}
 use Rattle.machine.proofs.runs.run.Goals as goal
 
-pub returns-in_default-clause-run : goal.returns-in_default-clause-run
-returns-in_default-clause-run g c = not_begun (view_proto c.args.chunk.now) c.proto.ensures.sound c.args.steps _ _ _
+pub returns-in_default : goal.returns-in_default
+returns-in_default g c = not_begun (view_proto c.args.chunk.now) c.args.steps _ _ _
 
 pub loop-left-init : goal.loop-left-init
 loop-left-init g c =
@@ -18,15 +17,15 @@ loop-left-init g c =
     let none_yet : 0 ≡ c.args.steps - c.args.steps = omega arith in
     (omega arith, subst (λ n. RanSoFar (view_proto c.args.chunk.now) n set set c.in-Ok.machine taken taken faults faults) none_yet (nothing_yet (view_proto c.args.chunk.now) set c.in-Ok.machine taken faults c.in-Ok.ensures))
 
-pub returns-in_default-go_on-clause-run : goal.returns-in_default-go_on-clause-run
-returns-in_default-go_on-clause-run g c =
+pub returns-in_default-go_on : goal.returns-in_default-go_on
+returns-in_default-go_on g c =
     let chunk = view_proto c.args.chunk.now in
     let k = c.loop-left.machine in
-    no_memory chunk (c.args.steps - c.loop-left.left) c.args.steps _ _ _ k k _ _ _ _ _ (omega (arith, c.loop-left-test.true, c.loop-left.invariant.0)) c.loop-left.invariant.1
-    (λ hosts events n at. not_stepped chunk hosts events n _ k at _ _ k)
+    no_memory chunk (c.args.steps - c.loop-left.left) c.args.steps _ _ _ k k _ _ _ _ _ _ (omega (arith, c.loop-left-test.true, c.loop-left.invariant.0)) c.loop-left.invariant.1
+    (λ hosts events n at. not_stepped chunk c.proto.ensures.sound hosts events n _ k at _ _ k)
 
-pub returns-then-left-eq0-clause-run : goal.returns-then-left-eq0-clause-run
-returns-then-left-eq0-clause-run g c =
+pub returns-then-left-eq0 : goal.returns-then-left-eq0
+returns-then-left-eq0 g c =
     let done = c.in-Ok-go_on.done in
     let n = c.args.steps - c.loop-left.left in
     let all : n + done ≡ c.args.steps = omega (arith, c.if-left-eq0.true, c.in-Ok-go_on.ensures.no_more, c.loop-left.invariant.0) in
@@ -43,43 +42,39 @@ step_on-requires-clause-at g c =
 pub step_on-requires-clause-other : goal.step_on-requires-clause-other
 step_on-requires-clause-other g c = c.in-Ok-go_on.ensures.other (omega (arith, c.if-left-eq0.false, c.in-Ok-go_on.ensures.no_more))
 
-pub returns-in-Done-clause-run : goal.returns-in-Done-clause-run
-returns-in-Done-clause-run g c =
+pub returns-in-Done : goal.returns-in-Done
+returns-in-Done g c =
     let done = c.in-Ok-go_on.done in
     let n = c.args.steps - c.loop-left.left in
     let within : n + done < c.args.steps = omega (arith, c.if-left-eq0.false, c.in-Ok-go_on.ensures.no_more, c.loop-left.invariant.0) in
-    ended (view_proto c.args.chunk.now) (n + done) c.args.steps _ _ _ c.go_on.new.machine c.step_on.new.machine _ _ _ _ _ within
+    ended (view_proto c.args.chunk.now) (n + done) c.args.steps _ _ _ c.go_on.new.machine c.step_on.new.machine _ _ _ _ _ _ within
     (went_further (view_proto c.args.chunk.now) n done _ _ c.loop-left.machine c.go_on.new.machine _ _ _ _ c.loop-left.invariant.1 c.in-Ok-go_on.ensures.went)
     c.in-Done.ensures.steps
 
-pub returns-in-Failed-clause-run : goal.returns-in-Failed-clause-run
-returns-in-Failed-clause-run g c =
+pub returns-in-Failed : goal.returns-in-Failed
+returns-in-Failed g c =
     let done = c.in-Ok-go_on.done in
     let n = c.args.steps - c.loop-left.left in
     let within : n + done < c.args.steps = omega (arith, c.if-left-eq0.false, c.in-Ok-go_on.ensures.no_more, c.loop-left.invariant.0) in
-    failed (view_proto c.args.chunk.now) (n + done) c.args.steps _ _ _ c.go_on.new.machine c.step_on.new.machine _ _ _ _ _ within
+    failed (view_proto c.args.chunk.now) (n + done) c.args.steps _ _ _ c.go_on.new.machine c.step_on.new.machine _ _ _ _ _ _ within
     (went_further (view_proto c.args.chunk.now) n done _ _ c.loop-left.machine c.go_on.new.machine _ _ _ _ c.loop-left.invariant.1 c.in-Ok-go_on.ensures.went)
     c.in-Failed.text c.in-Failed.ensures.steps
 
-pub returns-in-OutFault-clause-run : goal.returns-in-OutFault-clause-run
-returns-in-OutFault-clause-run g c =
+pub returns-in-OutFault : goal.returns-in-OutFault
+returns-in-OutFault g c =
     let done = c.in-Ok-go_on.done in
     let n = c.args.steps - c.loop-left.left in
     let within : n + done < c.args.steps = omega (arith, c.if-left-eq0.false, c.in-Ok-go_on.ensures.no_more, c.loop-left.invariant.0) in
-    refused (view_proto c.args.chunk.now) (n + done) c.args.steps _ _ _ c.go_on.new.machine c.step_on.new.machine _ _ _ _ _ within
+    refused (view_proto c.args.chunk.now) (n + done) c.args.steps _ _ _ c.go_on.new.machine c.step_on.new.machine _ _ _ _ _ _ within
     (went_further (view_proto c.args.chunk.now) n done _ _ c.loop-left.machine c.go_on.new.machine _ _ _ _ c.loop-left.invariant.1 c.in-Ok-go_on.ensures.went)
     c.in-OutFault.ensures.steps
 
-pub returns-in-OutFault-clause-risen : goal.returns-in-OutFault-clause-risen
-returns-in-OutFault-clause-risen g c result =
-    rises_later _ _ _ c.loop-left.invariant.1.risen c.in-OutFault.ensures.never_falls (c.in-OutFault.ensures.risen refl)
-
-pub returns-in-OutOfMemory-clause-run : goal.returns-in-OutOfMemory-clause-run
-returns-in-OutOfMemory-clause-run g c =
+pub returns-in-OutOfMemory : goal.returns-in-OutOfMemory
+returns-in-OutOfMemory g c =
     let done = c.in-Ok-go_on.done in
     let n = c.args.steps - c.loop-left.left in
     let within : n + done < c.args.steps = omega (arith, c.if-left-eq0.false, c.in-Ok-go_on.ensures.no_more, c.loop-left.invariant.0) in
-    no_memory (view_proto c.args.chunk.now) (n + done) c.args.steps _ _ _ c.go_on.new.machine c.step_on.new.machine _ _ _ _ _ within
+    no_memory (view_proto c.args.chunk.now) (n + done) c.args.steps _ _ _ c.go_on.new.machine c.step_on.new.machine _ _ _ _ _ _ within
     (went_further (view_proto c.args.chunk.now) n done _ _ c.loop-left.machine c.go_on.new.machine _ _ _ _ c.loop-left.invariant.1 c.in-Ok-go_on.ensures.went)
     c.in-OutOfMemory.ensures.steps
 
@@ -97,10 +92,10 @@ loop-left-preserved g c =
     let one_more : (n + done) + 1 ≡ c.args.steps - ((left - done) - 1) = omega (arith, c.if-left-eq0.false, c.in-Ok-go_on.ensures.no_more, c.loop-left.invariant.0) in (
       omega (arith, c.loop-left.invariant.0),
       subst (λ m. RanSoFar chunk m before behind c.step_on.new.machine (sink.taken c.args.out.now) (sink.taken c.step_on.new.out) (sink.faults c.args.out.now) (sink.faults c.step_on.new.out)) one_more
-          (went_on chunk (n + done) c.args.steps _ _ _ c.go_on.new.machine c.step_on.new.machine _ _ _ _ _ within so _ c.in-Going.ensures.steps c.in-Going.ensures.never_falls),
+          (went_on chunk (n + done) c.args.steps _ _ _ c.go_on.new.machine c.step_on.new.machine _ _ _ _ _ _ within so (λ hosts events m at. c.in-Going.ensures.closes hosts events m at refl)),
     )
 
-pub returns-clause-run : goal.returns-clause-run
-returns-clause-run g c =
+pub returns : goal.returns
+returns g c =
     let all : c.args.steps - c.loop-left.left ≡ c.args.steps = omega (arith, c.loop-left-test.false) in
     unfinished (view_proto c.args.chunk.now) (c.args.steps - c.loop-left.left) c.args.steps _ _ c.loop-left.machine _ _ _ _ all c.loop-left.invariant.1

@@ -33,6 +33,11 @@ use Rattle.machine.proofs.Showing.{one_need}
 use Rattle.machine.proofs.SeenStates.{safe_at}
 use Rattle.machine.proofs.OutsideFirst.{stays, safe_outside, does_with_results, results_first, fails_first, enters_first}
 use Rattle.machine.proofs.settling.tail_call.Goals as goal
+use Rattle.machine.specs.Begun.{BeginsCall, BeginsSeen, BrokeOff}
+use Rattle.machine.proofs.BrokenOff.{on_err}
+use Rattle.machine.proofs.BrokenCalls.{call_broke_behind}
+use Rattle.machine.proofs.BrokenSteps.{no_effect, call_broke, broke_with_results}
+use Rattle.machine.proofs.EventsGrow.{tail_calls_keep}
 
 abbrev FitsCall : Function → Running → Instr → Type 0
 FitsCall f k i = FitsFrame op.TailCall f (top k.stack.frames) k.top.results (length (cells_in k.heap k.top.closure)) k.top.pc i
@@ -87,6 +92,11 @@ module _ (fs : List Function) (old : Running) (i : Instr) (f : Value) (values : 
   by_call new before behind did does =
       does_with_results fs (λ m. effect op.TailCall m i) (λ m. tail_call i.a m (datum old.heap f) (data_of old.heap args)) old new results before behind did known leads does
 
+  by_call_broke : (before behind : HostSetState) → BrokeOff (BeginsCall f args old.heap before) before behind → BrokeOff (BeginsSeen fs (λ m. effect op.TailCall m i) old before) before behind
+  by_call_broke before behind broke =
+      broke_with_results fs (λ m. effect op.TailCall m i) (λ m. tail_call i.a m (datum old.heap f) (data_of old.heap args)) old results before behind known leads
+      (call_broke fs (record old { top = record old.top { results = results } }) before behind f args (replace i.a) (land (open_at i.a)) (tail_calls_keep i.a) broke)
+
 safe_then : (fs : List Function) (old : Running) (heap : HeapState) (pieces : Vec Text Global) (results : Option OpenResults) → Keeps old.heap heap → OnlyTables old.heap heap → AreResultsOf old.heap results → IsSafe fs old → IsSafe fs (record old { heap = heap; top = record old.top { results = results }; pieces = pieces })
 safe_then fs old heap pieces results keeps only known safe =
     safe_outside fs (record old { top = record old.top { results = results } }) heap pieces keeps only (safe_at fs old old.top.pc results safe known)
@@ -110,61 +120,69 @@ protected fs k new a n p o args did is does = record {
 pub replace-requires-clause-safe : goal.replace-requires-clause-safe
 replace-requires-clause-safe g c =
     let old = c.args.running.now in
-    let invoked = c.in_ok-values.ensures in
+    let invoked = c.in_ok-values.ensures.invokes in
     let known = c.listed.ensures.results old.heap c.requires.safe.top_frame.results in
     safe_then c.args.functions.now old c.invoke.new.heap c.invoke.new.pieces c.listed.new.results invoked.keeps invoked.only_tables known c.requires.safe
 
 pub push-requires-clause-safe : goal.push-requires-clause-safe
 push-requires-clause-safe g c =
     let old = c.args.running.now in
-    let invoked = c.in_ok-values.ensures in
+    let invoked = c.in_ok-values.ensures.invokes in
     let known = c.listed.ensures.results old.heap c.requires.safe.top_frame.results in
     safe_then c.args.functions.now old c.invoke.new.heap c.invoke.new.pieces c.listed.new.results invoked.keeps invoked.only_tables known c.requires.safe
 
-pub returns-in-Results : goal.returns-in-Results
-returns-in-Results g c =
+pub returns-in-Results-clause-does : goal.returns-in-Results-clause-does
+returns-in-Results-clause-does g c =
     let old = c.args.running.now in
-    let invoked = c.in_ok-values.ensures in
+    let invoked = c.in_ok-values.ensures.invokes in
     let known = c.listed.ensures.results old.heap c.requires.safe.top_frame.results in
     let values = c.in-Results.values in
     let opened = done.Opens (record { first = c.args.i.a; values = values }) in
     let k = record old { heap = c.invoke.new.heap; top = record old.top { results = c.listed.new.results }; pieces = c.invoke.new.pieces } in
     let does = stays c.args.functions.now (λ m. land (open_at c.args.i.a) m (data_of k.heap values)) k opened (λ chunk a. refl) (subst (IsCalledOf k.heap) c.in-Results.is invoked.known) (λ f at. tt) in
-    record {
-      does = by_call c.args.functions.now old c.args.i c.read-callee.result c.registers-registers.result.now c.count_of.result c.in_ok-args.args c.listed.new.results c.registers-registers.ensures.values c.count_of.ensures c.read-callee.ensures.value c.in_ok-args.ensures.list known k _ _ opened (results_first c.args.functions.now (record old { top = record old.top { results = c.listed.new.results } }) c.invoke.new.heap c.invoke.new.pieces invoked.keeps invoked.only_tables c.read-callee.result c.in_ok-args.args c.in_ok-values.field-0 _ _ (replace c.args.i.a) (land (open_at c.args.i.a)) invoked values k opened c.in-Results.is does);
-    }
+    by_call c.args.functions.now old c.args.i c.read-callee.result c.registers-registers.result.now c.count_of.result c.in_ok-args.args c.listed.new.results c.registers-registers.ensures.values c.count_of.ensures c.read-callee.ensures.value c.in_ok-args.ensures.list known k _ _ opened (results_first c.args.functions.now (record old { top = record old.top { results = c.listed.new.results } }) c.invoke.new.heap c.invoke.new.pieces invoked.keeps invoked.only_tables c.read-callee.result c.in_ok-args.args c.in_ok-values.field-0 _ _ (replace c.args.i.a) (land (open_at c.args.i.a)) invoked values k opened c.in-Results.is does)
 
-pub returns-in-Fails : goal.returns-in-Fails
-returns-in-Fails g c =
+pub returns-in-Fails-clause-does : goal.returns-in-Fails-clause-does
+returns-in-Fails-clause-does g c =
     let old = c.args.running.now in
-    let invoked = c.in_ok-values.ensures in
+    let invoked = c.in_ok-values.ensures.invokes in
     let known = c.listed.ensures.results old.heap c.requires.safe.top_frame.results in
-    record {
-      does = by_call c.args.functions.now old c.args.i c.read-callee.result c.registers-registers.result.now c.count_of.result c.in_ok-args.args c.listed.new.results c.registers-registers.ensures.values c.count_of.ensures c.read-callee.ensures.value c.in_ok-args.ensures.list known _ _ _ _ (fails_first c.args.functions.now (record old { top = record old.top { results = c.listed.new.results } }) c.invoke.new.heap c.invoke.new.pieces invoked.keeps invoked.only_tables c.read-callee.result c.in_ok-args.args c.in_ok-values.field-0 _ _ (replace c.args.i.a) (land (open_at c.args.i.a)) invoked c.in-Fails.value c.in-Fails.is);
-    }
+    by_call c.args.functions.now old c.args.i c.read-callee.result c.registers-registers.result.now c.count_of.result c.in_ok-args.args c.listed.new.results c.registers-registers.ensures.values c.count_of.ensures c.read-callee.ensures.value c.in_ok-args.ensures.list known _ _ _ _ (fails_first c.args.functions.now (record old { top = record old.top { results = c.listed.new.results } }) c.invoke.new.heap c.invoke.new.pieces invoked.keeps invoked.only_tables c.read-callee.result c.in_ok-args.args c.in_ok-values.field-0 _ _ (replace c.args.i.a) (land (open_at c.args.i.a)) invoked c.in-Fails.value c.in-Fails.is)
 
-pub returns-in_ok-replace-in-Enters-default-default-eq0 : goal.returns-in_ok-replace-in-Enters-default-default-eq0
-returns-in_ok-replace-in-Enters-default-default-eq0 g c =
+pub returns-in_ok-replace-in-Enters-default-default-eq0-clause-does : goal.returns-in_ok-replace-in-Enters-default-default-eq0-clause-does
+returns-in_ok-replace-in-Enters-default-default-eq0-clause-does g c =
     let old = c.args.running.now in
-    let invoked = c.in_ok-values.ensures in
+    let invoked = c.in_ok-values.ensures.invokes in
     let known = c.listed.ensures.results old.heap c.requires.safe.top_frame.results in
     let entered = c.in-Enters-default-default-eq0 in
     let none : entered.protections ≡ 0 = entered.protections-test in
     let is : c.in_ok-values.field-0 ≡ Called.Enters entered.closure entered.args 0 = entered.is ∙ ap (Called.Enters entered.closure entered.args) none in
     let a = c.args.i.a in
-    record {
-      does = by_call c.args.functions.now old c.args.i c.read-callee.result c.registers-registers.result.now c.count_of.result c.in_ok-args.args c.listed.new.results c.registers-registers.ensures.values c.count_of.ensures c.read-callee.ensures.value c.in_ok-args.ensures.list known c.replace.new.running _ _ done.Next (enters_first c.args.functions.now (record old { top = record old.top { results = c.listed.new.results } }) c.invoke.new.heap c.invoke.new.pieces invoked.keeps invoked.only_tables c.read-callee.result c.in_ok-args.args c.in_ok-values.field-0 _ _ (replace c.args.i.a) (land (open_at c.args.i.a)) invoked entered.closure entered.args c.items.result.now 0 c.replace.new.running done.Next is c.items.ensures (c.in_ok-replace-in-Enters-default-default-eq0.ensures.does a (land (open_at a))));
-    }
+    by_call c.args.functions.now old c.args.i c.read-callee.result c.registers-registers.result.now c.count_of.result c.in_ok-args.args c.listed.new.results c.registers-registers.ensures.values c.count_of.ensures c.read-callee.ensures.value c.in_ok-args.ensures.list known c.replace.new.running _ _ done.Next (enters_first c.args.functions.now (record old { top = record old.top { results = c.listed.new.results } }) c.invoke.new.heap c.invoke.new.pieces invoked.keeps invoked.only_tables c.read-callee.result c.in_ok-args.args c.in_ok-values.field-0 _ _ (replace c.args.i.a) (land (open_at c.args.i.a)) invoked entered.closure entered.args c.items.result.now 0 c.replace.new.running done.Next is c.items.ensures (c.in_ok-replace-in-Enters-default-default-eq0.ensures.does a (land (open_at a))))
 
-pub returns-in-Enters : goal.returns-in-Enters
-returns-in-Enters g c =
+pub returns-in-Enters-clause-does : goal.returns-in-Enters-clause-does
+returns-in-Enters-clause-does g c =
     let old = c.args.running.now in
-    let invoked = c.in_ok-values.ensures in
+    let invoked = c.in_ok-values.ensures.invokes in
     let known = c.listed.ensures.results old.heap c.requires.safe.top_frame.results in
     let entered = c.in-Enters in
     let some : entered.protections ≡ suc (entered.protections - 1) = omega (arith, entered.protections-test.1) in
     let k = record old { heap = c.invoke.new.heap; top = record old.top { results = c.listed.new.results }; pieces = c.invoke.new.pieces } in
     let given = c.items-in-Enters.result.now in
-    record {
-      does = IfOk-weaker c.push.result _ _ (λ did does. by_call c.args.functions.now old c.args.i c.read-callee.result c.registers-registers.result.now c.count_of.result c.in_ok-args.args c.listed.new.results c.registers-registers.ensures.values c.count_of.ensures c.read-callee.ensures.value c.in_ok-args.ensures.list known c.push.new.running _ _ did (enters_first c.args.functions.now (record old { top = record old.top { results = c.listed.new.results } }) c.invoke.new.heap c.invoke.new.pieces invoked.keeps invoked.only_tables c.read-callee.result c.in_ok-args.args c.in_ok-values.field-0 _ _ (replace c.args.i.a) (land (open_at c.args.i.a)) invoked entered.closure entered.args given entered.protections c.push.new.running did entered.is c.items-in-Enters.ensures (protected c.args.functions.now k c.push.new.running c.args.i.a (entered.protections - 1) entered.protections (λ m. slice_get m.closures entered.closure.index) (data_of k.heap given) did some does))) c.push.ensures.does;
-    }
+    IfOk-weaker c.push.result _ _ (λ did does. by_call c.args.functions.now old c.args.i c.read-callee.result c.registers-registers.result.now c.count_of.result c.in_ok-args.args c.listed.new.results c.registers-registers.ensures.values c.count_of.ensures c.read-callee.ensures.value c.in_ok-args.ensures.list known c.push.new.running _ _ did (enters_first c.args.functions.now (record old { top = record old.top { results = c.listed.new.results } }) c.invoke.new.heap c.invoke.new.pieces invoked.keeps invoked.only_tables c.read-callee.result c.in_ok-args.args c.in_ok-values.field-0 _ _ (replace c.args.i.a) (land (open_at c.args.i.a)) invoked entered.closure entered.args given entered.protections c.push.new.running did entered.is c.items-in-Enters.ensures (protected c.args.functions.now k c.push.new.running c.args.i.a (entered.protections - 1) entered.protections (λ m. slice_get m.closures entered.closure.index) (data_of k.heap given) did some does))) c.push.ensures.does
+
+pub returns-in_err-args-clause-broke_off : goal.returns-in_err-args-clause-broke_off
+returns-in_err-args-clause-broke_off g c =
+    on_err c.from_residual.result (no_effect c.args.functions.now op.TailCall c.args.i c.args.running.now _)
+
+pub returns-in_err-values-clause-broke_off : goal.returns-in_err-values-clause-broke_off
+returns-in_err-values-clause-broke_off g c =
+    on_err c.from_residual-in_err-values.result (by_call_broke c.args.functions.now c.args.running.now c.args.i c.read-callee.result c.registers-registers.result.now c.count_of.result c.in_ok-args.args c.listed.new.results c.registers-registers.ensures.values c.count_of.ensures c.read-callee.ensures.value c.in_ok-args.ensures.list (c.listed.ensures.results c.args.running.now.heap c.requires.safe.top_frame.results) _ _ c.in_err-values.ensures.broke_off)
+
+pub returns-in_err-replace-in-Enters-default-default-eq0-clause-broke_off : goal.returns-in_err-replace-in-Enters-default-default-eq0-clause-broke_off
+returns-in_err-replace-in-Enters-default-default-eq0-clause-broke_off g c =
+    on_err c.from_residual-in_err-replace-in-Enters-default-default-eq0.result (by_call_broke c.args.functions.now c.args.running.now c.args.i c.read-callee.result c.registers-registers.result.now c.count_of.result c.in_ok-args.args c.listed.new.results c.registers-registers.ensures.values c.count_of.ensures c.read-callee.ensures.value c.in_ok-args.ensures.list (c.listed.ensures.results c.args.running.now.heap c.requires.safe.top_frame.results) _ _ (call_broke_behind c.in_ok-values.ensures.invokes))
+
+pub returns-in-Enters-clause-broke_off : goal.returns-in-Enters-clause-broke_off
+returns-in-Enters-clause-broke_off g c =
+    on_err c.push.result (by_call_broke c.args.functions.now c.args.running.now c.args.i c.read-callee.result c.registers-registers.result.now c.count_of.result c.in_ok-args.args c.listed.new.results c.registers-registers.ensures.values c.count_of.ensures c.read-callee.ensures.value c.in_ok-args.ensures.list (c.listed.ensures.results c.args.running.now.heap c.requires.safe.top_frame.results) _ _ (call_broke_behind c.in_ok-values.ensures.invokes))

@@ -21,6 +21,8 @@ use Rattle.machine.proofs.SeenStates.{whole_later}
 use Rattle.machine.proofs.SeenWords.{top_function}
 use Rattle.machine.proofs.WordsNext.{safe_behind_word, word_next, whole_behind_word}
 use Rattle.machine.proofs.stepping.turn.Goals as goal
+use Rattle.machine.proofs.BrokenOff.{on_err, on_err_as}
+use Rattle.machine.proofs.BrokenSteps.{word_broke, settling_broke}
 
 -- a word and what it left to be done, as a step
 one_step : (fs : List Function) (f : Function) (old moved between new : Running) (i : Instr) (did : Did) (settled : Settled) (before middle behind : HostSetState) → slice_get fs old.top.function ≡ Some f → option_and_then instr_of (slice_get f.code.items old.top.pc) ≡ Some i → moved ≡ with_pc old (old.top.pc + 1) → DoesOutside fs (λ m. effect i.op m i) moved between before middle did → Settles fs did between new middle behind settled → Steps fs old new before behind settled
@@ -50,11 +52,27 @@ do_word-requires-clause-other g c =
     let (f, at) = top_function c.args.functions.now c.args.running.now c.requires.safe in
     c.requires.other f c.take_word-i.result at (c.take_word-i.ensures.is f at)
 
-pub returns : goal.returns
-returns g c =
+pub returns-clause-steps : goal.returns-clause-steps
+returns-clause-steps g c =
     let old = c.args.running.now in
     let fs = c.args.functions.now in
     let i = c.take_word-i.result in
     let (f, at) = top_function fs old c.requires.safe in
     IfOk-weaker c.settle.result _ _ (λ settled settles.
-    one_step fs f old c.take_word-i.new.running c.do_word.new.running c.settle.new.running i c.in_ok-did.did settled _ _ _ at (c.take_word-i.ensures.is f at) c.take_word-i.ensures.behind c.in_ok-did.ensures settles) c.settle.ensures
+    one_step fs f old c.take_word-i.new.running c.do_word.new.running c.settle.new.running i c.in_ok-did.did settled _ _ _ at (c.take_word-i.ensures.is f at) c.take_word-i.ensures.behind c.in_ok-did.ensures.does settles) c.settle.ensures.settles
+
+pub returns-in_err-did-clause-broke_off : goal.returns-in_err-did-clause-broke_off
+returns-in_err-did-clause-broke_off g c =
+    let old = c.args.running.now in
+    let fs = c.args.functions.now in
+    let i = c.take_word-i.result in
+    let (f, at) = top_function fs old c.requires.safe in
+    on_err c.from_residual.result (word_broke fs f old c.take_word-i.new.running i _ at (c.take_word-i.ensures.is f at) c.take_word-i.ensures.behind _ c.in_err-did.ensures.broke_off)
+
+pub returns-clause-broke_off : goal.returns-clause-broke_off
+returns-clause-broke_off g c =
+    let old = c.args.running.now in
+    let fs = c.args.functions.now in
+    let i = c.take_word-i.result in
+    let (f, at) = top_function fs old c.requires.safe in
+    on_err_as c.settle.result (λ broke. settling_broke fs f old c.take_word-i.new.running i _ at (c.take_word-i.ensures.is f at) c.take_word-i.ensures.behind c.do_word.new.running c.in_ok-did.did _ _ c.in_ok-did.ensures.does broke) c.settle.ensures.broke_off

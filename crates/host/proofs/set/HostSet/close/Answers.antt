@@ -1,4 +1,5 @@
 use Rattle.std.proofs.Common.{ap, None}
+use Rattle.host.proofs.Boxes.{others_hear}
 use Rattle.host.proofs.Slots.{differ-changed, changed-slot}
 use Rattle.host.proofs.set.HostSet.close.Goals as goal
 
@@ -14,3 +15,6 @@ returns-clause-closed g c =
     ap (λ hosts. record { hosts = hosts; log = c.args.self.now.log })
     (changed-slot (λ b. (goal.Host-dyn g (b.vtable, b.value)).heard b.value) (λ host. record host { live = None }) c.args.self.now.hosts.items c.args.host c.index_mut-slot.result.now
     c.close.new.self c.requires c.index_mut-slot.ensures.value c.close.ensures)
+
+pub returns-clause-others : goal.returns-clause-others
+returns-clause-others g c = λ other before differs h. others_hear _ c.args.self.now.hosts.items c.args.host other c.close.new.self before differs h

@@ -28,11 +28,11 @@ pub returns-in-Ok-clause-steps : goal.returns-in-Ok-clause-steps
 returns-in-Ok-clause-steps g c hosts events n at =
     let set = set_told (λ z. (goal.Host-dyn g z).heard z.1) c.args.hosts.now in
     let one : n + c.in-Ok.field-0 ≡ suc n = omega (arith, c.in-Ok.field-0-test, c.in-Ok.ensures.no_more) in
-    stepped_in_place (view_proto c.args.chunk.now) hosts events n set c.go_on.new.machine (subst (λ m. IsAt (view_proto c.args.chunk.now) hosts events m set c.go_on.new.machine) one (c.in-Ok.ensures.went hosts events n set at)) _
+    stepped_in_place (view_proto c.args.chunk.now) hosts events n set c.go_on.new.machine (subst (λ m. IsAt (view_proto c.args.chunk.now) hosts events m set c.go_on.new.machine) one (c.in-Ok.ensures.went hosts events n set at)) _ _
 
 pub returns-in-Err-clause-steps : goal.returns-in-Err-clause-steps
 returns-in-Err-clause-steps g c hosts events n at =
-    not_stepped (view_proto c.args.chunk.now) hosts events n _ c.args.self.now at _ _ _
+    not_stepped (view_proto c.args.chunk.now) c.proto.ensures.sound hosts events n _ c.args.self.now at _ _ _
 
 pub returns-in-Err-clause-memory : goal.returns-in-Err-clause-memory
 returns-in-Err-clause-memory g c hosts events n at such result =

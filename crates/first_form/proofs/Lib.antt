@@ -1,4 +1,0 @@
-pub mod Examples
-pub mod Pool
-pub mod Run
-pub mod Pace

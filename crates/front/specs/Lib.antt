@@ -1,0 +1,4 @@
+pub mod Sources
+pub mod Texts
+pub mod Reading
+pub mod Laws

@@ -1,0 +1,11 @@
+//! From the bytes of a source to its chunk, or its fault.
+#![tactic(auto)]
+
+mod compiling;
+mod fault;
+mod laws;
+mod reading;
+
+pub use compiling::compiled_chunk;
+pub use fault::{Fault, SourceFault};
+pub use laws::{chunks_are_one, never_both, sources_are_one};

@@ -1,0 +1,92 @@
+// Making a text of a file.
+ghost use Rattle.std.specs.Prelude.{◌≡◌, IfOk, IfErr};
+ghost use Rattle.std.specs.String.{string_bytes};
+ghost use Rattle.proto.specs.View.{view_proto};
+ghost use Rattle.suite.specs.declared.product.Product.TheVariants as product;
+ghost use Rattle.suite.specs.Jobs.{Makes, stripped_if as the_stripped_if};
+ghost use Rattle.suite.specs.Refusing.{IsRefusal};
+
+use crate::chunk::{chunk_of, source_chunk, verified};
+use crate::outcome::Outcome;
+use crate::product::Product;
+use chunk_io::{Layout, dump_as};
+use lister::list;
+use lua_num::ByteText;
+use proto::Proto;
+use std::alloc::Global;
+use suite_io::Word;
+
+/// The text that is made of a file, or what the work comes to where there is none.
+pub fn made_text(
+    alloc: Global,
+    bytes: &[u8],
+    file: &Word,
+    product: Product,
+) -> Result<ByteText, Outcome>
+    ensures made { IfOk result (Makes product (string_bytes file.now) bytes.now) }
+    ensures none { IfErr result (IsRefusal product (string_bytes file.now) bytes.now) }
+{
+    match product {
+        Product::Listing => listing_of(alloc, bytes, file),
+        Product::Verdict => verdict_on(alloc, bytes, file),
+        Product::Spelling { strip, layout } => spelling_of(alloc, bytes, file, strip, layout),
+    }
+}
+
+fn listing_of(alloc: Global, bytes: &[u8], file: &Word) -> Result<ByteText, Outcome>
+    ensures made { IfOk result (Makes product.Listing (string_bytes file.now) bytes.now) }
+    ensures none { IfErr result (IsRefusal product.Listing (string_bytes file.now) bytes.now) }
+{
+    let proto = match chunk_of(alloc, bytes, file) {
+        Ok(proto) => proto,
+        Err(outcome) => return Err(outcome),
+    };
+    match list(alloc, &proto) {
+        Ok(text) => Ok(text),
+        Err(_) => Err(Outcome::OutOfMemory),
+    }
+}
+
+fn verdict_on(alloc: Global, bytes: &[u8], file: &Word) -> Result<ByteText, Outcome>
+    ensures made { IfOk result (Makes product.Verdict (string_bytes file.now) bytes.now) }
+    ensures none { IfErr result (IsRefusal product.Verdict (string_bytes file.now) bytes.now) }
+{
+    let proto = match chunk_of(alloc, bytes, file) {
+        Ok(proto) => proto,
+        Err(outcome) => return Err(outcome),
+    };
+    match verified(alloc, proto) {
+        Ok(_) => match ByteText::from_slice(alloc, b"ok\n") {
+            Ok(text) => Ok(text),
+            Err(_) => Err(Outcome::OutOfMemory),
+        },
+        Err(outcome) => Err(outcome),
+    }
+}
+
+fn spelling_of(
+    alloc: Global,
+    bytes: &[u8],
+    file: &Word,
+    strip: bool,
+    layout: Layout,
+) -> Result<ByteText, Outcome>
+    ensures made { IfOk result (Makes (product.Spelling strip layout) (string_bytes file.now) bytes.now) }
+    ensures none { IfErr result (IsRefusal (product.Spelling strip layout) (string_bytes file.now) bytes.now) }
+{
+    let proto = match source_chunk(alloc, bytes, file, layout) {
+        Ok(proto) => proto,
+        Err(outcome) => return Err(outcome),
+    };
+    let kept = stripped_if(alloc, proto, strip);
+    match dump_as(alloc, &kept, layout) {
+        Ok(text) => Ok(text),
+        Err(_) => Err(Outcome::OutOfMemory),
+    }
+}
+
+fn stripped_if(alloc: Global, proto: Proto, strip: bool) -> Proto
+    ensures { view_proto result ≡ the_stripped_if strip (view_proto proto) }
+{
+    if strip { proto.strip(alloc) } else { proto }
+}

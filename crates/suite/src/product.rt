@@ -1,0 +1,13 @@
+// The texts that are made of a file.
+use chunk_io::Layout;
+
+/// A text that is made of the chunk of a file.
+#[derive(Clone, Copy)]
+pub enum Product {
+    /// Its listing.
+    Listing,
+    /// `ok` and a line end, where it is sound.
+    Verdict,
+    /// Its spelling in a layout, or that of its stripped form; the file is read as source, whatever it begins with.
+    Spelling { strip: bool, layout: Layout },
+}
