@@ -39,7 +39,7 @@ one_source tokens_one trees_one bytes one other read read_too =
     let same : read_too.tokens ≡ read.tokens = tokens_one bytes read_too.tokens read.tokens read_too.lexed read.lexed in
     trees_one read.tokens one other read.parsed (subst (λ t. IsTreeOf t other) same read_too.parsed)
 
-read_by : (bytes : List ℕ) (source : Source) → Accepts bytes source → IsRead bytes source
+pub read_by : (bytes : List ℕ) (source : Source) → Accepts bytes source → IsRead bytes source
 read_by bytes source accepts = record { tokens = accepts.tokens; lexed = accepts.lexed; parsed = accepts.parsed }
 
 pub one_chunk : laws_of_sources.SourcesAreOne → laws_of_sources.ChunksAreOne

@@ -1,5 +1,5 @@
 // What holds of sources, chunks and faults.
-ghost use Rattle.front.specs.Laws.{SourcesAreOne, ChunksAreOne, NeverBoth};
+ghost use Rattle.front.specs.Laws.{SourcesAreOne, ChunksAreOne, NeverBoth, CompiledIsSound, CompiledDoes};
 
 /// Bytes are read as one source at most. A law, with nothing to run.
 pub fn sources_are_one()
@@ -24,4 +24,20 @@ pub fn never_both()
     lua_tree::never_both();
     parser::trees_are_one();
     parser::never_both();
+}
+
+/// The chunk of a source is sound. A law, with nothing to run.
+pub fn compiled_is_sound()
+    ensures { CompiledIsSound }
+{
+    scheme_sound::accepted_source_is_sound();
+}
+
+/// The run of the chunk of a source does what the source means, after any number of steps, with all hosts and replies. A law, with
+/// nothing to run.
+pub fn compiled_does()
+    ensures { CompiledDoes }
+{
+    sources_are_one();
+    agrees::accepted_source_does();
 }

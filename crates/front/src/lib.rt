@@ -8,4 +8,4 @@ mod reading;
 
 pub use compiling::compiled_chunk;
 pub use fault::{Fault, SourceFault};
-pub use laws::{chunks_are_one, never_both, sources_are_one};
+pub use laws::{chunks_are_one, compiled_does, compiled_is_sound, never_both, sources_are_one};

@@ -13,11 +13,12 @@ use Rattle.front.specs.declared.fault.Fault.{Fault}
 use Rattle.front.specs.Sources.{IsFaultIn}
 use Rattle.suite_io.specs.Taken.{Takes}
 use Rattle.suite.specs.declared.product.Product.{Product}
+use Rattle.suite.specs.declared.rejection.Rejection.{Rejection}
 use Rattle.suite.specs.declared.status.Status.{Status}
 use Rattle.suite.specs.Words.{Job, run_file, put_product, store_product}
 use Rattle.suite.specs.Worlds.{World, hosts_first, replies_of}
 use Rattle.suite.specs.Seen.{Outside}
-use Rattle.suite.specs.Jobs.{End, stored, put, failed, unfinished, bad_source, bad_chunk, rejected, source_name, HasChunk, ChunkFor, IsTextOf, Makes, IsSourceFor, IsChunkFor, Refuses, HasRun, HasPut, ran_in, Comes}
+use Rattle.suite.specs.Jobs.{End, stored, put, failed, unfinished, bad_source, bad_chunk, rejected, source_name, SoundIfSpelled, HasChunk, ChunkFor, IsTextOf, Makes, IsSourceFor, IsChunkFor, Refuses, HasRun, HasPut, ran_in, Comes}
 use Rattle.suite.specs.Work.{MayPut, IsRun}
 use Rattle.suite.specs.Causes.{status_at, Leaves, HasNoOutput}
 use Rattle.suite.proofs.Facts.{Laws}
@@ -50,10 +51,10 @@ shown_run (Failed why) text = puts Status.ScriptFailed text
 shown_run Going text = puts Status.Unfinished text
 shown_run Waiting text = refuses Status.Done
 
-text_one : (p : Product) (c : Chunk) (a b : List ℕ) → IsTextOf p c a → IsTextOf p c b → a ≡ b
-text_one Product.Listing c a b one other = one ∙ sym other
-text_one Product.Verdict c a b one other = one.1 ∙ sym other.1
-text_one (Product.Spelling strip layout) c a b one other = one.is ∙ sym other.is
+text_one : (p : Product) (bytes : List ℕ) (c : Chunk) (a b : List ℕ) → IsTextOf p bytes c a → IsTextOf p bytes c b → a ≡ b
+text_one Product.Listing bytes c a b one other = one ∙ sym other
+text_one Product.Verdict bytes c a b one other = one.1 ∙ sym other.1
+text_one (Product.Spelling strip layout) bytes c a b one other = one.is ∙ sym other.is
 
 module _ (laws : Laws) where
   same_chunk : (file : Text) (bytes : List ℕ) (c d : Chunk) → HasChunk file bytes c → HasChunk file bytes d → c ≡ d
@@ -93,14 +94,14 @@ module _ (laws : Laws) where
 
   makes_one : (p : Product) (file : Text) (bytes a b : List ℕ) → Makes p file bytes a → Makes p file bytes b → a ≡ b
   makes_one p file bytes a b one other =
-      text_one p other.chunk a b (subst (λ c. IsTextOf p c a) (chunk_for_one p file bytes one.chunk other.chunk one.has other.has) one.is) other.is
+      text_one p bytes other.chunk a b (subst (λ c. IsTextOf p bytes c a) (chunk_for_one p file bytes one.chunk other.chunk one.has other.has) one.is) other.is
 
   -- a file of which a text is made is not refused
-  sound_refused : (file : Text) (bytes : List ℕ) (c : Chunk) (end : End) → HasChunk file bytes c → Sound c → Refuses Product.Verdict file bytes end → ⊥
+  sound_refused : (file : Text) (bytes : List ℕ) (c : Chunk) (end : End) → HasChunk file bytes c → SoundIfSpelled bytes c → Refuses Product.Verdict file bytes end → ⊥
   sound_refused file bytes c (bad_source fault) has sound refused = has_no_fault file bytes c fault has refused.0 refused.1
   sound_refused file bytes c (bad_chunk fault) has sound refused = spells_no_fault file bytes c fault has refused.0 refused.1
   sound_refused file bytes c (rejected r) has sound refused =
-      laws.sound_or_rejected refused.chunk r.path r.pc r.rule (subst Sound (same_chunk file bytes c refused.chunk has refused.has) sound) refused.rejected
+      laws.sound_or_rejected refused.chunk r.path r.pc r.rule (subst Sound (same_chunk file bytes c refused.chunk has (inl (refused.spelled, refused.of))) (sound refused.spelled)) refused.rejected
   sound_refused file bytes c end has sound refused = refused
 
   makes_refused : (p : Product) (file : Text) (bytes text : List ℕ) (end : End) → Makes p file bytes text → Refuses p file bytes end → ⊥
@@ -110,6 +111,14 @@ module _ (laws : Laws) where
   makes_refused p file bytes text (rejected r) makes refused = refused.wants
   makes_refused p file bytes text end makes refused = refused
 
+  -- what is rejected is no source, and its bytes have no fault
+  rejected_no_source : (p : Product) (file : Text) (bytes : List ℕ) (r : Rejection) → Refuses p file bytes (rejected r) → IsSourceFor p bytes → ⊥
+  rejected_no_source Product.Verdict file bytes r refused source = let yes : is_chunk bytes ≡ true = refused.spelled in let no : is_chunk bytes ≡ false = source in cc
+  rejected_no_source p file bytes r refused source = refused.wants
+
+  rejected_no_fault : (p : Product) (file : Text) (bytes : List ℕ) (r : Rejection) (fault : ChunkFault) → Refuses p file bytes (rejected r) → IsFault bytes fault → ⊥
+  rejected_no_fault p file bytes r fault refused is = laws.chunk_or_fault bytes refused.chunk fault refused.of is
+
   -- one kind of refusal
   refused_alike : (p : Product) (file : Text) (bytes : List ℕ) (a b : End) → Refuses p file bytes a → Refuses p file bytes b → Alike a b
   refused_alike p file bytes (bad_source f) (bad_source g) one other = refl
@@ -117,10 +126,10 @@ module _ (laws : Laws) where
   refused_alike p file bytes (rejected r) (rejected s) one other = refl
   refused_alike p file bytes (bad_source f) (bad_chunk g) one other = absurd (not_source_and_chunk p bytes one.0 other.0)
   refused_alike p file bytes (bad_chunk f) (bad_source g) one other = absurd (not_source_and_chunk p bytes other.0 one.0)
-  refused_alike p file bytes (bad_source f) (rejected s) one other = absurd (no_source_fault p file bytes other.chunk f other.has one.0 one.1)
-  refused_alike p file bytes (rejected r) (bad_source g) one other = absurd (no_source_fault p file bytes one.chunk g one.has other.0 other.1)
-  refused_alike p file bytes (bad_chunk f) (rejected s) one other = absurd (no_chunk_fault p file bytes other.chunk f other.has one.0 one.1)
-  refused_alike p file bytes (rejected r) (bad_chunk g) one other = absurd (no_chunk_fault p file bytes one.chunk g one.has other.0 other.1)
+  refused_alike p file bytes (bad_source f) (rejected s) one other = absurd (rejected_no_source p file bytes s other one.0)
+  refused_alike p file bytes (rejected r) (bad_source g) one other = absurd (rejected_no_source p file bytes r one other.0)
+  refused_alike p file bytes (bad_chunk f) (rejected s) one other = absurd (rejected_no_fault p file bytes s f other one.1)
+  refused_alike p file bytes (rejected r) (bad_chunk g) one other = absurd (rejected_no_fault p file bytes r g one other.1)
   refused_alike p file bytes (bad_source f) b one other = absurd other
   refused_alike p file bytes (bad_chunk f) b one other = absurd other
   refused_alike p file bytes (rejected r) b one other = absurd other

@@ -8,7 +8,7 @@ use Rattle.chunk_io.specs.Laws as chunks
 use Rattle.rules.specs.declared.rule.Rule.{Rule}
 use Rattle.rules.specs.Sound.{Sound, Rejected}
 use Rattle.front.specs.Laws as sources
-use Rattle.front.specs.Laws.{SourcesAreOne}
+use Rattle.front.specs.Laws.{CompiledDoes}
 use Rattle.suite_io.specs.declared.calls.FileCall.{FileCall}
 use Rattle.suite_io.specs.Contents.{Contents}
 use Rattle.suite_io.specs.Calls.{fault_count}
@@ -23,14 +23,14 @@ use Rattle.suite.specs.Causes.{Becomes}
 abbrev pub SoundOrRejected : Type 0
 SoundOrRejected = (chunk : Chunk) (path : List ℕ) (pc : ℕ) (rule : Rule) → Sound chunk → Rejected chunk path pc rule → ⊥
 
--- a file has one source, one chunk, and no fault beside it, and its chunk is not sound and rejected
+-- a file has one chunk, and no fault beside it; its chunk is not sound and rejected; and that of a source does what the source means
 pub record Laws : Type 0 where
-  pub sources_are_one : SourcesAreOne
   pub compiled_are_one : sources.ChunksAreOne
   pub source_or_fault : sources.NeverBoth
   pub spelled_are_one : chunks.ChunksAreOne
   pub chunk_or_fault : chunks.NeverBoth
   pub sound_or_rejected : SoundOrRejected
+  pub compiled_does : CompiledDoes
 
 pub count_snoc : (calls : List FileCall) (call : FileCall) → call.failed ≡ true → fault_count (calls ++ call ∷ []) ≡ suc (fault_count calls)
 count_snoc calls call e =

@@ -1,10 +1,10 @@
 -- What the top call promises, for words that ask for a job and for those that ask for none.
-use Rattle.std.proofs.Common.{◌≡◌, ◌≢◌, [], inl, inr, Some, None, refl, sym, ap, subst, ◌∙◌}
+use Rattle.std.proofs.Common.{◌≡◌, ◌≢◌, ℕ, List, [], inl, inr, Some, None, refl, sym, ap, subst, ◌∙◌}
 use Rattle.suite_io.proofs.TakenPieces.{takes_none}
 use Rattle.suite_io.specs.Taken.{Takes, Rises}
 use Rattle.suite.specs.declared.outcome.Outcome.{Outcome}
 use Rattle.suite.specs.declared.status.Status.{Status}
-use Rattle.suite.specs.Words.{Words, Job, job_in, texts, Reads, NoCommand, file_of, file_or_none, named}
+use Rattle.suite.specs.Words.{Words, Job, job_in, texts, Reads, NoCommand, Asks, file_of, file_or_none, named}
 use Rattle.suite.specs.Worlds.{Unasked}
 use Rattle.suite.specs.Seen.{Seen, Outside, between}
 use Rattle.suite.specs.Lines.{Reported}
@@ -13,10 +13,10 @@ use Rattle.suite.specs.Causes.{FilesFor}
 use Rattle.suite.specs.Promises.{Promises}
 use Rattle.suite.proofs.Facts.{Laws, settled_is, put_becomes, write_cause}
 use Rattle.suite.proofs.Clauses as job
-use Rattle.suite.proofs.Meant.{Agreement, is_meant}
+use Rattle.suite.proofs.Meant.{OfJob, is_taken, is_meant}
 
 -- words that ask for a job
-module _ (laws : Laws) (agreement : Agreement) (words : Words) (asked : Job) (reads : Reads words asked) (before behind : Seen) (outcome : Outcome)
+module _ (laws : Laws) (words : Words) (asked : Job) (reads : Reads words asked) (before behind : Seen) (outcome : Outcome)
     (works : Works (Some asked) (between before behind) outcome before.outside behind.outside) (result : Status)
     (reported : Reported outcome (file_of asked) result before.err_taken behind.err_taken before.err_faults behind.err_faults) where
   pub some_promised : Promises words before behind result
@@ -47,16 +47,37 @@ module _ (laws : Laws) (agreement : Agreement) (words : Words) (asked : Job) (re
         bad_chunk = job.bad_chunk_clause laws words asked reads w old new outcome works before.err_taken behind.err_taken before.err_faults behind.err_faults result reported;
         rejected = job.rejected_clause laws words asked reads w old new outcome works before.err_taken behind.err_taken before.err_faults behind.err_faults result reported;
         write_fault = job.write_fault_clause laws words asked reads w old new outcome works before.err_taken behind.err_taken before.err_faults behind.err_faults result reported;
-        printed = λ file steps bytes source asks prints.
-            is_meant laws agreement file steps bytes source prints before behind (named words) result
-            (λ e. (done e).2 _ bytes asks)
-            (λ e. let s = failed e in let t = s.2 _ bytes asks in (s.1, t.0, t.1, t.2, s.3))
-            (λ e. let s = going e in let t = s.2 _ bytes asks in (s.1, t.0, t.1, t.2));
+        taken = λ other bytes source asks as_source accepts. is_taken laws words before behind result other bytes source (of_job other bytes asks) as_source accepts;
+        meant = λ file steps bytes source asks as_source accepts. is_meant laws words before behind result file steps bytes source (of_job _ bytes asks) as_source accepts;
         line = job.line_clause laws words asked reads w old new outcome works before.err_taken behind.err_taken before.err_faults behind.err_faults result reported;
       }
     where
       two_jobs : NoCommand words → ⊥
       two_jobs none = let one : job_in (texts words) ≡ Some asked = reads in let no : job_in (texts words) ≡ None = none in cc
+
+      of_job : (other : Job) (bytes : List ℕ) → Asks words before.outside.contents other bytes → OfJob words other bytes before behind result
+      of_job other bytes asks =
+          let w = between before behind in
+          let old = before.outside in
+          let new = behind.outside in
+          let done = job.done_clause laws words asked reads w old new outcome works before.err_taken behind.err_taken before.err_faults behind.err_faults result reported in
+          let failed = job.script_failed_clause laws words asked reads w old new outcome works before.err_taken behind.err_taken before.err_faults behind.err_faults result reported in
+          let going = job.unfinished_clause laws words asked reads w old new outcome works before.err_taken behind.err_taken before.err_faults behind.err_faults result reported in
+          let source = job.bad_source_clause laws words asked reads w old new outcome works before.err_taken behind.err_taken before.err_faults behind.err_faults result reported in
+          let chunk = job.bad_chunk_clause laws words asked reads w old new outcome works before.err_taken behind.err_taken before.err_faults behind.err_faults result reported in
+          let reject = job.rejected_clause laws words asked reads w old new outcome works before.err_taken behind.err_taken before.err_faults behind.err_faults result reported in
+          record {
+            done = λ e. (done e).2 other bytes asks;
+            script_failed = λ e. let s = failed e in let t = s.2 other bytes asks in (s.1, t.0, t.1, t.2, s.3);
+            unfinished = λ e. let s = going e in let t = s.2 other bytes asks in (s.1, t.0, t.1, t.2);
+            command = two_jobs;
+            bad_words = λ e. absurd (job.bad_words_clause laws words asked reads w old new outcome works before.err_taken behind.err_taken before.err_faults behind.err_faults result reported e);
+            bad_source = λ e. let s = source e in (s.1, s.2 other bytes asks);
+            bad_chunk = λ e. let s = chunk e in (s.1, s.2 other bytes asks);
+            rejected = λ e. let s = reject e in (s.1, s.2 other bytes asks);
+            read_fault = job.read_fault_clause laws words asked reads w old new outcome works before.err_taken behind.err_taken before.err_faults behind.err_faults result reported;
+            write_fault = job.write_fault_clause laws words asked reads w old new outcome works before.err_taken behind.err_taken before.err_faults behind.err_faults result reported;
+          }
 
 -- words that ask for none
 module _ (words : Words) (none : NoCommand words) (before behind : Seen) (same : behind.outside ≡ before.outside) (unasked : Unasked (between before behind)) (result : Status)
@@ -98,6 +119,7 @@ module _ (words : Words) (none : NoCommand words) (before behind : Seen) (same :
     bad_chunk = λ e. absurd (other Status.BadChunk (λ d. cc) (λ d. cc) (λ d. cc) e);
     rejected = λ e. absurd (other Status.Rejected (λ d. cc) (λ d. cc) (λ d. cc) e);
     write_fault = λ e. inr (inl (by_cause e));
-    printed = λ file steps bytes source asks prints. absurd (no_job _ asks.reads);
+    taken = λ asked bytes source asks as_source accepts. absurd (no_job asked asks.reads);
+    meant = λ file steps bytes source asks as_source accepts. absurd (no_job _ asks.reads);
     line = λ no_fault no_want. let s = settled_is before.err_taken behind.err_taken before.err_faults behind.err_faults Outcome.BadWords (named words) result named_so no_fault no_want in (Outcome.BadWords, sym s.0, s.1);
   }

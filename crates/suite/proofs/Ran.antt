@@ -52,7 +52,7 @@ module _ (file : Text) (steps : ℕ) (bytes : List ℕ) (chunk : Chunk) (has : H
       record {
         chunk = chunk;
         has = has;
-        sound = sound;
+        sound = λ spelled. sound;
         events = es;
         comes = subst (λ (r : List Reply). course (ran chunk (hosts_of before) r n) ≡ Some (record { ending = end; events = es })) (replies es log) (ran_to []);
         is = refl;
@@ -65,7 +65,7 @@ module _ (file : Text) (steps : ℕ) (bytes : List ℕ) (chunk : Chunk) (has : H
   has_put n end es ran_to = record {
     chunk = chunk;
     has = has;
-    sound = sound;
+    sound = λ spelled. sound;
     replies = replies_in es ++ [];
     steps = n;
     ending = end;
@@ -116,7 +116,7 @@ module _ (file : Text) (steps : ℕ) (bytes : List ℕ) (chunk : Chunk) (has : H
         none_taken = part_of_none taken later (subst (λ e. TakesPart taken later (output e)) none.0 part)
     gave es part (inr up) = inr (inl (record {
       text = output es;
-      so = record { chunk = chunk; has = has; sound = sound; events = es; is = refl; gave = inr up };
+      so = record { chunk = chunk; has = has; sound = λ spelled. sound; events = es; is = refl; gave = inr up };
       output = has_put (0 + up.done) up.ending es up.ran;
       files = record { contents = refl; calls = refl };
       part = part;

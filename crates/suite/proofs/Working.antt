@@ -17,8 +17,10 @@ use Rattle.suite.specs.declared.rejection.Rejection.{Rejection}
 use Rattle.suite.specs.Words.{Job, run_file, put_product, store_product, file_of}
 use Rattle.suite.specs.Worlds.{World, Unasked}
 use Rattle.suite.specs.Seen.{Outside, outside}
-use Rattle.suite.specs.Jobs.{put, stored, bad_source, bad_chunk, rejected, HasChunk, Makes, Refuses, Comes}
+use Rattle.front.specs.Laws.{CompiledIsSound}
+use Rattle.suite.specs.Jobs.{put, stored, bad_source, bad_chunk, rejected, source_name, HasChunk, Makes, Refuses, Comes}
 use Rattle.suite.specs.Refusing.{IsBadSource, HasNone, IsRefused, IsRefusal}
+use Rattle.suite.proofs.Facts.{SoundOrRejected}
 use Rattle.suite.specs.Work.{Nothing, Does, DoesAlone, PutsText, StoresText, Works, fetched}
 
 nothing : (o : Outside) → Nothing o o
@@ -76,11 +78,12 @@ bad_none bytes (Outcome.BadSource fault) other bad = (other, bad)
 bad_none bytes Outcome.OutOfMemory other bad = tt
 bad_none bytes outcome other bad = absurd bad
 
--- nor has one a good verdict whose chunk is rejected
-pub not_sound : (file : Text) (bytes : List ℕ) (chunk : Chunk) (outcome : Outcome) → HasChunk file bytes chunk → IsRefused chunk outcome → IsRefusal Product.Verdict file bytes outcome
-not_sound file bytes chunk (Outcome.Rejected r) has is = record { wants = tt; chunk = chunk; has = has; rejected = is }
-not_sound file bytes chunk Outcome.OutOfMemory has is = tt
-not_sound file bytes chunk outcome has is = absurd is
+-- nor has one a good verdict whose chunk is rejected, which is none of a source
+pub not_sound : CompiledIsSound → SoundOrRejected → (file : Text) (bytes : List ℕ) (chunk : Chunk) (outcome : Outcome) → HasChunk file bytes chunk → IsRefused chunk outcome → IsRefusal Product.Verdict file bytes outcome
+not_sound sound or file bytes chunk (Outcome.Rejected r) (inl spelled) is = record { wants = tt; chunk = chunk; spelled = spelled.0; of = spelled.1; rejected = is }
+not_sound sound or file bytes chunk (Outcome.Rejected r) (inr compiled) is = absurd (or chunk r.path r.pc r.rule (sound (source_name file) bytes chunk compiled.1) is)
+not_sound sound or file bytes chunk Outcome.OutOfMemory has is = tt
+not_sound sound or file bytes chunk outcome has is = absurd is
 
 -- a command comes to what is done with the bytes that were fetched
 pub fetched_does : (job : Job) (w : World) (name : Text) (bytes given : List ℕ) (outcome : Outcome) (contents then : Option Contents) (calls later : List FileCall) (taken : Option (List ℕ)) (faults : ℕ) (new : Outside) → name ≡ file_of job → given ≡ bytes → then ≡ contents → later ≡ calls ++ call_of false name false ∷ [] → IfSome contents (λ held. get held name ≡ Some bytes) → Does job given w outcome (outside then later taken faults) new → Works (Some job) w outcome (outside contents calls taken faults) new

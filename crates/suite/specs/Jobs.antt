@@ -38,6 +38,10 @@ source_name file = 64 ∷ file
 abbrev pub HasChunk : Text → List ℕ → Chunk → Type 0
 HasChunk file bytes chunk = ((is_chunk bytes ≡ true) × IsChunkOf bytes chunk) ⊎ ((is_chunk bytes ≡ false) × IsCompiled (source_name file) bytes chunk)
 
+-- the chunk that a file's bytes spell is asked to be sound where it is run or verified; that of a source is so, and is not asked
+abbrev pub SoundIfSpelled : List ℕ → Chunk → Type 0
+SoundIfSpelled bytes chunk = is_chunk bytes ≡ true → Sound chunk
+
 -- ---- texts that are made of a file
 
 -- the chunk of which a text is made; what is spelled is the chunk of a source, whatever the file begins with
@@ -49,15 +53,15 @@ abbrev pub stripped_if : Bool → Chunk → Chunk
 stripped_if stripped chunk = if stripped then strip chunk else chunk
 
 -- the text: the chunk's listing, `ok` and a line end of a sound one, or its spelling
-abbrev pub IsTextOf : Product → Chunk → List ℕ → Type 0
-IsTextOf Product.Listing chunk text = text ≡ listing chunk
-IsTextOf Product.Verdict chunk text = Sound chunk × (text ≡ codes "ok" ++ 10 ∷ [])
-IsTextOf (Product.Spelling strip layout) chunk text = Spelled text layout (stripped_if strip chunk)
+abbrev pub IsTextOf : Product → List ℕ → Chunk → List ℕ → Type 0
+IsTextOf Product.Listing bytes chunk text = text ≡ listing chunk
+IsTextOf Product.Verdict bytes chunk text = SoundIfSpelled bytes chunk × (text ≡ codes "ok" ++ 10 ∷ [])
+IsTextOf (Product.Spelling strip layout) bytes chunk text = Spelled text layout (stripped_if strip chunk)
 
 pub record Makes (product : Product) (file : Text) (bytes : List ℕ) (text : List ℕ) : Type 0 where
   pub chunk : Chunk
   pub has : ChunkFor product file bytes chunk
-  pub is : IsTextOf product chunk text
+  pub is : IsTextOf product bytes chunk text
 
 -- ---- files that are refused
 
@@ -70,7 +74,7 @@ abbrev pub IsChunkFor : Product → List ℕ → Type 0
 IsChunkFor (Product.Spelling strip layout) bytes = ⊥
 IsChunkFor product bytes = is_chunk bytes ≡ true
 
--- a verdict wants a sound chunk
+-- a verdict wants a sound chunk; that of a source is never rejected
 abbrev pub WantsSound : Product → Type 0
 WantsSound Product.Verdict = Unit {0}
 WantsSound product = ⊥
@@ -78,7 +82,8 @@ WantsSound product = ⊥
 pub record IsRejectedFor (product : Product) (file : Text) (bytes : List ℕ) (rejection : Rejection) : Type 0 where
   pub wants : WantsSound product
   pub chunk : Chunk
-  pub has : ChunkFor product file bytes chunk
+  pub spelled : is_chunk bytes ≡ true
+  pub of : IsChunkOf bytes chunk
   pub rejected : Rejected chunk rejection.path rejection.pc rejection.rule
 
 abbrev pub Refuses : Product → Text → List ℕ → End → Type 0
@@ -93,11 +98,11 @@ Refuses product file bytes end = ⊥
 abbrev pub ran_in : Chunk → World → ℕ → Conf
 ran_in chunk w steps = ran chunk (hosts_first w) (replies_of w) steps
 
--- The run of the chunk of a file, which is sound, is so after these steps. The text is its output, and the hosts were called, and closed, as it does.
+-- The run of the chunk of a file is so after these steps. The text is its output, and the hosts were called, and closed, as it does.
 pub record HasRun (file : Text) (bytes : List ℕ) (w : World) (steps : ℕ) (ending : Ending) (text : List ℕ) : Type 0 where
   pub chunk : Chunk
   pub has : HasChunk file bytes chunk
-  pub sound : Sound chunk
+  pub sound : SoundIfSpelled bytes chunk
   pub events : List Event
   pub comes : course (ran_in chunk w steps) ≡ Some (record { ending = ending; events = events })
   pub is : text ≡ output events
@@ -116,7 +121,7 @@ pub record HasStopped (file : Text) (bytes : List ℕ) (w : World) (steps : ℕ)
 pub record HasGivenUp (file : Text) (bytes : List ℕ) (w : World) (steps : ℕ) (text : List ℕ) : Type 0 where
   pub chunk : Chunk
   pub has : HasChunk file bytes chunk
-  pub sound : Sound chunk
+  pub sound : SoundIfSpelled bytes chunk
   pub events : List Event
   pub is : text ≡ output events
   pub gave : ((events ≡ []) × Unasked w) ⊎ GaveUp chunk (hosts_first w) [] 0 steps w.before w.behind events
@@ -125,7 +130,7 @@ pub record HasGivenUp (file : Text) (bytes : List ℕ) (w : World) (steps : ℕ)
 pub record HasPut (file : Text) (bytes : List ℕ) (hosts : List Host) (text : List ℕ) : Type 0 where
   pub chunk : Chunk
   pub has : HasChunk file bytes chunk
-  pub sound : Sound chunk
+  pub sound : SoundIfSpelled bytes chunk
   pub replies : List Reply
   pub steps : ℕ
   pub ending : Ending

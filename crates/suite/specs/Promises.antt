@@ -19,7 +19,8 @@ use Rattle.suite.specs.Jobs.{End, failed, unfinished, bad_source, bad_chunk, rej
 use Rattle.suite.specs.Work.{Works, MayPut, IsRun}
 use Rattle.suite.specs.Causes as causes
 use Rattle.suite.specs.Causes.{FilesFor, StoreFailed, HasNoOutput, IsRefusal, status_at}
-use Rattle.suite.specs.Meant.{PrintsNumbers, IsMeant}
+use Rattle.scheme.specs.Accepts.{Accepts}
+use Rattle.suite.specs.Meant.{IsReadAsSource, IsTaken, IsMeant}
 
 module _ (words : Words) (before behind : Seen) (result : Status) where
   -- the words ask for this, of a file that is told to have these bytes; this is what it then comes to; and so it was left outside
@@ -91,7 +92,8 @@ module _ (words : Words) (before behind : Seen) (result : Status) where
     pub bad_chunk : result ≡ Status.BadChunk → Fetched × (fault : ChunkFault) × ((job : Job) (bytes : List ℕ) → Asks job bytes → Comes job bytes (bad_chunk fault)) × Says (Outcome.BadChunk fault)
     pub rejected : result ≡ Status.Rejected → Fetched × (rejection : Rejection) × ((job : Job) (bytes : List ℕ) → Asks job bytes → Comes job bytes (rejected rejection)) × Says (Outcome.Rejected rejection)
     pub write_fault : result ≡ Status.WriteFault → Rises before.outside.faults behind.outside.faults ⊎ Rises before.err_faults behind.err_faults ⊎ StoreFailed words before.outside.calls behind.outside.calls
-    -- A list of printed numbers that is run does what it means.
-    pub printed : (file : Text) (steps : ℕ) (bytes : List ℕ) (source : Source) → Asks (run_file file steps) bytes → PrintsNumbers bytes source → IsMeant source steps (named words) before behind result
+    -- Accepted source is taken for every job: a text is made of it, and it is run; and its run does what it means.
+    pub taken : (job : Job) (bytes : List ℕ) (source : Source) → Asks job bytes → IsReadAsSource job bytes → Accepts bytes source → IsTaken job IsQuiet result
+    pub meant : (file : Text) (steps : ℕ) (bytes : List ℕ) (source : Source) → Asks (run_file file steps) bytes → IsReadAsSource (run_file file steps) bytes → Accepts bytes source → IsMeant source steps (named words) before behind IsQuiet result
     -- The line of the status, whole wherever no put of it can have been refused.
     pub line : result ≢ Status.WriteFault → result ≢ Status.OutOfMemory → (settled : Outcome) × (status_of settled ≡ result) × Says settled

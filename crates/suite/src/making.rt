@@ -51,6 +51,9 @@ fn verdict_on(alloc: Global, bytes: &[u8], file: &Word) -> Result<ByteText, Outc
     ensures made { IfOk result (Makes product.Verdict (string_bytes file.now) bytes.now) }
     ensures none { IfErr result (IsRefusal product.Verdict (string_bytes file.now) bytes.now) }
 {
+    // Laws: the chunk of a source is sound, so that it is never rejected.
+    front::compiled_is_sound();
+    rules::never_both();
     let proto = match chunk_of(alloc, bytes, file) {
         Ok(proto) => proto,
         Err(outcome) => return Err(outcome),

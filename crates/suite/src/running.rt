@@ -31,6 +31,9 @@ pub fn run_bytes<O: Sink>(
 ) -> Outcome
     ensures { (contents : Option Contents) (calls : List FileCall) → Does (run_file (string_bytes file.now) steps) bytes.now (world (set_told heard hosts.old) (set_told heard hosts.new)) result (outside contents calls (O.taken out.old) (O.faults out.old)) (outside contents calls (O.taken out.new) (O.faults out.new)) }
 {
+    // Laws: the chunk of a source is sound, so that it is never rejected.
+    front::compiled_is_sound();
+    rules::never_both();
     let proto = match chunk_of(alloc, bytes, file) {
         Ok(proto) => proto,
         Err(outcome) => return outcome,

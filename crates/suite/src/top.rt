@@ -32,14 +32,13 @@ pub fn suite<F: Files, O: Sink, E: Sink>(
         (seen (F.contents files.new) (F.calls files.new) (O.taken out.new) (O.faults out.new) (E.taken err.new) (E.faults err.new) (set_told heard hosts.new)) result }
 {
     // Laws: a file has one chunk or one kind of fault, and a chunk is not sound and rejected.
-    front::sources_are_one();
     front::chunks_are_one();
     front::never_both();
     chunk_io::chunks_are_one();
     chunk_io::never_both();
     rules::never_both();
-    // A law: the chunk of a list of printed numbers does what that means.
-    agrees::agreement();
+    // A law: the chunk of a source does what the source means.
+    front::compiled_does();
     match read_words(words) {
         Some(command) => {
             let outcome = do_command(alloc, command, files, out, hosts);

@@ -15,4 +15,4 @@ returns-in-Ok-verified g c = λ contents calls.
 
 pub returns-in-Err-verified : goal.returns-in-Err-verified
 returns-in-Err-verified g c = λ contents calls.
-    run_refused (string_bytes c.args.file.now) c.args.steps c.args.bytes.now _ c.in-Err-verified.outcome _ refl (not_sound (string_bytes c.args.file.now) c.args.bytes.now (view_proto c.in-Ok.proto) c.in-Err-verified.outcome c.in-Ok.ensures.chunk c.in-Err-verified.ensures.refused)
+    run_refused (string_bytes c.args.file.now) c.args.steps c.args.bytes.now _ c.in-Err-verified.outcome _ refl (not_sound c.compiled_is_sound.ensures c.never_both.ensures (string_bytes c.args.file.now) c.args.bytes.now (view_proto c.in-Ok.proto) c.in-Err-verified.outcome c.in-Ok.ensures.chunk c.in-Err-verified.ensures.refused)
