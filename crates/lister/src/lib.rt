@@ -9,3 +9,4 @@ mod shape;
 mod text;
 
 pub use function::list;
+pub use text::put_quoted;
