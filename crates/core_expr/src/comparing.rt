@@ -1,0 +1,52 @@
+// Which operand of a comparison was written first: its word has them in the order of `<`, so that shows only in the registers and constants that they took.
+
+use crate::counting::taken_behind;
+use crate::writing::Comparison;
+use lua_tree::BinaryOp;
+
+// A field of a word is a register below this number, else a constant.
+const FIRST_CONSTANT: u32 = 256;
+
+/// Whether a comparison was written as `>` or `>=`, with its operands the other way round. The registers below `base` are those of locals, and so many constants are taken before it.
+pub fn is_swapped(comparison: &Comparison, base: usize, taken: u32) -> bool {
+    let b = comparison.b;
+    let c = comparison.c;
+    if !has_mirror(comparison.op) {
+        return false;
+    }
+    match (constant_of(b), constant_of(c)) {
+        // A constant that is taken next has no number above the count of those taken.
+        (Some(first), Some(_)) => first > taken,
+        // A constant stands on the right where that makes the same words.
+        (Some(first), None) => {
+            is_local(c, base) || first != taken || taken_behind(&comparison.right, taken) == taken
+        }
+        (None, Some(second)) => {
+            second == taken && !is_local(b, base) && taken_behind(&comparison.left, taken) > taken
+        }
+        // Of two values that were made here the lower register has the first.
+        (None, None) => !is_local(b, base) && !is_local(c, base) && b > c,
+    }
+}
+
+/// The operator that says the same with its operands the other way round.
+pub fn mirrored(op: BinaryOp) -> BinaryOp {
+    match op {
+        BinaryOp::Lt => BinaryOp::Gt,
+        BinaryOp::Le => BinaryOp::Ge,
+        op => op,
+    }
+}
+
+fn has_mirror(op: BinaryOp) -> bool {
+    op == BinaryOp::Lt || op == BinaryOp::Le
+}
+
+// The number of the constant that a field has.
+fn constant_of(field: u32) -> Option<u32> {
+    field.checked_sub(FIRST_CONSTANT)
+}
+
+fn is_local(register: u32, base: usize) -> bool {
+    (register as usize) < base
+}

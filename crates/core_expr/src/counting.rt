@@ -1,0 +1,70 @@
+// How many constants are taken behind an expression, as writing it would count them.
+
+use crate::cores::{Core, CoreItem, Operand};
+
+/// How many constants are taken with one of this number.
+pub fn with_constant(taken: u32, number: u32) -> u32 {
+    taken.max(number.saturating_add(1))
+}
+
+/// How many constants are taken behind an operand.
+#[cycle(counting)]
+pub fn taken_behind(operand: &Operand, taken: u32) -> u32 {
+    match operand {
+        Operand::Constant(number) => with_constant(taken, *number),
+        Operand::Value(core) => behind_value(core, taken),
+    }
+}
+
+#[cycle(counting)]
+fn behind_value(core: &Core, taken: u32) -> u32 {
+    match core {
+        Core::Constant(number) | Core::Global(number) => with_constant(taken, *number),
+        Core::Index { on, keys, .. } => behind_operands(keys.items(), behind_value(on, taken)),
+        Core::Binary { left, right, .. } => taken_behind(right, taken_behind(left, taken)),
+        Core::Unary { of, .. } => behind_value(of, taken),
+        Core::Concat { operands, .. } => behind_values(operands.items(), taken),
+        Core::Call { on, args, .. } => behind_values(args.items(), behind_value(on, taken)),
+        Core::Method { on, name, args, .. } => {
+            let named = with_constant(behind_value(on, taken), *name);
+            behind_values(args.items(), named)
+        }
+        Core::Table { items, .. } => behind_items(items.items(), taken),
+        Core::Nil
+        | Core::Bool(_)
+        | Core::Local(_)
+        | Core::Upvalue(_)
+        | Core::Vararg
+        | Core::Function { .. } => taken,
+    }
+}
+
+#[cycle(counting)]
+fn behind_values(cores: &[Core], taken: u32) -> u32 {
+    let mut taken = taken;
+    for core in cores {
+        taken = behind_value(core, taken);
+    }
+    taken
+}
+
+#[cycle(counting)]
+fn behind_operands(operands: &[Operand], taken: u32) -> u32 {
+    let mut taken = taken;
+    for operand in operands {
+        taken = taken_behind(operand, taken);
+    }
+    taken
+}
+
+#[cycle(counting)]
+fn behind_items(items: &[CoreItem], taken: u32) -> u32 {
+    let mut taken = taken;
+    for item in items {
+        taken = match item {
+            CoreItem::Positional(core) => behind_value(core, taken),
+            CoreItem::Keyed(key, value) => taken_behind(value, taken_behind(key, taken)),
+        };
+    }
+    taken
+}
