@@ -13,6 +13,17 @@ use lua_num::ByteText;
 use proto::Proto;
 use std::alloc::{AllocError, Global};
 
+/// The chunk of a source under a source name, or the source's fault. The time is about linear in the bytes.
+pub fn source_chunk(alloc: Global, bytes: &[u8], name: &ByteText) -> Result<Proto, SourceFault>
+    ensures chunk { IfOk result (λ proto. IsCompiled name.now bytes.now (view_proto proto)) }
+    ensures bad { (fault : Fault) → result ≡ Err (SourceFault.Bad fault) → IsFaultIn bytes.now fault }
+{
+    let tree = parsed_tree(alloc, bytes)?;
+    let scopes = scopes_of(alloc, &tree)?;
+    let proto = compile(alloc, &tree, &scopes, name)?;
+    Ok(proto)
+}
+
 /// The chunk of a source under a source name, or the source's fault. What it gives has a spelling in this layout; a chunk without one is taken as want
 /// of memory. The time is about linear in the bytes.
 pub fn compiled_chunk(
@@ -25,9 +36,7 @@ pub fn compiled_chunk(
     ensures spelled { IfOk result (λ proto. Fits layout (view_proto proto)) }
     ensures bad { (fault : Fault) → result ≡ Err (SourceFault.Bad fault) → IsFaultIn bytes.now fault }
 {
-    let tree = parsed_tree(alloc, bytes)?;
-    let scopes = scopes_of(alloc, &tree)?;
-    let proto = compile(alloc, &tree, &scopes, name)?;
+    let proto = source_chunk(alloc, bytes, name)?;
     check_spelling(&proto, layout)?;
     Ok(proto)
 }

@@ -1,7 +1,7 @@
 use Rattle.std.proofs.Common.{rules}
 use Rattle.lua_tree.specs.View.{view_tree}
 use Rattle.front.proofs.OneSource.{scoping_bad}
-use Rattle.front.proofs.compiling.compiled_chunk.Goals as goal
+use Rattle.front.proofs.compiling.source_chunk.Goals as goal
 
 pub returns-in_err-scopes-clause-bad : goal.returns-in_err-scopes-clause-bad
 returns-in_err-scopes-clause-bad c = λ fault e.
