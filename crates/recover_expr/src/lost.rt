@@ -1,0 +1,68 @@
+// Why words are no step, where nothing more is to be told than a pc.
+ghost use Rattle.std.specs.Prelude.{◌≡◌};
+ghost use Rattle.recover_expr.specs.Faults.{IsFree};
+ghost use Rattle.recover_expr.specs.declared.lost.Lost.TheVariants.{OutOfMemory};
+
+use crate::fault::{Fault, Reason};
+use core_expr::CoreFault;
+use std::alloc::{AllocError, AllocFailed};
+
+/// Why words are no step, where nothing more is to be told than a pc.
+#[derive(Clone, Copy)]
+pub enum Lost {
+    NotScheme { pc: u32 },
+    OutOfMemory,
+}
+
+/// What was made or written of the words at a pc.
+pub fn made_at<T>(pc: u32, made: Result<T, CoreFault>) -> Result<T, Lost> {
+    match made {
+        Ok(value) => Ok(value),
+        Err(CoreFault::NotScheme) => Err(Lost::NotScheme { pc }),
+        Err(CoreFault::OutOfMemory) => Err(Lost::OutOfMemory),
+    }
+}
+
+/// The words at a pc are those of a source only where this holds.
+pub fn check(holds: bool, pc: u32) -> Result<(), Lost> {
+    if holds {
+        Ok(())
+    } else {
+        Err(Lost::NotScheme { pc })
+    }
+}
+
+/// A number that a step holds.
+pub fn number_at(pc: u32, number: usize) -> Result<u32, Lost> {
+    u32::try_from(number).map_err(|_| Lost::NotScheme { pc })
+}
+
+impl From<AllocError> for Lost {
+    ghost from_gives = { λ _ lost. lost ≡ OutOfMemory };
+
+    fn from(_error: AllocError) -> Self {
+        Lost::OutOfMemory
+    }
+}
+
+impl<T: Drop> From<AllocFailed<T>> for Lost {
+    ghost from_gives = { λ _ lost. lost ≡ OutOfMemory };
+
+    fn from(_error: AllocFailed<T>) -> Self {
+        Lost::OutOfMemory
+    }
+}
+
+impl From<Lost> for Fault {
+    ghost from_gives = { λ _ fault. IsFree fault };
+
+    fn from(lost: Lost) -> Self {
+        match lost {
+            Lost::NotScheme { pc } => Fault::At {
+                pc,
+                reason: Reason::NotScheme,
+            },
+            Lost::OutOfMemory => Fault::OutOfMemory,
+        }
+    }
+}

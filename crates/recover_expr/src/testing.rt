@@ -1,0 +1,115 @@
+// Tests.
+#![tactic(auto, using(crate::proofs::Blames::free_fits))]
+
+ghost use Rattle.std.specs.Prelude.{IfErr};
+ghost use Rattle.recover_expr.specs.Faults.{IsFaultOf};
+
+use crate::blame::value_logic;
+use crate::draft::{Draft, DraftKind};
+use crate::fault::Fault;
+use crate::function::{Function, Word};
+use crate::lost::Lost;
+use crate::state::State;
+use crate::steps::StepPart;
+use crate::writing::{written, written_comparison};
+use core_expr::{Comparison, Core, Written};
+use lua_tree::{BinaryOp, Exp, ExpKind};
+use opcode::{Instr, Op};
+
+/// What a test tests.
+#[derive(Drop)]
+enum Tested {
+    Value(Core),
+    Comparison(Comparison),
+}
+
+// The operands of a comparison. Where both are registers of the statement, the higher one was made last.
+fn comparison(
+    function: &Function,
+    state: &mut State,
+    word: Word,
+    op: BinaryOp,
+) -> Result<Tested, Lost> {
+    let Word { pc, instr, .. } = word;
+    let Instr { b, c, .. } = instr;
+    let (left, right) = if state.stack.is_temporary(c) && state.stack.is_temporary(b) && c < b {
+        let left = state.pop_operand(function, b, pc)?;
+        (left, state.pop_operand(function, c, pc)?)
+    } else {
+        let right = state.pop_operand(function, c, pc)?;
+        (state.pop_operand(function, b, pc)?, right)
+    };
+    let comparison = Comparison {
+        op,
+        b,
+        c,
+        left,
+        right,
+    };
+    Ok(Tested::Comparison(comparison))
+}
+
+fn tested_by(function: &Function, state: &mut State, word: Word) -> Result<Tested, Lost> {
+    match word.instr.op {
+        Op::Eq => comparison(function, state, word, BinaryOp::Eq),
+        Op::Lt => comparison(function, state, word, BinaryOp::Lt),
+        Op::Le => comparison(function, state, word, BinaryOp::Le),
+        _ => {
+            let core = state.pop(function, word.instr.a, word.pc)?;
+            Ok(Tested::Value(core))
+        }
+    }
+}
+
+fn condition(function: &Function, state: &mut State, tested: Tested) -> Result<Written, Lost> {
+    match tested {
+        Tested::Value(core) => {
+            let mut taken = state.taken;
+            written(function, state, core, &mut taken)
+        }
+        Tested::Comparison(comparison) => written_comparison(function, state, comparison),
+    }
+}
+
+// How many levels a condition of so many has where it is negated: `~=` for `==`, and else `not`, with parentheses around a binary operator.
+fn negated_levels(exp: &Exp, levels: u32) -> u32 {
+    let more = match &exp.kind {
+        ExpKind::Binary { op, .. } if *op == BinaryOp::Eq => 0,
+        ExpKind::Binary { .. } => 2,
+        _ => 1,
+    };
+    levels.saturating_add(more)
+}
+
+// The step of a test, with the JMP behind it.
+fn test_step(
+    function: &Function,
+    state: &mut State,
+    word: Word,
+    jump: Word,
+    tested: Tested,
+) -> Result<Draft, Lost> {
+    let when = match word.instr.op {
+        Op::Test => word.instr.c == 1,
+        _ => word.instr.a == 1,
+    };
+    let Written { exp, levels } = condition(function, state, tested)?;
+    let kind = DraftKind::Test {
+        when,
+        target: function.target(jump)?,
+        negated: negated_levels(&exp, levels),
+    };
+    Ok(state.draft(kind, jump.next, levels, StepPart::Condition(exp)))
+}
+
+/// A test.
+pub fn test(function: &Function, state: &mut State, word: Word) -> Result<Draft, Fault>
+    ensures { IfErr result (IsFaultOf function.now.proto.now) }
+{
+    let jump = function.jump_behind(word)?;
+    let tested = tested_by(function, state, word)?;
+    if !state.stack.is_empty() {
+        return Err(value_logic(function.proto, word.pc));
+    }
+    Ok(test_step(function, state, word, jump, tested)?)
+}
