@@ -1,0 +1,3 @@
+mod Failing
+pub mod Paths
+pub mod Telling

@@ -1,0 +1,9 @@
+-- Functions are recovered down to so many levels.
+use Rattle.std.proofs.Common.{◌+◌, ◌-◌, ◌*◌}
+use Rattle.recover_flow.proofs.recovering.+recovering.Given as goal
+
+abbrev pub decreases-inner_function : goal.decreases-inner_function
+decreases-inner_function l = 2 * (201 - l.depth)
+
+abbrev pub decreases-inner_functions : goal.decreases-inner_functions
+decreases-inner_functions l = 2 * (201 - l.depth) + 1

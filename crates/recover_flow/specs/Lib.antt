@@ -1,0 +1,4 @@
+pub mod Debug
+pub mod Lost
+pub mod Stops
+pub mod Untold

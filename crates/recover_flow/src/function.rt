@@ -1,0 +1,136 @@
+// A function, whose functions' bodies are given.
+ghost use Rattle.std.specs.Prelude.{IfErr};
+ghost use Rattle.proto.specs.Chunk.{own};
+ghost use Rattle.proto.specs.Short.{HasShortLists};
+ghost use Rattle.proto.specs.View.{view_proto};
+ghost use Rattle.recover_flow.specs.Stops.{StopsBy};
+
+use crate::building::Builder;
+use crate::parts::{Parts, Unbuilt};
+use crate::plan::Found;
+use crate::search::Search;
+use core_expr::{Bodies, Recovered};
+use lua_tree::Body;
+use proto::Proto;
+use recover_expr::{Fault, Reading, Reason, read_steps};
+use std::alloc::{AllocError, Global};
+
+/// How deep a tree may be.
+pub const LIMIT: u32 = 200;
+
+/// Why a function is not recovered.
+#[derive(Clone, Copy, Debug, PartialEq, Eq)]
+pub enum Stop {
+    /// What is wrong with a word; and whether levels were wanting, so that there may be a tree of fewer levels.
+    At {
+        pc: u32,
+        reason: Reason,
+        wants_levels: bool,
+    },
+    OutOfMemory,
+}
+
+impl From<AllocError> for Stop {
+    ghost use Rattle.std.specs.Prelude.{◌≡◌};
+    ghost use Rattle.recover_flow.specs.declared.function.Stop.TheVariants.{OutOfMemory};
+
+    ghost from_gives = { λ _ stop. stop ≡ OutOfMemory };
+
+    fn from(_error: AllocError) -> Self {
+        Stop::OutOfMemory
+    }
+}
+
+impl From<Unbuilt> for Stop {
+    ghost use Rattle.recover_flow.specs.Stops.{SaysNothing};
+
+    ghost from_gives = { λ _ stop. SaysNothing stop };
+
+    fn from(error: Unbuilt) -> Self {
+        match error {
+            Unbuilt::Gone => Stop::At {
+                pc: 0,
+                reason: Reason::NotScheme,
+                wants_levels: false,
+            },
+            Unbuilt::OutOfMemory => Stop::OutOfMemory,
+        }
+    }
+}
+
+impl From<Fault> for Stop {
+    ghost use Rattle.recover_flow.specs.Stops.{TellsFault};
+
+    ghost from_gives = { λ fault stop. TellsFault fault stop };
+
+    fn from(error: Fault) -> Self {
+        match error {
+            Fault::At { pc, reason } => Stop::At {
+                pc,
+                reason,
+                wants_levels: false,
+            },
+            Fault::OutOfMemory => Stop::OutOfMemory,
+        }
+    }
+}
+
+/// The source of a function, and how many levels its statements need: the fewest, where it is to be short.
+pub fn recover_function(
+    alloc: Global,
+    proto: &Proto,
+    bodies: Bodies,
+    short: bool,
+) -> Result<Recovered, Stop>
+    requires { HasShortLists (own (view_proto proto.now)) }
+    ensures { IfErr result (StopsBy (own (view_proto proto.now))) }
+{
+    let Reading {
+        params,
+        steps,
+        parts,
+    } = read_steps(alloc, proto, bodies, short)?;
+    let mut search = Search::new(alloc, &steps)?;
+    let Some(found) = search.whole(LIMIT)? else {
+        return Err(Stop::At {
+            pc: search.furthest_pc(),
+            reason: Reason::NotScheme,
+            wants_levels: search.memory.wants_levels,
+        });
+    };
+    let found = if short {
+        least(&mut search, found)?
+    } else {
+        found
+    };
+    let mut builder = Builder::new(alloc, &search.memory, Parts::new(parts));
+    let block = builder.block(found.number, LIMIT)?;
+    Ok(Recovered {
+        body: Body {
+            params,
+            vararg: proto.vararg != 0,
+            block,
+            first_line: 1,
+            last_line: 1,
+        },
+        levels: found.levels,
+    })
+}
+
+// The body of the fewest levels, where this one is found.
+fn least(search: &mut Search, found: Found) -> Result<Found, AllocError> {
+    let mut best = found;
+    let mut low = 0;
+    let mut high = found.levels;
+    while high.saturating_sub(low) > 1 {
+        let middle = low + (high - low) / 2;
+        match search.whole(middle)? {
+            Some(found) => {
+                best = found;
+                high = middle.min(found.levels);
+            }
+            None => low = middle,
+        }
+    }
+    Ok(best)
+}

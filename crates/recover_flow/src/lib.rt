@@ -1,0 +1,24 @@
+//! From a chunk back to the tree of a source.
+#![tactic(auto)]
+
+mod branches;
+mod building;
+mod conditions;
+mod cuts;
+mod debug;
+mod expressions;
+mod forms;
+mod function;
+mod loops;
+mod lost;
+mod memory;
+mod parts;
+mod plan;
+mod recovering;
+mod regions;
+mod search;
+mod separating;
+mod tables;
+
+pub use lost::Lost;
+pub use recovering::recover;

@@ -1,0 +1,173 @@
+// Loops, by the condition at their end or at their beginning.
+
+use crate::forms::Shape;
+use crate::regions::{BlockAt, BodyAt, ConditionAt, Exit, Piece};
+use crate::tables::{Lengths, Tables};
+use recover_expr::{Step, StepKind};
+
+/// What a loop may be, and what stands behind its condition or its block.
+#[derive(Clone, Copy, Debug, PartialEq, Eq)]
+pub enum LoopKind {
+    /// A `repeat` whose body has captured locals: they are closed where the condition holds, and closed again before the jump back.
+    Closed { tests_end: usize, close: usize },
+    /// A `while`, whose jump back this is.
+    While { back: usize },
+    /// A `repeat` whose condition holds this last jump back.
+    Open { last: usize },
+}
+
+/// A loop but for its condition and its block.
+#[derive(Clone, Copy, Debug, PartialEq, Eq)]
+pub struct LoopAt {
+    pub kind: LoopKind,
+    pub piece: Piece,
+    pub exit: Exit,
+}
+
+/// Where the condition of a loop stands, and its block.
+#[derive(Clone, Copy, Debug, PartialEq, Eq)]
+pub struct LoopParts {
+    pub condition: ConditionAt,
+    pub inner: BlockAt,
+}
+
+/// What a loop from its first step to its end may be, in the order in which that is tried.
+pub fn loops_at(tables: &Tables, piece: Piece, last: usize) -> [Option<LoopAt>; 3] {
+    let Some(step) = tables.step(piece.from) else {
+        return [None, None, None];
+    };
+    let exit = Exit {
+        place: piece.to,
+        locals: step.base,
+    };
+    let open = LoopAt {
+        kind: LoopKind::Open { last },
+        piece,
+        exit,
+    };
+    if piece.to.checked_sub(1) != Some(last) || !tables.jumps_to(last, piece.from) {
+        return [None, None, Some(open)];
+    }
+    let closed = closed_kind(tables, piece, step, last);
+    [
+        closed.map(|kind| LoopAt { kind, ..open }),
+        Some(LoopAt {
+            kind: LoopKind::While { back: last },
+            ..open
+        }),
+        Some(open),
+    ]
+}
+
+// A `repeat` that closes its locals, where a loop ends with two such CLOSEs, and the jump out of it between them.
+fn closed_kind(tables: &Tables, piece: Piece, step: Step, last: usize) -> Option<LoopKind> {
+    let close = last.checked_sub(1)?;
+    let jump = last.checked_sub(2)?;
+    let tests_end = last.checked_sub(3)?;
+    let stands = tests_end >= piece.from
+        && tables.closes(close, step.base)
+        && tables.closes(tests_end, step.base)
+        && tables.jumps_to(jump, piece.to)
+        && tables.ends_captured(close, piece.from);
+    if stands {
+        Some(LoopKind::Closed { tests_end, close })
+    } else {
+        None
+    }
+}
+
+impl LoopAt {
+    /// The lengths that the condition may have.
+    pub fn lengths(self, tables: &Tables) -> Lengths {
+        let piece = self.piece;
+        match self.kind {
+            LoopKind::Closed { tests_end, .. } => tables.lengths_before(piece.from, tests_end),
+            LoopKind::While { back } => tables.lengths_after(piece.from, back),
+            LoopKind::Open { .. } => tables.lengths_before(piece.from, piece.to),
+        }
+    }
+
+    /// The parts of the loop where its condition has this length.
+    pub fn parts(self, tables: &Tables, length: usize) -> Option<LoopParts> {
+        match self.kind {
+            LoopKind::Closed { tests_end, close } => {
+                let from = tests_end.checked_sub(length)?;
+                Some(self.closed_parts(from, tests_end, close))
+            }
+            LoopKind::While { back } => {
+                let from = self.piece.from.checked_add(length)?;
+                Some(self.while_parts(tables, from, back))
+            }
+            LoopKind::Open { last } => {
+                let from = self.piece.to.checked_sub(length)?;
+                if from <= last {
+                    Some(self.open_parts(from))
+                } else {
+                    None
+                }
+            }
+        }
+    }
+
+    fn closed_parts(self, from: usize, tests_end: usize, close: usize) -> LoopParts {
+        LoopParts {
+            condition: ConditionAt {
+                from,
+                to: tests_end,
+                target: close,
+            },
+            inner: BlockAt {
+                closed: None,
+                whole: BodyAt {
+                    from: self.piece.from,
+                    to: from,
+                    locals_end: close,
+                    may_capture: true,
+                    exit: Some(self.exit),
+                },
+            },
+        }
+    }
+
+    fn while_parts(self, tables: &Tables, from: usize, back: usize) -> LoopParts {
+        LoopParts {
+            condition: ConditionAt {
+                from: self.piece.from,
+                to: from,
+                target: self.piece.to,
+            },
+            inner: tables.block(from, back, Some(self.exit)),
+        }
+    }
+
+    fn open_parts(self, from: usize) -> LoopParts {
+        let to = self.piece.to;
+        LoopParts {
+            condition: ConditionAt {
+                from,
+                to,
+                target: self.piece.from,
+            },
+            inner: BlockAt {
+                closed: None,
+                whole: BodyAt {
+                    from: self.piece.from,
+                    to: from,
+                    locals_end: to,
+                    may_capture: false,
+                    exit: Some(self.exit),
+                },
+            },
+        }
+    }
+
+    /// The loop with its condition, but for its block.
+    pub fn shape(self, condition: usize) -> Shape {
+        match self.kind {
+            LoopKind::While { .. } => Shape::While { condition },
+            LoopKind::Closed { .. } | LoopKind::Open { .. } => Shape::Repeat {
+                condition: Some(condition),
+            },
+        }
+    }
+}

@@ -1,0 +1,227 @@
+// What the search has found, and what it has tried in vain.
+
+use crate::conditions::Condition;
+use crate::plan::{Branches, Found, Planned};
+use crate::regions::{BodyAt, BranchesAt, ConditionAt};
+use std::alloc::{AllocError, Global};
+use std::collections::HashMap;
+
+/// The body without statements.
+pub const EMPTY: Found = Found {
+    number: 0,
+    levels: 0,
+};
+
+/// What is known of a part: the most levels with which it was not found, and the last answer, which has the fewest levels.
+#[derive(Clone, Copy, Debug, PartialEq, Eq)]
+struct Known {
+    failed: Option<u32>,
+    found: Option<Found>,
+}
+
+/// What is remembered of a part for so many levels.
+#[derive(Clone, Copy, Debug, PartialEq, Eq)]
+pub enum Recalled {
+    Found(Found),
+    Failed,
+    Unknown,
+}
+
+impl Known {
+    const NOTHING: Known = Known {
+        failed: None,
+        found: None,
+    };
+
+    fn recall(self, levels: u32) -> Recalled {
+        if let Some(found) = self.found {
+            if levels >= found.levels {
+                return Recalled::Found(found);
+            }
+        }
+        match self.failed {
+            Some(failed) if levels <= failed => Recalled::Failed,
+            _ => Recalled::Unknown,
+        }
+    }
+
+    fn with(self, levels: u32, found: Option<Found>) -> Self {
+        match found {
+            Some(found) => Self {
+                found: Some(found),
+                ..self
+            },
+            None => Self {
+                failed: Some(levels),
+                ..self
+            },
+        }
+    }
+}
+
+/// The parts that were found, by their numbers, and what is known of each place.
+#[derive(Drop)]
+pub struct Memory {
+    bodies: Vec<Vec<Planned>>,
+    branches: Vec<Branches>,
+    conditions: Vec<Condition>,
+    known_bodies: HashMap<BodyAt, Known>,
+    known_branches: HashMap<BranchesAt, Known>,
+    known_conditions: HashMap<ConditionAt, Option<Found>>,
+    /// The furthest step at which a statement began that was not found.
+    pub furthest: usize,
+    /// Whether something was refused for want of levels.
+    pub wants_levels: bool,
+}
+
+impl Memory {
+    pub fn new(alloc: Global) -> Result<Self, AllocError> {
+        let mut bodies = Vec::new(alloc);
+        bodies.push(Vec::new(alloc))?;
+        Ok(Self {
+            bodies,
+            branches: Vec::new(alloc),
+            conditions: Vec::new(alloc),
+            known_bodies: HashMap::new(alloc),
+            known_branches: HashMap::new(alloc),
+            known_conditions: HashMap::new(alloc),
+            furthest: 0,
+            wants_levels: false,
+        })
+    }
+
+    /// Whether so many levels are there.
+    pub fn fits(&mut self, need: u32, levels: u32) -> bool {
+        if need > levels {
+            self.wants_levels = true;
+        }
+        need <= levels
+    }
+
+    /// A statement, where there are levels for it.
+    pub fn fitting(&mut self, planned: Planned, levels: u32) -> Option<Planned> {
+        if self.fits(planned.levels, levels) {
+            Some(planned)
+        } else {
+            None
+        }
+    }
+
+    /// No statement was found that begins there.
+    pub fn stops_at(&mut self, place: usize) {
+        self.furthest = self.furthest.max(place);
+    }
+
+    pub fn body(&self, number: usize) -> Option<&[Planned]> {
+        Some(self.bodies.get(number)?.as_slice())
+    }
+
+    pub fn branches(&self, number: usize) -> Option<&Branches> {
+        self.branches.get(number)
+    }
+
+    pub fn condition(&self, number: usize) -> Option<&Condition> {
+        self.conditions.get(number)
+    }
+
+    pub fn recall_body(&self, at: BodyAt, levels: u32) -> Recalled {
+        match self.known_bodies.get(&at) {
+            Some(known) => known.recall(levels),
+            None => Recalled::Unknown,
+        }
+    }
+
+    pub fn recall_branches(&self, at: BranchesAt, levels: u32) -> Recalled {
+        match self.known_branches.get(&at) {
+            Some(known) => known.recall(levels),
+            None => Recalled::Unknown,
+        }
+    }
+
+    pub fn recall_condition(&self, at: ConditionAt) -> Option<Option<Found>> {
+        self.known_conditions.get(&at).copied()
+    }
+
+    /// Remembers what was found with so many levels.
+    pub fn keep_body(
+        &mut self,
+        at: BodyAt,
+        levels: u32,
+        statements: Option<Vec<Planned>>,
+    ) -> Result<Option<Found>, AllocError> {
+        let found = match statements {
+            Some(statements) => {
+                let found = Found {
+                    number: self.bodies.len(),
+                    levels: highest(statements.as_slice()),
+                };
+                self.bodies.push(statements)?;
+                Some(found)
+            }
+            None => None,
+        };
+        let known = self
+            .known_bodies
+            .get(&at)
+            .copied()
+            .unwrap_or(Known::NOTHING);
+        self.known_bodies.insert(at, known.with(levels, found))?;
+        Ok(found)
+    }
+
+    /// Remembers what was found with so many levels.
+    pub fn keep_branches(
+        &mut self,
+        at: BranchesAt,
+        levels: u32,
+        branches: Option<(Branches, u32)>,
+    ) -> Result<Option<Found>, AllocError> {
+        let found = match branches {
+            Some((branches, needed)) => {
+                let found = Found {
+                    number: self.branches.len(),
+                    levels: needed,
+                };
+                self.branches.push(branches)?;
+                Some(found)
+            }
+            None => None,
+        };
+        let known = self
+            .known_branches
+            .get(&at)
+            .copied()
+            .unwrap_or(Known::NOTHING);
+        self.known_branches.insert(at, known.with(levels, found))?;
+        Ok(found)
+    }
+
+    pub fn keep_condition(
+        &mut self,
+        at: ConditionAt,
+        condition: Option<(Condition, u32)>,
+    ) -> Result<Option<Found>, AllocError> {
+        let found = match condition {
+            Some((condition, levels)) => {
+                let found = Found {
+                    number: self.conditions.len(),
+                    levels,
+                };
+                self.conditions.push(condition)?;
+                Some(found)
+            }
+            None => None,
+        };
+        self.known_conditions.insert(at, found)?;
+        Ok(found)
+    }
+}
+
+// The levels of the highest statement.
+fn highest(statements: &[Planned]) -> u32 {
+    let mut levels = 0;
+    for planned in statements {
+        levels = levels.max(planned.levels);
+    }
+    levels
+}

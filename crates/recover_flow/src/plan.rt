@@ -1,0 +1,72 @@
+// Plans: how the statements of a function stand, as numbers of its steps.
+
+/// A body, the branches of an `if` or a condition that was found: its number in the memory, and how many levels it needs.
+#[derive(Clone, Copy, Debug, PartialEq, Eq)]
+pub struct Found {
+    pub number: usize,
+    pub levels: u32,
+}
+
+/// A statement, and how many levels it needs.
+#[derive(Clone, Copy, Debug, PartialEq, Eq)]
+pub struct Planned {
+    pub plan: Plan,
+    pub levels: u32,
+}
+
+/// A statement by the numbers of its step, its bodies and its conditions.
+#[derive(Clone, Copy, Debug, PartialEq, Eq)]
+pub enum Plan {
+    /// An act, or locals of the block's own.
+    Step {
+        step: usize,
+    },
+    /// What ends a block; `enclosed` in a `do` where it is not last.
+    End {
+        end: End,
+        enclosed: bool,
+    },
+    /// A `do` that begins with locals.
+    Do {
+        step: usize,
+        body: usize,
+    },
+    For {
+        step: usize,
+        numeric: bool,
+        body: usize,
+    },
+    While {
+        condition: usize,
+        body: usize,
+    },
+    /// No condition is `true`: a loop for its breaks alone.
+    Repeat {
+        body: usize,
+        condition: Option<usize>,
+    },
+    If {
+        branches: usize,
+    },
+}
+
+/// A statement that ends a block.
+#[derive(Clone, Copy, Debug, PartialEq, Eq)]
+pub enum End {
+    Return { step: usize },
+    Break,
+}
+
+/// An arm of an `if`; no condition is `true`.
+#[derive(Clone, Copy, Debug, PartialEq, Eq)]
+pub struct PlannedArm {
+    pub condition: Option<usize>,
+    pub body: usize,
+}
+
+/// The arms of an `if`, and its `else`.
+#[derive(Drop)]
+pub struct Branches {
+    pub arms: Vec<PlannedArm>,
+    pub last: Option<usize>,
+}
