@@ -8,6 +8,11 @@ use Rattle.suite_io.specs.Parts.{TakesPart}
 use Rattle.suite_io.specs.Taken.{Takes, Rises}
 use Rattle.chunk_io.specs.declared.fault.ChunkFault.{ChunkFault}
 use Rattle.front.specs.declared.fault.Fault.{Fault}
+use Rattle.proto.specs.Chunk.{Chunk}
+use Rattle.chunk_io.specs.Items.{IsChunkOf}
+use Rattle.lua_num.specs.Bytes.{Text}
+use Rattle.decompile.specs.declared.refused.Refused.{Refused}
+use Rattle.suite.specs.declared.product.Product.{Product}
 use Rattle.suite_io.proofs.TakenPieces.{takes_none}
 use Rattle.suite.specs.declared.outcome.Outcome.{Outcome}
 use Rattle.suite.specs.declared.rejection.Rejection.{Rejection}
@@ -16,11 +21,11 @@ use Rattle.suite.specs.Words.{Words, Job, run_file, put_product, store_product, 
 use Rattle.suite.specs.Worlds.{World, Unasked}
 use Rattle.suite.specs.Seen.{Outside}
 use Rattle.suite.specs.Lines.{status_of, line_of, Reported}
-use Rattle.suite.specs.Jobs.{End, stored, put, failed, unfinished, bad_source, bad_chunk, rejected, Comes}
+use Rattle.suite.specs.Jobs.{End, stored, put, failed, unfinished, bad_source, bad_chunk, rejected, not_decompiled, Comes}
 use Rattle.suite.specs.Work.{IsStore, IsRun, MayAsk, MayPut, StopsSo, fetched, FilesStay, CarriesOut, Carried, Does, DoesFetched, Works, out_of}
-use Rattle.suite.specs.Causes.{Becomes, Fetched, StoreFailed, FilesFor, NoFault, Leaves, HasNoOutput, IsRefusal, status_at}
+use Rattle.suite.specs.Causes.{Becomes, Fetched, StoreFailed, FilesFor, NoFault, Leaves, HasNoOutput, IsOnlyEnd, IsRefusal, status_at}
 use Rattle.suite.proofs.Facts.{Laws, count_snoc, same_bytes, whole_part, settled_is, becomes, put_becomes, no_memory_is, quiet_is, write_cause}
-use Rattle.suite.proofs.Ends.{alike, alike_status, alike_leaves, alike_none, refused_not_run, put_may, failed_may, unfinished_may}
+use Rattle.suite.proofs.Ends.{Alike, alike, alike_status, alike_leaves, alike_none, decompiled_at, refused_not_run, put_may, failed_may, unfinished_may}
 
 -- the list of calls behind two others is not told apart by what comes later
 later_both : (calls : List FileCall) (a b : FileCall) (xs ys : List FileCall) → (calls ++ a ∷ []) ++ xs ≡ (calls ++ b ∷ []) ++ ys → a ≡ b
@@ -38,6 +43,7 @@ abbrev Tells : Outcome → End → Type 0
 Tells (Outcome.BadSource fault) end = end ≡ bad_source fault
 Tells (Outcome.BadChunk fault) end = end ≡ bad_chunk fault
 Tells (Outcome.Rejected rejection) end = end ≡ rejected rejection
+Tells (Outcome.NotDecompiled refused) end = end ≡ not_decompiled refused
 Tells Outcome.BadWords end = ⊥
 Tells Outcome.ReadFault end = ⊥
 Tells outcome end = Unit {0}
@@ -59,6 +65,7 @@ module _ (job : Job) (w : World) (old new : Outside) where
   called_later (bad_source fault) outcome c = ([], c.1.0.calls ∙ sym (append-nil old.calls))
   called_later (bad_chunk fault) outcome c = ([], c.1.0.calls ∙ sym (append-nil old.calls))
   called_later (rejected rejection) outcome c = ([], c.1.0.calls ∙ sym (append-nil old.calls))
+  called_later (not_decompiled refused) outcome c = ([], c.1.0.calls ∙ sym (append-nil old.calls))
 
   -- what files come to behind the fetch
   abbrev FilesBehind : Type 0
@@ -83,6 +90,7 @@ module _ (job : Job) (w : World) (old new : Outside) where
   files_behind bytes (bad_source fault) outcome comes c = same_files c.1.0
   files_behind bytes (bad_chunk fault) outcome comes c = same_files c.1.0
   files_behind bytes (rejected rejection) outcome comes c = same_files c.1.0
+  files_behind bytes (not_decompiled refused) outcome comes c = same_files c.1.0
 
   -- at success all of it was put or stored
   pub done_leaves : (end : End) → CarriesOut job end Outcome.Done old new → (status_at end ≡ Status.Done) × Leaves job end old new
@@ -93,6 +101,7 @@ module _ (job : Job) (w : World) (old new : Outside) where
   done_leaves (bad_source fault) c = let differ = c.0 in cc
   done_leaves (bad_chunk fault) c = let differ = c.0 in cc
   done_leaves (rejected rejection) c = let differ = c.0 in cc
+  done_leaves (not_decompiled refused) c = let differ = c.0 in cc
 
   -- where no count rose, all of it was, or memory ran out
   pub quiet_leaves : (end : End) (outcome : Outcome) → CarriesOut job end outcome old new → (Rises old.faults new.faults → ⊥) → fault_count new.calls ≡ fault_count old.calls → ((status_of outcome ≡ status_at end) × Leaves job end old new) ⊎ (outcome ≡ Outcome.OutOfMemory)
@@ -112,6 +121,7 @@ module _ (job : Job) (w : World) (old new : Outside) where
   quiet_leaves (bad_source fault) outcome c quiet files = inl (ap status_of c.0, (c.1.0.contents, c.1.1))
   quiet_leaves (bad_chunk fault) outcome c quiet files = inl (ap status_of c.0, (c.1.0.contents, c.1.1))
   quiet_leaves (rejected rejection) outcome c quiet files = inl (ap status_of c.0, (c.1.0.contents, c.1.1))
+  quiet_leaves (not_decompiled refused) outcome c quiet files = inl (ap status_of c.0, (c.1.0.contents, c.1.1))
 
   -- what was put is a first part of what is to be put
   pub part_put : (bytes : List ℕ) (end : End) (outcome : Outcome) → Comes job bytes w end → CarriesOut job end outcome old new → Takes old.taken new.taken [] ⊎ ((text : List ℕ) × MayPut job bytes w text × TakesPart old.taken new.taken text)
@@ -128,6 +138,7 @@ module _ (job : Job) (w : World) (old new : Outside) where
   part_put bytes (bad_source fault) outcome comes c = inl c.1.1
   part_put bytes (bad_chunk fault) outcome comes c = inl c.1.1
   part_put bytes (rejected rejection) outcome comes c = inl c.1.1
+  part_put bytes (not_decompiled refused) outcome comes c = inl c.1.1
 
   -- a fault of writing: the sink's count rose, or the store failed
   pub written : (bytes : List ℕ) (end : End) → Comes job bytes w end → CarriesOut job end Outcome.WriteFault old new → Rises old.faults new.faults ⊎ (IsStore job × (new.calls ≡ old.calls ++ call_of true (out_of job) true ∷ []))
@@ -138,12 +149,14 @@ module _ (job : Job) (w : World) (old new : Outside) where
   written bytes (bad_source fault) comes c = let differ = c.0 in cc
   written bytes (bad_chunk fault) comes c = let differ = c.0 in cc
   written bytes (rejected rejection) comes c = let differ = c.0 in cc
+  written bytes (not_decompiled refused) comes c = let differ = c.0 in cc
 
   -- what is refused is refused as that
   pub refused_as : (end : End) (outcome : Outcome) → CarriesOut job end outcome old new → HasNoOutput end → status_of outcome ≡ status_at end
   refused_as (bad_source fault) outcome c none = ap status_of c.0
   refused_as (bad_chunk fault) outcome c none = ap status_of c.0
   refused_as (rejected rejection) outcome c none = ap status_of c.0
+  refused_as (not_decompiled refused) outcome c none = ap status_of c.0
   refused_as end outcome c none = absurd none
 
   -- the other way round: the outcome of a refusal tells what was refused
@@ -161,6 +174,7 @@ module _ (job : Job) (w : World) (old new : Outside) where
   tells (bad_source fault) outcome c = subst (λ o. Tells o (bad_source fault)) (sym c.0) refl
   tells (bad_chunk fault) outcome c = subst (λ o. Tells o (bad_chunk fault)) (sym c.0) refl
   tells (rejected rejection) outcome c = subst (λ o. Tells o (rejected rejection)) (sym c.0) refl
+  tells (not_decompiled refused) outcome c = subst (λ o. Tells o (not_decompiled refused)) (sym c.0) refl
 
   -- a run that failed, or is going
   pub failed_as : (bytes : List ℕ) (why : List ℕ) (end : End) → Comes job bytes w end → CarriesOut job end (Outcome.ScriptFailed why) old new → (text : List ℕ) × Comes job bytes w (failed why text) × Leaves job (failed why text) old new
@@ -173,6 +187,7 @@ module _ (job : Job) (w : World) (old new : Outside) where
   failed_as bytes why (bad_source fault) comes c = let differ = c.0 in absurd (cc)
   failed_as bytes why (bad_chunk fault) comes c = let differ = c.0 in absurd (cc)
   failed_as bytes why (rejected rejection) comes c = let differ = c.0 in absurd (cc)
+  failed_as bytes why (not_decompiled refused) comes c = let differ = c.0 in absurd (cc)
 
   pub unfinished_as : (bytes : List ℕ) (steps : ℕ) (end : End) → Comes job bytes w end → CarriesOut job end (Outcome.Unfinished steps) old new → (text : List ℕ) × Comes job bytes w (unfinished steps text) × Leaves job (unfinished steps text) old new
   unfinished_as bytes steps (unfinished other text) comes c =
@@ -184,6 +199,7 @@ module _ (job : Job) (w : World) (old new : Outside) where
   unfinished_as bytes steps (bad_source fault) comes c = let differ = c.0 in absurd (cc)
   unfinished_as bytes steps (bad_chunk fault) comes c = let differ = c.0 in absurd (cc)
   unfinished_as bytes steps (rejected rejection) comes c = let differ = c.0 in absurd (cc)
+  unfinished_as bytes steps (not_decompiled refused) comes c = let differ = c.0 in absurd (cc)
 
 -- a run alone asks hosts, and none where its outcome is a refusal
 may_runs : (job : Job) (end : End) → MayAsk job end → IsRun (Some job)
@@ -219,6 +235,7 @@ leaves_before job old new (unfinished steps text) l = l
 leaves_before job old new (bad_source fault) l = l
 leaves_before job old new (bad_chunk fault) l = l
 leaves_before job old new (rejected rejection) l = l
+leaves_before job old new (not_decompiled refused) l = l
 
 count_same : (calls : List FileCall) (call : FileCall) → call.failed ≡ false → fault_count (calls ++ call ∷ []) ≡ fault_count calls
 count_same calls call e =
@@ -233,6 +250,7 @@ OfStatus Status.BadWords outcome = outcome ≡ Outcome.BadWords
 OfStatus Status.BadSource outcome = (fault : Fault) × (outcome ≡ Outcome.BadSource fault)
 OfStatus Status.BadChunk outcome = (fault : ChunkFault) × (outcome ≡ Outcome.BadChunk fault)
 OfStatus Status.Rejected outcome = (rejection : Rejection) × (outcome ≡ Outcome.Rejected rejection)
+OfStatus Status.NotDecompiled outcome = (refused : Refused) × (outcome ≡ Outcome.NotDecompiled refused)
 OfStatus Status.ReadFault outcome = outcome ≡ Outcome.ReadFault
 OfStatus Status.WriteFault outcome = outcome ≡ Outcome.WriteFault
 OfStatus Status.OutOfMemory outcome = outcome ≡ Outcome.OutOfMemory
@@ -245,6 +263,7 @@ its_own Outcome.BadWords = refl
 its_own (Outcome.BadSource fault) = (fault, refl)
 its_own (Outcome.BadChunk fault) = (fault, refl)
 its_own (Outcome.Rejected rejection) = (rejection, refl)
+its_own (Outcome.NotDecompiled refused) = (refused, refl)
 its_own Outcome.ReadFault = refl
 its_own Outcome.WriteFault = refl
 its_own Outcome.OutOfMemory = refl
@@ -400,35 +419,28 @@ module _ (laws : Laws) (words : Words) (job : Job) (reads : Reads words job) (w 
     pub unasked_clause : IsRefusal result → Unasked w
     unasked_clause refuses = refusal_asks_none (subst IsRefusal (sym (settled result refl (λ e. subst IsRefusal e refuses) (λ e. subst IsRefusal e refuses)).0) refuses)
 
-    pub carried_out_clause : (other : Job) (bytes : List ℕ) (end : End) → Asks words old.contents other bytes → Comes other bytes w end → NoFault old.calls new.calls → (Rises old.faults new.faults → ⊥) → (Rises err_old err_new → ⊥) → ((result ≡ status_at end) × Leaves other end old new) ⊎ (result ≡ Status.OutOfMemory)
-    carried_out_clause other bytes end asks comes files quiet err = by works
+    -- where no count of faults rose, the status is that of what the job comes to, or memory ran out
+    ended : (bytes : List ℕ) → Asks words old.contents job bytes → NoFault old.calls new.calls → (Rises old.faults new.faults → ⊥) → (Rises err_old err_new → ⊥) → ((end : End) × Comes job bytes w end × (result ≡ status_at end) × Leaves job end old new) ⊎ (result ≡ Status.OutOfMemory)
+    ended bytes asks files quiet err = by works
       where
-        same : other ≡ job
-        same = asked other asks.reads
-
-        as_asked : Leaves job end old new → Leaves other end old new
-        as_asked l = subst (λ j. Leaves j end old new) (sym same) l
-
         no_memory : outcome ≡ Outcome.OutOfMemory → result ≡ Status.OutOfMemory
         no_memory e = elim (quiet_is err_before err_later err_old err_new outcome (file_of job) result reported err) [
           | inl s ↦ s ∙ ap status_of e
           | inr s ↦ s
         ]
 
-        ended : (c : End) → Comes job bytes w c → (status_of outcome ≡ status_at c) → Leaves job c (fetched job false old) new → ((result ≡ status_at end) × Leaves other end old new) ⊎ (result ≡ Status.OutOfMemory)
-        ended c is e l =
-            let one = alike laws job bytes w c end is (subst (λ j. Comes j bytes w end) same comes) in
-            elim (quiet_is err_before err_later err_old err_new outcome (file_of job) result reported err) [
-              | inl s ↦ inl (s ∙ e ∙ alike_status c end one, as_asked (leaves_before job old new end (alike_leaves job c end (fetched job false old) new one l)))
-              | inr s ↦ inr s
-            ]
+        at_end : (end : End) → Comes job bytes w end → (status_of outcome ≡ status_at end) → Leaves job end (fetched job false old) new → ((end : End) × Comes job bytes w end × (result ≡ status_at end) × Leaves job end old new) ⊎ (result ≡ Status.OutOfMemory)
+        at_end end comes e l = elim (quiet_is err_before err_later err_old err_new outcome (file_of job) result reported err) [
+          | inl s ↦ inl (end, comes, s ∙ e, leaves_before job old new end l)
+          | inr s ↦ inr s
+        ]
 
         faults_same : fault_count new.calls ≡ fault_count (fetched job false old).calls
         faults_same = files ∙ sym (count_same old.calls (call_of false (file_of job) false) refl)
 
-        carried : Does job bytes w outcome (fetched job false old) new → ((result ≡ status_at end) × Leaves other end old new) ⊎ (result ≡ Status.OutOfMemory)
+        carried : Does job bytes w outcome (fetched job false old) new → ((end : End) × Comes job bytes w end × (result ≡ status_at end) × Leaves job end old new) ⊎ (result ≡ Status.OutOfMemory)
         carried (inl c) = elim (quiet_leaves job w (fetched job false old) new c.end outcome c.carried quiet faults_same) [
-          | inl l ↦ ended c.end c.comes l.0 l.1
+          | inl l ↦ at_end c.end c.comes l.0 l.1
           | inr e ↦ inr (no_memory e)
         ]
         carried (inr (inl stopped)) = elim ((stop_is job bytes w stopped.text outcome old.faults new.faults stopped.so).1) [
@@ -437,13 +449,40 @@ module _ (laws : Laws) (words : Words) (job : Job) (reads : Reads words job) (w 
         ]
         carried (inr (inr none)) = inr (no_memory none.0)
 
-        by : Works (Some job) w outcome old new → ((result ≡ status_at end) × Leaves other end old new) ⊎ (result ≡ Status.OutOfMemory)
+        by : Works (Some job) w outcome old new → ((end : End) × Comes job bytes w end × (result ≡ status_at end) × Leaves job end old new) ⊎ (result ≡ Status.OutOfMemory)
         by (inl w) =
             let grown = count_snoc old.calls (call_of false (file_of job) true) refl in
             let count : fault_count new.calls ≡ suc (fault_count old.calls) = ap (λ (o : Outside). fault_count o.calls) w.1 ∙ grown in
             absurd (omega (arith, files, count))
         by (inr (inl w)) = inr (no_memory w.0)
-        by (inr (inr f)) = carried (does_told bytes (told_job other bytes asks) f)
+        by (inr (inr f)) = carried (does_told bytes asks f)
+
+    pub carried_out_clause : (other : Job) (bytes : List ℕ) (end : End) → Asks words old.contents other bytes → Comes other bytes w end → IsOnlyEnd other end → NoFault old.calls new.calls → (Rises old.faults new.faults → ⊥) → (Rises err_old err_new → ⊥) → ((result ≡ status_at end) × Leaves other end old new) ⊎ (result ≡ Status.OutOfMemory)
+    carried_out_clause other bytes end asks comes only files quiet err = elim (ended bytes (told_job other bytes asks) files quiet err) [
+      | inl e ↦ inl (e.2 ∙ alike_status e.0 end (one e.0 e.1), subst (λ j. Leaves j end old new) (sym same) (alike_leaves job e.0 end old new (one e.0 e.1) e.3))
+      | inr e ↦ inr e
+    ]
+      where
+        same : other ≡ job
+        same = asked other asks.reads
+
+        one : (c : End) → Comes job bytes w c → Alike c end
+        one c is = alike laws job bytes w c end is (subst (λ j. Comes j bytes w end) same comes) (subst (λ j. IsOnlyEnd j end) same only)
+
+    pub decompiled_clause : (file out : Text) (bytes : List ℕ) (chunk : Chunk) → Asks words old.contents (store_product Product.Source file out) bytes → IsChunkOf bytes chunk → NoFault old.calls new.calls → (Rises old.faults new.faults → ⊥) → (Rises err_old err_new → ⊥) → (result ≡ Status.Done) ⊎ (result ≡ Status.NotDecompiled) ⊎ (result ≡ Status.OutOfMemory)
+    decompiled_clause file out bytes chunk asks of files quiet err = elim (ended bytes (told_job (store_product Product.Source file out) bytes asks) files quiet err) [
+      | inl e ↦ at_end e.0 e.1 e.2
+      | inr e ↦ inr (inr e)
+    ]
+      where
+        same : store_product Product.Source file out ≡ job
+        same = asked (store_product Product.Source file out) asks.reads
+
+        at_end : (end : End) → Comes job bytes w end → result ≡ status_at end → (result ≡ Status.Done) ⊎ (result ≡ Status.NotDecompiled) ⊎ (result ≡ Status.OutOfMemory)
+        at_end end comes is = elim (decompiled_at laws file out bytes w chunk end of (subst (λ j. Comes j bytes w end) (sym same) comes)) [
+          | inl e ↦ inl (is ∙ e)
+          | inr e ↦ inr (inl (is ∙ e))
+        ]
 
     pub done_clause : result ≡ Status.Done → Fetched words false old.calls new.calls × Takes err_before err_later [] × ((other : Job) (bytes : List ℕ) → Asks words old.contents other bytes → (end : End) × Comes other bytes w end × (status_at end ≡ Status.Done) × Leaves other end old new)
     done_clause e = (
@@ -510,6 +549,9 @@ module _ (laws : Laws) (words : Words) (job : Job) (reads : Reads words job) (w 
     pub rejected_clause : result ≡ Status.Rejected → Fetched words false old.calls new.calls × (rejection : Rejection) × ((other : Job) (bytes : List ℕ) → Asks words old.contents other bytes → Comes other bytes w (rejected rejection)) × Takes err_before err_later (line_of (Outcome.Rejected rejection) (named words))
     rejected_clause = told Status.Rejected Outcome.Rejected (λ a j bytes. Comes j bytes w (rejected a)) (λ e. cc) (λ e. cc) (λ e. cc) (of_status outcome Status.Rejected) (λ a bytes end comes c. subst (Comes job bytes w) (tells job w (fetched job false old) new end (Outcome.Rejected a) c) comes)
 
+    pub not_decompiled_clause : result ≡ Status.NotDecompiled → Fetched words false old.calls new.calls × (refused : Refused) × ((other : Job) (bytes : List ℕ) → Asks words old.contents other bytes → Comes other bytes w (not_decompiled refused)) × Takes err_before err_later (line_of (Outcome.NotDecompiled refused) (named words))
+    not_decompiled_clause = told Status.NotDecompiled Outcome.NotDecompiled (λ a j bytes. Comes j bytes w (not_decompiled a)) (λ e. cc) (λ e. cc) (λ e. cc) (of_status outcome Status.NotDecompiled) (λ a bytes end comes c. subst (Comes job bytes w) (tells job w (fetched job false old) new end (Outcome.NotDecompiled a) c) comes)
+
     pub script_failed_clause : result ≡ Status.ScriptFailed → Fetched words false old.calls new.calls × (why : List ℕ) × ((other : Job) (bytes : List ℕ) → Asks words old.contents other bytes → (text : List ℕ) × Comes other bytes w (failed why text) × Leaves other (failed why text) old new) × Takes err_before err_later (line_of (Outcome.ScriptFailed why) (named words))
     script_failed_clause =
         told Status.ScriptFailed Outcome.ScriptFailed (λ a j bytes. (text : List ℕ) × Comes j bytes w (failed a text) × Leaves j (failed a text) old new) (λ e. cc) (λ e. cc) (λ e. cc) (of_status outcome Status.ScriptFailed)
@@ -560,8 +602,8 @@ module _ (laws : Laws) (words : Words) (job : Job) (reads : Reads words job) (w 
         by (inr (inl w)) = absurd (not_fetched w.1 true fails)
         by (inr (inr f)) = let differ : true ≡ false = fetch_is_one true false fails (fetched_calls f) in absurd (cc)
 
-    pub refused_clause : (other : Job) (bytes : List ℕ) (end : End) → Asks words old.contents other bytes → Comes other bytes w end → HasNoOutput end → Fetched words false old.calls new.calls → Becomes (status_at end) result err_old err_new ⊎ (result ≡ Status.OutOfMemory)
-    refused_clause other bytes end asks comes none fetch = by works
+    pub refused_clause : (other : Job) (bytes : List ℕ) (end : End) → Asks words old.contents other bytes → Comes other bytes w end → IsOnlyEnd other end → HasNoOutput end → Fetched words false old.calls new.calls → Becomes (status_at end) result err_old err_new ⊎ (result ≡ Status.OutOfMemory)
+    refused_clause other bytes end asks comes only none fetch = by works
       where
         its : Comes job bytes w end
         its = subst (λ j. Comes j bytes w end) (asked other asks.reads) comes
@@ -571,7 +613,7 @@ module _ (laws : Laws) (words : Words) (job : Job) (reads : Reads words job) (w 
 
         carried : Does job bytes w outcome (fetched job false old) new → Becomes (status_at end) result err_old err_new ⊎ (result ≡ Status.OutOfMemory)
         carried (inl c) =
-            let same = alike laws job bytes w c.end end c.comes its in
+            let same = alike laws job bytes w c.end end c.comes its (subst (λ j. IsOnlyEnd j end) (asked other asks.reads) only) in
             become (status_at end) (refused_as job w (fetched job false old) new c.end outcome c.carried (alike_none c.end end same none) ∙ alike_status c.end end same)
         carried (inr (inl stopped)) = absurd (refused_not_run laws job bytes w stopped.text end (stop_is job bytes w stopped.text outcome old.faults new.faults stopped.so).0 stopped.output its none)
         carried (inr (inr want)) = inr (no_memory want.0)

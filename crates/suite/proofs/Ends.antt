@@ -6,11 +6,12 @@ use Rattle.lua_model.specs.Endings.{Ending, Ended, Failed, Waiting, Going, Cours
 use Rattle.proto.specs.Chunk.{Chunk}
 use Rattle.chunk_io.specs.declared.fault.ChunkFault.{ChunkFault}
 use Rattle.chunk_io.specs.Faults.{IsFault}
-use Rattle.chunk_io.specs.Items.{is_chunk}
+use Rattle.chunk_io.specs.Items.{IsChunkOf, is_chunk}
 use Rattle.rules.specs.Run.{course}
 use Rattle.rules.specs.Sound.{Sound}
 use Rattle.front.specs.declared.fault.Fault.{Fault}
 use Rattle.front.specs.Sources.{IsFaultIn}
+use Rattle.decompile.specs.declared.refused.Refused.{Refused}
 use Rattle.suite_io.specs.Taken.{Takes}
 use Rattle.suite.specs.declared.product.Product.{Product}
 use Rattle.suite.specs.declared.rejection.Rejection.{Rejection}
@@ -18,9 +19,9 @@ use Rattle.suite.specs.declared.status.Status.{Status}
 use Rattle.suite.specs.Words.{Job, run_file, put_product, store_product}
 use Rattle.suite.specs.Worlds.{World, hosts_first, replies_of}
 use Rattle.suite.specs.Seen.{Outside}
-use Rattle.suite.specs.Jobs.{End, stored, put, failed, unfinished, bad_source, bad_chunk, rejected, source_name, SoundIfSpelled, HasChunk, ChunkFor, IsTextOf, Makes, IsSourceFor, IsChunkFor, Refuses, HasRun, HasPut, ran_in, Comes}
+use Rattle.suite.specs.Jobs.{End, stored, put, failed, unfinished, bad_source, bad_chunk, rejected, not_decompiled, source_name, SoundIfSpelled, HasChunk, ChunkFor, IsTextOf, Makes, IsSourceFor, IsChunkFor, WantsSound, WantsSource, Refuses, HasRun, HasPut, ran_in, Comes}
 use Rattle.suite.specs.Work.{MayPut, IsRun}
-use Rattle.suite.specs.Causes.{status_at, Leaves, HasNoOutput}
+use Rattle.suite.specs.Causes.{status_at, Leaves, HasNoOutput, IsOnlyFor, IsOnlyEnd}
 use Rattle.suite.proofs.Facts.{Laws}
 
 -- what is shown of what a job comes to: the status at which it is carried out, and the text that is stored or put
@@ -37,6 +38,7 @@ shown (unfinished steps text) = puts Status.Unfinished text
 shown (bad_source fault) = refuses Status.BadSource
 shown (bad_chunk fault) = refuses Status.BadChunk
 shown (rejected rejection) = refuses Status.Rejected
+shown (not_decompiled refused) = refuses Status.NotDecompiled
 
 abbrev pub Alike : End → End → Type 0
 Alike one other = shown one ≡ shown other
@@ -51,10 +53,29 @@ shown_run (Failed why) text = puts Status.ScriptFailed text
 shown_run Going text = puts Status.Unfinished text
 shown_run Waiting text = refuses Status.Done
 
-text_one : (p : Product) (bytes : List ℕ) (c : Chunk) (a b : List ℕ) → IsTextOf p bytes c a → IsTextOf p bytes c b → a ≡ b
-text_one Product.Listing bytes c a b one other = one ∙ sym other
-text_one Product.Verdict bytes c a b one other = one.1 ∙ sym other.1
-text_one (Product.Spelling strip layout) bytes c a b one other = one.is ∙ sym other.is
+-- a chunk has one text of it; of sources it may have several
+abbrev HasOneText : Product → Type 0
+HasOneText Product.Source = ⊥
+HasOneText product = Unit {0}
+
+text_one : (p : Product) (bytes : List ℕ) (c : Chunk) (a b : List ℕ) → HasOneText p → IsTextOf p bytes c a → IsTextOf p bytes c b → a ≡ b
+text_one Product.Listing bytes c a b single one other = one ∙ sym other
+text_one Product.Verdict bytes c a b single one other = one.1 ∙ sym other.1
+text_one (Product.Spelling strip layout) bytes c a b single one other = one.is ∙ sym other.is
+text_one Product.Source bytes c a b single one other = absurd single
+
+-- what is wanted excludes another
+source_or_text : (p : Product) → HasOneText p → WantsSource p → ⊥
+source_or_text Product.Source single wants = single
+source_or_text p single wants = wants
+
+source_or_sound : (p : Product) → WantsSound p → WantsSource p → ⊥
+source_or_sound Product.Source sound wants = sound
+source_or_sound p sound wants = wants
+
+source_of_source : (p : Product) (bytes : List ℕ) → IsSourceFor p bytes → WantsSource p → ⊥
+source_of_source Product.Source bytes source wants = source
+source_of_source p bytes source wants = wants
 
 module _ (laws : Laws) where
   same_chunk : (file : Text) (bytes : List ℕ) (c d : Chunk) → HasChunk file bytes c → HasChunk file bytes d → c ≡ d
@@ -76,25 +97,29 @@ module _ (laws : Laws) where
   chunk_for_one Product.Listing file bytes c d one other = same_chunk file bytes c d one other
   chunk_for_one Product.Verdict file bytes c d one other = same_chunk file bytes c d one other
   chunk_for_one (Product.Spelling strip layout) file bytes c d one other = laws.compiled_are_one (source_name file) bytes c d one other
+  chunk_for_one Product.Source file bytes c d one other = laws.spelled_are_one bytes c d one other
 
   no_source_fault : (p : Product) (file : Text) (bytes : List ℕ) (c : Chunk) (fault : Fault) → ChunkFor p file bytes c → IsSourceFor p bytes → IsFaultIn bytes fault → ⊥
   no_source_fault Product.Listing file bytes c fault has source is = has_no_fault file bytes c fault has source is
   no_source_fault Product.Verdict file bytes c fault has source is = has_no_fault file bytes c fault has source is
   no_source_fault (Product.Spelling strip layout) file bytes c fault has source is = laws.source_or_fault (source_name file) bytes c fault has is
+  no_source_fault Product.Source file bytes c fault has source is = source
 
   no_chunk_fault : (p : Product) (file : Text) (bytes : List ℕ) (c : Chunk) (fault : ChunkFault) → ChunkFor p file bytes c → IsChunkFor p bytes → IsFault bytes fault → ⊥
   no_chunk_fault Product.Listing file bytes c fault has chunk is = spells_no_fault file bytes c fault has chunk is
   no_chunk_fault Product.Verdict file bytes c fault has chunk is = spells_no_fault file bytes c fault has chunk is
   no_chunk_fault (Product.Spelling strip layout) file bytes c fault has chunk is = chunk
+  no_chunk_fault Product.Source file bytes c fault has chunk is = laws.chunk_or_fault bytes c fault has is
 
   not_source_and_chunk : (p : Product) (bytes : List ℕ) → IsSourceFor p bytes → IsChunkFor p bytes → ⊥
   not_source_and_chunk Product.Listing bytes source chunk = let no : is_chunk bytes ≡ false = source in let yes : is_chunk bytes ≡ true = chunk in cc
   not_source_and_chunk Product.Verdict bytes source chunk = let no : is_chunk bytes ≡ false = source in let yes : is_chunk bytes ≡ true = chunk in cc
   not_source_and_chunk (Product.Spelling strip layout) bytes source chunk = chunk
+  not_source_and_chunk Product.Source bytes source chunk = source
 
-  makes_one : (p : Product) (file : Text) (bytes a b : List ℕ) → Makes p file bytes a → Makes p file bytes b → a ≡ b
-  makes_one p file bytes a b one other =
-      text_one p bytes other.chunk a b (subst (λ c. IsTextOf p bytes c a) (chunk_for_one p file bytes one.chunk other.chunk one.has other.has) one.is) other.is
+  makes_one : (p : Product) (file : Text) (bytes a b : List ℕ) → HasOneText p → Makes p file bytes a → Makes p file bytes b → a ≡ b
+  makes_one p file bytes a b single one other =
+      text_one p bytes other.chunk a b single (subst (λ c. IsTextOf p bytes c a) (chunk_for_one p file bytes one.chunk other.chunk one.has other.has) one.is) other.is
 
   -- a file of which a text is made is not refused
   sound_refused : (file : Text) (bytes : List ℕ) (c : Chunk) (end : End) → HasChunk file bytes c → SoundIfSpelled bytes c → Refuses Product.Verdict file bytes end → ⊥
@@ -102,14 +127,16 @@ module _ (laws : Laws) where
   sound_refused file bytes c (bad_chunk fault) has sound refused = spells_no_fault file bytes c fault has refused.0 refused.1
   sound_refused file bytes c (rejected r) has sound refused =
       laws.sound_or_rejected refused.chunk r.path r.pc r.rule (subst Sound (same_chunk file bytes c refused.chunk has (inl (refused.spelled, refused.of))) (sound refused.spelled)) refused.rejected
+  sound_refused file bytes c (not_decompiled why) has sound refused = refused.wants
   sound_refused file bytes c end has sound refused = refused
 
-  makes_refused : (p : Product) (file : Text) (bytes text : List ℕ) (end : End) → Makes p file bytes text → Refuses p file bytes end → ⊥
-  makes_refused Product.Verdict file bytes text end makes refused = sound_refused file bytes makes.chunk end makes.has makes.is.0 refused
-  makes_refused p file bytes text (bad_source fault) makes refused = no_source_fault p file bytes makes.chunk fault makes.has refused.0 refused.1
-  makes_refused p file bytes text (bad_chunk fault) makes refused = no_chunk_fault p file bytes makes.chunk fault makes.has refused.0 refused.1
-  makes_refused p file bytes text (rejected r) makes refused = refused.wants
-  makes_refused p file bytes text end makes refused = refused
+  makes_refused : (p : Product) (file : Text) (bytes text : List ℕ) (end : End) → HasOneText p → Makes p file bytes text → Refuses p file bytes end → ⊥
+  makes_refused Product.Verdict file bytes text end single makes refused = sound_refused file bytes makes.chunk end makes.has makes.is.0 refused
+  makes_refused p file bytes text (bad_source fault) single makes refused = no_source_fault p file bytes makes.chunk fault makes.has refused.0 refused.1
+  makes_refused p file bytes text (bad_chunk fault) single makes refused = no_chunk_fault p file bytes makes.chunk fault makes.has refused.0 refused.1
+  makes_refused p file bytes text (rejected r) single makes refused = refused.wants
+  makes_refused p file bytes text (not_decompiled why) single makes refused = source_or_text p single refused.wants
+  makes_refused p file bytes text end single makes refused = refused
 
   -- what is rejected is no source, and its bytes have no fault
   rejected_no_source : (p : Product) (file : Text) (bytes : List ℕ) (r : Rejection) → Refuses p file bytes (rejected r) → IsSourceFor p bytes → ⊥
@@ -119,20 +146,35 @@ module _ (laws : Laws) where
   rejected_no_fault : (p : Product) (file : Text) (bytes : List ℕ) (r : Rejection) (fault : ChunkFault) → Refuses p file bytes (rejected r) → IsFault bytes fault → ⊥
   rejected_no_fault p file bytes r fault refused is = laws.chunk_or_fault bytes refused.chunk fault refused.of is
 
+  -- what is given no source is a chunk
+  decompiled_no_source : (p : Product) (file : Text) (bytes : List ℕ) (why : Refused) → Refuses p file bytes (not_decompiled why) → IsSourceFor p bytes → ⊥
+  decompiled_no_source p file bytes why refused source = source_of_source p bytes source refused.wants
+
+  decompiled_no_fault : (p : Product) (file : Text) (bytes : List ℕ) (why : Refused) (fault : ChunkFault) → Refuses p file bytes (not_decompiled why) → IsFault bytes fault → ⊥
+  decompiled_no_fault p file bytes why fault refused is = laws.chunk_or_fault bytes refused.chunk fault refused.of is
+
   -- one kind of refusal
   refused_alike : (p : Product) (file : Text) (bytes : List ℕ) (a b : End) → Refuses p file bytes a → Refuses p file bytes b → Alike a b
   refused_alike p file bytes (bad_source f) (bad_source g) one other = refl
   refused_alike p file bytes (bad_chunk f) (bad_chunk g) one other = refl
   refused_alike p file bytes (rejected r) (rejected s) one other = refl
+  refused_alike p file bytes (not_decompiled r) (not_decompiled s) one other = refl
   refused_alike p file bytes (bad_source f) (bad_chunk g) one other = absurd (not_source_and_chunk p bytes one.0 other.0)
   refused_alike p file bytes (bad_chunk f) (bad_source g) one other = absurd (not_source_and_chunk p bytes other.0 one.0)
   refused_alike p file bytes (bad_source f) (rejected s) one other = absurd (rejected_no_source p file bytes s other one.0)
   refused_alike p file bytes (rejected r) (bad_source g) one other = absurd (rejected_no_source p file bytes r one other.0)
   refused_alike p file bytes (bad_chunk f) (rejected s) one other = absurd (rejected_no_fault p file bytes s f other one.1)
   refused_alike p file bytes (rejected r) (bad_chunk g) one other = absurd (rejected_no_fault p file bytes r g one other.1)
+  refused_alike p file bytes (bad_source f) (not_decompiled s) one other = absurd (decompiled_no_source p file bytes s other one.0)
+  refused_alike p file bytes (not_decompiled r) (bad_source g) one other = absurd (decompiled_no_source p file bytes r one other.0)
+  refused_alike p file bytes (bad_chunk f) (not_decompiled s) one other = absurd (decompiled_no_fault p file bytes s f other one.1)
+  refused_alike p file bytes (not_decompiled r) (bad_chunk g) one other = absurd (decompiled_no_fault p file bytes r g one other.1)
+  refused_alike p file bytes (rejected r) (not_decompiled s) one other = absurd (source_or_sound p one.wants other.wants)
+  refused_alike p file bytes (not_decompiled r) (rejected s) one other = absurd (source_or_sound p other.wants one.wants)
   refused_alike p file bytes (bad_source f) b one other = absurd other
   refused_alike p file bytes (bad_chunk f) b one other = absurd other
   refused_alike p file bytes (rejected r) b one other = absurd other
+  refused_alike p file bytes (not_decompiled r) b one other = absurd other
   refused_alike p file bytes a b one other = absurd one
 
   -- what a job comes to is good, or refused
@@ -164,35 +206,72 @@ module _ (laws : Laws) where
   run_story file bytes w steps (unfinished n text) is = inl (Going, text, is.1, refl)
   run_story file bytes w steps end is = inr is
 
-  put_story : (p : Product) (file : Text) (bytes : List ℕ) (w : World) (end : End) → Comes (put_product p file) bytes w end → ((text : List ℕ) × Makes p file bytes text × (shown end ≡ puts Status.Done text)) ⊎ Refuses p file bytes end
+  -- a text is made of a file, and shown so, or it is refused
+  abbrev IsMadeShown : (List ℕ → Shown) → Product → Text → List ℕ → Shown → Type 0
+  IsMadeShown show p file bytes s = (text : List ℕ) × Makes p file bytes text × (s ≡ show text)
+
+  made_alike : (show : List ℕ → Shown) (p : Product) (file : Text) (bytes : List ℕ) (a b : End) → HasOneText p → IsMadeShown show p file bytes (shown a) ⊎ Refuses p file bytes a → IsMadeShown show p file bytes (shown b) ⊎ Refuses p file bytes b → Alike a b
+  made_alike show p file bytes a b single one other =
+      stories p file bytes (IsMadeShown show p file bytes)
+      (λ s t x y. x.2 ∙ ap show (makes_one p file bytes x.0 y.0 single x.1 y.1) ∙ sym y.2)
+      (λ s end g refused. makes_refused p file bytes g.0 end single g.1 refused)
+      a b one other
+
+  -- a chunk of which a source is wanted has no fault, or one kind of it
+  source_alike : (show : List ℕ → Shown) (file : Text) (bytes : List ℕ) (a b : End) → IsMadeShown show Product.Source file bytes (shown a) ⊎ Refuses Product.Source file bytes a → Refuses Product.Source file bytes b → IsOnlyFor Product.Source b → Alike a b
+  source_alike show file bytes a (bad_source g) one other only = absurd other.0
+  source_alike show file bytes a (bad_chunk g) (inl made) other only = absurd (laws.chunk_or_fault bytes made.1.chunk g made.1.has other.1)
+  source_alike show file bytes a (bad_chunk g) (inr refused) other only = refused_alike Product.Source file bytes a (bad_chunk g) refused other
+  source_alike show file bytes a (rejected s) one other only = absurd other.wants
+  source_alike show file bytes a (not_decompiled s) one other only = absurd only
+  source_alike show file bytes a b one other only = absurd other
+
+  put_story : (p : Product) (file : Text) (bytes : List ℕ) (w : World) (end : End) → Comes (put_product p file) bytes w end → IsMadeShown (puts Status.Done) p file bytes (shown end) ⊎ Refuses p file bytes end
   put_story p file bytes w (put text) is = inl (text, is, refl)
   put_story p file bytes w end is = inr is
 
-  store_story : (p : Product) (file out : Text) (bytes : List ℕ) (w : World) (end : End) → Comes (store_product p file out) bytes w end → ((text : List ℕ) × Makes p file bytes text × (shown end ≡ stores text)) ⊎ Refuses p file bytes end
+  store_story : (p : Product) (file out : Text) (bytes : List ℕ) (w : World) (end : End) → Comes (store_product p file out) bytes w end → IsMadeShown stores p file bytes (shown end) ⊎ Refuses p file bytes end
   store_story p file out bytes w (stored text) is = inl (text, is, refl)
   store_story p file out bytes w end is = inr is
 
-  pub alike : (job : Job) (bytes : List ℕ) (w : World) (a b : End) → Comes job bytes w a → Comes job bytes w b → Alike a b
-  alike (run_file file steps) bytes w a b one other =
+  -- no other end is the only one
+  source_not_put : (file : Text) (bytes : List ℕ) (w : World) (end : End) → Comes (put_product Product.Source file) bytes w end → IsOnlyFor Product.Source end → Refuses Product.Source file bytes end
+  source_not_put file bytes w (put text) is only = absurd only
+  source_not_put file bytes w end is only = is
+
+  source_not_stored : (file out : Text) (bytes : List ℕ) (w : World) (end : End) → Comes (store_product Product.Source file out) bytes w end → IsOnlyFor Product.Source end → Refuses Product.Source file bytes end
+  source_not_stored file out bytes w (stored text) is only = absurd only
+  source_not_stored file out bytes w end is only = is
+
+  pub alike : (job : Job) (bytes : List ℕ) (w : World) (a b : End) → Comes job bytes w a → Comes job bytes w b → IsOnlyEnd job b → Alike a b
+  alike (run_file file steps) bytes w a b one other only =
       stories Product.Verdict file bytes (IsRunShown file bytes w steps) (one_run file bytes w steps)
       (λ s end g refused. sound_refused file bytes g.2.chunk end g.2.has g.2.sound refused)
       a b (run_story file bytes w steps a one) (run_story file bytes w steps b other)
-  alike (put_product p file) bytes w a b one other =
-      stories p file bytes (λ s. (text : List ℕ) × Makes p file bytes text × (s ≡ puts Status.Done text))
-      (λ s t x y. x.2 ∙ ap (puts Status.Done) (makes_one p file bytes x.0 y.0 x.1 y.1) ∙ sym y.2)
-      (λ s end g refused. makes_refused p file bytes g.0 end g.1 refused)
-      a b (put_story p file bytes w a one) (put_story p file bytes w b other)
-  alike (store_product p file out) bytes w a b one other =
-      stories p file bytes (λ s. (text : List ℕ) × Makes p file bytes text × (s ≡ stores text))
-      (λ s t x y. x.2 ∙ ap stores (makes_one p file bytes x.0 y.0 x.1 y.1) ∙ sym y.2)
-      (λ s end g refused. makes_refused p file bytes g.0 end g.1 refused)
-      a b (store_story p file out bytes w a one) (store_story p file out bytes w b other)
+  alike (put_product Product.Source file) bytes w a b one other only =
+      source_alike (puts Status.Done) file bytes a b (put_story Product.Source file bytes w a one) (source_not_put file bytes w b other only) only
+  alike (put_product p file) bytes w a b one other only =
+      made_alike (puts Status.Done) p file bytes a b tt (put_story p file bytes w a one) (put_story p file bytes w b other)
+  alike (store_product Product.Source file out) bytes w a b one other only =
+      source_alike stores file bytes a b (store_story Product.Source file out bytes w a one) (source_not_stored file out bytes w b other only) only
+  alike (store_product p file out) bytes w a b one other only =
+      made_alike stores p file bytes a b tt (store_story p file out bytes w a one) (store_story p file out bytes w b other)
+
+  -- a chunk of which a source is wanted is given one, or none
+  pub decompiled_at : (file out : Text) (bytes : List ℕ) (w : World) (chunk : Chunk) (end : End) → IsChunkOf bytes chunk → Comes (store_product Product.Source file out) bytes w end → (status_at end ≡ Status.Done) ⊎ (status_at end ≡ Status.NotDecompiled)
+  decompiled_at file out bytes w chunk (stored text) of comes = inl refl
+  decompiled_at file out bytes w chunk (not_decompiled why) of comes = inr refl
+  decompiled_at file out bytes w chunk (bad_source fault) of comes = absurd comes.0
+  decompiled_at file out bytes w chunk (bad_chunk fault) of comes = absurd (laws.chunk_or_fault bytes chunk fault of comes.1)
+  decompiled_at file out bytes w chunk (rejected r) of comes = absurd comes.wants
+  decompiled_at file out bytes w chunk end of comes = absurd comes
 
   -- what is refused is not run
   run_refused : (file : Text) (steps : ℕ) (bytes : List ℕ) (w : World) (end : End) → Comes (run_file file steps) bytes w end → HasNoOutput end → Refuses Product.Verdict file bytes end
   run_refused file steps bytes w (bad_source fault) comes none = comes
   run_refused file steps bytes w (bad_chunk fault) comes none = comes
   run_refused file steps bytes w (rejected r) comes none = comes
+  run_refused file steps bytes w (not_decompiled why) comes none = comes
   run_refused file steps bytes w end comes none = absurd none
 
   pub refused_not_run : (job : Job) (bytes : List ℕ) (w : World) (text : List ℕ) (end : End) → IsRun (Some job) → MayPut job bytes w text → Comes job bytes w end → HasNoOutput end → ⊥
@@ -243,6 +322,7 @@ status_is (unfinished steps text) = refl
 status_is (bad_source fault) = refl
 status_is (bad_chunk fault) = refl
 status_is (rejected rejection) = refl
+status_is (not_decompiled refused) = refl
 
 pub alike_status : (a b : End) → Alike a b → status_at a ≡ status_at b
 alike_status a b same = sym (status_is a) ∙ ap status_shown same ∙ status_is b
@@ -257,12 +337,14 @@ none_shown : (end : End) → HasNoOutput end → IsRefusedShown (shown end)
 none_shown (bad_source fault) none = tt
 none_shown (bad_chunk fault) none = tt
 none_shown (rejected rejection) none = tt
+none_shown (not_decompiled refused) none = tt
 none_shown end none = absurd none
 
 shown_none : (end : End) → IsRefusedShown (shown end) → HasNoOutput end
 shown_none (bad_source fault) none = tt
 shown_none (bad_chunk fault) none = tt
 shown_none (rejected rejection) none = tt
+shown_none (not_decompiled refused) none = tt
 shown_none end none = absurd none
 
 pub alike_none : (a b : End) → Alike a b → HasNoOutput b → HasNoOutput a
@@ -281,6 +363,7 @@ leaves_shown job (unfinished steps text) old new l = l
 leaves_shown job (bad_source fault) old new l = l
 leaves_shown job (bad_chunk fault) old new l = l
 leaves_shown job (rejected rejection) old new l = l
+leaves_shown job (not_decompiled refused) old new l = l
 
 shown_leaves : (job : Job) (end : End) (old new : Outside) → LeavesShown job (shown end) old new → Leaves job end old new
 shown_leaves job (stored text) old new l = l
@@ -290,6 +373,7 @@ shown_leaves job (unfinished steps text) old new l = l
 shown_leaves job (bad_source fault) old new l = l
 shown_leaves job (bad_chunk fault) old new l = l
 shown_leaves job (rejected rejection) old new l = l
+shown_leaves job (not_decompiled refused) old new l = l
 
 pub alike_leaves : (job : Job) (a b : End) (old new : Outside) → Alike a b → Leaves job a old new → Leaves job b old new
 alike_leaves job a b old new same l = shown_leaves job b old new (subst (λ s. LeavesShown job s old new) same (leaves_shown job a old new l))

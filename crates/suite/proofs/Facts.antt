@@ -61,6 +61,8 @@ refused_is Status.BadChunk result old new (inl r) = inl r.0
 refused_is Status.Rejected result old new (inl r) = inl r.0
 refused_is Status.BadChunk result old new (inr r) = inr r
 refused_is Status.Rejected result old new (inr r) = inr r
+refused_is Status.NotDecompiled result old new (inl r) = inl r.0
+refused_is Status.NotDecompiled result old new (inr r) = inr r
 refused_is Status.ReadFault result old new (inl r) = inl r.0
 refused_is Status.ReadFault result old new (inr r) = inr r
 refused_is Status.ScriptFailed result old new (inl r) = inl r.0
@@ -95,6 +97,9 @@ module _ (err_before err_later : Option (List ℕ)) (err_old err_new : ℕ) wher
   settled_is (Outcome.Rejected rejection) file result (inl p) no_fault no_want = put_is Status.Rejected _ result p no_fault no_want
   settled_is (Outcome.Rejected rejection) file result (inr p) no_fault no_want =
       absurd (no_want (put_is Status.OutOfMemory _ result p no_fault no_want).0)
+  settled_is (Outcome.NotDecompiled refused) file result (inl p) no_fault no_want = put_is Status.NotDecompiled _ result p no_fault no_want
+  settled_is (Outcome.NotDecompiled refused) file result (inr p) no_fault no_want =
+      absurd (no_want (put_is Status.OutOfMemory _ result p no_fault no_want).0)
   settled_is Outcome.ReadFault file result r no_fault no_want = put_is Status.ReadFault _ result r no_fault no_want
   settled_is Outcome.WriteFault file result r no_fault no_want = put_is Status.WriteFault _ result r no_fault no_want
   settled_is Outcome.OutOfMemory file result r no_fault no_want = put_is Status.OutOfMemory _ result r no_fault no_want
@@ -114,6 +119,8 @@ module _ (err_before err_later : Option (List ℕ)) (err_old err_new : ℕ) wher
   quiet_refused Status.Rejected result (inl r) quiet = absurd (quiet r.1)
   quiet_refused Status.BadChunk result (inr r) quiet = inr r
   quiet_refused Status.Rejected result (inr r) quiet = inr r
+  quiet_refused Status.NotDecompiled result (inl r) quiet = absurd (quiet r.1)
+  quiet_refused Status.NotDecompiled result (inr r) quiet = inr r
   quiet_refused Status.ReadFault result (inl r) quiet = absurd (quiet r.1)
   quiet_refused Status.ReadFault result (inr r) quiet = inr r
   quiet_refused Status.ScriptFailed result (inl r) quiet = absurd (quiet r.1)
@@ -135,6 +142,8 @@ module _ (err_before err_later : Option (List ℕ)) (err_old err_new : ℕ) wher
   write_refused Status.Rejected result (inl r) e = inr r.1
   write_refused Status.BadChunk result (inr r) e = cc
   write_refused Status.Rejected result (inr r) e = cc
+  write_refused Status.NotDecompiled result (inl r) e = inr r.1
+  write_refused Status.NotDecompiled result (inr r) e = cc
   write_refused Status.ReadFault result (inl r) e = inr r.1
   write_refused Status.ReadFault result (inr r) e = cc
   write_refused Status.ScriptFailed result (inl r) e = inr r.1
@@ -157,6 +166,8 @@ module _ (err_before err_later : Option (List ℕ)) (err_old err_new : ℕ) wher
   becomes (Outcome.BadChunk fault) file result (inr p) = inr (no_memory_is _ result p)
   becomes (Outcome.Rejected rejection) file result (inl p) = inl (put_becomes Status.Rejected _ result p)
   becomes (Outcome.Rejected rejection) file result (inr p) = inr (no_memory_is _ result p)
+  becomes (Outcome.NotDecompiled refused) file result (inl p) = inl (put_becomes Status.NotDecompiled _ result p)
+  becomes (Outcome.NotDecompiled refused) file result (inr p) = inr (no_memory_is _ result p)
   becomes Outcome.ReadFault file result r = inl (put_becomes Status.ReadFault _ result r)
   becomes Outcome.WriteFault file result r = inl (put_becomes Status.WriteFault _ result r)
   becomes Outcome.OutOfMemory file result r = inr (no_memory_is _ result r)

@@ -29,7 +29,7 @@ module _ (laws : Laws) (words : Words) (asked : Job) (reads : Reads words asked)
       let going = job.unfinished_clause laws words asked reads w old new outcome works before.err_taken behind.err_taken before.err_faults behind.err_faults result reported in
       record {
         whole = (outcome, subst (λ j. Works j w outcome old new) (sym reads) works, subst (λ n. Reported outcome n result before.err_taken behind.err_taken before.err_faults behind.err_faults) (sym (job.named_is laws words asked reads w old new outcome works)) reported);
-        carried_out = λ other bytes end asks comes quiet. job.carried_out_clause laws words asked reads w old new outcome works before.err_taken behind.err_taken before.err_faults behind.err_faults result reported other bytes end asks comes quiet.files quiet.out quiet.err;
+        carried_out = λ other bytes end asks comes only quiet. job.carried_out_clause laws words asked reads w old new outcome works before.err_taken behind.err_taken before.err_faults behind.err_faults result reported other bytes end asks comes only quiet.files quiet.out quiet.err;
         done = done;
         part = job.part_clause laws words asked reads w old new outcome works;
         nothing = job.nothing_clause laws words asked reads w old new outcome works;
@@ -46,6 +46,8 @@ module _ (laws : Laws) (words : Words) (asked : Job) (reads : Reads words asked)
         bad_source = job.bad_source_clause laws words asked reads w old new outcome works before.err_taken behind.err_taken before.err_faults behind.err_faults result reported;
         bad_chunk = job.bad_chunk_clause laws words asked reads w old new outcome works before.err_taken behind.err_taken before.err_faults behind.err_faults result reported;
         rejected = job.rejected_clause laws words asked reads w old new outcome works before.err_taken behind.err_taken before.err_faults behind.err_faults result reported;
+        not_decompiled = job.not_decompiled_clause laws words asked reads w old new outcome works before.err_taken behind.err_taken before.err_faults behind.err_faults result reported;
+        decompiled = λ file out bytes chunk asks of quiet. job.decompiled_clause laws words asked reads w old new outcome works before.err_taken behind.err_taken before.err_faults behind.err_faults result reported file out bytes chunk asks of quiet.files quiet.out quiet.err;
         write_fault = job.write_fault_clause laws words asked reads w old new outcome works before.err_taken behind.err_taken before.err_faults behind.err_faults result reported;
         taken = λ other bytes source asks as_source accepts. is_taken laws words before behind result other bytes source (of_job other bytes asks) as_source accepts;
         meant = λ file steps bytes source asks as_source accepts. is_meant laws words before behind result file steps bytes source (of_job _ bytes asks) as_source accepts;
@@ -66,6 +68,7 @@ module _ (laws : Laws) (words : Words) (asked : Job) (reads : Reads words asked)
           let source = job.bad_source_clause laws words asked reads w old new outcome works before.err_taken behind.err_taken before.err_faults behind.err_faults result reported in
           let chunk = job.bad_chunk_clause laws words asked reads w old new outcome works before.err_taken behind.err_taken before.err_faults behind.err_faults result reported in
           let reject = job.rejected_clause laws words asked reads w old new outcome works before.err_taken behind.err_taken before.err_faults behind.err_faults result reported in
+          let given_none = job.not_decompiled_clause laws words asked reads w old new outcome works before.err_taken behind.err_taken before.err_faults behind.err_faults result reported in
           record {
             done = λ e. (done e).2 other bytes asks;
             script_failed = λ e. let s = failed e in let t = s.2 other bytes asks in (s.1, t.0, t.1, t.2, s.3);
@@ -75,6 +78,7 @@ module _ (laws : Laws) (words : Words) (asked : Job) (reads : Reads words asked)
             bad_source = λ e. let s = source e in (s.1, s.2 other bytes asks);
             bad_chunk = λ e. let s = chunk e in (s.1, s.2 other bytes asks);
             rejected = λ e. let s = reject e in (s.1, s.2 other bytes asks);
+            not_decompiled = λ e. let s = given_none e in (s.1, s.2 other bytes asks);
             read_fault = job.read_fault_clause laws words asked reads w old new outcome works before.err_taken behind.err_taken before.err_faults behind.err_faults result reported;
             write_fault = job.write_fault_clause laws words asked reads w old new outcome works before.err_taken behind.err_taken before.err_faults behind.err_faults result reported;
           }
@@ -101,7 +105,7 @@ module _ (words : Words) (none : NoCommand words) (before behind : Seen) (same :
   pub none_promised : Promises words before behind result
   none_promised = record {
     whole = (Outcome.BadWords, subst (λ j. Works j (between before behind) Outcome.BadWords before.outside behind.outside) (sym none) (refl, same, unasked), named_so);
-    carried_out = λ asked bytes end asks comes quiet. absurd (no_job asked asks.reads);
+    carried_out = λ asked bytes end asks comes only quiet. absurd (no_job asked asks.reads);
     done = λ e. absurd (other Status.Done (λ d. cc) (λ d. cc) (λ d. cc) e);
     part = λ asked bytes asks. absurd (no_job asked asks.reads);
     nothing = λ cause. subst (λ (o : Outside). Takes before.outside.taken o.taken []) (sym same) (takes_none before.outside.taken);
@@ -114,10 +118,12 @@ module _ (words : Words) (none : NoCommand words) (before behind : Seen) (same :
     no_command = λ no. put_becomes before.err_taken behind.err_taken before.err_faults behind.err_faults Status.BadWords _ result reported;
     read_fault = λ e. absurd (other Status.ReadFault (λ d. cc) (λ d. cc) (λ d. cc) e);
     fetch_failed = λ fetch. absurd (no_job fetch.job fetch.reads);
-    refused = λ asked bytes end asks comes no fetch. absurd (no_job asked asks.reads);
+    refused = λ asked bytes end asks comes only no fetch. absurd (no_job asked asks.reads);
     bad_source = λ e. absurd (other Status.BadSource (λ d. cc) (λ d. cc) (λ d. cc) e);
     bad_chunk = λ e. absurd (other Status.BadChunk (λ d. cc) (λ d. cc) (λ d. cc) e);
     rejected = λ e. absurd (other Status.Rejected (λ d. cc) (λ d. cc) (λ d. cc) e);
+    not_decompiled = λ e. absurd (other Status.NotDecompiled (λ d. cc) (λ d. cc) (λ d. cc) e);
+    decompiled = λ file out bytes chunk asks of quiet. absurd (no_job _ asks.reads);
     write_fault = λ e. inr (inl (by_cause e));
     taken = λ asked bytes source asks as_source accepts. absurd (no_job asked asks.reads);
     meant = λ file steps bytes source asks as_source accepts. absurd (no_job _ asks.reads);

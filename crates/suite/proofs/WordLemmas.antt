@@ -7,7 +7,7 @@ use Rattle.std.specs.Str.{bytes_eq}
 use Rattle.lua_num.specs.Bytes.{Text}
 use Rattle.chunk_io.specs.declared.layout.Layout.{Layout}
 use Rattle.suite.specs.declared.product.Product.{Product}
-use Rattle.suite.specs.Words.{Words, Job, put_product, Arguments, is_flag, steps_mark, layout_mark, arguments, behind_flag, with_file, with_strip, with_steps, with_layout, files_alone, one_file, run_of, layout_in, spelling_as, compilation, job_with, texts, NoCommand}
+use Rattle.suite.specs.Words.{Words, Job, put_product, Arguments, is_flag, steps_mark, layout_mark, arguments, behind_flag, with_file, with_strip, with_steps, with_layout, files_alone, one_file, run_of, layout_in, spelling_as, compilation, decompilation, job_with, texts, NoCommand}
 
 -- how many words these are at the most, but for `--`: each value of a flag is one behind the flag
 abbrev words_of : Arguments → ℕ
@@ -92,15 +92,25 @@ no_compilation (file ∷ out ∷ []) (suc (suc n)) [] layouts many = refl
 no_compilation (file ∷ out ∷ []) strips (number ∷ steps) layouts many = refl
 no_compilation (file ∷ out ∷ more ∷ files) strips steps layouts many = refl
 
+no_decompilation : (files : List Text) (strips : ℕ) (steps layouts : List Text) → 6 ≤ length files + strips + 2 * length steps + 2 * length layouts → decompilation files strips steps layouts ≡ None
+no_decompilation [] strips steps layouts many = refl
+no_decompilation (file ∷ []) strips steps layouts many = refl
+no_decompilation (file ∷ out ∷ []) zero [] [] many = absurd (omega arith)
+no_decompilation (file ∷ out ∷ []) zero [] (name ∷ layouts) many = refl
+no_decompilation (file ∷ out ∷ []) zero (number ∷ steps) layouts many = refl
+no_decompilation (file ∷ out ∷ []) (suc n) steps layouts many = refl
+no_decompilation (file ∷ out ∷ more ∷ files) strips steps layouts many = refl
+
 no_job : (first : Text) (found : Arguments) → 6 ≤ words_of found → job_with first found ≡ None
-no_job first found many = by (bytes_eq first (codes "run")) (bytes_eq first (codes "list")) (bytes_eq first (codes "verify")) (bytes_eq first (codes "compile"))
+no_job first found many = by (bytes_eq first (codes "run")) (bytes_eq first (codes "list")) (bytes_eq first (codes "verify")) (bytes_eq first (codes "compile")) (bytes_eq first (codes "decompile"))
   where
-    by : (a b c d : Bool) → (if a then run_of found.files found.strips found.steps found.layouts else (if b then option_map (put_product Product.Listing) (one_file found.files found.strips found.steps found.layouts) else (if c then option_map (put_product Product.Verdict) (one_file found.files found.strips found.steps found.layouts) else (if d then compilation found.files found.strips found.steps found.layouts else None)))) ≡ None
-    by true b c d = no_run found.files found.strips found.steps found.layouts many
-    by false true c d = no_file (put_product Product.Listing) found.files found.strips found.steps found.layouts many
-    by false false true d = no_file (put_product Product.Verdict) found.files found.strips found.steps found.layouts many
-    by false false false true = no_compilation found.files found.strips found.steps found.layouts many
-    by false false false false = refl
+    by : (a b c d e : Bool) → (if a then run_of found.files found.strips found.steps found.layouts else (if b then option_map (put_product Product.Listing) (one_file found.files found.strips found.steps found.layouts) else (if c then option_map (put_product Product.Verdict) (one_file found.files found.strips found.steps found.layouts) else (if d then compilation found.files found.strips found.steps found.layouts else (if e then decompilation found.files found.strips found.steps found.layouts else None))))) ≡ None
+    by true b c d e = no_run found.files found.strips found.steps found.layouts many
+    by false true c d e = no_file (put_product Product.Listing) found.files found.strips found.steps found.layouts many
+    by false false true d e = no_file (put_product Product.Verdict) found.files found.strips found.steps found.layouts many
+    by false false false true e = no_compilation found.files found.strips found.steps found.layouts many
+    by false false false false true = no_decompilation found.files found.strips found.steps found.layouts many
+    by false false false false false = refl
 
 -- more than six words behind the first are no command
 too_many_words : (first : Text) (words : Words) → 6 < length words → option_and_then (job_with first) (arguments (texts words)) ≡ None

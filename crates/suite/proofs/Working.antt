@@ -1,12 +1,14 @@
 -- What is refused, and for which memory ran out, is carried out by putting and storing nothing.
-use Rattle.std.proofs.Common.{◌≡◌, ℕ, Bool, false, List, [], ◌∷◌, ◌++◌, Option, Some, IfSome, inl, inr, refl, subst}
+use Rattle.std.proofs.Common.{◌≡◌, ◌≢◌, ℕ, Bool, true, false, List, [], ◌∷◌, ◌++◌, Option, Some, IfSome, inl, inr, refl, subst}
 use Rattle.std.specs.FinMap.{get}
 use Rattle.lua_num.specs.Bytes.{Text}
 use Rattle.proto.specs.Chunk.{Chunk}
 use Rattle.chunk_io.specs.declared.fault.ChunkFault.{ChunkFault}
 use Rattle.chunk_io.specs.declared.layout.Layout.{Layout}
-use Rattle.chunk_io.specs.Items.{is_chunk}
+use Rattle.chunk_io.specs.Items.{IsChunkOf, is_chunk}
 use Rattle.front.specs.declared.fault.Fault.{Fault}
+use Rattle.decompile.specs.declared.refused.Refused.{Refused}
+use Rattle.decompile.specs.Sources.{IsRefusedBy}
 use Rattle.suite_io.specs.declared.calls.FileCall.{FileCall}
 use Rattle.suite_io.specs.Calls.{call_of}
 use Rattle.suite_io.specs.Contents.{Contents}
@@ -18,8 +20,8 @@ use Rattle.suite.specs.Words.{Job, run_file, put_product, store_product, file_of
 use Rattle.suite.specs.Worlds.{World, Unasked}
 use Rattle.suite.specs.Seen.{Outside, outside}
 use Rattle.front.specs.Laws.{CompiledIsSound}
-use Rattle.suite.specs.Jobs.{put, stored, bad_source, bad_chunk, rejected, source_name, HasChunk, Makes, Refuses, Comes}
-use Rattle.suite.specs.Refusing.{IsBadSource, HasNone, IsRefused, IsRefusal}
+use Rattle.suite.specs.Jobs.{put, stored, bad_source, bad_chunk, rejected, not_decompiled, source_name, HasChunk, Makes, IsTold, Refuses, Comes}
+use Rattle.suite.specs.Refusing.{IsBadSource, IsBadChunk, HasNone, IsRefused, IsRefusal}
 use Rattle.suite.proofs.Facts.{SoundOrRejected}
 use Rattle.suite.specs.Work.{Nothing, Does, DoesAlone, PutsText, StoresText, Works, fetched}
 
@@ -30,22 +32,24 @@ nothing o = (record { contents = refl; calls = refl }, takes_none o.taken)
 module _ (job : Job) (p : Product) (file : Text) (bytes : List ℕ) (w : World) (o : Outside)
     (source : (fault : Fault) → Refuses p file bytes (bad_source fault) → Comes job bytes w (bad_source fault))
     (chunk : (fault : ChunkFault) → Refuses p file bytes (bad_chunk fault) → Comes job bytes w (bad_chunk fault))
-    (reject : (r : Rejection) → Refuses p file bytes (rejected r) → Comes job bytes w (rejected r)) where
+    (reject : (r : Rejection) → Refuses p file bytes (rejected r) → Comes job bytes w (rejected r))
+    (given_none : (r : Refused) → Refuses p file bytes (not_decompiled r) → Comes job bytes w (not_decompiled r)) where
   refused_does : (outcome : Outcome) → Unasked w → IsRefusal p file bytes outcome → Does job bytes w outcome o o
   refused_does (Outcome.BadSource fault) unasked is = inl (record { end = bad_source fault; comes = source fault is; carried = (refl, nothing o); asks = inr unasked })
   refused_does (Outcome.BadChunk fault) unasked is = inl (record { end = bad_chunk fault; comes = chunk fault is; carried = (refl, nothing o); asks = inr unasked })
   refused_does (Outcome.Rejected r) unasked is = inl (record { end = rejected r; comes = reject r is; carried = (refl, nothing o); asks = inr unasked })
+  refused_does (Outcome.NotDecompiled r) unasked is = inl (record { end = not_decompiled r; comes = given_none r is; carried = (refl, nothing o); asks = inr unasked })
   refused_does Outcome.OutOfMemory unasked is = inr (inr (refl, nothing o, unasked))
   refused_does outcome unasked is = absurd is
 
 pub run_refused : (file : Text) (steps : ℕ) (bytes : List ℕ) (w : World) (outcome : Outcome) (o : Outside) → Unasked w → IsRefusal Product.Verdict file bytes outcome → Does (run_file file steps) bytes w outcome o o
-run_refused file steps bytes w outcome o = refused_does (run_file file steps) Product.Verdict file bytes w o (λ f r. r) (λ f r. r) (λ f r. r) outcome
+run_refused file steps bytes w outcome o = refused_does (run_file file steps) Product.Verdict file bytes w o (λ f r. r) (λ f r. r) (λ f r. r) (λ f r. r) outcome
 
 pub put_refused : (p : Product) (file : Text) (bytes : List ℕ) (outcome : Outcome) (o : Outside) → IsRefusal p file bytes outcome → DoesAlone (put_product p file) bytes outcome o o
-put_refused p file bytes outcome o is = λ w unasked. refused_does (put_product p file) p file bytes w o (λ f r. r) (λ f r. r) (λ f r. r) outcome unasked is
+put_refused p file bytes outcome o is = λ w unasked. refused_does (put_product p file) p file bytes w o (λ f r. r) (λ f r. r) (λ f r. r) (λ f r. r) outcome unasked is
 
 pub store_refused : (p : Product) (file out : Text) (bytes : List ℕ) (outcome : Outcome) (o : Outside) → IsRefusal p file bytes outcome → DoesAlone (store_product p file out) bytes outcome o o
-store_refused p file out bytes outcome o is = λ w unasked. refused_does (store_product p file out) p file bytes w o (λ f r. r) (λ f r. r) (λ f r. r) outcome unasked is
+store_refused p file out bytes outcome o is = λ w unasked. refused_does (store_product p file out) p file bytes w o (λ f r. r) (λ f r. r) (λ f r. r) (λ f r. r) outcome unasked is
 
 -- a text that was made is put or stored
 pub put_does : (p : Product) (file : Text) (bytes text : List ℕ) (outcome : Outcome) (old new : Outside) → Makes p file bytes text → PutsText text outcome old new → DoesAlone (put_product p file) bytes outcome old new
@@ -77,6 +81,25 @@ pub bad_none : (bytes : List ℕ) (outcome : Outcome) → is_chunk bytes ≡ fal
 bad_none bytes (Outcome.BadSource fault) other bad = (other, bad)
 bad_none bytes Outcome.OutOfMemory other bad = tt
 bad_none bytes outcome other bad = absurd bad
+
+-- a file that is a chunk has none where it spells none
+pub bad_spelling : (bytes : List ℕ) (outcome : Outcome) → is_chunk bytes ≡ true → IsBadChunk bytes outcome → HasNone bytes outcome
+bad_spelling bytes (Outcome.BadChunk fault) begins bad = (begins, bad)
+bad_spelling bytes Outcome.OutOfMemory begins bad = tt
+bad_spelling bytes outcome begins bad = absurd bad
+
+-- a file that spells no chunk is given no source, nor one whose chunk is refused
+pub none_decompiled : (file : Text) (bytes : List ℕ) (outcome : Outcome) → IsBadChunk bytes outcome → IsRefusal Product.Source file bytes outcome
+none_decompiled file bytes (Outcome.BadChunk fault) bad = (tt, bad)
+none_decompiled file bytes Outcome.OutOfMemory bad = tt
+none_decompiled file bytes outcome bad = absurd bad
+
+is_told : (r : Refused) → r ≢ Refused.OutOfMemory → IsTold r
+is_told Refused.OutOfMemory other = other refl
+is_told r other = tt
+
+pub not_decompiled_for : (file : Text) (bytes : List ℕ) (chunk : Chunk) (r : Refused) → r ≢ Refused.OutOfMemory → IsChunkOf bytes chunk → IsRefusedBy chunk r → IsRefusal Product.Source file bytes (Outcome.NotDecompiled r)
+not_decompiled_for file bytes chunk r other of refused = record { wants = tt; told = is_told r other; chunk = chunk; of = of; refused = refused }
 
 -- nor has one a good verdict whose chunk is rejected, which is none of a source
 pub not_sound : CompiledIsSound → SoundOrRejected → (file : Text) (bytes : List ℕ) (chunk : Chunk) (outcome : Outcome) → HasChunk file bytes chunk → IsRefused chunk outcome → IsRefusal Product.Verdict file bytes outcome

@@ -6,9 +6,10 @@ use Rattle.suite_io.specs.Calls.{call_of, fault_count}
 use Rattle.suite_io.specs.Taken.{Takes}
 use Rattle.suite.specs.declared.status.Status.{Status}
 use Rattle.suite.specs.Lines.{Refused}
-use Rattle.suite.specs.Words.{Words, Job, Reads, file_of}
+use Rattle.suite.specs.declared.product.Product.{Product}
+use Rattle.suite.specs.Words.{Words, Job, run_file, put_product, store_product, Reads, file_of}
 use Rattle.suite.specs.Seen.{Outside}
-use Rattle.suite.specs.Jobs.{End, stored, put, failed, unfinished, bad_source, bad_chunk, rejected}
+use Rattle.suite.specs.Jobs.{End, stored, put, failed, unfinished, bad_source, bad_chunk, rejected, not_decompiled}
 use Rattle.suite.specs.Work.{out_of, IsStore}
 
 -- the status stays, or gives way where a put of its line was refused
@@ -51,6 +52,7 @@ status_at (unfinished steps text) = Status.Unfinished
 status_at (bad_source fault) = Status.BadSource
 status_at (bad_chunk fault) = Status.BadChunk
 status_at (rejected rejection) = Status.Rejected
+status_at (not_decompiled refused) = Status.NotDecompiled
 
 -- statuses of work that ended before a run began
 abbrev pub IsRefusal : Status → Type 0
@@ -58,6 +60,7 @@ IsRefusal Status.BadWords = Unit {0}
 IsRefusal Status.BadSource = Unit {0}
 IsRefusal Status.BadChunk = Unit {0}
 IsRefusal Status.Rejected = Unit {0}
+IsRefusal Status.NotDecompiled = Unit {0}
 IsRefusal Status.ReadFault = Unit {0}
 IsRefusal status = ⊥
 
@@ -66,7 +69,20 @@ abbrev pub HasNoOutput : End → Type 0
 HasNoOutput (bad_source fault) = Unit {0}
 HasNoOutput (bad_chunk fault) = Unit {0}
 HasNoOutput (rejected rejection) = Unit {0}
+HasNoOutput (not_decompiled refused) = Unit {0}
 HasNoOutput end = ⊥
+
+-- A job with these bytes comes to one end alone; but a chunk may have several sources, and it is not said which chunks are given one.
+abbrev pub IsOnlyFor : Product → End → Type 0
+IsOnlyFor Product.Source (stored text) = ⊥
+IsOnlyFor Product.Source (put text) = ⊥
+IsOnlyFor Product.Source (not_decompiled refused) = ⊥
+IsOnlyFor product end = Unit {0}
+
+abbrev pub IsOnlyEnd : Job → End → Type 0
+IsOnlyEnd (run_file file steps) end = Unit {0}
+IsOnlyEnd (put_product product file) end = IsOnlyFor product end
+IsOnlyEnd (store_product product file out) end = IsOnlyFor product end
 
 -- what then stands outside
 abbrev pub Leaves : Job → End → Outside → Outside → Type 0

@@ -14,13 +14,15 @@ use Rattle.machine.specs.At.{hosts_at, GaveUp}
 use Rattle.machine.specs.Outside.{calls_in}
 use Rattle.front.specs.declared.fault.Fault.{Fault}
 use Rattle.front.specs.Sources.{IsCompiled, IsFaultIn}
+use Rattle.decompile.specs.declared.refused.Refused.{Refused}
+use Rattle.decompile.specs.Sources.{IsSourceOf, IsRefusedBy}
 use Rattle.suite.specs.declared.product.Product.{Product}
 use Rattle.suite.specs.declared.rejection.Rejection.{Rejection}
 use Rattle.suite.specs.Words.{Job, run_file, put_product, store_product}
 use Rattle.suite.specs.Worlds.{World, hosts_first, hosts_last, calls_of, replies_of, Unasked}
 
 -- what a job comes to: a text is stored or put; or a run failed, or is going after its steps, and has put a text; or the bytes have a fault, or their
--- chunk is rejected
+-- chunk is rejected, or given no source
 pub data End : Type 0 where
   stored : (text : List ℕ) → End
   put : (text : List ℕ) → End
@@ -29,6 +31,7 @@ pub data End : Type 0 where
   bad_source : Fault → End
   bad_chunk : ChunkFault → End
   rejected : Rejection → End
+  not_decompiled : Refused → End
 
 -- the source name of a file: `@` and its name
 abbrev pub source_name : Text → Text
@@ -44,19 +47,21 @@ SoundIfSpelled bytes chunk = is_chunk bytes ≡ true → Sound chunk
 
 -- ---- texts that are made of a file
 
--- the chunk of which a text is made; what is spelled is the chunk of a source, whatever the file begins with
+-- the chunk of which a text is made; what is spelled is the chunk of a source, and a source is one of the chunk that is spelled, whatever the file begins with
 abbrev pub ChunkFor : Product → Text → List ℕ → Chunk → Type 0
 ChunkFor (Product.Spelling strip layout) file bytes chunk = IsCompiled (source_name file) bytes chunk
+ChunkFor Product.Source file bytes chunk = IsChunkOf bytes chunk
 ChunkFor product file bytes chunk = HasChunk file bytes chunk
 
 abbrev pub stripped_if : Bool → Chunk → Chunk
 stripped_if stripped chunk = if stripped then strip chunk else chunk
 
--- the text: the chunk's listing, `ok` and a line end of a sound one, or its spelling
+-- the text: the chunk's listing, `ok` and a line end of a sound one, its spelling, or a source whose chunk it is, but for the numbers of lines
 abbrev pub IsTextOf : Product → List ℕ → Chunk → List ℕ → Type 0
 IsTextOf Product.Listing bytes chunk text = text ≡ listing chunk
 IsTextOf Product.Verdict bytes chunk text = SoundIfSpelled bytes chunk × (text ≡ codes "ok" ++ 10 ∷ [])
 IsTextOf (Product.Spelling strip layout) bytes chunk text = Spelled text layout (stripped_if strip chunk)
+IsTextOf Product.Source bytes chunk text = IsSourceOf chunk text
 
 pub record Makes (product : Product) (file : Text) (bytes : List ℕ) (text : List ℕ) : Type 0 where
   pub chunk : Chunk
@@ -68,10 +73,12 @@ pub record Makes (product : Product) (file : Text) (bytes : List ℕ) (text : Li
 -- the bytes are read as source for it, or as a chunk
 abbrev pub IsSourceFor : Product → List ℕ → Type 0
 IsSourceFor (Product.Spelling strip layout) bytes = Unit {0}
+IsSourceFor Product.Source bytes = ⊥
 IsSourceFor product bytes = is_chunk bytes ≡ false
 
 abbrev pub IsChunkFor : Product → List ℕ → Type 0
 IsChunkFor (Product.Spelling strip layout) bytes = ⊥
+IsChunkFor Product.Source bytes = Unit {0}
 IsChunkFor product bytes = is_chunk bytes ≡ true
 
 -- a verdict wants a sound chunk; that of a source is never rejected
@@ -86,10 +93,28 @@ pub record IsRejectedFor (product : Product) (file : Text) (bytes : List ℕ) (r
   pub of : IsChunkOf bytes chunk
   pub rejected : Rejected chunk rejection.path rejection.pc rejection.rule
 
+-- a source is wanted of a chunk
+abbrev pub WantsSource : Product → Type 0
+WantsSource Product.Source = Unit {0}
+WantsSource product = ⊥
+
+-- why, but for want of memory
+abbrev pub IsTold : Refused → Type 0
+IsTold Refused.OutOfMemory = ⊥
+IsTold refused = Unit {0}
+
+pub record IsNotDecompiledFor (product : Product) (bytes : List ℕ) (why : Refused) : Type 0 where
+  pub wants : WantsSource product
+  pub told : IsTold why
+  pub chunk : Chunk
+  pub of : IsChunkOf bytes chunk
+  pub refused : IsRefusedBy chunk why
+
 abbrev pub Refuses : Product → Text → List ℕ → End → Type 0
 Refuses product file bytes (bad_source fault) = IsSourceFor product bytes × IsFaultIn bytes fault
 Refuses product file bytes (bad_chunk fault) = IsChunkFor product bytes × IsFault bytes fault
 Refuses product file bytes (rejected rejection) = IsRejectedFor product file bytes rejection
+Refuses product file bytes (not_decompiled refused) = IsNotDecompiledFor product bytes refused
 Refuses product file bytes end = ⊥
 
 -- ---- runs

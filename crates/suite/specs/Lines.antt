@@ -3,6 +3,7 @@ use Rattle.std.specs.Prelude.{◌≡◌, ℕ, List, [], ◌∷◌, ◌++◌, ◌
 use Rattle.std.specs.Fmt.{decimal}
 use Rattle.chunk_io.specs.Texts as chunk_faults
 use Rattle.front.specs.Texts.{fault_text}
+use Rattle.decompile.specs.Texts.{refusal_text}
 use Rattle.suite_io.specs.Parts.{TakesPart}
 use Rattle.suite_io.specs.Taken.{Takes, Rises}
 use Rattle.suite.specs.declared.status.Status.{Status}
@@ -17,6 +18,7 @@ number_of Status.Unfinished = 3
 number_of Status.BadSource = 4
 number_of Status.BadChunk = 5
 number_of Status.Rejected = 6
+number_of Status.NotDecompiled = 7
 number_of Status.ReadFault = 8
 number_of Status.WriteFault = 9
 number_of Status.OutOfMemory = 10
@@ -30,6 +32,7 @@ status_of (Outcome.Unfinished steps) = Status.Unfinished
 status_of (Outcome.BadSource fault) = Status.BadSource
 status_of (Outcome.BadChunk fault) = Status.BadChunk
 status_of (Outcome.Rejected rejection) = Status.Rejected
+status_of (Outcome.NotDecompiled refused) = Status.NotDecompiled
 status_of Outcome.ReadFault = Status.ReadFault
 status_of Outcome.WriteFault = Status.WriteFault
 status_of Outcome.OutOfMemory = Status.OutOfMemory
@@ -54,6 +57,7 @@ line_of (Outcome.Unfinished steps) name = line_with [] (steps_text steps)
 line_of (Outcome.BadSource fault) name = line_with name (behind_name (fault_text fault))
 line_of (Outcome.BadChunk fault) name = line_with name (behind_name (chunk_faults.fault_text fault))
 line_of (Outcome.Rejected rejection) name = line_with name (behind_name (rejection_text rejection))
+line_of (Outcome.NotDecompiled refused) name = line_with name (behind_name (refusal_text refused))
 line_of Outcome.ReadFault name = line_with name (behind_name (codes "read failed"))
 line_of Outcome.WriteFault name = line_with [] (codes "write failed")
 line_of Outcome.OutOfMemory name = line_with [] (codes "out of memory")
@@ -82,4 +86,5 @@ Reported (Outcome.Unfinished steps) name result before after old new = IsPutOrWa
 Reported (Outcome.BadSource fault) name result before after old new = IsPutOrWanting (Outcome.BadSource fault) name result before after old new
 Reported (Outcome.BadChunk fault) name result before after old new = IsPutOrWanting (Outcome.BadChunk fault) name result before after old new
 Reported (Outcome.Rejected rejection) name result before after old new = IsPutOrWanting (Outcome.Rejected rejection) name result before after old new
+Reported (Outcome.NotDecompiled refused) name result before after old new = IsPutOrWanting (Outcome.NotDecompiled refused) name result before after old new
 Reported outcome name result before after old new = IsPut (status_of outcome) (line_of outcome name) result before after old new

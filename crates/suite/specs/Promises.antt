@@ -6,11 +6,15 @@ use Rattle.suite_io.specs.Parts.{TakesPart}
 use Rattle.suite_io.specs.Taken.{Takes, Rises}
 use Rattle.chunk_io.specs.declared.fault.ChunkFault.{ChunkFault}
 use Rattle.front.specs.declared.fault.Fault.{Fault}
+use Rattle.proto.specs.Chunk.{Chunk}
+use Rattle.chunk_io.specs.Items.{IsChunkOf}
+use Rattle.decompile.specs.declared.refused.Refused.{Refused}
+use Rattle.suite.specs.declared.product.Product.{Product}
 use Rattle.suite.specs.declared.outcome.Outcome.{Outcome}
 use Rattle.suite.specs.declared.rejection.Rejection.{Rejection}
 use Rattle.suite.specs.declared.status.Status.{Status}
 use Rattle.suite.specs.Words as asking
-use Rattle.suite.specs.Words.{Words, Job, run_file, job_in, texts, NoCommand, named}
+use Rattle.suite.specs.Words.{Words, Job, run_file, store_product, job_in, texts, NoCommand, named}
 use Rattle.suite.specs.Seen.{Seen, between}
 use Rattle.suite.specs.Worlds.{Unasked}
 use Rattle.suite.specs.Lines.{Reported, status_of, line_of}
@@ -18,7 +22,7 @@ use Rattle.suite.specs.Jobs as jobs
 use Rattle.suite.specs.Jobs.{End, failed, unfinished, bad_source, bad_chunk, rejected}
 use Rattle.suite.specs.Work.{Works, MayPut, IsRun}
 use Rattle.suite.specs.Causes as causes
-use Rattle.suite.specs.Causes.{FilesFor, StoreFailed, HasNoOutput, IsRefusal, status_at}
+use Rattle.suite.specs.Causes.{FilesFor, StoreFailed, HasNoOutput, IsOnlyEnd, IsRefusal, status_at}
 use Rattle.scheme.specs.Accepts.{Accepts}
 use Rattle.suite.specs.Meant.{IsReadAsSource, IsTaken, IsMeant}
 
@@ -66,7 +70,7 @@ module _ (words : Words) (before behind : Seen) (result : Status) where
         × Reported settled (named words) result before.err_taken behind.err_taken before.err_faults behind.err_faults
     -- What the words ask for is carried out, where no count of faults rose: a text is put or stored, a chunk or a source is run, and what has a fault, or
     -- is run or verified and not sound, is refused.
-    pub carried_out : (job : Job) (bytes : List ℕ) (end : End) → Asks job bytes → Comes job bytes end → IsQuiet → ((result ≡ status_at end) × Leaves job end) ⊎ (result ≡ Status.OutOfMemory)
+    pub carried_out : (job : Job) (bytes : List ℕ) (end : End) → Asks job bytes → Comes job bytes end → IsOnlyEnd job end → IsQuiet → ((result ≡ status_at end) × Leaves job end) ⊎ (result ≡ Status.OutOfMemory)
     -- At Done all of it was put or stored, and nothing was said.
     pub done : result ≡ Status.Done → Fetched × Takes before.err_taken behind.err_taken []
         × ((job : Job) (bytes : List ℕ) → Asks job bytes → (end : End) × Comes job bytes end × (status_at end ≡ Status.Done) × Leaves job end)
@@ -87,10 +91,13 @@ module _ (words : Words) (before behind : Seen) (result : Status) where
     pub no_command : NoCommand words → Becomes Status.BadWords
     pub read_fault : result ≡ Status.ReadFault → FetchFailed
     pub fetch_failed : FetchFailed → Becomes Status.ReadFault
-    pub refused : (job : Job) (bytes : List ℕ) (end : End) → Asks job bytes → Comes job bytes end → HasNoOutput end → Fetched → Becomes (status_at end) ⊎ (result ≡ Status.OutOfMemory)
+    pub refused : (job : Job) (bytes : List ℕ) (end : End) → Asks job bytes → Comes job bytes end → IsOnlyEnd job end → HasNoOutput end → Fetched → Becomes (status_at end) ⊎ (result ≡ Status.OutOfMemory)
     pub bad_source : result ≡ Status.BadSource → Fetched × (fault : Fault) × ((job : Job) (bytes : List ℕ) → Asks job bytes → Comes job bytes (bad_source fault)) × Says (Outcome.BadSource fault)
     pub bad_chunk : result ≡ Status.BadChunk → Fetched × (fault : ChunkFault) × ((job : Job) (bytes : List ℕ) → Asks job bytes → Comes job bytes (bad_chunk fault)) × Says (Outcome.BadChunk fault)
     pub rejected : result ≡ Status.Rejected → Fetched × (rejection : Rejection) × ((job : Job) (bytes : List ℕ) → Asks job bytes → Comes job bytes (rejected rejection)) × Says (Outcome.Rejected rejection)
+    pub not_decompiled : result ≡ Status.NotDecompiled → Fetched × (refused : Refused) × ((job : Job) (bytes : List ℕ) → Asks job bytes → Comes job bytes (jobs.not_decompiled refused)) × Says (Outcome.NotDecompiled refused)
+    -- A chunk that is to be decompiled is given a source or refused, where no count of faults rose.
+    pub decompiled : (file out : Text) (bytes : List ℕ) (chunk : Chunk) → Asks (store_product Product.Source file out) bytes → IsChunkOf bytes chunk → IsQuiet → (result ≡ Status.Done) ⊎ (result ≡ Status.NotDecompiled) ⊎ (result ≡ Status.OutOfMemory)
     pub write_fault : result ≡ Status.WriteFault → Rises before.outside.faults behind.outside.faults ⊎ Rises before.err_faults behind.err_faults ⊎ StoreFailed words before.outside.calls behind.outside.calls
     -- Accepted source is taken for every job: a text is made of it, and it is run; and its run does what it means.
     pub taken : (job : Job) (bytes : List ℕ) (source : Source) → Asks job bytes → IsReadAsSource job bytes → Accepts bytes source → IsTaken job IsQuiet result

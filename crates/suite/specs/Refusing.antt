@@ -8,13 +8,19 @@ use Rattle.rules.specs.Sound.{Rejected}
 use Rattle.front.specs.Sources.{IsFaultIn}
 use Rattle.suite.specs.declared.outcome.Outcome.{Outcome}
 use Rattle.suite.specs.declared.product.Product.{Product}
-use Rattle.suite.specs.Jobs.{bad_source, bad_chunk, rejected, Refuses}
+use Rattle.suite.specs.Jobs.{bad_source, bad_chunk, rejected, not_decompiled, Refuses}
 
 -- the bytes of a source have no chunk, or memory ran out
 abbrev pub IsBadSource : List ℕ → Outcome → Type 0
 IsBadSource bytes (Outcome.BadSource fault) = IsFaultIn bytes fault
 IsBadSource bytes Outcome.OutOfMemory = Unit {0}
 IsBadSource bytes outcome = ⊥
+
+-- the bytes spell no chunk, or memory ran out
+abbrev pub IsBadChunk : List ℕ → Outcome → Type 0
+IsBadChunk bytes (Outcome.BadChunk fault) = IsFault bytes fault
+IsBadChunk bytes Outcome.OutOfMemory = Unit {0}
+IsBadChunk bytes outcome = ⊥
 
 -- a file has no chunk, or memory ran out
 abbrev pub HasNone : List ℕ → Outcome → Type 0
@@ -34,5 +40,6 @@ abbrev pub IsRefusal : Product → Text → List ℕ → Outcome → Type 0
 IsRefusal product file bytes (Outcome.BadSource fault) = Refuses product file bytes (bad_source fault)
 IsRefusal product file bytes (Outcome.BadChunk fault) = Refuses product file bytes (bad_chunk fault)
 IsRefusal product file bytes (Outcome.Rejected rejection) = Refuses product file bytes (rejected rejection)
+IsRefusal product file bytes (Outcome.NotDecompiled refused) = Refuses product file bytes (not_decompiled refused)
 IsRefusal product file bytes Outcome.OutOfMemory = Unit {0}
 IsRefusal product file bytes outcome = ⊥

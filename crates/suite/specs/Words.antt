@@ -142,13 +142,19 @@ abbrev pub compilation : List Text → (strips : ℕ) (steps layouts : List Text
 compilation (file ∷ out ∷ []) strips [] layouts = option_and_then (λ strip. option_and_then (spelling_as file out strip) (layout_in layouts)) (strip_in strips)
 compilation files strips steps layouts = None
 
+-- two files, and no flag
+abbrev pub decompilation : List Text → (strips : ℕ) (steps layouts : List Text) → Option Job
+decompilation (file ∷ out ∷ []) zero [] [] = Some (store_product Product.Source file out)
+decompilation files strips steps layouts = None
+
 -- what the first word asks for, with the words behind it
 abbrev pub job_with : Text → Arguments → Option Job
 job_with first found =
     if bytes_eq first (codes "run") then run_of found.files found.strips found.steps found.layouts
     else (if bytes_eq first (codes "list") then option_map (put_product Product.Listing) (one_file found.files found.strips found.steps found.layouts)
     else (if bytes_eq first (codes "verify") then option_map (put_product Product.Verdict) (one_file found.files found.strips found.steps found.layouts)
-    else (if bytes_eq first (codes "compile") then compilation found.files found.strips found.steps found.layouts else None)))
+    else (if bytes_eq first (codes "compile") then compilation found.files found.strips found.steps found.layouts
+    else (if bytes_eq first (codes "decompile") then decompilation found.files found.strips found.steps found.layouts else None))))
 
 -- what words ask for, where they are a command
 abbrev pub job_in : List Text → Option Job

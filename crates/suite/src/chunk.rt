@@ -1,14 +1,13 @@
 // The chunk of a file.
-ghost use Rattle.std.specs.Prelude.{◌≡◌, true, Err, IfOk, IfErr, IsOk};
+ghost use Rattle.std.specs.Prelude.{◌≡◌, IfOk, IfErr, IsOk};
 ghost use Rattle.std.specs.String.{string_bytes};
-ghost use Rattle.lua_num.specs.Bytes.{Text};
 ghost use Rattle.proto.specs.Short.{IsShort};
 ghost use Rattle.proto.specs.View.{view_proto};
-ghost use Rattle.chunk_io.specs.Items.{is_chunk as the_is_chunk, Fits};
+ghost use Rattle.chunk_io.specs.Items.{Fits, IsChunkOf};
 ghost use Rattle.rules.specs.Sound.{Sound};
 ghost use Rattle.front.specs.Sources.{IsCompiled};
 ghost use Rattle.suite.specs.Jobs.{HasChunk, source_name as the_source_name};
-ghost use Rattle.suite.specs.Refusing.{IsBadSource, HasNone, IsRefused};
+ghost use Rattle.suite.specs.Refusing.{IsBadSource, IsBadChunk, HasNone, IsRefused};
 
 use crate::outcome::Outcome;
 use crate::rejection::Rejection;
@@ -64,12 +63,11 @@ fn source_name(alloc: Global, file: &Word) -> Result<ByteText, AllocError>
     Ok(name)
 }
 
-// The chunk that the bytes spell, or their fault.
-fn spelled_chunk(alloc: Global, bytes: &[u8]) -> Result<Proto, Outcome>
-    requires { the_is_chunk bytes.now ≡ true }
-    ensures chunk { IfOk result (λ proto. (file : Text) → HasChunk file bytes.now (view_proto proto)) }
+/// The chunk that the bytes spell, or their fault.
+pub fn spelled_chunk(alloc: Global, bytes: &[u8]) -> Result<Proto, Outcome>
+    ensures chunk { IfOk result (λ proto. IsChunkOf bytes.now (view_proto proto)) }
     ensures short { IfOk result (λ proto. IsShort (view_proto proto)) }
-    ensures none { IfErr result (HasNone bytes.now) }
+    ensures none { IfErr result (IsBadChunk bytes.now) }
 {
     // A law: a chunk that has a spelling has short lists.
     chunk_io::fitting_is_short();

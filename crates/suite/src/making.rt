@@ -1,15 +1,17 @@
 // Making a text of a file.
 ghost use Rattle.std.specs.Prelude.{◌≡◌, IfOk, IfErr};
 ghost use Rattle.std.specs.String.{string_bytes};
+ghost use Rattle.lua_num.specs.Bytes.{Text};
 ghost use Rattle.proto.specs.View.{view_proto};
 ghost use Rattle.suite.specs.declared.product.Product.TheVariants as product;
 ghost use Rattle.suite.specs.Jobs.{Makes, stripped_if as the_stripped_if};
 ghost use Rattle.suite.specs.Refusing.{IsRefusal};
 
-use crate::chunk::{chunk_of, source_chunk, verified};
+use crate::chunk::{chunk_of, source_chunk, spelled_chunk, verified};
 use crate::outcome::Outcome;
 use crate::product::Product;
 use chunk_io::{Layout, dump_as};
+use decompile::{Refused, decompile};
 use lister::list;
 use lua_num::ByteText;
 use proto::Proto;
@@ -30,6 +32,7 @@ pub fn made_text(
         Product::Listing => listing_of(alloc, bytes, file),
         Product::Verdict => verdict_on(alloc, bytes, file),
         Product::Spelling { strip, layout } => spelling_of(alloc, bytes, file, strip, layout),
+        Product::Source => source_of(alloc, bytes),
     }
 }
 
@@ -85,6 +88,21 @@ fn spelling_of(
     match dump_as(alloc, &kept, layout) {
         Ok(text) => Ok(text),
         Err(_) => Err(Outcome::OutOfMemory),
+    }
+}
+
+fn source_of(alloc: Global, bytes: &[u8]) -> Result<ByteText, Outcome>
+    ensures made { IfOk result (λ text. (file : Text) → Makes product.Source file bytes.now text) }
+    ensures none { IfErr result (λ outcome. (file : Text) → IsRefusal product.Source file bytes.now outcome) }
+{
+    let proto = match spelled_chunk(alloc, bytes) {
+        Ok(proto) => proto,
+        Err(outcome) => return Err(outcome),
+    };
+    match decompile(alloc, &proto) {
+        Ok(text) => Ok(text),
+        Err(Refused::OutOfMemory) => Err(Outcome::OutOfMemory),
+        Err(refused) => Err(Outcome::NotDecompiled(refused)),
     }
 }
 

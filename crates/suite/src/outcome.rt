@@ -5,6 +5,7 @@ ghost use Rattle.suite.specs.Lines.{status_of};
 use crate::rejection::Rejection;
 use crate::status::Status;
 use chunk_io::ChunkFault;
+use decompile::Refused;
 use front::Fault;
 use lua_num::ByteText;
 
@@ -20,6 +21,7 @@ pub enum Outcome {
     BadSource(Fault),
     BadChunk(ChunkFault),
     Rejected(Rejection),
+    NotDecompiled(Refused),
     ReadFault,
     WriteFault,
     OutOfMemory,
@@ -38,6 +40,7 @@ impl Outcome {
             Outcome::BadSource(_) => Status::BadSource,
             Outcome::BadChunk(_) => Status::BadChunk,
             Outcome::Rejected(_) => Status::Rejected,
+            Outcome::NotDecompiled(_) => Status::NotDecompiled,
             Outcome::ReadFault => Status::ReadFault,
             Outcome::WriteFault => Status::WriteFault,
             Outcome::OutOfMemory => Status::OutOfMemory,

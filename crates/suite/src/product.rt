@@ -10,4 +10,6 @@ pub enum Product {
     Verdict,
     /// Its spelling in a layout, or that of its stripped form; the file is read as source, whatever it begins with.
     Spelling { strip: bool, layout: Layout },
+    /// The text of a source that has it; the file is read as a chunk, whatever it begins with.
+    Source,
 }

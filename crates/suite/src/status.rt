@@ -19,6 +19,8 @@ pub enum Status {
     BadChunk = 5,
     /// The chunk is not sound.
     Rejected = 6,
+    /// No source of the chunk was found.
+    NotDecompiled = 7,
     /// The file could not be read.
     ReadFault = 8,
     /// Output, or the line that says why, could not be written.

@@ -14,7 +14,7 @@ use suite_io::{Files, Sink, Word};
 
 /// Carries out the command that the words say: `run FILE [--steps N]` runs the chunk that the file spells or that the compiler makes of its source, where it
 /// is sound, with these hosts and for at most N steps, `list FILE` puts the listing of that chunk, `verify FILE` puts `ok` where it is sound, and
-/// `compile SRC OUT [--strip] [--layout L]` stores the chunk of a source as OUT. Every other list of words is refused. The work goes in the order words,
+/// `compile SRC OUT [--strip] [--layout L]` stores the chunk of a source as OUT, and `decompile CHUNK OUT` the text of a source of a chunk. Every other list of words is refused. The work goes in the order words,
 /// fetch, reading (of source: tokens, tree, scopes, chunk), verification, run or listing or store, and the line for `err` that every status
 /// but `Done` has; the first refusal gives the status. What was put to `out` before a refusal stays. Want of memory is a free answer.
 ///
