@@ -39,12 +39,13 @@ abbrev pub NothingToFetch : HeldFiles → List ℕ → Type 0
 NothingToFetch held name = MatchOption (get held.contents name) (Unit {0}) (λ bytes. 2 ^ 28 ≤ length bytes)
 
 -- a sink in memory: the bytes taken, the count of faults, the calls answered so far by success or
--- `Failed`, and the numbers of the calls that fail
+-- `Failed`, the numbers of the calls that fail, and how many bytes a call takes at most
 pub record HeldBytes : Type 0 where
   pub taken : List ℕ
   pub faults : ℕ
   pub puts : ℕ
   pub fails : List ℕ
+  pub limit : ℕ
 
 -- one more, as far as a number of 64 bits goes
 abbrev pub one_more : ℕ → ℕ

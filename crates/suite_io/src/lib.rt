@@ -7,6 +7,7 @@ mod memory_files;
 mod memory_sink;
 mod putting;
 mod real;
+mod replacing;
 mod sink;
 
 pub use calls::{FileCall, FileCalls};

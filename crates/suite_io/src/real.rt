@@ -10,6 +10,7 @@ ghost use Rattle.suite_io.specs.Taken.{Rises};
 
 use crate::calls::{FileCall, FileCalls};
 use crate::files::{FileFault, Files, Word};
+use crate::replacing::write_file;
 use crate::sink::{Sink, SinkFault};
 use lua_num::ByteText;
 use std::alloc::Global;
@@ -68,12 +69,17 @@ fn read_file<R: rt::Files>(alloc: Global, system: &R, name: &str) -> Result<Byte
     Ok(ByteText::from_vec(bytes))
 }
 
-// Writes the file of a name. Each error is `Failed`, also want of memory, since something may have
-// been written.
-fn write_file<R: rt::Files>(system: &R, name: &str, bytes: &[u8]) -> Result<(), FileFault>
-    ensures { OnErr result (IsErrOf result FileFault.Failed) }
-{
-    fs::write(system, name, bytes).map_err(|_| FileFault::Failed)
+// Writes a file, where there are at most `MAX_FILE_BYTES`.
+fn write_short<R: rt::Files>(
+    alloc: Global,
+    system: &R,
+    name: &str,
+    bytes: &[u8],
+) -> Result<(), FileFault> {
+    if bytes.len() as u64 > MAX_FILE_BYTES {
+        return Err(FileFault::Failed);
+    }
+    write_file(alloc, system, name, bytes)
 }
 
 impl From<io::Error> for FileFault {
@@ -113,7 +119,9 @@ impl<R: rt::Files> Files for RealFiles<'_, R> {
         answer
     }
 
-    /// Finds no memory only before the system is asked to write.
+    /// Also fails where there are more than `MAX_FILE_BYTES` bytes, which `fetch` would not give back. A plain file
+    /// keeps what it had where this fails, and a missing one stays missing; a link, a device or a pipe is
+    /// written as it is. Finds no memory only before the system is asked to write.
     fn store(&mut self, alloc: Global, name: &Word, bytes: &[u8]) -> Result<(), FileFault>
         ensures stored { IfOk result (λ _. Stores None None (string_bytes name.now) bytes.now) }
         ensures others { OthersStay None None (string_bytes name.now) }
@@ -121,9 +129,11 @@ impl<R: rt::Files> Files for RealFiles<'_, R> {
         ensures not_begun { IsErrOf result FileFault.OutOfMemory → self.new ≡ self.old }
     {
         self.calls.push_call(alloc, true, name, false)?;
-        let answer = write_file(self.system, name.as_str(), bytes);
-        if answer.is_err() {
-            self.calls.settle(true);
+        let answer = write_short(alloc, self.system, name.as_str(), bytes);
+        match answer {
+            Ok(()) => {}
+            Err(FileFault::Failed) => self.calls.settle(true),
+            Err(FileFault::OutOfMemory) => self.calls.take_back(),
         }
         answer
     }
@@ -153,12 +163,30 @@ impl<W: Write + Drop> RealSink<W> {
     }
 }
 
+// One write that was neither put off nor interrupted.
+fn write_some<W: Write>(writer: &mut W, piece: &[u8]) -> io::Result<usize>
+    ensures { IfOk result (λ n. n ≤ length piece.now) }
+{
+    for _turn in 0..u64::MAX {
+        match writer.write(piece) {
+            Err(error) if is_put_off(error.kind()) => {}
+            answer => return answer,
+        }
+    }
+    Ok(0)
+}
+
+fn is_put_off(kind: ErrorKind) -> bool {
+    matches!(kind, ErrorKind::WouldBlock | ErrorKind::Interrupted)
+}
+
 impl<W: Write + Drop> Sink for RealSink<W> {
     ghost taken = { λ _. None };
 
     ghost faults = { λ s. s };
 
-    /// One `write`. An error of it, and an answer that it took nothing, are faults.
+    /// One `write`, again and again while the system says that it would block or was interrupted. Any other error of
+    /// it, and an answer that it took nothing, are faults.
     fn put(&mut self, piece: &[u8]) -> Result<usize, SinkFault>
         requires { 0 < length piece.now }
         ensures some { IfOk result (λ n. 0 < n) }
@@ -169,7 +197,7 @@ impl<W: Write + Drop> Sink for RealSink<W> {
         ensures risen_by_one { IsErrOf result SinkFault.Failed → self.new ≡ one_more self.old }
         ensures failed_only { OnErr result (IsErrOf result SinkFault.Failed) }
     {
-        match self.writer.write(piece) {
+        match write_some(&mut self.writer, piece) {
             Ok(count) if count > 0 => Ok(count),
             _ => {
                 self.faults = self.faults.saturating_add(1);
