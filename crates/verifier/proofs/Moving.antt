@@ -8,12 +8,12 @@ use Rattle.rules.specs.Words.{instr_at}
 use Rattle.rules.specs.Places.{is_edge, is_pc}
 use Rattle.rules.specs.Notes.{Note as Meant, Notes, FollowsIn, IsStart, AsksLess, after}
 use Rattle.rules.specs.Common.{AsksLessAt, AskLess}
-use Rattle.std.proofs.lemmas.List.Elements.{Contains-push, Contains-push_cases, Contains-append_left}
+use Rattle.std.proofs.lemmas.Map.Made.{Contains-tail}
 use Rattle.std.proofs.lemmas.Bool.{eqb-true, eqb-false}
 use Rattle.rules.proofs.Lists.{none_some, some_one}
 use Rattle.rules.proofs.LeastNotes.{edge_asks_less}
 use Rattle.verifier.specs.declared.note.Note.{Note}
-use Rattle.verifier.specs.Registers.{Alike, AreEdges, Followed, meant, meant_in, notes_of, rooms}
+use Rattle.verifier.specs.Registers.{Alike, Adds, AreEdges, Followed, meant, meant_in, notes_of, rooms}
 use Rattle.verifier.specs.Least.{AsksLeast, LeastAt, FollowedFrom, Flowing, JoinsIn, Moves, AreLeast}
 
 less_by : (a b c : Meant) → AsksLess a b → AsksLess b c → AsksLess a c
@@ -102,28 +102,24 @@ record Reached (f : Chunk) (notes : Notes) (work : List ℕ) (pc : ℕ) (n : Mea
   pub kept : (p : ℕ) → (p ≡ pc → ⊥) → (Contains work p → ⊥) → FollowedFrom f notes p
   pub here : (Contains work pc → ⊥) → notes pc ≡ Some n
 
-begin_step : (f : Chunk) (notes : Notes) (work : List ℕ) (pc : ℕ) (n : Meant) → Flowing f notes (work ++ pc ∷ []) → notes pc ≡ Some n → Reached f notes work pc n
+begin_step : (f : Chunk) (notes : Notes) (work : List ℕ) (pc : ℕ) (n : Meant) → Flowing f notes (pc ∷ work) → notes pc ≡ Some n → Reached f notes work pc n
 begin_step f notes work pc n flow at = record {
   start = flow.start;
   least = flow.least;
-  kept = λ p differ outside. flow.kept p (λ there. go p differ outside (Contains-push_cases work pc p there));
+  kept = λ p differ outside. flow.kept p (λ there. outside (Contains-tail pc work p (λ e. differ (sym e)) there));
   here = λ outside. at;
 }
-  where
-    go : (p : ℕ) → (p ≡ pc → ⊥) → (Contains work p → ⊥) → Contains work p ⊎ (pc ≡ p) → ⊥
-    go p differ outside (inl there) = outside there
-    go p differ outside (inr e) = differ (sym e)
 
-moved_reached : (f : Chunk) (before now : Notes) (work : List ℕ) (pc t : ℕ) (n m : Meant) → Reached f before work pc n → LeastAt f t m → Moves before now t m → Reached f now (work ++ t ∷ []) pc n
-moved_reached f before now work pc t n m r at moves = record {
+moved_reached : (f : Chunk) (before now : Notes) (work more : List ℕ) (pc t : ℕ) (n m : Meant) → Reached f before work pc n → LeastAt f t m → Moves before now t m → Adds work more t → Reached f now more pc n
+moved_reached f before now work more pc t n m r at moves adds = record {
   start = start_more (before 0) (now 0) (moved_more before now t m moves 0) r.start;
   least = moved_least f before now t m r.least at moves;
-  kept = λ p differ outside u i k is note edge. follows_more (after f p i k) (before u) (now u) (moved_more before now t m moves u) (r.kept p differ (λ there. outside (Contains-append_left work (t ∷ []) p there)) u i k is (sym (moves.others p (apart p outside)) ∙ note) edge);
-  here = λ outside. moves.others pc (apart pc outside) ∙ r.here (λ there. outside (Contains-append_left work (t ∷ []) pc there));
+  kept = λ p differ outside u i k is note edge. follows_more (after f p i k) (before u) (now u) (moved_more before now t m moves u) (r.kept p differ (λ there. outside (adds.kept p there)) u i k is (sym (moves.others p (apart p outside)) ∙ note) edge);
+  here = λ outside. moves.others pc (apart pc outside) ∙ r.here (λ there. outside (adds.kept pc there));
 }
   where
-    apart : (p : ℕ) → (Contains (work ++ t ∷ []) p → ⊥) → p ≡ t → ⊥
-    apart p outside e = outside (subst (λ x. Contains (work ++ t ∷ []) x) (sym e) (Contains-push work t))
+    apart : (p : ℕ) → (Contains more p → ⊥) → p ≡ t → ⊥
+    apart p outside e = outside (subst (λ x. Contains more x) (sym e) adds.there)
 
 -- a way that is followed
 way_reached : (f : Chunk) (before now : List (Option Note)) (work more : List ℕ) (pc : ℕ) (n : Meant) (way : Option ℕ) (m : Note) → Reached f (notes_of before) work pc n → ((t : ℕ) → way ≡ Some t → LeastAt f t (meant m)) → Followed before now work more way m → Reached f (notes_of now) more pc n
@@ -131,9 +127,9 @@ way_reached f before now work more pc n None m r at done =
     subst (λ w. Reached f (notes_of now) w pc n) (sym done.1) (subst (λ x. Reached f (notes_of x) work pc n) (sym done.0) r)
 way_reached f before now work more pc n (Some t) m r at done = go done.1
   where
-    go : ((now ≡ before) × (more ≡ work)) ⊎ ((rooms now < rooms before) × (more ≡ work ++ t ∷ [])) → Reached f (notes_of now) more pc n
+    go : ((now ≡ before) × (more ≡ work)) ⊎ ((rooms now < rooms before) × Adds work more t) → Reached f (notes_of now) more pc n
     go (inl same) = subst (λ w. Reached f (notes_of now) w pc n) (sym same.1) (subst (λ x. Reached f (notes_of x) work pc n) (sym same.0) r)
-    go (inr less) = subst (λ w. Reached f (notes_of now) w pc n) (sym less.1) (moved_reached f (notes_of before) (notes_of now) work pc t n (meant m) r (at t refl) done.0)
+    go (inr less) = moved_reached f (notes_of before) (notes_of now) work more pc t n (meant m) r (at t refl) done.0 less.1
 
 -- it asks more at each pc
 way_more : (before now : List (Option Note)) (work more : List ℕ) (way : Option ℕ) (m : Note) → Followed before now work more way m → AskLess (notes_of before) (notes_of now)
@@ -150,9 +146,9 @@ way_less : (before now : List (Option Note)) (work more : List ℕ) (way : Optio
 way_less before now work more None m done = subst (λ x. rooms x + length more ≤ rooms before + length work) (sym done.0) (subst (λ w. rooms before + length w ≤ rooms before + length work) (sym done.1) (omega arith))
 way_less before now work more (Some t) m done = go done.1
   where
-    go : ((now ≡ before) × (more ≡ work)) ⊎ ((rooms now < rooms before) × (more ≡ work ++ t ∷ [])) → rooms now + length more ≤ rooms before + length work
+    go : ((now ≡ before) × (more ≡ work)) ⊎ ((rooms now < rooms before) × Adds work more t) → rooms now + length more ≤ rooms before + length work
     go (inl same) = subst (λ x. rooms x + length more ≤ rooms before + length work) (sym same.0) (subst (λ w. rooms before + length w ≤ rooms before + length work) (sym same.1) (omega arith))
-    go (inr less) = subst (λ w. rooms now + length w ≤ rooms before + length work) (sym less.1) (omega (arith, length-append work (t ∷ []), less.0))
+    go (inr less) = omega (arith, less.0, less.1.fewer)
 
 end_step : (f : Chunk) (notes : Notes) (work : List ℕ) (pc : ℕ) (n : Meant) → Reached f notes work pc n → ((t : ℕ) (i : Instr) → instr_at f pc ≡ Some i → is_edge f pc i t ≡ true → FollowsIn (after f pc i n) (notes t)) → Flowing f notes work
 end_step f notes work pc n r follows = record {
@@ -184,7 +180,7 @@ either true y e = inl refl
 either false y e = inr e
 
 -- both ways of a noted word
-pub step_flows : (f : Chunk) (before mid now : List (Option Note)) (work some more : List ℕ) (pc : ℕ) (i : Instr) (n m : Note) (first second : Option ℕ) → Some i ≡ instr_at f pc → get_or before pc None ≡ Some n → Alike (meant m) (after f pc i (meant n)) → AreEdges f pc i first second → Followed before mid work some first m → Followed mid now some more second m → Flowing f (notes_of before) (work ++ pc ∷ []) → Flowing f (notes_of now) more
+pub step_flows : (f : Chunk) (before mid now : List (Option Note)) (work some more : List ℕ) (pc : ℕ) (i : Instr) (n m : Note) (first second : Option ℕ) → Some i ≡ instr_at f pc → get_or before pc None ≡ Some n → Alike (meant m) (after f pc i (meant n)) → AreEdges f pc i first second → Followed before mid work some first m → Followed mid now some more second m → Flowing f (notes_of before) (pc ∷ work) → Flowing f (notes_of now) more
 step_flows f before mid now work some more pc i n m first second is at like edges one two flows = end_step f (notes_of now) more pc (meant n) second_reached followed
   where
     noted : notes_of before pc ≡ Some (meant n)
@@ -220,7 +216,7 @@ pub step_less : (before mid now : List (Option Note)) (work some more : List ℕ
 step_less before mid now work some more first second m one two = omega (arith, way_less before mid work some first m one, way_less mid now some more second m two)
 
 -- a word that is none, or has no note, is done
-skipped : (f : Chunk) (notes : Notes) (work : List ℕ) (pc : ℕ) → FollowedFrom f notes pc → Flowing f notes (work ++ pc ∷ []) → Flowing f notes work
+skipped : (f : Chunk) (notes : Notes) (work : List ℕ) (pc : ℕ) → FollowedFrom f notes pc → Flowing f notes (pc ∷ work) → Flowing f notes work
 skipped f notes work pc done flow = record {
   start = flow.start;
   least = flow.least;
@@ -229,16 +225,12 @@ skipped f notes work pc done flow = record {
   where
     go : (p : ℕ) → (Contains work p → ⊥) → (p ≡ pc) ⊎ (p ≡ pc → ⊥) → FollowedFrom f notes p
     go p outside (inl same) = subst (λ x. FollowedFrom f notes x) (sym same) done
-    go p outside (inr differ) = flow.kept p (λ there. apart (Contains-push_cases work pc p there))
-      where
-        apart : Contains work p ⊎ (pc ≡ p) → ⊥
-        apart (inl x) = outside x
-        apart (inr e) = differ (sym e)
+    go p outside (inr differ) = flow.kept p (λ there. outside (Contains-tail pc work p (λ e. differ (sym e)) there))
 
-pub no_word_flows : (f : Chunk) (notes : Notes) (work : List ℕ) (pc : ℕ) → None ≡ instr_at f pc → Flowing f notes (work ++ pc ∷ []) → Flowing f notes work
+pub no_word_flows : (f : Chunk) (notes : Notes) (work : List ℕ) (pc : ℕ) → None ≡ instr_at f pc → Flowing f notes (pc ∷ work) → Flowing f notes work
 no_word_flows f notes work pc is = skipped f notes work pc (λ t i n at note edge. none_some i (is ∙ at))
 
-pub no_note_flows : (f : Chunk) (table : List (Option Note)) (work : List ℕ) (pc : ℕ) → get_or table pc None ≡ None → Flowing f (notes_of table) (work ++ pc ∷ []) → Flowing f (notes_of table) work
+pub no_note_flows : (f : Chunk) (table : List (Option Note)) (work : List ℕ) (pc : ℕ) → get_or table pc None ≡ None → Flowing f (notes_of table) (pc ∷ work) → Flowing f (notes_of table) work
 no_note_flows f table work pc is = skipped f (notes_of table) work pc (λ t i n at note edge. none_some n (sym (ap meant_in is) ∙ note))
 
 -- with no work left the notes are consistent, and the least

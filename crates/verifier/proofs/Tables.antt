@@ -2,13 +2,18 @@
 use Rattle.std.proofs.Common.{◌∙◌, ◌≡◌, inl, inr, ℕ, zero, suc, ◌<◌, List, [], ◌∷◌, ◌++◌, length, None, Some, refl, sym, ap, subst, arith, true≢false, not-suc-le-zero, le_of_suc-le-suc}
 use Rattle.std.specs.Prelude.{Option, get_or, slice_set}
 use Rattle.std.specs.List.{Contains}
+use Rattle.std.proofs.lemmas.Map.Lookups.{exact_unsigned}
+use Rattle.std.specs.BTreeSet.{insert_key}
+use Rattle.std.specs.Ordering.{nat_cmp, match_ordering}
+use Rattle.std.specs.declared.cmp.Ordering.{Ordering}
+use Rattle.std.specs.declared.cmp.Ordering.TheVariants.{Less, Equal, Greater}
 use Rattle.proto.specs.Chunk.{Chunk}
 use Rattle.rules.specs.Notes.{Note as Meant, Notes, Consistent, IsStart}
 use Rattle.rules.specs.Common.{AsksLessAt}
 use Rattle.rules.proofs.Lists.{none_some}
 use Rattle.rules.proofs.LeastNotes.{start_asks_less, empty_note}
 use Rattle.verifier.specs.declared.note.Note.{Note}
-use Rattle.verifier.specs.Registers.{Followed, IsEmpty, meant, meant_in, notes_of, room_in, rooms}
+use Rattle.verifier.specs.Registers.{Adds, Followed, IsEmpty, meant, meant_in, notes_of, room_in, rooms}
 use Rattle.verifier.specs.Least.{Flowing, Joins, JoinsIn, Moves}
 
 get_set_same : (table : List (Option Note)) (t : ℕ) (k : Note) → t < length table → get_or (slice_set table t (Some k)) t None ≡ Some k
@@ -42,9 +47,45 @@ rooms_set [] t k low less = absurd (not-suc-le-zero low)
 rooms_set (o ∷ rest) zero k low less = omega (arith, less)
 rooms_set (o ∷ rest) (suc t) k low less = omega (arith, rooms_set rest t k (le_of_suc-le-suc low) less)
 
+more_contain : (x : ℕ) (xs : List ℕ) (p : ℕ) → Contains xs p → Contains (x ∷ xs) p
+more_contain x xs p there = (suc there.0, omega (arith, there.1), there.2)
+
+equal_is : (x t : ℕ) → nat_cmp t x ≡ Equal → x ≡ t
+equal_is x t e = sym (exact_unsigned t x e)
+
+adds_behind : (x : ℕ) (rest : List ℕ) (t : ℕ) → Adds rest (insert_key nat_cmp rest t) t → (o : Ordering) → nat_cmp t x ≡ o → Adds (x ∷ rest) (match_ordering o (t ∷ x ∷ rest) (x ∷ rest) (x ∷ insert_key nat_cmp rest t)) t
+adds_behind x rest t later Less e = record {
+  there = (0, omega arith, refl);
+  kept = λ p there. more_contain t (x ∷ rest) p there;
+  fewer = omega arith;
+}
+adds_behind x rest t later Equal e = record {
+  there = (0, omega arith, equal_is x t e);
+  kept = λ p there. there;
+  fewer = omega arith;
+}
+adds_behind x rest t later Greater e = record {
+  there = more_contain x (insert_key nat_cmp rest t) t later.there;
+  kept = both;
+  fewer = omega (arith, later.fewer);
+}
+  where
+    both : (p : ℕ) → Contains (x ∷ rest) p → Contains (x ∷ insert_key nat_cmp rest t) p
+    both p (zero, low, is) = (0, omega arith, is)
+    both p (suc k, low, is) = more_contain x (insert_key nat_cmp rest t) p (later.kept p (k, omega (arith, low), is))
+
+-- a place among those that wait, in order
+adds_key : (work : List ℕ) (t : ℕ) → Adds work (insert_key nat_cmp work t) t
+adds_key [] t = record {
+  there = (0, omega arith, refl);
+  kept = λ p there. absurd (not-suc-le-zero there.1);
+  fewer = omega arith;
+}
+adds_key (x ∷ rest) t = adds_behind x rest t (adds_key rest t) (nat_cmp t x) refl
+
 -- a way whose note asks more than the one before
-pub set_follows : (table : List (Option Note)) (work more : List ℕ) (way : Option ℕ) (t : ℕ) (k m : Note) → way ≡ Some t → more ≡ work ++ t ∷ [] → t < length table → Joins (meant_in (get_or table t None)) (meant m) (meant k) → room_in (Some k) < room_in (get_or table t None) → Followed table (slice_set table t (Some k)) work more way m
-set_follows table work more way t k m is longer low joins less = subst (λ w. Followed table (slice_set table t (Some k)) work more w m) (sym is) (set_moves table t k (meant m) low joins, inr (rooms_set table t k low less, longer))
+pub set_follows : (table : List (Option Note)) (work more : List ℕ) (way : Option ℕ) (t : ℕ) (k m : Note) → way ≡ Some t → more ≡ insert_key nat_cmp work t → t < length table → Joins (meant_in (get_or table t None)) (meant m) (meant k) → room_in (Some k) < room_in (get_or table t None) → Followed table (slice_set table t (Some k)) work more way m
+set_follows table work more way t k m is longer low joins less = subst (λ w. Followed table (slice_set table t (Some k)) work more w m) (sym is) (set_moves table t k (meant m) low joins, inr (rooms_set table t k low less, subst (λ w. Adds work w t) (sym longer) (adds_key work t)))
 
 -- a way whose note asks no more
 pub same_follows : (table : List (Option Note)) (work : List ℕ) (way : Option ℕ) (t : ℕ) (m : Note) → way ≡ Some t → JoinsIn (meant_in (get_or table t None)) (meant m) (meant_in (get_or table t None)) → Followed table table work work way m

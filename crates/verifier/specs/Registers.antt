@@ -1,6 +1,7 @@
 -- Serves the bodies: sets of registers as bits, and the notes that a table of them has.
-use Rattle.std.specs.Prelude.{◌≡◌, ◌⊎◌, ℕ, ◌+◌, ◌<◌, ◌/◌, ◌%◌, ◌++◌, Bool, false, not, ◌&&◌, ◌||◌, ◌==◌, nat_lt, nat_le, List, [], ◌∷◌, get_or, Option, Some, None, if◌then◌else◌}
+use Rattle.std.specs.Prelude.{◌≡◌, ◌⊎◌, ℕ, suc, ◌+◌, ◌<◌, ◌≤◌, ◌/◌, ◌%◌, Bool, false, not, ◌&&◌, ◌||◌, ◌==◌, nat_lt, nat_le, List, [], ◌∷◌, length, get_or, Option, Some, None, if◌then◌else◌}
 use Rattle.std.specs.Int.{bit_at}
+use Rattle.std.specs.List.{Contains}
 use Rattle.opcode.specs.declared.op.Op.{Op}
 use Rattle.opcode.specs.declared.word.Instr.{Instr}
 use Rattle.opcode.specs.Reading.{instr_of}
@@ -96,8 +97,14 @@ preparing more n = record n { loops = λ a. n.loops a || more a }
 abbrev pub AreEdges : Chunk → ℕ → Instr → Option ℕ → Option ℕ → Type 0
 AreEdges f pc i first second = (t : ℕ) → is_edge f pc i t ≡ (is_pc t first || is_pc t second)
 
+-- work to which one place is added, if it is not there
+pub record Adds (work more : List ℕ) (t : ℕ) : Type 0 where
+  pub there : Contains more t
+  pub kept : (p : ℕ) → Contains work p → Contains more p
+  pub fewer : length more ≤ suc (length work)
+
 -- What following a way does: m is joined into the note of its pc, which is work where it asks more than before.
 abbrev pub Followed : List (Option Note) → List (Option Note) → List ℕ → List ℕ → Option ℕ → Note → Type 0
 Followed before now work more None m = (now ≡ before) × (more ≡ work)
 Followed before now work more (Some t) m =
-    Moves (notes_of before) (notes_of now) t (meant m) × (((now ≡ before) × (more ≡ work)) ⊎ ((rooms now < rooms before) × (more ≡ work ++ t ∷ [])))
+    Moves (notes_of before) (notes_of now) t (meant m) × (((now ≡ before) × (more ≡ work)) ⊎ ((rooms now < rooms before) × Adds work more t))

@@ -1,6 +1,6 @@
 // The least notes of a function.
 ghost use Rattle.proto.specs.View.{view_proto};
-ghost use Rattle.std.specs.Prelude.{◌≡◌, ◌+◌, ◌++◌, ◌<◌, ◌≤◌, [], ◌∷◌, get_or, length, None, IfSome, IfOk, OnOk};
+ghost use Rattle.std.specs.Prelude.{◌≡◌, ◌+◌, ◌<◌, ◌≤◌, [], ◌∷◌, get_or, length, None, IfSome, IfOk, OnOk};
 ghost use Rattle.proto.specs.Chunk.{Chunk, own};
 ghost use Rattle.verifier.specs.Registers.{Followed, notes_of, rooms};
 ghost use Rattle.verifier.specs.Least.{AreLeast, Flowing};
@@ -9,23 +9,24 @@ use crate::flow::{after, edges};
 use crate::note::Note;
 use crate::words::Function;
 use std::alloc::{AllocError, Global};
+use std::collections::BTreeSet;
 
-/// Joins a note along a way into the one where it goes, and puts that place on the work where its note
+/// Joins a note along a way into the one where it goes, and makes that place work where its note
 /// asks more than before.
 fn follow(
     notes: &mut [Option<Note>],
-    work: &mut Vec<usize>,
+    work: &mut BTreeSet<usize>,
     way: Option<usize>,
     new: Note,
 ) -> Result<(), AllocError>
     requires here { IfSome way (λ t. t < length notes.now) }
-    ensures followed { OnOk result (Followed notes.old notes.new work.old.items work.new.items way new) }
+    ensures followed { OnOk result (Followed notes.old notes.new work.old.keys work.new.keys way new) }
     ensures size { length notes.new ≡ length notes.old }
 {
     let Some(t) = way else { return Ok(()) };
     if let Some(joined) = Note::met(notes[t], new) {
         notes[t] = Some(joined);
-        work.push(t)?;
+        work.insert(t)?;
     }
     Ok(())
 }
@@ -44,13 +45,13 @@ pub fn note_at(notes: &[Option<Note>], pc: usize) -> Option<Note>
 fn visit(
     function: &Function<'_>,
     notes: &mut [Option<Note>],
-    work: &mut Vec<usize>,
+    work: &mut BTreeSet<usize>,
     pc: usize,
 ) -> Result<(), AllocError>
     requires size { length (own (view_proto function.now)).code ≤ length notes.old }
-    ensures flows { OnOk result (Flowing (view_proto function.now) (notes_of notes.old) (work.old.items ++ pc ∷ []) → Flowing (view_proto function.now) (notes_of notes.new) work.new.items) }
+    ensures flows { OnOk result (Flowing (view_proto function.now) (notes_of notes.old) (pc ∷ work.old.keys) → Flowing (view_proto function.now) (notes_of notes.new) work.new.keys) }
     ensures size { length notes.new ≡ length notes.old }
-    ensures less { OnOk result (rooms notes.new + length work.new.items ≤ rooms notes.old + length work.old.items) }
+    ensures less { OnOk result (rooms notes.new + length work.new.keys ≤ rooms notes.old + length work.old.keys) }
 {
     let Some(instr) = function.instr(pc) else {
         return Ok(());
@@ -65,17 +66,18 @@ fn visit(
     Ok(())
 }
 
+/// Follows words until none is work, always the one at the lowest pc.
 fn spread(
     function: &Function<'_>,
     notes: &mut [Option<Note>],
-    work: &mut Vec<usize>,
+    work: &mut BTreeSet<usize>,
 ) -> Result<(), AllocError>
     requires size { length (own (view_proto function.now)).code ≤ length notes.old }
-    requires flows { Flowing (view_proto function.now) (notes_of notes.old) work.old.items }
+    requires flows { Flowing (view_proto function.now) (notes_of notes.old) work.old.keys }
     ensures least { OnOk result (AreLeast (view_proto function.now) (notes_of notes.new)) }
     ensures size { length notes.new ≡ length notes.old }
 {
-    while let Some(pc) = work.pop() {
+    while let Some(pc) = work.pop_first() {
         visit(function, notes, work, pc)?;
     }
     Ok(())
@@ -96,14 +98,16 @@ fn begin(alloc: Global, places: usize) -> Result<Vec<Option<Note>>, AllocError>
     Ok(notes)
 }
 
-/// The least consistent notes of a function, by pc. Each word is done once for each time that its note
-/// comes to ask more: for code that a compiler made about once, and never more often than there are registers and
-/// loops.
+/// The least consistent notes of a function, by pc. Of the words whose notes came to ask more, the one at the lowest pc is done
+/// next. So where all jumps go forward each word is done once; else at most once for each time that its note comes to ask
+/// more, which is at most 750 times: once for each register and for each loop. A step takes logarithmic time in the
+/// words that wait.
 pub fn least_notes(alloc: Global, function: &Function<'_>) -> Result<Vec<Option<Note>>, AllocError>
     ensures { IfOk result (λ notes. AreLeast (view_proto function.now) (notes_of notes.items)) }
 {
     let mut notes = begin(alloc, function.len().max(1))?;
-    let mut work = vec![in alloc; 0]?;
+    let mut work = BTreeSet::new(alloc);
+    work.insert(0)?;
     spread(function, &mut notes, &mut work)?;
     Ok(notes)
 }
