@@ -24,11 +24,11 @@ fn copy_plain(alloc: Global, value: &Plain) -> Result<Plain, AllocError>
 pub(crate) fn copy_values(alloc: Global, values: &[Plain]) -> Result<PlainList, AllocError>
     ensures { IfOk result (λ copy. copy ≡ values.now) }
 {
-    let mut copy = PlainList::new(alloc);
+    let mut copy = Vec::with_capacity(alloc, values.len())?;
     for value in values {
         copy.push(copy_plain(alloc, value)?)?;
     }
-    Ok(copy)
+    Ok(PlainList::from_vec(copy))
 }
 
 // A copy of a reply.

@@ -102,13 +102,13 @@ impl<R: LineReader + Drop> LineHost<R> {
     }
 }
 
-// A reply of one value.
+// A reply of one value, with no room for more.
 fn reply_of(alloc: Global, value: Plain) -> Result<Reply, AllocError>
     ensures { IfOk result (λ reply. reply ≡ Values (value ∷ [])) }
 {
-    let mut values = PlainList::new(alloc);
-    values.push(value)?;
-    Ok(Reply::Values(values))
+    let mut values = Vec::with_capacity(alloc, 1)?;
+    values.push_reserved(value);
+    Ok(Reply::Values(PlainList::from_vec(values)))
 }
 
 fn failed_reply(alloc: Global) -> Result<Reply, AllocError>

@@ -1,9 +1,22 @@
 // The log of the calls of hosts.
-ghost use Rattle.std.specs.Prelude.{◌≡◌, [], ◌∷◌, ◌++◌, OnOk, OnErr};
+ghost use Rattle.std.specs.Prelude.{◌≡◌, ◌<◌, [], ◌∷◌, ◌++◌, OnOk, OnErr, vec_len, vec_capacity};
 
 use lua_model::{PlainList, Reply};
 use std::alloc::{AllocError, Global};
 use std::marker::Model;
+
+// Makes room for one more call. Where there is none, there then is for an eighth more than there are calls: a long log is copied seldom,
+// and takes little more than its entries.
+pub(crate) fn make_room(entries: &mut Vec<LogEntry>) -> Result<(), AllocError>
+    ensures items { entries.new.items ≡ entries.old.items }
+    ensures ok { OnOk result (vec_len entries.new < vec_capacity entries.new) }
+{
+    let count = entries.len();
+    if count < entries.capacity() {
+        return Ok(());
+    }
+    entries.reserve_exact(count / 8 + 1)
+}
 
 /// A call of a host, by the host's number, and its reply.
 #[derive(Debug, Drop)]
@@ -43,7 +56,8 @@ impl HostLog {
         ensures ok { OnOk result (self.new ≡ self.old ++ entry ∷ []) }
         ensures err { OnErr result (self.new ≡ self.old) }
     {
-        self.entries.push(entry)?;
+        make_room(&mut self.entries)?;
+        self.entries.push_reserved(entry);
         Ok(())
     }
 

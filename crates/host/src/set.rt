@@ -4,7 +4,7 @@ ghost use Rattle.host.specs.Heard.{Exchange};
 ghost use Rattle.host.specs.Hosts.{NamesDiffer, names_of, has_name, number_of, name_at, is_live_at, with_host, called, last_reply, closed};
 
 use crate::host::Host;
-use crate::log::{HostLog, LogEntry};
+use crate::log::{HostLog, LogEntry, make_room};
 use crate::slot::{HostSlot, position_of};
 use lua_model::{PlainList, Reply};
 use lua_num::ByteText;
@@ -127,7 +127,7 @@ impl HostSet {
         ensures nobody { OnErr result ((number : ℕ) (before : List Exchange) → HostHears hears self.old number before → HostHears hears self.new number before) }
     {
         let entries = &mut self.log.entries;
-        entries.reserve(1)?;
+        make_room(entries)?;
         let reply = self.hosts[host].call(alloc, args.items());
         entries.push_reserved(LogEntry { host, args, reply });
         Ok(())

@@ -2,4 +2,4 @@ use Rattle.std.proofs.Common.{◌≡◌, take}
 use Rattle.host.proofs.copies.copy_values.Given as goal
 
 abbrev pub invariant-loop-value : goal.invariant-loop-value
-invariant-loop-value l = l.copy ≡ take l.value-index l.values
+invariant-loop-value l = l.copy.items ≡ take l.value-index l.values

@@ -14,12 +14,12 @@ invariant_of-self-inside-2 g c = record {
 pub returns-clause-ok : goal.returns-clause-ok
 returns-clause-ok g c =
     called-set (λ b. (goal.Host-dyn g (b.vtable, b.value)).heard b.value) _ c.args.self.now c.args.host c.index_mut.result.now c.call-reply.new.self c.args.args c.items.result.now c.call-reply.result
-    c.reserve.new.self.items c.push_reserved.new.self.items c.self.view_is c.requires.in_range c.index_mut.ensures.value c.call-reply.ensures.state c.items.ensures c.push_reserved.ensures.items c.in_ok-reserve.ensures.items
+    c.make_room.new.entries.items c.push_reserved.new.self.items c.self.view_is c.requires.in_range c.index_mut.ensures.value c.call-reply.ensures.state c.items.ensures c.push_reserved.ensures.items c.in_ok-make_room.ensures.items
 
 pub returns-clause-once : goal.returns-clause-once
 returns-clause-once g c = λ before.
     called_hears (λ b. (goal.Host-dyn g (b.vtable, b.value)).hears b.value) (λ b. (goal.Host-dyn g (b.vtable, b.value)).heard b.value) _ c.args.self.now c.args.host c.index_mut.result.now
-    c.call-reply.new.self c.args.args c.items.result.now c.call-reply.result c.reserve.new.self.items c.push_reserved.new.self.items before c.self.view_is c.requires.in_range
+    c.call-reply.new.self c.args.args c.items.result.now c.call-reply.result c.make_room.new.entries.items c.push_reserved.new.self.items before c.self.view_is c.requires.in_range
     c.index_mut.ensures.value (c.call-reply.ensures.once before) c.items.ensures c.push_reserved.ensures.items
 
 pub returns-clause-others : goal.returns-clause-others
