@@ -14,3 +14,4 @@ pub mod Settled
 pub mod Ready
 pub mod At
 pub mod Closing
+pub mod Joining

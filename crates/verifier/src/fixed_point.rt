@@ -98,10 +98,10 @@ fn begin(alloc: Global, places: usize) -> Result<Vec<Option<Note>>, AllocError>
     Ok(notes)
 }
 
-/// The least consistent notes of a function, by pc. Of the words whose notes came to ask more, the one at the lowest pc is done
-/// next. So where all jumps go forward each word is done once; else at most once for each time that its note comes to ask
-/// more, which is at most 750 times: once for each register and for each loop. A step takes logarithmic time in the
-/// words that wait.
+/// The least consistent notes of a function, by pc. Of the words whose notes came to ask more, the one at the lowest pc is
+/// done next. So where all jumps go forward each word is done once; else once for each time that its note comes to ask
+/// more, which is at most 769 times: where it is first reached, and for each of 512 registers and 256 loops. Doing a word
+/// takes linear time in the words that belong to it, and logarithmic time in those that wait.
 pub fn least_notes(alloc: Global, function: &Function<'_>) -> Result<Vec<Option<Note>>, AllocError>
     ensures { IfOk result (λ notes. AreLeast (view_proto function.now) (notes_of notes.items)) }
 {
