@@ -7,6 +7,7 @@ ghost use Rattle.string_pool.specs.Texts.{with_text, TextsDiffer};
 ghost use Rattle.lua_heap.specs.State.{empty, datum, IsOf, Keeps};
 
 use crate::cells::{Cell, CellId};
+use hash_seed::Seed;
 use lua_model::{TableId, TextId, Value};
 use lua_num::ByteText;
 use lua_table::Table;
@@ -38,6 +39,7 @@ pub struct Heap {
     pub(crate) closures: Vec<Closure>,
     pub(crate) cells: Vec<Cell>,
     pub(crate) host_names: Vec<ByteText>,
+    pub(crate) seed: Seed,
 }
 
 impl Model for Heap {
@@ -53,17 +55,19 @@ impl Model for Heap {
 }
 
 impl Heap {
-    /// A heap with nothing, which takes no memory.
-    pub fn new(alloc: Global) -> Self
+    /// A heap with nothing, which takes no memory. The seed says how its texts and the keys of its tables are hashed, and
+    /// nothing else.
+    pub fn new(alloc: Global, seed: Seed) -> Self
         ensures { result ≡ empty }
     {
         Self {
-            texts: Pool::new(alloc),
+            texts: Pool::new(alloc, seed),
             tables: Vec::new(alloc),
-            globals: Table::new(alloc),
+            globals: Table::new(alloc, seed),
             closures: Vec::new(alloc),
             cells: Vec::new(alloc),
             host_names: Vec::new(alloc),
+            seed,
         }
     }
 

@@ -20,7 +20,7 @@ impl Heap {
     {
         let index = self.tables.len();
         self.tables.push(Entity {
-            table: Table::new(alloc),
+            table: Table::new(alloc, self.seed),
             metatable: None,
         })?;
         Ok(TableId { index })

@@ -1,5 +1,5 @@
 -- Serves the bodies: rows of values as pairs.
-use Rattle.std.specs.Prelude.{◌≡◌, ℕ, ◌+◌, ◌<◌, false, List, [], ◌∷◌}
+use Rattle.std.specs.Prelude.{◌≡◌, ◌≢◌, ℕ, ◌+◌, ◌<◌, false, List, [], ◌∷◌}
 use Rattle.lua_model.specs.declared.Value.{Value}
 use Rattle.lua_model.specs.Value.{same_value}
 use Rattle.lua_table.specs.Entries.{Entries, entry, is_nil_value, number_key}
@@ -7,6 +7,10 @@ use Rattle.lua_table.specs.Entries.{Entries, entry, is_nil_value, number_key}
 -- the first n numbers from 1 have values
 abbrev pub IsFull : Entries → ℕ → Type 0
 IsFull ps n = (m : ℕ) → m < n → is_nil_value (entry ps (number_key (m + 1))) ≡ false
+
+-- so do all of them but the number hole + 1
+abbrev pub IsFullBut : Entries → ℕ → ℕ → Type 0
+IsFullBut ps hole n = (m : ℕ) → m < n → m ≢ hole → is_nil_value (entry ps (number_key (m + 1))) ≡ false
 
 -- the pairs of a row of values whose first key is n + 1
 abbrev pub row_pairs : ℕ → List Value → Entries

@@ -4,6 +4,7 @@ ghost use Rattle.lua_table.specs.Entries.{is_nil_value, entry, has_place, with_e
 
 use crate::fault::{NextFault, SetFault};
 use crate::keys::is_nil;
+use hash_seed::{KeyHash, Seed};
 use indexmap::IndexMap;
 use lua_model::Value;
 use std::alloc::Global;
@@ -15,7 +16,7 @@ const MOST_PAIRS: usize = 1 << 62;
 /// A map of pairs, whose keys keep their places. Contracts see the list of pairs.
 #[derive(Drop)]
 pub(crate) struct Hashed {
-    map: IndexMap<Value, Value>,
+    map: IndexMap<Value, Value, KeyHash>,
 }
 
 impl Model for Hashed {
@@ -30,11 +31,11 @@ impl Model for Hashed {
 }
 
 impl Hashed {
-    pub(crate) fn new(alloc: Global) -> Self
+    pub(crate) fn new(alloc: Global, seed: Seed) -> Self
         ensures { result ≡ [] }
     {
         Self {
-            map: IndexMap::new(alloc),
+            map: IndexMap::with_hasher(alloc, seed.keys()),
         }
     }
 

@@ -6,6 +6,7 @@ ghost use Rattle.lua_table.specs.Rows.{row_pairs};
 use crate::fault::{NextFault, SetFault};
 use crate::hashed::Hashed;
 use crate::keys::{is_after, is_nil, number, slot};
+use hash_seed::Seed;
 use lua_model::Value;
 use std::alloc::Global;
 use std::marker::Model;
@@ -34,12 +35,12 @@ impl Model for Rowed {
 }
 
 impl Rowed {
-    pub(crate) fn new(alloc: Global) -> Self
+    pub(crate) fn new(alloc: Global, seed: Seed) -> Self
         ensures { result ≡ [] }
     {
         Self {
             row: Vec::new(alloc),
-            rest: Hashed::new(alloc),
+            rest: Hashed::new(alloc, seed),
         }
     }
 

@@ -6,6 +6,7 @@ ghost use Rattle.lua_table.specs.Rows.{IsFull};
 use crate::fault::{NextFault, SetFault};
 use crate::keys::{is_nil, number, slot};
 use crate::rowed::Rowed;
+use hash_seed::Seed;
 use lua_model::Value;
 use std::alloc::Global;
 use std::marker::Model;
@@ -16,27 +17,31 @@ use std::marker::Model;
 pub struct Table {
     pairs: Rowed,
     border: usize,
+    /// The entries up to it have values, but the one behind the border.
+    full_to: usize,
 }
 
 impl Model for Table {
-    ghost use Rattle.std.specs.Prelude.{◌+◌, ◌≤◌, ◌^◌};
+    ghost use Rattle.std.specs.Prelude.{◌+◌, ◌<◌, ◌≤◌, ◌^◌};
     ghost use Rattle.lua_table.specs.Entries.{Entries, IsBorder};
+    ghost use Rattle.lua_table.specs.Rows.{IsFullBut};
 
     ghost Value = { Entries };
 
     ghost view = { λ t. t.pairs };
 
-    ghost invariant = { λ t. IsBorder t.pairs t.border × t.border ≤ 2 ^ 61 + 2 ^ 62 };
+    ghost invariant = { λ t. IsBorder t.pairs t.border × IsFullBut t.pairs t.border t.full_to × t.border < t.full_to × t.full_to ≤ 2 ^ 61 + 2 ^ 62 + 1 };
 }
 
 impl Table {
-    /// A table with no pairs, which takes no memory.
-    pub fn new(alloc: Global) -> Self
+    /// A table with no pairs, which takes no memory. The seed says how its keys are hashed, and nothing else.
+    pub fn new(alloc: Global, seed: Seed) -> Self
         ensures { result ≡ [] }
     {
         Self {
-            pairs: Rowed::new(alloc),
+            pairs: Rowed::new(alloc, seed),
             border: 0,
+            full_to: 1,
         }
     }
 
@@ -51,8 +56,11 @@ impl Table {
     /// nil changes nothing there.
     ///
     /// Fails where the key is nil, and where memory runs out, which only a new key with a value takes; the table is then
-    /// as it was. In constant time on average, but a value at the border looks on from there for the next one. Appending
-    /// the keys 1, 2, 3 .. to a table with no other keys hashes nothing.
+    /// as it was. Appending the keys 1, 2, 3 .. to a table with no other keys hashes nothing.
+    ///
+    /// In constant time on average, but a value behind the border looks on for the next border: from where the border stood
+    /// before nil lowered it, or from the first key set to nil since. So a hole that is opened and closed again and again
+    /// takes constant time each time; of two holes that are, what stands behind the second is passed each time.
     pub fn set(&mut self, key: Value, value: Value) -> Result<(), SetFault>
         ensures pairs { OnOk result (self.new ≡ with_entry self.old key value) }
         ensures nil_key { result ≡ Err SetFault.NilKey ↔ is_nil_value key ≡ true }
@@ -60,13 +68,19 @@ impl Table {
         ensures refused { OnErr result (self.new ≡ self.old) }
     {
         self.pairs.set(key, value)?;
-        let Some(i) = slot(key, self.border + 1) else {
+        let Some(i) = slot(key, self.full_to) else {
             return Ok(());
         };
         if is_nil(value) {
-            self.border = i;
+            if i < self.border {
+                self.full_to = self.border;
+                self.border = i;
+            } else if i > self.border {
+                self.full_to = i;
+            }
         } else if i == self.border {
-            self.border = walk(&self.pairs, i + 1);
+            self.border = walk(&self.pairs, self.full_to);
+            self.full_to = self.border + 1;
         }
         Ok(())
     }

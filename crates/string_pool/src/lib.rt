@@ -9,6 +9,7 @@ ghost use Rattle.string_pool.specs.Texts.{with_text, TextsDiffer};
 mod key;
 
 use crate::key::{Key, Sought};
+use hash_seed::{Seed, TextHash};
 use indexmap::IndexSet;
 use lua_model::TextId;
 use std::alloc::{AllocError, Global};
@@ -17,7 +18,7 @@ use std::marker::Model;
 /// Texts by their ids, no two of them alike. Contracts see the list of their bytes.
 #[derive(Drop)]
 pub struct Pool {
-    texts: IndexSet<Key>,
+    texts: IndexSet<Key, TextHash>,
 }
 
 impl Model for Pool {
@@ -33,12 +34,12 @@ impl Model for Pool {
 }
 
 impl Pool {
-    /// No texts, which takes no memory.
-    pub fn new(alloc: Global) -> Self
+    /// No texts, which takes no memory. The seed says how they are hashed, and nothing else.
+    pub fn new(alloc: Global, seed: Seed) -> Self
         ensures { result ≡ [] }
     {
         Self {
-            texts: IndexSet::new(alloc),
+            texts: IndexSet::with_hasher(alloc, seed.texts()),
         }
     }
 
