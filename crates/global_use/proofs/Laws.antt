@@ -23,7 +23,7 @@ use Rattle.global_use.specs.Runs.{value_in, store_with, run_from, GetsAloneMatte
 use Rattle.global_use.proofs.Stores.{Globals, with_globals}
 use Rattle.global_use.proofs.Walking.{Holds, state_with, begin_does}
 use Rattle.global_use.proofs.Values.{set_in, set_in_both, set_in_other}
-use Rattle.global_use.proofs.Counting.{named, uses_some, uses_inner}
+use Rattle.global_use.proofs.Standing.{named, uses_some, uses_inner}
 use Rattle.global_use.proofs.Steps.{DoesRun, after_does, HasGlobals, has_globals, RunHolds, run_holds, word_does}
 
 -- what is done next stands there

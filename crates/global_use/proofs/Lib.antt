@@ -2,6 +2,9 @@ mod Stores
 mod Walking
 mod Words
 mod Values
-mod Counting
+mod Standing
 mod Steps
 mod Laws
+mod OneText
+mod Sums
+mod Inner
