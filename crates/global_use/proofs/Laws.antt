@@ -1,5 +1,5 @@
 -- Of the globals that a run begins with those that the chunk gets are all that matter, and those that it sets are all that it changes.
-use Rattle.std.proofs.Common.{◌≡◌, ℕ, zero, suc, ◌+◌, ◌≤◌, Bool, true, false, cond, List, [], ◌∷◌, None, Some, refl, sym, ap, ◌∙◌, subst, true≢false, arith}
+use Rattle.std.proofs.Common.{◌≡◌, ℕ, zero, suc, ◌≤◌, Bool, true, false, cond, List, None, Some, refl, sym, ap, ◌∙◌, subst, arith}
 use Rattle.std.specs.Prelude.{Option, slice_get, IfSome}
 use Rattle.std.specs.Str.{bytes_eq}
 use Rattle.std.proofs.lemmas.Bool.{false_from_ne_true}
@@ -9,17 +9,16 @@ use Rattle.opcode.specs.declared.word.Instr.{Instr}
 use Rattle.proto.specs.Chunk.{Chunk, own, functions, function_at}
 use Rattle.lua_num.specs.Bytes.{Text}
 use Rattle.lua_model.specs.Datum.{Datum}
-use Rattle.lua_model.specs.Store.{Store, Host, Reply, with_global}
-use Rattle.lua_model.specs.Builtins.{start as first_store}
+use Rattle.lua_model.specs.Store.{Store, Reply, with_global}
 use Rattle.rules.specs.Words.{instr_at}
 use Rattle.rules.specs.Places.{is_further}
-use Rattle.rules.specs.State.{State, Goes, need, at_pc, with_store, global_name, register, constant}
+use Rattle.rules.specs.State.{State, Goes, need, at_pc, with_store, global_name, register}
 use Rattle.rules.specs.Calls.{begin}
 use Rattle.rules.specs.Step.{effect}
 use Rattle.rules.specs.Run.{Conf, Going, Ended, Failed, Waiting, Stuck, after, current, step, run, first_state, start, course}
 use Rattle.rules.proofs.Lists.{none_some}
-use Rattle.global_use.specs.Uses.{is_get, is_set, is_name, uses, gets, sets}
-use Rattle.global_use.specs.Runs.{value_in, store_with, run_from, GetsAloneMatter, globals_of, SetsAloneChange}
+use Rattle.global_use.specs.Uses.{is_get, is_set, uses, gets, sets}
+use Rattle.global_use.specs.Runs.{value_in, store_with, GetsAloneMatter, globals_of, SetsAloneChange}
 use Rattle.global_use.proofs.Stores.{Globals, with_globals}
 use Rattle.global_use.proofs.Walking.{Holds, state_with, begin_does}
 use Rattle.global_use.proofs.Values.{set_in, set_in_both, set_in_other}
@@ -96,8 +95,8 @@ module _ (chunk : Chunk) where
   set_twins m h i agree holds = go (global_name m i.bx) (register m i.a)
     where
       go : (o : Option Text) (v : Option Datum) →
-        Twins (after m (need o (λ name. need v (λ x. Goes (with_store (at_pc m (suc m.top.pc)) (with_global m.store name x))))))
-        (after (state_with h m) (need o (λ name. need v (λ x. Goes (with_store (at_pc (state_with h m) (suc m.top.pc)) (with_global (with_globals m.store h) name x))))))
+          Twins (after m (need o (λ name. need v (λ x. Goes (with_store (at_pc m (suc m.top.pc)) (with_global m.store name x))))))
+          (after (state_with h m) (need o (λ name. need v (λ x. Goes (with_store (at_pc (state_with h m) (suc m.top.pc)) (with_global (with_globals m.store h) name x))))))
       go None v = refl
       go (Some name) None = refl
       go (Some name) (Some x) = (set_in h name x, refl, (λ q called. set_in_both m.store.globals h name q x (agree q called)), holds)

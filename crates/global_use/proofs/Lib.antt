@@ -8,3 +8,5 @@ mod Laws
 mod OneText
 mod Sums
 mod Inner
+mod Tables
+mod Lines

@@ -1,7 +1,6 @@
 -- A word that is done counts in what its function uses, and what a function uses counts in what the function around it does.
-use Rattle.std.proofs.Common.{◌≡◌, ℕ, zero, suc, ◌+◌, ◌≤◌, Bool, true, false, cond, ◌&&◌, List, [], ◌∷◌, None, Some, refl, sym, ap, ◌∙◌, subst, true≢false, arith, get_or}
+use Rattle.std.proofs.Common.{◌≡◌, ℕ, zero, suc, ◌+◌, ◌≤◌, Bool, true, false, cond, ◌&&◌, List, [], ◌∷◌, None, Some, sym, ap, ◌∙◌, subst, true≢false, arith, get_or}
 use Rattle.std.specs.Prelude.{Option, slice_get, option_map, option_and_then}
-use Rattle.std.specs.Str.{bytes_eq}
 use Rattle.std.proofs.lemmas.Slice.Eq.{bytes_eq-Decides}
 use Rattle.lua_num.specs.Bytes.{Text}
 use Rattle.opcode.specs.declared.op.Op.{Op}
@@ -11,7 +10,7 @@ use Rattle.proto.specs.declared.parts.Constant.{Constant}
 use Rattle.proto.specs.Chunk.{Chunk, function, own, Functions, no_functions, and_function, functions, function_at}
 use Rattle.rules.specs.Words.{instr_at}
 use Rattle.rules.specs.Places.{further_from, belonging, is_further}
-use Rattle.rules.specs.State.{State, value_of, name_of, global_name}
+use Rattle.rules.specs.State.{value_of, name_of}
 use Rattle.rules.proofs.Lists.{none_some, some_one}
 use Rattle.global_use.specs.Uses.{is_name, is_use, uses_in, uses, uses_of}
 

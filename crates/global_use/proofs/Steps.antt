@@ -1,18 +1,16 @@
 -- Steps with other globals: a step that sets no global does with other globals what it does, with those globals, where what it gets is the same.
-use Rattle.std.proofs.Common.{◌≡◌, ℕ, zero, suc, ◌≤◌, Bool, true, false, cond, List, [], ◌∷◌, None, Some, refl, sym, ap, ◌∙◌, subst, true≢false}
-use Rattle.std.specs.Prelude.{Option, slice_get}
+use Rattle.std.proofs.Common.{◌≡◌, ℕ, zero, suc, false, List, [], ◌∷◌, Some, refl, sym, ap, subst, true≢false}
 use Rattle.opcode.specs.declared.op.Op.{Op}
 use Rattle.opcode.specs.declared.word.Instr.{Instr}
 use Rattle.proto.specs.Chunk.{Chunk, functions, function_at}
 use Rattle.lua_num.specs.Bytes.{Text}
 use Rattle.lua_model.specs.Datum.{Datum}
-use Rattle.lua_model.specs.Store.{Store, Outside, global}
-use Rattle.lua_model.specs.Builtins.{failure_text}
-use Rattle.rules.specs.State.{Frame, State, Effect, Goes, Fails, Ends, Waits, IsStuck, need, at_pc, global_name, set}
+use Rattle.lua_model.specs.Store.{global}
+use Rattle.rules.specs.State.{Frame, State, Effect, Goes, Fails, Ends, Waits, IsStuck, global_name, set}
 use Rattle.rules.specs.Cells.{close_from}
 use Rattle.rules.specs.Calls.{broke, give_to}
 use Rattle.rules.specs.Step.{effect}
-use Rattle.rules.specs.Run.{Conf, Going, Ended, Failed, Waiting, Stuck, settled, unwind, after, current, step}
+use Rattle.rules.specs.Run.{Conf, Going, Ended, Failed, Waiting, Stuck, settled, unwind, after}
 use Rattle.global_use.specs.Uses.{is_set}
 use Rattle.global_use.specs.Runs.{value_in}
 use Rattle.global_use.proofs.Stores.{Globals, with_globals}
@@ -40,8 +38,8 @@ module _ (P : Chunk → Type 0) (g : Globals) where
   unwind_does m (x ∷ below) at v all closures =
       let left : State = close_from (record at { top = x; below = below }) 0 in
       elim x.protections as (λ q. DoesRun
-        (elim q [ zero ↦ unwind m below left v | suc p ↦ settled m (λ at1 v1. unwind m below (record left { store = at1.store; outside = at1.outside }) v1) (give_to below left x.landing (broke p v)) ])
-        (elim q [ zero ↦ unwind (state_with g m) below (state_with g left) v | suc p ↦ settled (state_with g m) (λ at1 v1. unwind (state_with g m) below (record (state_with g left) { store = at1.store; outside = at1.outside }) v1) (give_to below (state_with g left) x.landing (broke p v)) ])) [
+      (elim q [ zero ↦ unwind m below left v | suc p ↦ settled m (λ at1 v1. unwind m below (record left { store = at1.store; outside = at1.outside }) v1) (give_to below left x.landing (broke p v)) ])
+      (elim q [ zero ↦ unwind (state_with g m) below (state_with g left) v | suc p ↦ settled (state_with g m) (λ at1 v1. unwind (state_with g m) below (record (state_with g left) { store = at1.store; outside = at1.outside }) v1) (give_to below (state_with g left) x.landing (broke p v)) ])) [
         | zero ↦ unwind_does m below left v all.1 closures
         | suc p ↦ settled_does m _ _ _ _ (give_to_does P g below left x.landing (broke p v) all.1 closures) (λ at1 v1 holds1. unwind_does m below (record left { store = at1.store; outside = at1.outside }) v1 all.1 closures)
       ]

@@ -1,13 +1,12 @@
 -- What operators and built-in functions answer does not look at the globals, and leaves them as they are.
-use Rattle.std.proofs.Common.{◌≡◌, ℕ, zero, suc, ◌-◌, ℤ, pos, negsuc, ◌+ℤ◌, ◌-ℤ◌, int_lt, nat_lt, Bool, true, false, cond, not, ◌||◌, List, [], ◌∷◌, ◌++◌, length, drop, None, Some, codes, refl, ap}
+use Rattle.std.proofs.Common.{◌≡◌, ℕ, zero, suc, ℤ, pos, negsuc, ◌+ℤ◌, ◌-ℤ◌, int_lt, nat_lt, Bool, true, false, cond, not, ◌||◌, List, [], ◌∷◌, ◌++◌, length, drop, None, Some, codes, refl, ap}
 use Rattle.std.specs.Prelude.{Option, slice_get, unwrap_or}
 use Rattle.lua_num.specs.Bytes.{Text}
-use Rattle.lua_num.specs.Arith.{wrap}
-use Rattle.lua_model.specs.Datum.{Datum, nil, boolean, number, text, table, closure, native as built_in, host, is_nil, is_true, is_function, first_of, to_number, to_text, raw_equal, kind_name}
+use Rattle.lua_model.specs.Datum.{Datum, nil, boolean, number, table, is_nil, is_true, is_function, first_of, to_number, to_text, raw_equal, kind_name}
 use Rattle.lua_model.specs.Pairs.{after}
 use Rattle.lua_model.specs.declared.plain.Plain.{Plain}
-use Rattle.lua_model.specs.Store.{Store, Host, as_plain, table_at, raw_get, raw_set, with_items}
-use Rattle.lua_model.specs.Acts.{Act, value, call, failure, Use, take, discard, NativeAct, results, prints, asks, fails, protects, closes}
+use Rattle.lua_model.specs.Store.{Store, as_plain, table_at, raw_get, raw_set, with_items}
+use Rattle.lua_model.specs.Acts.{Act, value, call, take, discard, NativeAct, results, prints, asks, fails, protects, closes}
 use Rattle.lua_model.specs.Operators.{handler, index_within, set_index_within, border}
 use Rattle.lua_model.specs.Builtins as rule
 use Rattle.lua_model.specs.Builtins.{argument, as_table, any_value, a_table, a_number, a_string, number_or, protection, plain_values, live_host, builtins}
@@ -191,10 +190,58 @@ module _ (g : Globals) where
   one_keeps (f ∷ fs) all (suc n) args s = one_keeps fs all.1 n args s
 
   builtins_keep : AllKeep builtins
-  builtins_keep =
-      ((λ args s. refl), ((λ args s. any_value_with 1 (codes "type") args _ _ (λ v. refl)), ((λ args s. any_value_with 1 (codes "tostring") args _ _ (λ v. refl)), (tonumber_with, ((λ args s. refl), (assert_with,
-      (select_with, (rawget_with, (rawset_with, (rawequal_with, (next_with, (pairs_with, (ipairs_with, (unpack_with, (setmetatable_with, (getmetatable_with, (ipairs_next_with,
-      ((λ args s. any_value_with 1 (codes "pcall") args _ _ (λ f. refl)), (host_close_with, tt)))))))))))))))))))
+  builtins_keep = (
+    (λ args s. refl),
+    (
+      (λ args s. any_value_with 1 (codes "type") args _ _ (λ v. refl)),
+      (
+        (λ args s. any_value_with 1 (codes "tostring") args _ _ (λ v. refl)),
+        (
+          tonumber_with,
+          (
+            (λ args s. refl),
+            (
+              assert_with,
+              (
+                select_with,
+                (
+                  rawget_with,
+                  (
+                    rawset_with,
+                    (
+                      rawequal_with,
+                      (
+                        next_with,
+                        (
+                          pairs_with,
+                          (
+                            ipairs_with,
+                            (
+                              unpack_with,
+                              (
+                                setmetatable_with,
+                                (
+                                  getmetatable_with,
+                                  (
+                                    ipairs_next_with,
+                                    ((λ args s. any_value_with 1 (codes "pcall") args _ _ (λ f. refl)), (host_close_with, tt)),
+                                  ),
+                                ),
+                              ),
+                            ),
+                          ),
+                        ),
+                      ),
+                    ),
+                  ),
+                ),
+              ),
+            ),
+          ),
+        ),
+      ),
+    ),
+  )
 
   pub native_with : (n : ℕ) (args : List Datum) (s : Store) → rule.native n args (with_globals s g) ≡ answer_with (rule.native n args s)
   native_with n args s = one_keeps builtins builtins_keep n args s

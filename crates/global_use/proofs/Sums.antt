@@ -8,7 +8,7 @@ use Rattle.opcode.specs.declared.op.Op.{Op}
 use Rattle.opcode.specs.declared.word.Instr.{Instr}
 use Rattle.opcode.specs.Reading.{instr_of}
 use Rattle.proto.specs.declared.parts.Constant.{Constant}
-use Rattle.proto.specs.Chunk.{Chunk, function, own, Functions, functions}
+use Rattle.proto.specs.Chunk.{Chunk, own, functions}
 use Rattle.rules.specs.Places.{further_from, further_words}
 use Rattle.global_use.specs.declared.counting.Counts.{Counts}
 use Rattle.global_use.specs.Uses.{is_name, is_use, uses_in}
@@ -47,7 +47,7 @@ length-with_word counts zero word = go (instr_of word)
     go (Some i) = length-with_more counts i.bx (counts_of i.op)
 length-with_word counts (suc n) word = refl
 
-count_of-sum : (kind : Kind) (a b : Counts) → count_of kind (counts_sum a b) ≡ count_of kind a + count_of kind b
+pub count_of-sum : (kind : Kind) (a b : Counts) → count_of kind (counts_sum a b) ≡ count_of kind a + count_of kind b
 count_of-sum getting a b = refl
 count_of-sum setting a b = refl
 
@@ -89,15 +89,15 @@ named_sum-instr kind name constants counts (Some i) same =
 pub record Counting (f : Chunk) (counts : List Counts) (left : ℕ) (words : List ℕ) : Type 0 where
   pub lengths : length counts ≡ length (own f).constants
   pub sums : (kind : Kind) (name : Text) → named_sum kind name (own f).constants counts + uses_in (does kind) (own f).constants name (further_from (functions f) left words) words
-    ≡ uses_in (does kind) (own f).constants name (further_words f) (own f).code
+      ≡ uses_in (does kind) (own f).constants name (further_words f) (own f).code
 
 one_word : (f : Chunk) (counts : List Counts) (left word : ℕ) (words : List ℕ) → Counting f counts left (word ∷ words) → Counting f (with_word counts left word) (left_behind (functions f) left word) words
 one_word f counts zero word words so = record {
   lengths = length-with_word counts 0 word ∙ so.lengths;
   sums = λ kind name.
-    let one = named_sum-instr kind name (own f).constants counts (instr_of word) so.lengths in
-    let all = so.sums kind name in
-    omega arith;
+      let one = named_sum-instr kind name (own f).constants counts (instr_of word) so.lengths in
+      let all = so.sums kind name in
+      omega arith;
 }
 one_word f counts (suc n) word words so = record { lengths = so.lengths; sums = so.sums }
 

@@ -1,25 +1,23 @@
 -- What a word does with other globals is what it does, with those globals: words that name no global neither look at the globals nor change
 -- them. And the functions of frames and closures stay among those that hold a property, where what stands in such a function holds it too.
-use Rattle.std.proofs.Common.{◌≡◌, ℕ, zero, suc, ◌+◌, ◌-◌, ℤ, pos, ◌+ℤ◌, Bool, true, false, cond, not, List, [], ◌∷◌, ◌++◌, length, take, drop, None, Some, codes, refl, sym, subst, ap, nat_eq, nat_le, nat_lt}
+use Rattle.std.proofs.Common.{◌≡◌, ℕ, zero, suc, ◌+◌, ℤ, pos, ◌+ℤ◌, Bool, true, false, cond, List, [], ◌∷◌, ◌++◌, length, None, Some, codes, refl, sym, subst, ap, nat_eq, nat_le, nat_lt}
 use Rattle.std.specs.Prelude.{Option, slice_get, slice_set, map}
 use Rattle.opcode.specs.declared.op.Op.{Op}
 use Rattle.opcode.specs.declared.word.Instr.{Instr}
-use Rattle.opcode.specs.Word.{truth_field}
 use Rattle.opcode.specs.Reading.{instr_of}
-use Rattle.proto.specs.Chunk.{Chunk, own, functions, function_at}
-use Rattle.lua_model.specs.Datum.{Datum, nil, boolean, number, text, table, closure, native, host, is_nil, is_true, first_of, adjusted}
+use Rattle.proto.specs.Chunk.{Chunk, own}
+use Rattle.lua_model.specs.Datum.{Datum, boolean, number, text, table, closure, native, host, is_nil, first_of, adjusted}
 use Rattle.lua_model.specs.declared.plain.Plain.{Plain}
-use Rattle.lua_model.specs.Store.{Store, Reply, replies_values, replies_failure, as_datum, replied, happens, printed, closed, new_table, raw_set, with_items}
+use Rattle.lua_model.specs.Store.{Store, Reply, replies_values, replies_failure, as_datum, replied, happens, printed, closed, new_table, raw_set}
 use Rattle.lua_model.specs.Acts.{Act, value, call as calls, failure, Callee, plain, through, no_function, NativeAct, results, prints, asks, fails, protects, closes}
 use Rattle.lua_model.specs.Operators.{depth_limit, protection_limit, stack_overflow, callee, with_called, join as join_two}
 use Rattle.lua_model.specs.Builtins.{native as built_in, call_host}
 use Rattle.rules.specs.Words.{has_arg_table}
 use Rattle.rules.specs.Places.{as_pc}
-use Rattle.rules.specs.State.{Landing, into, test, pairs, fixed, open_at, turn, nowhere, Frame, Cell, Open, Closed, Closure, State, Effect, Goes, Fails, Ends, Waits, IsStuck, need, check, at_pc, with_registers, with_results, with_store, register, has_registers, set, spliced, set_all}
-use Rattle.rules.specs.Cells.{write_register, with_frames, with_cell, write_cell, read_cell, close_from, find_open, capture_as, capture, take_cell_by, take_cells}
+use Rattle.rules.specs.State.{Landing, into, test, pairs, fixed, open_at, turn, nowhere, Frame, Cell, Open, Closed, Closure, State, Effect, Goes, Fails, Ends, Waits, IsStuck, need, check, with_registers, with_store, register, has_registers, set, spliced, set_all}
+use Rattle.rules.specs.Cells.{write_register, with_frames, with_cell, write_cell, read_cell, close_from, find_open, capture_as, take_cell_by, take_cells}
 use Rattle.rules.specs.Calls as rule
 use Rattle.rules.specs.Calls.{jump, skip, next_jmp, branch, worked, broke, failed_in, frame_of, with_arg_table, begin, push, answer, join, go_on, turned, land, call, replace, tail_call, give_to, leave}
-use Rattle.rules.proofs.Lists.{get_pushed}
 use Rattle.global_use.proofs.Stores.{Globals, with_globals, answer_with, with_items_with, native_with, call_host_with}
 
 module _ (P : Chunk → Type 0) where

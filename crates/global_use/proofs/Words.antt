@@ -1,5 +1,5 @@
 -- Each word that names no global does with other globals what it does, with those globals.
-use Rattle.std.proofs.Common.{◌≡◌, ℕ, zero, suc, ◌+◌, ◌-◌, ℤ, pos, ◌+ℤ◌, ◌-ℤ◌, ◌*ℤ◌, ◌==◌, Bool, true, false, cond, not, List, [], ◌∷◌, ◌++◌, length, take, drop, None, Some, refl, sym, subst, ap, true≢false, inl, inr, ◌⊎◌, nat_eq, nat_le, nat_lt}
+use Rattle.std.proofs.Common.{◌≡◌, ℕ, suc, ◌+◌, ◌-◌, ℤ, pos, ◌+ℤ◌, ◌-ℤ◌, ◌*ℤ◌, ◌==◌, Bool, true, false, cond, not, List, [], ◌∷◌, ◌++◌, length, take, drop, None, Some, refl, sym, subst, ap, true≢false, inl, inr, ◌⊎◌, nat_eq, nat_le, nat_lt}
 use Rattle.std.specs.Prelude.{Option, slice_get, slice_set, replicate}
 use Rattle.opcode.specs.declared.op.Op.{Op}
 use Rattle.opcode.specs.declared.word.Instr.{Instr}
@@ -8,13 +8,13 @@ use Rattle.proto.specs.Chunk.{Chunk, own, functions, function_at}
 use Rattle.lua_num.specs.declared.arith.ArithOp.{ArithOp}
 use Rattle.lua_num.specs.declared.arith.CompareOp.{CompareOp}
 use Rattle.lua_num.specs.Arith.{wrap}
-use Rattle.lua_model.specs.Datum.{Datum, nil, boolean, number, text, table, closure, native, host, is_true, adjusted}
-use Rattle.lua_model.specs.Store.{Store, new_table, with_items}
+use Rattle.lua_model.specs.Datum.{Datum, nil, boolean, number, table, closure, is_true, adjusted}
+use Rattle.lua_model.specs.Store.{Store, new_table}
 use Rattle.lua_model.specs.Acts.{Act, value, call as calls, failure}
 use Rattle.lua_model.specs.Operators.{arith, negate, size, compare, index, set_index, chain_limit, LoopNumbers, counts, no_count, loop_numbers, goes_on}
-use Rattle.rules.specs.State.{Landing, into, test, open_at, turn, nowhere, OpenResults, Closure, State, Effect, Goes, need, check, at_pc, with_registers, with_results, with_store, register, constant, operand, span, set, set_all}
-use Rattle.rules.specs.Cells.{read_cell, take_cells}
-use Rattle.rules.specs.Calls.{skip, next_jmp, branch, land, leave, call, tail_call}
+use Rattle.rules.specs.State.{into, test, turn, nowhere, OpenResults, Closure, State, Effect, Goes, at_pc, with_registers, with_results, with_store, register, constant, operand, span, set, set_all}
+use Rattle.rules.specs.Cells.{read_cell}
+use Rattle.rules.specs.Calls.{skip, next_jmp, land, leave, call, tail_call}
 use Rattle.rules.specs.Step.{give, give_test, is_negated, give_nowhere, give_write, do_arith, do_compare, open_list, listed, count_of, landing_of, loop_number, turn_loop, do_forloop, three, prepare, do_forprep, set_list, list_of, do_setlist, add_closure, do_closure, effect}
 use Rattle.rules.proofs.Lists.{get_pushed}
 use Rattle.global_use.specs.Uses.{is_get, is_set}

@@ -1,6 +1,6 @@
 -- Serves a body: counts that stand beside the constants of a function, and a table of the counts of names.
-use Rattle.std.specs.Prelude.{◌≡◌, ℕ, zero, suc, ◌+◌, ◌≤◌, Bool, List, [], ◌∷◌, slice_get, Option, None, Some, IfSome, unwrap_or, if◌then◌else◌}
-use Rattle.std.specs.BTreeMap.{BTreeMap, get_by}
+use Rattle.std.specs.Prelude.{◌≡◌, ℕ, zero, suc, ◌+◌, ◌≤◌, Bool, List, [], ◌∷◌, Option, None, Some, IfSome, unwrap_or, if◌then◌else◌}
+use Rattle.std.specs.BTreeMap.{BTreeMap, get_by, IsOrdered}
 use Rattle.std.specs.Borrow.{Bor}
 use Rattle.std.specs.Cmp.Lexicographic.{slice_cmp}
 use Rattle.std.specs.Option.{option_map_or}
@@ -11,8 +11,8 @@ use Rattle.opcode.specs.declared.op.Op.{Op}
 use Rattle.opcode.specs.declared.word.Instr.{Instr}
 use Rattle.opcode.specs.Reading.{instr_of}
 use Rattle.proto.specs.declared.parts.Constant.{Constant}
-use Rattle.proto.specs.Chunk.{Chunk, own, Functions, functions}
-use Rattle.rules.specs.Places.{belonging, further_from, further_words}
+use Rattle.proto.specs.Chunk.{Chunk, own, Functions}
+use Rattle.rules.specs.Places.{belonging, further_words}
 use Rattle.global_use.specs.declared.counting.Counts.{Counts}
 use Rattle.global_use.specs.Uses.{is_get, is_set, is_name, uses_in}
 
@@ -86,6 +86,10 @@ HasMore old new name more = (q : Text) → counts_at new q ≡ (if bytes_eq name
 -- each name of a table is got or set
 abbrev pub AllUsed : Names → Type 0
 AllUsed names = (name : Text) → IfSome (counts_at names name) (λ c. 1 ≤ c.gets + c.sets)
+
+-- the names stand in the order of their bytes
+abbrev pub IsInOrder : Names → Type 0
+IsInOrder names = IsOrdered (λ x y. slice_cmp nat_cmp x.now y.now) names
 
 -- a table tells so much more, but for a rest
 pub record Tells (old new : Names) (whole rest : Kind → Text → ℕ) : Type 0 where

@@ -8,7 +8,6 @@ use Rattle.lua_model.specs.Datum.{Datum, nil, is_nil}
 use Rattle.lua_model.specs.Pairs.{get}
 use Rattle.lua_model.specs.Store.{Store, Host, Reply}
 use Rattle.lua_model.specs.Builtins.{start as first_store}
-use Rattle.rules.specs.State.{State}
 use Rattle.rules.specs.Run.{Conf, Going, Ended, Failed, Waiting, Stuck, run, start, course}
 use Rattle.global_use.specs.Uses.{gets, sets}
 

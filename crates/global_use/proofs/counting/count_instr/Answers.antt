@@ -1,4 +1,4 @@
-use Rattle.std.proofs.Common.{rules, ◌≡◌, ◌+◌, ap, sym, ◌∙◌}
+use Rattle.std.proofs.Common.{rules, ◌+◌, ap, sym, ◌∙◌}
 use Rattle.global_use.proofs.Sums.{none_more}
 use Rattle.global_use.proofs.counting.count_instr.Goals as goal
 

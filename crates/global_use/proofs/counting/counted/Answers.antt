@@ -1,4 +1,3 @@
-use Rattle.std.proofs.Common.{length, refl}
 use Rattle.proto.specs.View.{view_proto}
 use Rattle.global_use.proofs.Sums.{counting_begins, counting_goes}
 use Rattle.global_use.proofs.counting.counted.Goals as goal
