@@ -1,5 +1,6 @@
 -- The same work as the program, for a Lua 5.1 on the machine: times in microseconds.
-local NUMBERS, TEXTS, INTERNED = 1000000, 100000, 1000000
+local NUMBERS, HOLES, TEXTS, INTERNED = 1000000, 1000000, 100000, 1000000
+local TAIL = "\021\124\074\127\185\121\055\158"
 local clock = os.clock
 
 local function timed(name, work)
@@ -22,6 +23,16 @@ local numbers = {}
 timed("fill numbers", function() for i = 1, NUMBERS do numbers[i] = i end end)
 local sum = timed("read numbers", function() local s = 0 for i = 1, NUMBERS do s = s + numbers[i] end return s end)
 timed("walk numbers", function() return walk(numbers) end)
+timed("open and close", function()
+  local s = 0
+  for i = 1, HOLES do
+    numbers[1] = nil
+    s = s + #numbers
+    numbers[1] = 1
+    s = s + #numbers
+  end
+  return s
+end)
 timed("empty numbers", function() for i = NUMBERS, 1, -1 do numbers[i] = nil end end)
 
 local keys, texts = {}, {}
@@ -34,3 +45,4 @@ timed("empty texts", function() for i = 1, TEXTS do texts[keys[i]] = nil end end
 local kept = {}
 timed("intern", function() for i = 1, INTERNED do kept[i] = "key " .. (i - 1) end end)
 timed("intern again", function() local last for i = 1, INTERNED do last = "key " .. (i - 1) end return last end)
+timed("intern alike", function() local last for i = 1, INTERNED do last = "key " .. (i - 1) .. TAIL end return last end)
