@@ -10,3 +10,4 @@ mod Sums
 mod Inner
 mod Tables
 mod Lines
+mod Examples
