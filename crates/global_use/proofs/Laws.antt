@@ -18,8 +18,8 @@ use Rattle.rules.specs.Step.{effect}
 use Rattle.rules.specs.Run.{Conf, Going, Ended, Failed, Waiting, Stuck, after, current, step, run, first_state, start, course}
 use Rattle.rules.proofs.Lists.{none_some}
 use Rattle.global_use.specs.Uses.{is_get, is_set, uses, gets, sets}
-use Rattle.global_use.specs.Runs.{value_in, store_with, GetsAloneMatter, globals_of, SetsAloneChange}
-use Rattle.global_use.proofs.Stores.{Globals, with_globals}
+use Rattle.global_use.specs.Runs.{Globals, value_in, store_with, GetsAloneMatter, globals_of, SetsAloneChange}
+use Rattle.global_use.proofs.Stores.{with_globals}
 use Rattle.global_use.proofs.Walking.{Holds, state_with, begin_does}
 use Rattle.global_use.proofs.Values.{set_in, set_in_both, set_in_other}
 use Rattle.global_use.proofs.Standing.{named, uses_some, uses_inner}

@@ -12,8 +12,8 @@ use Rattle.rules.specs.Calls.{broke, give_to}
 use Rattle.rules.specs.Step.{effect}
 use Rattle.rules.specs.Run.{Conf, Going, Ended, Failed, Waiting, Stuck, settled, unwind, after}
 use Rattle.global_use.specs.Uses.{is_set}
-use Rattle.global_use.specs.Runs.{value_in}
-use Rattle.global_use.proofs.Stores.{Globals, with_globals}
+use Rattle.global_use.specs.Runs.{Globals, value_in}
+use Rattle.global_use.proofs.Stores.{with_globals}
 use Rattle.global_use.proofs.Walking.{AllIn, ClosuresIn, Holds, state_with, Does, need_does, set_does, give_to_does}
 use Rattle.global_use.proofs.Words.{effect_does}
 

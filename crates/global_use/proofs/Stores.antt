@@ -10,10 +10,7 @@ use Rattle.lua_model.specs.Acts.{Act, value, call, take, discard, NativeAct, res
 use Rattle.lua_model.specs.Operators.{handler, index_within, set_index_within, border}
 use Rattle.lua_model.specs.Builtins as rule
 use Rattle.lua_model.specs.Builtins.{argument, as_table, any_value, a_table, a_number, a_string, number_or, protection, plain_values, live_host, builtins}
-
--- the globals of a store
-abbrev pub Globals : Type 0
-Globals = List (Text × Datum)
+use Rattle.global_use.specs.Runs.{Globals}
 
 abbrev pub with_globals : Store → Globals → Store
 with_globals s g = record s { globals = g }

@@ -18,7 +18,8 @@ use Rattle.rules.specs.State.{Landing, into, test, pairs, fixed, open_at, turn, 
 use Rattle.rules.specs.Cells.{write_register, with_frames, with_cell, write_cell, read_cell, close_from, find_open, capture_as, take_cell_by, take_cells}
 use Rattle.rules.specs.Calls as rule
 use Rattle.rules.specs.Calls.{jump, skip, next_jmp, branch, worked, broke, failed_in, frame_of, with_arg_table, begin, push, answer, join, go_on, turned, land, call, replace, tail_call, give_to, leave}
-use Rattle.global_use.proofs.Stores.{Globals, with_globals, answer_with, with_items_with, native_with, call_host_with}
+use Rattle.global_use.specs.Runs.{Globals}
+use Rattle.global_use.proofs.Stores.{with_globals, answer_with, with_items_with, native_with, call_host_with}
 
 module _ (P : Chunk → Type 0) where
   abbrev pub AllIn : List Frame → Type 0

@@ -18,7 +18,8 @@ use Rattle.rules.specs.Calls.{skip, next_jmp, land, leave, call, tail_call}
 use Rattle.rules.specs.Step.{give, give_test, is_negated, give_nowhere, give_write, do_arith, do_compare, open_list, listed, count_of, landing_of, loop_number, turn_loop, do_forloop, three, prepare, do_forprep, set_list, list_of, do_setlist, add_closure, do_closure, effect}
 use Rattle.rules.proofs.Lists.{get_pushed}
 use Rattle.global_use.specs.Uses.{is_get, is_set}
-use Rattle.global_use.proofs.Stores.{Globals, with_globals, written_with, index_with, set_index_with, with_items_with}
+use Rattle.global_use.specs.Runs.{Globals}
+use Rattle.global_use.proofs.Stores.{with_globals, written_with, index_with, set_index_with, with_items_with}
 use Rattle.global_use.proofs.Walking.{ClosuresIn, Holds, state_with, Does, Goes_on, need_does, check_does, choice_does, write_cell_does, take_cells_does, set_does, set_all_does, jump_does, branch_does, answer_does, join_does, land_does, call_does, tail_call_does, leave_does}
 
 -- what is true of a closure's function, where it is true of those that are there and of a new one

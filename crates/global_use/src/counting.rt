@@ -20,7 +20,7 @@ pub struct Counts {
 impl Counts {
     pub const NONE: Counts = Counts { gets: 0, sets: 0 };
 
-    /// The sums of two counts. Fails where one does not fit, which is to run out of memory: no memory has so many words.
+    /// The sums of two counts of words. One that does not fit is told as memory that runs out: no memory has so many words.
     pub fn with(self, more: Counts) -> Result<Counts, AllocError>
         ensures { IfOk result (λ sum. sum ≡ counts_sum self more) }
     {

@@ -24,8 +24,9 @@ use std::collections::BTreeMap;
 /// Of the globals that a run begins with, those that are got at least once are all that matter to how it goes, and those that
 /// are set at least once are all that it changes.
 ///
-/// Fails only where memory runs out. The time is linear in the words and constants, but for the names of each function, which
-/// are looked up among all names.
+/// Fails only where memory runs out; a count past `usize::MAX` is told as that, since no memory has so many words. The time is
+/// linear in the words and constants, and each name of a function is besides looked up once among all names. The depth of the
+/// stack is linear in the depth of the functions.
 pub fn global_text(alloc: Global, proto: &Proto) -> Result<ByteText, AllocError>
     ensures text { IfOk result (λ text. IsUseText (view_proto proto.now) text) }
     ensures gets { GetsAloneMatter (view_proto proto.now) }
