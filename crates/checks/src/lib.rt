@@ -1,4 +1,4 @@
-//! Tests of what no clause says: what files, writers and readers of the system do, and that a long table is quick.
+//! Tests of what no clause says: what files, writers, readers and random bytes of the system do, and that long tables and many texts are quick.
 #![tactic(auto)]
 
 #[cfg(test)]
@@ -6,4 +6,8 @@ mod files;
 #[cfg(test)]
 mod hosts;
 #[cfg(test)]
+mod seeds;
+#[cfg(test)]
 mod tables;
+#[cfg(test)]
+mod texts;

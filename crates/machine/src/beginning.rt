@@ -23,6 +23,7 @@ use crate::entering::put_registers;
 use crate::frame::Frame;
 use crate::function::Function;
 use crate::running::Running;
+use hash_seed::Seed;
 use host::HostSet;
 use lua_heap::{Heap, ValueList};
 use lua_model::Value;
@@ -31,13 +32,13 @@ use std::alloc::{AllocError, Global};
 use upvalue::ValueStack;
 
 /// A heap with the built-in functions as globals by their names, and the live hosts, whose names replace those.
-pub fn first_heap(alloc: Global, hosts: &HostSet) -> Result<Heap, AllocError>
+pub fn first_heap(alloc: Global, hosts: &HostSet, seed: Seed) -> Result<Heap, AllocError>
     ensures store { IfOk result (λ heap. store_of heap (hosts_of (set_told heard hosts.now)) ≡ start (hosts_of (set_told heard hosts.now))) }
     ensures named { IfOk result (λ heap. AreNamed heap (set_told heard hosts.now)) }
     ensures closures { IfOk result (λ heap. heap.closures ≡ []) }
     ensures cells { IfOk result (λ heap. heap.cells ≡ []) }
 {
-    let mut heap = Heap::new(alloc);
+    let mut heap = Heap::new(alloc, seed);
     set_builtins(alloc, &mut heap)?;
     set_hosts(alloc, &mut heap, hosts)?;
     Ok(heap)

@@ -20,6 +20,7 @@ use crate::row::do_row;
 use crate::running::Running;
 use crate::settling::Settled;
 use crate::stepping::{cross_next, turn};
+use hash_seed::Seed;
 use host::HostSet;
 use lua_num::ByteText;
 use std::alloc::{AllocError, Global};
@@ -46,11 +47,17 @@ pub struct Machine {
 }
 
 impl Machine {
-    /// The machine of a chunk at the beginning of its run. Text constants are interned. In time linear in the chunk.
-    pub fn new(alloc: Global, chunk: &Verified, hosts: &HostSet) -> Result<Self, AllocError>
+    /// The machine of a chunk at the beginning of its run. Text constants are interned. In time linear in the chunk. The seed says how
+    /// the heap hashes, and nothing else.
+    pub fn new(
+        alloc: Global,
+        chunk: &Verified,
+        hosts: &HostSet,
+        seed: Seed,
+    ) -> Result<Self, AllocError>
         ensures { IfOk result (λ machine. IsAt (view_proto chunk.now) (hosts_of (set_told heard hosts.now)) [] 0 (set_told heard hosts.now) machine) }
     {
-        let mut heap = first_heap(alloc, hosts)?;
+        let mut heap = first_heap(alloc, hosts, seed)?;
         let functions = load(alloc, &mut heap, chunk.proto())?;
         let running = first_running(alloc, heap, functions.as_slice())?;
         Ok(Self { running, functions })

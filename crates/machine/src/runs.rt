@@ -7,6 +7,7 @@ ghost use Rattle.host.specs.Views.{set_told};
 ghost use Rattle.machine.specs.At.{Runs, surroundings};
 
 use crate::machine::{Machine, StepEnd, go_on, step_on};
+use hash_seed::Seed;
 use host::HostSet;
 use lua_num::ByteText;
 use std::alloc::Global;
@@ -33,13 +34,14 @@ pub fn run<S: Sink>(
     steps: u64,
     out: &mut S,
     hosts: &mut HostSet,
+    seed: Seed,
 ) -> RunEnd
     requires sound { Sound (view_proto chunk.now) }
     ensures { Runs (view_proto chunk.now) steps (surroundings (set_told heard hosts.old) (S.taken out.old) (S.faults out.old)) (surroundings (set_told heard hosts.new) (S.taken out.new) (S.faults out.new)) result }
 {
     // Called for its clause that the chunk is sound.
     let _ = chunk.proto();
-    let Ok(mut machine) = Machine::new(alloc, chunk, hosts) else {
+    let Ok(mut machine) = Machine::new(alloc, chunk, hosts, seed) else {
         return RunEnd::OutOfMemory;
     };
     let mut left = steps;

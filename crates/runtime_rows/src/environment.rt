@@ -4,6 +4,7 @@ ghost use Rattle.lua_heap.specs.State.{IsOf, Keeps, AreOf};
 
 use crate::fault::RowFault;
 use crate::operations::{call, operate};
+use hash_seed::Seed;
 use lua_heap::{Heap, ValueList};
 use lua_model::{ClosureId, TableId, Value};
 use lua_num::ByteText;
@@ -35,7 +36,7 @@ impl Model for Environment {
 impl Environment {
     pub(crate) fn new(alloc: Global) -> Self {
         Self {
-            heap: Heap::new(alloc),
+            heap: Heap::new(alloc, Seed::fixed()),
             table_names: Vec::new(alloc),
             closures: 0,
         }
