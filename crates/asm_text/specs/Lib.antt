@@ -1,0 +1,5 @@
+pub mod Lines
+pub mod Faults
+pub mod Reading
+pub mod Laws
+pub mod Texts

@@ -1,0 +1,17 @@
+// What holds of texts, chunks and faults.
+ghost use Rattle.asm_text.specs.Laws.{ChunksAreOne, FaultsAreOne, NeverBoth};
+
+/// A text is the listing of one chunk at most. A law, with nothing to run.
+pub fn chunks_are_one()
+    ensures { ChunksAreOne }
+{}
+
+/// A text has one fault at most. A law, with nothing to run.
+pub fn faults_are_one()
+    ensures { FaultsAreOne }
+{}
+
+/// No text is the listing of a chunk and has a fault. A law, with nothing to run.
+pub fn never_both()
+    ensures { NeverBoth }
+{}
