@@ -3,8 +3,9 @@
 // there, and last the calls of hosts. The words of several calls, as in `compile a.lua b; run b: print(3)`, stand before one source:
 // the files stay from call to call, and sinks and hosts are new. The host `ask`, number 0, replies true and 5, and the host
 // `readline` replies `x`, and then fails with `closed pipe`. A row may begin with a put that fails or finds no memory, as
-// `out fails 3: ` or `err full 2: `, with a call of files that fails, as `files fails 2: `, or with a text, as `lines WORD: `: of
-// what `out` took, only the lines that hold it are then printed. A row with no `: ` is a heading.
+// `out fails 3: ` or `err full 2: `, with a call of files that fails, as `files fails 2: `, with how many bytes a put takes, as
+// `limit 1: `, or with a text, as `lines WORD: `: of what `out` took, only the lines that hold it are then printed. A row
+// with no `: ` is a heading.
 #![tactic(auto)]
 
 mod full_sink;
@@ -12,6 +13,7 @@ mod hosts;
 mod row;
 
 use full_sink::FullSink;
+use hash_seed::Seed;
 use host::{Host, HostSet, ScriptHost};
 use hosts::{ask_replies, calls_text, line_replies};
 use row::{Ending, Row, read_row};
@@ -43,6 +45,7 @@ fn answer(alloc: Global, row: &Row) -> Result<String, AllocError> {
         let (ended, of_hosts) = match row.ending {
             Ending::Full => over_full_sinks(alloc, row, words, &mut files)?,
             Ending::Fails => over_memory(alloc, row, words, &mut files)?,
+            Ending::Limit => over_narrow_sinks(alloc, row, words, &mut files)?,
         };
         text.push_str(ended.as_str())?;
         asked.push_str(of_hosts.as_str())?;
@@ -61,12 +64,35 @@ fn over_memory(
     words: &[Word],
     files: &mut MemoryFiles,
 ) -> Result<(String, String), AllocError> {
-    let earlier = files.calls().len();
     let mut out = MemorySink::new(alloc, &[row.out_ends])?;
     let mut err = MemorySink::new(alloc, &[row.err_ends])?;
-    let (status, asked) = called(alloc, words, files, &mut out, &mut err)?;
-    let out = lines_with(alloc, out.taken(), row.shown.as_str())?;
-    let text = outcome(alloc, status, out.as_slice(), err.taken())?;
+    over_sinks(alloc, row, words, files, &mut out, &mut err)
+}
+
+fn over_narrow_sinks(
+    alloc: Global,
+    row: &Row,
+    words: &[Word],
+    files: &mut MemoryFiles,
+) -> Result<(String, String), AllocError> {
+    let limit = row.limit.max(1);
+    let mut out = MemorySink::with_limit(alloc, limit)?;
+    let mut err = MemorySink::with_limit(alloc, limit)?;
+    over_sinks(alloc, row, words, files, &mut out, &mut err)
+}
+
+fn over_sinks(
+    alloc: Global,
+    row: &Row,
+    words: &[Word],
+    files: &mut MemoryFiles,
+    out: &mut MemorySink,
+    err: &mut MemorySink,
+) -> Result<(String, String), AllocError> {
+    let earlier = files.calls().len();
+    let (status, asked) = called(alloc, words, files, out, err)?;
+    let shown = lines_with(alloc, out.taken(), row.shown.as_str())?;
+    let text = outcome(alloc, status, shown.as_slice(), err.taken())?;
     Ok((with_calls(alloc, text, files.calls(), earlier)?, asked))
 }
 
@@ -112,7 +138,7 @@ fn called<O: Sink, E: Sink>(
             .add(alloc, b"readline", lines)
             .map_err(|(_, error)| error)?;
     }
-    let status = suite(alloc, words, files, out, err, &mut hosts);
+    let status = suite(alloc, words, files, out, err, &mut hosts, Seed::fixed());
     Ok((status, calls_text(alloc, hosts.log())?))
 }
 

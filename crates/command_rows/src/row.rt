@@ -3,11 +3,12 @@ use row_source::read_source;
 use std::alloc::{AllocError, Global};
 use suite_io::Word;
 
-/// How a put ends that does not go well.
+/// How a put ends that does not go well, or takes no more than so many bytes.
 #[derive(Clone, Copy)]
 pub enum Ending {
     Fails,
     Full,
+    Limit,
 }
 
 /// Calls of the suite, one after the other over the same files. The puts of these numbers end as `ending` says, and the call of
@@ -18,6 +19,7 @@ pub struct Row {
     pub source: Vec<u8>,
     pub shown: String,
     pub ending: Ending,
+    pub limit: usize,
     pub out_ends: u64,
     pub err_ends: u64,
     pub files_end: u64,
@@ -47,11 +49,12 @@ fn read_parts(
         calls: read_calls(alloc, words)?,
         source: read_source(alloc, source)?,
         shown: String::from_str(alloc, if sink == "lines" { end } else { "" })?,
-        ending: if kind == "full" {
-            Ending::Full
-        } else {
-            Ending::Fails
+        ending: match (sink, kind) {
+            ("limit", _) => Ending::Limit,
+            (_, "full") => Ending::Full,
+            _ => Ending::Fails,
         },
+        limit: end.parse::<usize>().unwrap_or(0),
         out_ends: if sink == "out" { number } else { 0 },
         err_ends: if sink == "err" { number } else { 0 },
         files_end: if sink == "files" { number } else { 0 },

@@ -1,6 +1,7 @@
 // The program: the suite over the system's files, standard output and standard error, with a host `readline` over standard input.
 #![tactic(auto)]
 
+use hash_seed::Seed;
 use host::{Host, HostSet, LineHost};
 use std::io::{BufReader, ErrorKind};
 use std::process::ExitCode;
@@ -39,6 +40,8 @@ fn main(rt: HostRuntime) -> ExitCode {
         &mut out,
         &mut err,
         &mut hosts,
+        // Where the system has no random bytes, texts and keys hash as in each other run.
+        Seed::new(&rt).unwrap_or(Seed::fixed()),
     );
     ExitCode::from(status.number())
 }

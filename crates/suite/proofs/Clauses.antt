@@ -12,6 +12,7 @@ use Rattle.proto.specs.Chunk.{Chunk}
 use Rattle.chunk_io.specs.Items.{IsChunkOf}
 use Rattle.lua_num.specs.Bytes.{Text}
 use Rattle.decompile.specs.declared.refused.Refused.{Refused}
+use Rattle.asm_text.specs.declared.fault.ListFault.{ListFault}
 use Rattle.suite.specs.declared.product.Product.{Product}
 use Rattle.suite_io.proofs.TakenPieces.{takes_none}
 use Rattle.suite.specs.declared.outcome.Outcome.{Outcome}
@@ -21,7 +22,7 @@ use Rattle.suite.specs.Words.{Words, Job, run_file, put_product, store_product, 
 use Rattle.suite.specs.Worlds.{World, Unasked}
 use Rattle.suite.specs.Seen.{Outside}
 use Rattle.suite.specs.Lines.{status_of, line_of, Reported}
-use Rattle.suite.specs.Jobs.{End, stored, put, failed, unfinished, bad_source, bad_chunk, rejected, not_decompiled, Comes}
+use Rattle.suite.specs.Jobs.{End, stored, put, failed, unfinished, bad_source, bad_chunk, rejected, not_decompiled, bad_listing, Comes}
 use Rattle.suite.specs.Work.{IsStore, IsRun, MayAsk, MayPut, StopsSo, fetched, FilesStay, CarriesOut, Carried, Does, DoesFetched, Works, out_of}
 use Rattle.suite.specs.Causes.{Becomes, Fetched, StoreFailed, FilesFor, NoFault, Leaves, HasNoOutput, IsOnlyEnd, IsRefusal, status_at}
 use Rattle.suite.proofs.Facts.{Laws, count_snoc, same_bytes, whole_part, settled_is, becomes, put_becomes, no_memory_is, quiet_is, write_cause}
@@ -44,6 +45,7 @@ Tells (Outcome.BadSource fault) end = end ≡ bad_source fault
 Tells (Outcome.BadChunk fault) end = end ≡ bad_chunk fault
 Tells (Outcome.Rejected rejection) end = end ≡ rejected rejection
 Tells (Outcome.NotDecompiled refused) end = end ≡ not_decompiled refused
+Tells (Outcome.BadListing fault) end = end ≡ bad_listing fault
 Tells Outcome.BadWords end = ⊥
 Tells Outcome.ReadFault end = ⊥
 Tells outcome end = Unit {0}
@@ -66,6 +68,7 @@ module _ (job : Job) (w : World) (old new : Outside) where
   called_later (bad_chunk fault) outcome c = ([], c.1.0.calls ∙ sym (append-nil old.calls))
   called_later (rejected rejection) outcome c = ([], c.1.0.calls ∙ sym (append-nil old.calls))
   called_later (not_decompiled refused) outcome c = ([], c.1.0.calls ∙ sym (append-nil old.calls))
+  called_later (bad_listing fault) outcome c = ([], c.1.0.calls ∙ sym (append-nil old.calls))
 
   -- what files come to behind the fetch
   abbrev FilesBehind : Type 0
@@ -91,6 +94,7 @@ module _ (job : Job) (w : World) (old new : Outside) where
   files_behind bytes (bad_chunk fault) outcome comes c = same_files c.1.0
   files_behind bytes (rejected rejection) outcome comes c = same_files c.1.0
   files_behind bytes (not_decompiled refused) outcome comes c = same_files c.1.0
+  files_behind bytes (bad_listing fault) outcome comes c = same_files c.1.0
 
   -- at success all of it was put or stored
   pub done_leaves : (end : End) → CarriesOut job end Outcome.Done old new → (status_at end ≡ Status.Done) × Leaves job end old new
@@ -102,6 +106,7 @@ module _ (job : Job) (w : World) (old new : Outside) where
   done_leaves (bad_chunk fault) c = let differ = c.0 in cc
   done_leaves (rejected rejection) c = let differ = c.0 in cc
   done_leaves (not_decompiled refused) c = let differ = c.0 in cc
+  done_leaves (bad_listing fault) c = let differ = c.0 in cc
 
   -- where no count rose, all of it was, or memory ran out
   pub quiet_leaves : (end : End) (outcome : Outcome) → CarriesOut job end outcome old new → (Rises old.faults new.faults → ⊥) → fault_count new.calls ≡ fault_count old.calls → ((status_of outcome ≡ status_at end) × Leaves job end old new) ⊎ (outcome ≡ Outcome.OutOfMemory)
@@ -122,6 +127,7 @@ module _ (job : Job) (w : World) (old new : Outside) where
   quiet_leaves (bad_chunk fault) outcome c quiet files = inl (ap status_of c.0, (c.1.0.contents, c.1.1))
   quiet_leaves (rejected rejection) outcome c quiet files = inl (ap status_of c.0, (c.1.0.contents, c.1.1))
   quiet_leaves (not_decompiled refused) outcome c quiet files = inl (ap status_of c.0, (c.1.0.contents, c.1.1))
+  quiet_leaves (bad_listing fault) outcome c quiet files = inl (ap status_of c.0, (c.1.0.contents, c.1.1))
 
   -- what was put is a first part of what is to be put
   pub part_put : (bytes : List ℕ) (end : End) (outcome : Outcome) → Comes job bytes w end → CarriesOut job end outcome old new → Takes old.taken new.taken [] ⊎ ((text : List ℕ) × MayPut job bytes w text × TakesPart old.taken new.taken text)
@@ -139,6 +145,7 @@ module _ (job : Job) (w : World) (old new : Outside) where
   part_put bytes (bad_chunk fault) outcome comes c = inl c.1.1
   part_put bytes (rejected rejection) outcome comes c = inl c.1.1
   part_put bytes (not_decompiled refused) outcome comes c = inl c.1.1
+  part_put bytes (bad_listing fault) outcome comes c = inl c.1.1
 
   -- a fault of writing: the sink's count rose, or the store failed
   pub written : (bytes : List ℕ) (end : End) → Comes job bytes w end → CarriesOut job end Outcome.WriteFault old new → Rises old.faults new.faults ⊎ (IsStore job × (new.calls ≡ old.calls ++ call_of true (out_of job) true ∷ []))
@@ -150,6 +157,7 @@ module _ (job : Job) (w : World) (old new : Outside) where
   written bytes (bad_chunk fault) comes c = let differ = c.0 in cc
   written bytes (rejected rejection) comes c = let differ = c.0 in cc
   written bytes (not_decompiled refused) comes c = let differ = c.0 in cc
+  written bytes (bad_listing fault) comes c = let differ = c.0 in cc
 
   -- what is refused is refused as that
   pub refused_as : (end : End) (outcome : Outcome) → CarriesOut job end outcome old new → HasNoOutput end → status_of outcome ≡ status_at end
@@ -157,6 +165,7 @@ module _ (job : Job) (w : World) (old new : Outside) where
   refused_as (bad_chunk fault) outcome c none = ap status_of c.0
   refused_as (rejected rejection) outcome c none = ap status_of c.0
   refused_as (not_decompiled refused) outcome c none = ap status_of c.0
+  refused_as (bad_listing fault) outcome c none = ap status_of c.0
   refused_as end outcome c none = absurd none
 
   -- the other way round: the outcome of a refusal tells what was refused
@@ -175,6 +184,7 @@ module _ (job : Job) (w : World) (old new : Outside) where
   tells (bad_chunk fault) outcome c = subst (λ o. Tells o (bad_chunk fault)) (sym c.0) refl
   tells (rejected rejection) outcome c = subst (λ o. Tells o (rejected rejection)) (sym c.0) refl
   tells (not_decompiled refused) outcome c = subst (λ o. Tells o (not_decompiled refused)) (sym c.0) refl
+  tells (bad_listing fault) outcome c = subst (λ o. Tells o (bad_listing fault)) (sym c.0) refl
 
   -- a run that failed, or is going
   pub failed_as : (bytes : List ℕ) (why : List ℕ) (end : End) → Comes job bytes w end → CarriesOut job end (Outcome.ScriptFailed why) old new → (text : List ℕ) × Comes job bytes w (failed why text) × Leaves job (failed why text) old new
@@ -188,6 +198,7 @@ module _ (job : Job) (w : World) (old new : Outside) where
   failed_as bytes why (bad_chunk fault) comes c = let differ = c.0 in absurd (cc)
   failed_as bytes why (rejected rejection) comes c = let differ = c.0 in absurd (cc)
   failed_as bytes why (not_decompiled refused) comes c = let differ = c.0 in absurd (cc)
+  failed_as bytes why (bad_listing fault) comes c = let differ = c.0 in absurd (cc)
 
   pub unfinished_as : (bytes : List ℕ) (steps : ℕ) (end : End) → Comes job bytes w end → CarriesOut job end (Outcome.Unfinished steps) old new → (text : List ℕ) × Comes job bytes w (unfinished steps text) × Leaves job (unfinished steps text) old new
   unfinished_as bytes steps (unfinished other text) comes c =
@@ -200,6 +211,7 @@ module _ (job : Job) (w : World) (old new : Outside) where
   unfinished_as bytes steps (bad_chunk fault) comes c = let differ = c.0 in absurd (cc)
   unfinished_as bytes steps (rejected rejection) comes c = let differ = c.0 in absurd (cc)
   unfinished_as bytes steps (not_decompiled refused) comes c = let differ = c.0 in absurd (cc)
+  unfinished_as bytes steps (bad_listing fault) comes c = let differ = c.0 in absurd (cc)
 
 -- a run alone asks hosts, and none where its outcome is a refusal
 may_runs : (job : Job) (end : End) → MayAsk job end → IsRun (Some job)
@@ -236,6 +248,7 @@ leaves_before job old new (bad_source fault) l = l
 leaves_before job old new (bad_chunk fault) l = l
 leaves_before job old new (rejected rejection) l = l
 leaves_before job old new (not_decompiled refused) l = l
+leaves_before job old new (bad_listing fault) l = l
 
 count_same : (calls : List FileCall) (call : FileCall) → call.failed ≡ false → fault_count (calls ++ call ∷ []) ≡ fault_count calls
 count_same calls call e =
@@ -251,6 +264,7 @@ OfStatus Status.BadSource outcome = (fault : Fault) × (outcome ≡ Outcome.BadS
 OfStatus Status.BadChunk outcome = (fault : ChunkFault) × (outcome ≡ Outcome.BadChunk fault)
 OfStatus Status.Rejected outcome = (rejection : Rejection) × (outcome ≡ Outcome.Rejected rejection)
 OfStatus Status.NotDecompiled outcome = (refused : Refused) × (outcome ≡ Outcome.NotDecompiled refused)
+OfStatus Status.BadListing outcome = (fault : ListFault) × (outcome ≡ Outcome.BadListing fault)
 OfStatus Status.ReadFault outcome = outcome ≡ Outcome.ReadFault
 OfStatus Status.WriteFault outcome = outcome ≡ Outcome.WriteFault
 OfStatus Status.OutOfMemory outcome = outcome ≡ Outcome.OutOfMemory
@@ -264,6 +278,7 @@ its_own (Outcome.BadSource fault) = (fault, refl)
 its_own (Outcome.BadChunk fault) = (fault, refl)
 its_own (Outcome.Rejected rejection) = (rejection, refl)
 its_own (Outcome.NotDecompiled refused) = (refused, refl)
+its_own (Outcome.BadListing fault) = (fault, refl)
 its_own Outcome.ReadFault = refl
 its_own Outcome.WriteFault = refl
 its_own Outcome.OutOfMemory = refl
@@ -551,6 +566,9 @@ module _ (laws : Laws) (words : Words) (job : Job) (reads : Reads words job) (w 
 
     pub not_decompiled_clause : result ≡ Status.NotDecompiled → Fetched words false old.calls new.calls × (refused : Refused) × ((other : Job) (bytes : List ℕ) → Asks words old.contents other bytes → Comes other bytes w (not_decompiled refused)) × Takes err_before err_later (line_of (Outcome.NotDecompiled refused) (named words))
     not_decompiled_clause = told Status.NotDecompiled Outcome.NotDecompiled (λ a j bytes. Comes j bytes w (not_decompiled a)) (λ e. cc) (λ e. cc) (λ e. cc) (of_status outcome Status.NotDecompiled) (λ a bytes end comes c. subst (Comes job bytes w) (tells job w (fetched job false old) new end (Outcome.NotDecompiled a) c) comes)
+
+    pub bad_listing_clause : result ≡ Status.BadListing → Fetched words false old.calls new.calls × (fault : ListFault) × ((other : Job) (bytes : List ℕ) → Asks words old.contents other bytes → Comes other bytes w (bad_listing fault)) × Takes err_before err_later (line_of (Outcome.BadListing fault) (named words))
+    bad_listing_clause = told Status.BadListing Outcome.BadListing (λ a j bytes. Comes j bytes w (bad_listing a)) (λ e. cc) (λ e. cc) (λ e. cc) (of_status outcome Status.BadListing) (λ a bytes end comes c. subst (Comes job bytes w) (tells job w (fetched job false old) new end (Outcome.BadListing a) c) comes)
 
     pub script_failed_clause : result ≡ Status.ScriptFailed → Fetched words false old.calls new.calls × (why : List ℕ) × ((other : Job) (bytes : List ℕ) → Asks words old.contents other bytes → (text : List ℕ) × Comes other bytes w (failed why text) × Leaves other (failed why text) old new) × Takes err_before err_later (line_of (Outcome.ScriptFailed why) (named words))
     script_failed_clause =

@@ -12,6 +12,8 @@ use Rattle.rules.specs.Sound.{Sound}
 use Rattle.front.specs.declared.fault.Fault.{Fault}
 use Rattle.front.specs.Sources.{IsFaultIn}
 use Rattle.decompile.specs.declared.refused.Refused.{Refused}
+use Rattle.asm_text.specs.declared.fault.ListFault.{ListFault}
+use Rattle.asm_text.specs.Faults as listings
 use Rattle.suite_io.specs.Taken.{Takes}
 use Rattle.suite.specs.declared.product.Product.{Product}
 use Rattle.suite.specs.declared.rejection.Rejection.{Rejection}
@@ -19,7 +21,7 @@ use Rattle.suite.specs.declared.status.Status.{Status}
 use Rattle.suite.specs.Words.{Job, run_file, put_product, store_product}
 use Rattle.suite.specs.Worlds.{World, hosts_first, replies_of}
 use Rattle.suite.specs.Seen.{Outside}
-use Rattle.suite.specs.Jobs.{End, stored, put, failed, unfinished, bad_source, bad_chunk, rejected, not_decompiled, source_name, SoundIfSpelled, HasChunk, ChunkFor, IsTextOf, Makes, IsSourceFor, IsChunkFor, WantsSound, WantsSource, Refuses, HasRun, HasPut, ran_in, Comes}
+use Rattle.suite.specs.Jobs.{End, stored, put, failed, unfinished, bad_source, bad_chunk, rejected, not_decompiled, bad_listing, source_name, SoundIfSpelled, HasChunk, ChunkFor, IsTextOf, Makes, IsSourceFor, IsChunkFor, IsListingFor, WantsSound, WantsSource, Refuses, HasRun, HasPut, ran_in, Comes}
 use Rattle.suite.specs.Work.{MayPut, IsRun}
 use Rattle.suite.specs.Causes.{status_at, Leaves, HasNoOutput, IsOnlyFor, IsOnlyEnd}
 use Rattle.suite.proofs.Facts.{Laws}
@@ -39,6 +41,7 @@ shown (bad_source fault) = refuses Status.BadSource
 shown (bad_chunk fault) = refuses Status.BadChunk
 shown (rejected rejection) = refuses Status.Rejected
 shown (not_decompiled refused) = refuses Status.NotDecompiled
+shown (bad_listing fault) = refuses Status.BadListing
 
 abbrev pub Alike : End → End → Type 0
 Alike one other = shown one ≡ shown other
@@ -58,12 +61,6 @@ abbrev HasOneText : Product → Type 0
 HasOneText Product.Source = ⊥
 HasOneText product = Unit {0}
 
-text_one : (p : Product) (bytes : List ℕ) (c : Chunk) (a b : List ℕ) → HasOneText p → IsTextOf p bytes c a → IsTextOf p bytes c b → a ≡ b
-text_one Product.Listing bytes c a b single one other = one ∙ sym other
-text_one Product.Verdict bytes c a b single one other = one.1 ∙ sym other.1
-text_one (Product.Spelling strip layout) bytes c a b single one other = one.is ∙ sym other.is
-text_one Product.Source bytes c a b single one other = absurd single
-
 -- what is wanted excludes another
 source_or_text : (p : Product) → HasOneText p → WantsSource p → ⊥
 source_or_text Product.Source single wants = single
@@ -76,6 +73,23 @@ source_or_sound p sound wants = wants
 source_of_source : (p : Product) (bytes : List ℕ) → IsSourceFor p bytes → WantsSource p → ⊥
 source_of_source Product.Source bytes source wants = source
 source_of_source p bytes source wants = wants
+
+-- what is read as a listing is read as nothing else
+pub source_not_listing : (p : Product) (bytes : List ℕ) → IsSourceFor p bytes → IsListingFor p → ⊥
+source_not_listing Product.Assembly bytes source listing = source
+source_not_listing p bytes source listing = listing
+
+chunk_not_listing : (p : Product) (bytes : List ℕ) → IsChunkFor p bytes → IsListingFor p → ⊥
+chunk_not_listing Product.Assembly bytes chunk listing = chunk
+chunk_not_listing p bytes chunk listing = listing
+
+sound_not_listing : (p : Product) → WantsSound p → IsListingFor p → ⊥
+sound_not_listing Product.Assembly wants listing = wants
+sound_not_listing p wants listing = listing
+
+decompiled_not_listing : (p : Product) → WantsSource p → IsListingFor p → ⊥
+decompiled_not_listing Product.Assembly wants listing = wants
+decompiled_not_listing p wants listing = listing
 
 module _ (laws : Laws) where
   same_chunk : (file : Text) (bytes : List ℕ) (c d : Chunk) → HasChunk file bytes c → HasChunk file bytes d → c ≡ d
@@ -98,24 +112,44 @@ module _ (laws : Laws) where
   chunk_for_one Product.Verdict file bytes c d one other = same_chunk file bytes c d one other
   chunk_for_one (Product.Spelling strip layout) file bytes c d one other = laws.compiled_are_one (source_name file) bytes c d one other
   chunk_for_one Product.Source file bytes c d one other = laws.spelled_are_one bytes c d one other
+  chunk_for_one Product.Globals file bytes c d one other = same_chunk file bytes c d one other
+  chunk_for_one Product.Assembly file bytes c d one other = laws.listed_are_one bytes c d one other
 
   no_source_fault : (p : Product) (file : Text) (bytes : List ℕ) (c : Chunk) (fault : Fault) → ChunkFor p file bytes c → IsSourceFor p bytes → IsFaultIn bytes fault → ⊥
   no_source_fault Product.Listing file bytes c fault has source is = has_no_fault file bytes c fault has source is
   no_source_fault Product.Verdict file bytes c fault has source is = has_no_fault file bytes c fault has source is
   no_source_fault (Product.Spelling strip layout) file bytes c fault has source is = laws.source_or_fault (source_name file) bytes c fault has is
   no_source_fault Product.Source file bytes c fault has source is = source
+  no_source_fault Product.Globals file bytes c fault has source is = has_no_fault file bytes c fault has source is
+  no_source_fault Product.Assembly file bytes c fault has source is = source
 
   no_chunk_fault : (p : Product) (file : Text) (bytes : List ℕ) (c : Chunk) (fault : ChunkFault) → ChunkFor p file bytes c → IsChunkFor p bytes → IsFault bytes fault → ⊥
   no_chunk_fault Product.Listing file bytes c fault has chunk is = spells_no_fault file bytes c fault has chunk is
   no_chunk_fault Product.Verdict file bytes c fault has chunk is = spells_no_fault file bytes c fault has chunk is
   no_chunk_fault (Product.Spelling strip layout) file bytes c fault has chunk is = chunk
   no_chunk_fault Product.Source file bytes c fault has chunk is = laws.chunk_or_fault bytes c fault has is
+  no_chunk_fault Product.Globals file bytes c fault has chunk is = spells_no_fault file bytes c fault has chunk is
+  no_chunk_fault Product.Assembly file bytes c fault has chunk is = chunk
+
+  no_list_fault : (p : Product) (file : Text) (bytes : List ℕ) (c : Chunk) (fault : ListFault) → ChunkFor p file bytes c → IsListingFor p → listings.IsFault bytes fault → ⊥
+  no_list_fault Product.Assembly file bytes c fault has listing is = laws.listing_or_fault bytes c fault has is
+  no_list_fault p file bytes c fault has listing is = listing
 
   not_source_and_chunk : (p : Product) (bytes : List ℕ) → IsSourceFor p bytes → IsChunkFor p bytes → ⊥
   not_source_and_chunk Product.Listing bytes source chunk = let no : is_chunk bytes ≡ false = source in let yes : is_chunk bytes ≡ true = chunk in cc
   not_source_and_chunk Product.Verdict bytes source chunk = let no : is_chunk bytes ≡ false = source in let yes : is_chunk bytes ≡ true = chunk in cc
   not_source_and_chunk (Product.Spelling strip layout) bytes source chunk = chunk
   not_source_and_chunk Product.Source bytes source chunk = source
+  not_source_and_chunk Product.Globals bytes source chunk = let no : is_chunk bytes ≡ false = source in let yes : is_chunk bytes ≡ true = chunk in cc
+  not_source_and_chunk Product.Assembly bytes source chunk = source
+
+  text_one : (p : Product) (bytes : List ℕ) (c : Chunk) (a b : List ℕ) → HasOneText p → IsTextOf p bytes c a → IsTextOf p bytes c b → a ≡ b
+  text_one Product.Listing bytes c a b single one other = one ∙ sym other
+  text_one Product.Verdict bytes c a b single one other = one.1 ∙ sym other.1
+  text_one (Product.Spelling strip layout) bytes c a b single one other = one.is ∙ sym other.is
+  text_one Product.Source bytes c a b single one other = absurd single
+  text_one Product.Globals bytes c a b single one other = laws.uses_are_one c a b one.1 other.1
+  text_one Product.Assembly bytes c a b single one other = one.is ∙ sym other.is
 
   makes_one : (p : Product) (file : Text) (bytes a b : List ℕ) → HasOneText p → Makes p file bytes a → Makes p file bytes b → a ≡ b
   makes_one p file bytes a b single one other =
@@ -128,19 +162,32 @@ module _ (laws : Laws) where
   sound_refused file bytes c (rejected r) has sound refused =
       laws.sound_or_rejected refused.chunk r.path r.pc r.rule (subst Sound (same_chunk file bytes c refused.chunk has (inl (refused.spelled, refused.of))) (sound refused.spelled)) refused.rejected
   sound_refused file bytes c (not_decompiled why) has sound refused = refused.wants
+  sound_refused file bytes c (bad_listing fault) has sound refused = refused.0
   sound_refused file bytes c end has sound refused = refused
+
+  -- a file is refused for its globals as for a verdict
+  as_verdict : (file : Text) (bytes : List ℕ) (end : End) → Refuses Product.Globals file bytes end → Refuses Product.Verdict file bytes end
+  as_verdict file bytes (bad_source fault) refused = refused
+  as_verdict file bytes (bad_chunk fault) refused = refused
+  as_verdict file bytes (rejected r) refused = record { wants = tt; chunk = refused.chunk; spelled = refused.spelled; of = refused.of; rejected = refused.rejected }
+  as_verdict file bytes (not_decompiled why) refused = absurd refused.wants
+  as_verdict file bytes (bad_listing fault) refused = absurd refused.0
+  as_verdict file bytes end refused = absurd refused
 
   makes_refused : (p : Product) (file : Text) (bytes text : List ℕ) (end : End) → HasOneText p → Makes p file bytes text → Refuses p file bytes end → ⊥
   makes_refused Product.Verdict file bytes text end single makes refused = sound_refused file bytes makes.chunk end makes.has makes.is.0 refused
+  makes_refused Product.Globals file bytes text end single makes refused = sound_refused file bytes makes.chunk end makes.has makes.is.0 (as_verdict file bytes end refused)
   makes_refused p file bytes text (bad_source fault) single makes refused = no_source_fault p file bytes makes.chunk fault makes.has refused.0 refused.1
   makes_refused p file bytes text (bad_chunk fault) single makes refused = no_chunk_fault p file bytes makes.chunk fault makes.has refused.0 refused.1
   makes_refused p file bytes text (rejected r) single makes refused = refused.wants
   makes_refused p file bytes text (not_decompiled why) single makes refused = source_or_text p single refused.wants
+  makes_refused p file bytes text (bad_listing fault) single makes refused = no_list_fault p file bytes makes.chunk fault makes.has refused.0 refused.1
   makes_refused p file bytes text end single makes refused = refused
 
   -- what is rejected is no source, and its bytes have no fault
   rejected_no_source : (p : Product) (file : Text) (bytes : List ℕ) (r : Rejection) → Refuses p file bytes (rejected r) → IsSourceFor p bytes → ⊥
   rejected_no_source Product.Verdict file bytes r refused source = let yes : is_chunk bytes ≡ true = refused.spelled in let no : is_chunk bytes ≡ false = source in cc
+  rejected_no_source Product.Globals file bytes r refused source = let yes : is_chunk bytes ≡ true = refused.spelled in let no : is_chunk bytes ≡ false = source in cc
   rejected_no_source p file bytes r refused source = refused.wants
 
   rejected_no_fault : (p : Product) (file : Text) (bytes : List ℕ) (r : Rejection) (fault : ChunkFault) → Refuses p file bytes (rejected r) → IsFault bytes fault → ⊥
@@ -159,6 +206,7 @@ module _ (laws : Laws) where
   refused_alike p file bytes (bad_chunk f) (bad_chunk g) one other = refl
   refused_alike p file bytes (rejected r) (rejected s) one other = refl
   refused_alike p file bytes (not_decompiled r) (not_decompiled s) one other = refl
+  refused_alike p file bytes (bad_listing f) (bad_listing g) one other = refl
   refused_alike p file bytes (bad_source f) (bad_chunk g) one other = absurd (not_source_and_chunk p bytes one.0 other.0)
   refused_alike p file bytes (bad_chunk f) (bad_source g) one other = absurd (not_source_and_chunk p bytes other.0 one.0)
   refused_alike p file bytes (bad_source f) (rejected s) one other = absurd (rejected_no_source p file bytes s other one.0)
@@ -171,10 +219,19 @@ module _ (laws : Laws) where
   refused_alike p file bytes (not_decompiled r) (bad_chunk g) one other = absurd (decompiled_no_fault p file bytes r g one other.1)
   refused_alike p file bytes (rejected r) (not_decompiled s) one other = absurd (source_or_sound p one.wants other.wants)
   refused_alike p file bytes (not_decompiled r) (rejected s) one other = absurd (source_or_sound p other.wants one.wants)
+  refused_alike p file bytes (bad_source f) (bad_listing g) one other = absurd (source_not_listing p bytes one.0 other.0)
+  refused_alike p file bytes (bad_listing f) (bad_source g) one other = absurd (source_not_listing p bytes other.0 one.0)
+  refused_alike p file bytes (bad_chunk f) (bad_listing g) one other = absurd (chunk_not_listing p bytes one.0 other.0)
+  refused_alike p file bytes (bad_listing f) (bad_chunk g) one other = absurd (chunk_not_listing p bytes other.0 one.0)
+  refused_alike p file bytes (rejected r) (bad_listing g) one other = absurd (sound_not_listing p one.wants other.0)
+  refused_alike p file bytes (bad_listing f) (rejected s) one other = absurd (sound_not_listing p other.wants one.0)
+  refused_alike p file bytes (not_decompiled r) (bad_listing g) one other = absurd (decompiled_not_listing p one.wants other.0)
+  refused_alike p file bytes (bad_listing f) (not_decompiled s) one other = absurd (decompiled_not_listing p other.wants one.0)
   refused_alike p file bytes (bad_source f) b one other = absurd other
   refused_alike p file bytes (bad_chunk f) b one other = absurd other
   refused_alike p file bytes (rejected r) b one other = absurd other
   refused_alike p file bytes (not_decompiled r) b one other = absurd other
+  refused_alike p file bytes (bad_listing f) b one other = absurd other
   refused_alike p file bytes a b one other = absurd one
 
   -- what a job comes to is good, or refused
@@ -224,6 +281,7 @@ module _ (laws : Laws) where
   source_alike show file bytes a (bad_chunk g) (inr refused) other only = refused_alike Product.Source file bytes a (bad_chunk g) refused other
   source_alike show file bytes a (rejected s) one other only = absurd other.wants
   source_alike show file bytes a (not_decompiled s) one other only = absurd only
+  source_alike show file bytes a (bad_listing g) one other only = absurd other.0
   source_alike show file bytes a b one other only = absurd other
 
   put_story : (p : Product) (file : Text) (bytes : List ℕ) (w : World) (end : End) → Comes (put_product p file) bytes w end → IsMadeShown (puts Status.Done) p file bytes (shown end) ⊎ Refuses p file bytes end
@@ -264,6 +322,7 @@ module _ (laws : Laws) where
   decompiled_at file out bytes w chunk (bad_source fault) of comes = absurd comes.0
   decompiled_at file out bytes w chunk (bad_chunk fault) of comes = absurd (laws.chunk_or_fault bytes chunk fault of comes.1)
   decompiled_at file out bytes w chunk (rejected r) of comes = absurd comes.wants
+  decompiled_at file out bytes w chunk (bad_listing fault) of comes = absurd comes.0
   decompiled_at file out bytes w chunk end of comes = absurd comes
 
   -- what is refused is not run
@@ -272,6 +331,7 @@ module _ (laws : Laws) where
   run_refused file steps bytes w (bad_chunk fault) comes none = comes
   run_refused file steps bytes w (rejected r) comes none = comes
   run_refused file steps bytes w (not_decompiled why) comes none = comes
+  run_refused file steps bytes w (bad_listing fault) comes none = comes
   run_refused file steps bytes w end comes none = absurd none
 
   pub refused_not_run : (job : Job) (bytes : List ℕ) (w : World) (text : List ℕ) (end : End) → IsRun (Some job) → MayPut job bytes w text → Comes job bytes w end → HasNoOutput end → ⊥
@@ -323,6 +383,7 @@ status_is (bad_source fault) = refl
 status_is (bad_chunk fault) = refl
 status_is (rejected rejection) = refl
 status_is (not_decompiled refused) = refl
+status_is (bad_listing fault) = refl
 
 pub alike_status : (a b : End) → Alike a b → status_at a ≡ status_at b
 alike_status a b same = sym (status_is a) ∙ ap status_shown same ∙ status_is b
@@ -338,6 +399,7 @@ none_shown (bad_source fault) none = tt
 none_shown (bad_chunk fault) none = tt
 none_shown (rejected rejection) none = tt
 none_shown (not_decompiled refused) none = tt
+none_shown (bad_listing fault) none = tt
 none_shown end none = absurd none
 
 shown_none : (end : End) → IsRefusedShown (shown end) → HasNoOutput end
@@ -345,6 +407,7 @@ shown_none (bad_source fault) none = tt
 shown_none (bad_chunk fault) none = tt
 shown_none (rejected rejection) none = tt
 shown_none (not_decompiled refused) none = tt
+shown_none (bad_listing fault) none = tt
 shown_none end none = absurd none
 
 pub alike_none : (a b : End) → Alike a b → HasNoOutput b → HasNoOutput a
@@ -364,6 +427,7 @@ leaves_shown job (bad_source fault) old new l = l
 leaves_shown job (bad_chunk fault) old new l = l
 leaves_shown job (rejected rejection) old new l = l
 leaves_shown job (not_decompiled refused) old new l = l
+leaves_shown job (bad_listing fault) old new l = l
 
 shown_leaves : (job : Job) (end : End) (old new : Outside) → LeavesShown job (shown end) old new → Leaves job end old new
 shown_leaves job (stored text) old new l = l
@@ -374,6 +438,7 @@ shown_leaves job (bad_source fault) old new l = l
 shown_leaves job (bad_chunk fault) old new l = l
 shown_leaves job (rejected rejection) old new l = l
 shown_leaves job (not_decompiled refused) old new l = l
+shown_leaves job (bad_listing fault) old new l = l
 
 pub alike_leaves : (job : Job) (a b : End) (old new : Outside) → Alike a b → Leaves job a old new → Leaves job b old new
 alike_leaves job a b old new same l = shown_leaves job b old new (subst (λ s. LeavesShown job s old new) same (leaves_shown job a old new l))

@@ -3,10 +3,13 @@ use Rattle.std.proofs.Common.{◌≡◌, ℕ, suc, ◌+◌, true, List, [], ◌�
 use Rattle.std.specs.FinMap.{get}
 use Rattle.std.proofs.lemmas.List.{append-nil}
 use Rattle.std.proofs.lemmas.List.Sums.{sum_by-append}
+use Rattle.lua_num.specs.Bytes.{Text}
 use Rattle.proto.specs.Chunk.{Chunk}
 use Rattle.chunk_io.specs.Laws as chunks
 use Rattle.rules.specs.declared.rule.Rule.{Rule}
 use Rattle.rules.specs.Sound.{Sound, Rejected}
+use Rattle.asm_text.specs.Laws as listings
+use Rattle.global_use.specs.Uses.{IsUseText}
 use Rattle.front.specs.Laws as sources
 use Rattle.front.specs.Laws.{CompiledDoes}
 use Rattle.suite_io.specs.declared.calls.FileCall.{FileCall}
@@ -23,13 +26,19 @@ use Rattle.suite.specs.Causes.{Becomes}
 abbrev pub SoundOrRejected : Type 0
 SoundOrRejected = (chunk : Chunk) (path : List ℕ) (pc : ℕ) (rule : Rule) → Sound chunk → Rejected chunk path pc rule → ⊥
 
--- a file has one chunk, and no fault beside it; its chunk is not sound and rejected; and that of a source does what the source means
+abbrev pub UsesAreOne : Type 0
+UsesAreOne = (chunk : Chunk) (a b : Text) → IsUseText chunk a → IsUseText chunk b → a ≡ b
+
+-- a file has one chunk, and no fault beside it; its chunk is not sound and rejected, and has one text of its globals; a text is the listing of one chunk, and has no fault beside it; and the chunk of a source does what the source means
 pub record Laws : Type 0 where
   pub compiled_are_one : sources.ChunksAreOne
   pub source_or_fault : sources.NeverBoth
   pub spelled_are_one : chunks.ChunksAreOne
   pub chunk_or_fault : chunks.NeverBoth
   pub sound_or_rejected : SoundOrRejected
+  pub uses_are_one : UsesAreOne
+  pub listed_are_one : listings.ChunksAreOne
+  pub listing_or_fault : listings.NeverBoth
   pub compiled_does : CompiledDoes
 
 pub count_snoc : (calls : List FileCall) (call : FileCall) → call.failed ≡ true → fault_count (calls ++ call ∷ []) ≡ suc (fault_count calls)
@@ -62,7 +71,9 @@ refused_is Status.Rejected result old new (inl r) = inl r.0
 refused_is Status.BadChunk result old new (inr r) = inr r
 refused_is Status.Rejected result old new (inr r) = inr r
 refused_is Status.NotDecompiled result old new (inl r) = inl r.0
+refused_is Status.BadListing result old new (inl r) = inl r.0
 refused_is Status.NotDecompiled result old new (inr r) = inr r
+refused_is Status.BadListing result old new (inr r) = inr r
 refused_is Status.ReadFault result old new (inl r) = inl r.0
 refused_is Status.ReadFault result old new (inr r) = inr r
 refused_is Status.ScriptFailed result old new (inl r) = inl r.0
@@ -98,7 +109,10 @@ module _ (err_before err_later : Option (List ℕ)) (err_old err_new : ℕ) wher
   settled_is (Outcome.Rejected rejection) file result (inr p) no_fault no_want =
       absurd (no_want (put_is Status.OutOfMemory _ result p no_fault no_want).0)
   settled_is (Outcome.NotDecompiled refused) file result (inl p) no_fault no_want = put_is Status.NotDecompiled _ result p no_fault no_want
+  settled_is (Outcome.BadListing fault) file result (inl p) no_fault no_want = put_is Status.BadListing _ result p no_fault no_want
   settled_is (Outcome.NotDecompiled refused) file result (inr p) no_fault no_want =
+      absurd (no_want (put_is Status.OutOfMemory _ result p no_fault no_want).0)
+  settled_is (Outcome.BadListing fault) file result (inr p) no_fault no_want =
       absurd (no_want (put_is Status.OutOfMemory _ result p no_fault no_want).0)
   settled_is Outcome.ReadFault file result r no_fault no_want = put_is Status.ReadFault _ result r no_fault no_want
   settled_is Outcome.WriteFault file result r no_fault no_want = put_is Status.WriteFault _ result r no_fault no_want
@@ -120,7 +134,9 @@ module _ (err_before err_later : Option (List ℕ)) (err_old err_new : ℕ) wher
   quiet_refused Status.BadChunk result (inr r) quiet = inr r
   quiet_refused Status.Rejected result (inr r) quiet = inr r
   quiet_refused Status.NotDecompiled result (inl r) quiet = absurd (quiet r.1)
+  quiet_refused Status.BadListing result (inl r) quiet = absurd (quiet r.1)
   quiet_refused Status.NotDecompiled result (inr r) quiet = inr r
+  quiet_refused Status.BadListing result (inr r) quiet = inr r
   quiet_refused Status.ReadFault result (inl r) quiet = absurd (quiet r.1)
   quiet_refused Status.ReadFault result (inr r) quiet = inr r
   quiet_refused Status.ScriptFailed result (inl r) quiet = absurd (quiet r.1)
@@ -143,7 +159,9 @@ module _ (err_before err_later : Option (List ℕ)) (err_old err_new : ℕ) wher
   write_refused Status.BadChunk result (inr r) e = cc
   write_refused Status.Rejected result (inr r) e = cc
   write_refused Status.NotDecompiled result (inl r) e = inr r.1
+  write_refused Status.BadListing result (inl r) e = inr r.1
   write_refused Status.NotDecompiled result (inr r) e = cc
+  write_refused Status.BadListing result (inr r) e = cc
   write_refused Status.ReadFault result (inl r) e = inr r.1
   write_refused Status.ReadFault result (inr r) e = cc
   write_refused Status.ScriptFailed result (inl r) e = inr r.1
@@ -167,7 +185,9 @@ module _ (err_before err_later : Option (List ℕ)) (err_old err_new : ℕ) wher
   becomes (Outcome.Rejected rejection) file result (inl p) = inl (put_becomes Status.Rejected _ result p)
   becomes (Outcome.Rejected rejection) file result (inr p) = inr (no_memory_is _ result p)
   becomes (Outcome.NotDecompiled refused) file result (inl p) = inl (put_becomes Status.NotDecompiled _ result p)
+  becomes (Outcome.BadListing fault) file result (inl p) = inl (put_becomes Status.BadListing _ result p)
   becomes (Outcome.NotDecompiled refused) file result (inr p) = inr (no_memory_is _ result p)
+  becomes (Outcome.BadListing fault) file result (inr p) = inr (no_memory_is _ result p)
   becomes Outcome.ReadFault file result r = inl (put_becomes Status.ReadFault _ result r)
   becomes Outcome.WriteFault file result r = inl (put_becomes Status.WriteFault _ result r)
   becomes Outcome.OutOfMemory file result r = inr (no_memory_is _ result r)

@@ -8,16 +8,16 @@ use Rattle.chunk_io.proofs.Joined.{all_both, all_first, all_second}
 use Rattle.suite.specs.Jobs.{stripped_if}
 
 -- where the first items are allowed, the others are
-record Keeps (xs ys : List Item) : Type 0 where
-  allow : AllByRecursion Allowed xs → AllByRecursion Allowed ys
+pub record Keeps (xs ys : List Item) : Type 0 where
+  pub allow : AllByRecursion Allowed xs → AllByRecursion Allowed ys
 
-same : (xs : List Item) → Keeps xs xs
+pub same : (xs : List Item) → Keeps xs xs
 same xs = record { allow = λ fit. fit }
 
-both : {xs ys vs ws : List Item} → Keeps xs ys → Keeps vs ws → Keeps (xs ++ vs) (ys ++ ws)
+pub both : {xs ys vs ws : List Item} → Keeps xs ys → Keeps vs ws → Keeps (xs ++ vs) (ys ++ ws)
 both {xs = xs} {ys = ys} {vs = vs} {ws = ws} a b = record { allow = λ fit. all_both ys ws (a.allow (all_first xs vs fit)) (b.allow (all_second xs vs fit)) }
 
-one : {xs ys : List Item} (x y : Item) → (Allowed x → Allowed y) → Keeps xs ys → Keeps (x ∷ xs) (y ∷ ys)
+pub one : {xs ys : List Item} (x y : Item) → (Allowed x → Allowed y) → Keeps xs ys → Keeps (x ∷ xs) (y ∷ ys)
 one x y first a = record { allow = λ fit. (first fit.0, a.allow fit.1) }
 
 some_size : (l : Layout) → 0 < size_limit l

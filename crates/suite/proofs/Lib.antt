@@ -1,6 +1,7 @@
 pub mod Putting
 pub mod Reporting
 pub mod FitsStripped
+pub mod FitsWidened
 mod WordLemmas
 pub mod Working
 pub mod Ran

@@ -11,6 +11,7 @@ use Rattle.chunk_io.specs.declared.fault.ChunkFault.{ChunkFault}
 use Rattle.front.specs.declared.fault.Fault.{Fault}
 use Rattle.front.specs.Sources.{IsFaultIn}
 use Rattle.decompile.specs.declared.refused.Refused.{Refused}
+use Rattle.asm_text.specs.declared.fault.ListFault.{ListFault}
 use Rattle.scheme.specs.Scheme.{scheme}
 use Rattle.scheme.specs.Accepts.{Accepts}
 use Rattle.agrees.specs.Doing.{DoesSo}
@@ -27,10 +28,11 @@ use Rattle.suite.specs.Words.{Words, Job, run_file, put_product, store_product, 
 use Rattle.suite.specs.Work.{out_of}
 use Rattle.suite.specs.Worlds.{World, hosts_first, replies_of}
 use Rattle.suite.specs.Seen.{Seen, between}
-use Rattle.suite.specs.Jobs.{End, stored, put, failed, unfinished, bad_source, bad_chunk, rejected, not_decompiled, Comes, HasChunk, HasRun, source_name, Refuses}
+use Rattle.suite.specs.Jobs.{End, stored, put, failed, unfinished, bad_source, bad_chunk, rejected, not_decompiled, bad_listing, Comes, HasChunk, HasRun, source_name, Refuses}
 use Rattle.suite.specs.Causes.{Fetched, StoreFailed, Leaves, status_at}
 use Rattle.suite.specs.Promises.{IsQuiet}
 use Rattle.suite.specs.Meant.{IsReadAsSource, RefusesFile, IsGood, IsTaken, ComesOut, GoesOn, IsMeant, meant_by}
+use Rattle.suite.proofs.Ends.{source_not_listing}
 use Rattle.suite.proofs.Facts.{Laws, count_snoc}
 
 -- ---- no job comes to a refusal of it
@@ -52,6 +54,8 @@ module _ (laws : Laws) (bytes : List ℕ) (w : World) where
   product_bad_chunk Product.Verdict file fault source is = not_both (is_chunk bytes) source is.0
   product_bad_chunk (Product.Spelling strip layout) file fault source is = is.0
   product_bad_chunk Product.Source file fault source is = source
+  product_bad_chunk Product.Globals file fault source is = not_both (is_chunk bytes) source is.0
+  product_bad_chunk Product.Assembly file fault source is = source
 
   never_bad_chunk : (job : Job) (fault : ChunkFault) → IsReadAsSource job bytes → Comes job bytes w (bad_chunk fault) → ⊥
   never_bad_chunk (run_file file steps) fault source comes = product_bad_chunk Product.Verdict file fault source comes
@@ -60,6 +64,7 @@ module _ (laws : Laws) (bytes : List ℕ) (w : World) where
 
   product_rejected : (p : Product) (file : Text) (r : Rejection) → IsReadAsSource (put_product p file) bytes → Refuses p file bytes (rejected r) → ⊥
   product_rejected Product.Verdict file r source is = not_both (is_chunk bytes) source is.spelled
+  product_rejected Product.Globals file r source is = not_both (is_chunk bytes) source is.spelled
   product_rejected p file r source is = is.wants
 
   never_rejected : (job : Job) (r : Rejection) → IsReadAsSource job bytes → Comes job bytes w (rejected r) → ⊥
@@ -75,6 +80,11 @@ module _ (laws : Laws) (bytes : List ℕ) (w : World) where
   never_not_decompiled (run_file file steps) r source comes = product_not_decompiled Product.Verdict file r source comes
   never_not_decompiled (put_product p file) r source comes = product_not_decompiled p file r source comes
   never_not_decompiled (store_product p file out) r source comes = product_not_decompiled p file r source comes
+
+  never_bad_listing : (job : Job) (fault : ListFault) → IsReadAsSource job bytes → Comes job bytes w (bad_listing fault) → ⊥
+  never_bad_listing (run_file file steps) fault source comes = comes.0
+  never_bad_listing (put_product p file) fault source comes = source_not_listing p bytes source comes.0
+  never_bad_listing (store_product p file out) fault source comes = source_not_listing p bytes source comes.0
 
 -- a call that failed raises the count of faults, whatever comes behind it
 fault_rises : (calls : List FileCall) (call : FileCall) (later : List FileCall) → call.failed ≡ true → suc (fault_count calls) ≤ fault_count ((calls ++ call ∷ []) ++ later)
@@ -101,6 +111,7 @@ pub record OfJob (words : Words) (job : Job) (bytes : List ℕ) (before behind :
   pub bad_chunk : result ≡ Status.BadChunk → (fault : ChunkFault) × Comes job bytes (between before behind) (bad_chunk fault)
   pub rejected : result ≡ Status.Rejected → (r : Rejection) × Comes job bytes (between before behind) (rejected r)
   pub not_decompiled : result ≡ Status.NotDecompiled → (r : Refused) × Comes job bytes (between before behind) (not_decompiled r)
+  pub bad_listing : result ≡ Status.BadListing → (fault : ListFault) × Comes job bytes (between before behind) (bad_listing fault)
   pub read_fault : result ≡ Status.ReadFault → Fetched words true before.outside.calls behind.outside.calls
   pub write_fault : result ≡ Status.WriteFault → Rises before.outside.faults behind.outside.faults ⊎ Rises before.err_faults behind.err_faults ⊎ StoreFailed words before.outside.calls behind.outside.calls
 
@@ -123,6 +134,7 @@ module _ (laws : Laws) (words : Words) (before behind : Seen) (result : Status) 
   never_refused Status.BadChunk e refuses = let c = of.bad_chunk e in never_bad_chunk laws bytes (between before behind) job c.0 as_source c.1
   never_refused Status.Rejected e refuses = let c = of.rejected e in never_rejected laws bytes (between before behind) job c.0 as_source c.1
   never_refused Status.NotDecompiled e refuses = let c = of.not_decompiled e in never_not_decompiled laws bytes (between before behind) job c.0 as_source c.1
+  never_refused Status.BadListing e refuses = let c = of.bad_listing e in never_bad_listing laws bytes (between before behind) job c.0 as_source c.1
   never_refused status e refuses = refuses
 
   no_read_fault : IsQuiet words before behind result → Fetched words true before.outside.calls behind.outside.calls → ⊥
@@ -142,6 +154,7 @@ module _ (laws : Laws) (words : Words) (before behind : Seen) (result : Status) 
   one_of quiet Status.BadChunk e = absurd (never_refused Status.BadChunk e tt)
   one_of quiet Status.Rejected e = absurd (never_refused Status.Rejected e tt)
   one_of quiet Status.NotDecompiled e = absurd (never_refused Status.NotDecompiled e tt)
+  one_of quiet Status.BadListing e = absurd (never_refused Status.BadListing e tt)
   one_of quiet Status.ReadFault e = absurd (no_read_fault quiet (of.read_fault e))
   one_of quiet Status.WriteFault e = absurd (elim (of.write_fault e) [
     | inl risen ↦ quiet.out risen
@@ -220,6 +233,7 @@ module _ (laws : Laws) (words : Words) (before behind : Seen) (result : Status) 
   at_done (bad_chunk fault) comes e l = absurd (cc)
   at_done (rejected r) comes e l = absurd (cc)
   at_done (not_decompiled r) comes e l = absurd (cc)
+  at_done (bad_listing fault) comes e l = absurd (cc)
 
   at_unfinished : result ≡ Status.Unfinished → GoesOn source w before.outside.taken behind.outside.taken steps
   at_unfinished e = let u = of.unfinished e in goes_on u.1 u.2.1 u.3.1

@@ -47,6 +47,7 @@ module _ (laws : Laws) (words : Words) (asked : Job) (reads : Reads words asked)
         bad_chunk = job.bad_chunk_clause laws words asked reads w old new outcome works before.err_taken behind.err_taken before.err_faults behind.err_faults result reported;
         rejected = job.rejected_clause laws words asked reads w old new outcome works before.err_taken behind.err_taken before.err_faults behind.err_faults result reported;
         not_decompiled = job.not_decompiled_clause laws words asked reads w old new outcome works before.err_taken behind.err_taken before.err_faults behind.err_faults result reported;
+        bad_listing = job.bad_listing_clause laws words asked reads w old new outcome works before.err_taken behind.err_taken before.err_faults behind.err_faults result reported;
         decompiled = λ file out bytes chunk asks of quiet. job.decompiled_clause laws words asked reads w old new outcome works before.err_taken behind.err_taken before.err_faults behind.err_faults result reported file out bytes chunk asks of quiet.files quiet.out quiet.err;
         write_fault = job.write_fault_clause laws words asked reads w old new outcome works before.err_taken behind.err_taken before.err_faults behind.err_faults result reported;
         taken = λ other bytes source asks as_source accepts. is_taken laws words before behind result other bytes source (of_job other bytes asks) as_source accepts;
@@ -69,6 +70,7 @@ module _ (laws : Laws) (words : Words) (asked : Job) (reads : Reads words asked)
           let chunk = job.bad_chunk_clause laws words asked reads w old new outcome works before.err_taken behind.err_taken before.err_faults behind.err_faults result reported in
           let reject = job.rejected_clause laws words asked reads w old new outcome works before.err_taken behind.err_taken before.err_faults behind.err_faults result reported in
           let given_none = job.not_decompiled_clause laws words asked reads w old new outcome works before.err_taken behind.err_taken before.err_faults behind.err_faults result reported in
+          let listed_none = job.bad_listing_clause laws words asked reads w old new outcome works before.err_taken behind.err_taken before.err_faults behind.err_faults result reported in
           record {
             done = λ e. (done e).2 other bytes asks;
             script_failed = λ e. let s = failed e in let t = s.2 other bytes asks in (s.1, t.0, t.1, t.2, s.3);
@@ -79,6 +81,7 @@ module _ (laws : Laws) (words : Words) (asked : Job) (reads : Reads words asked)
             bad_chunk = λ e. let s = chunk e in (s.1, s.2 other bytes asks);
             rejected = λ e. let s = reject e in (s.1, s.2 other bytes asks);
             not_decompiled = λ e. let s = given_none e in (s.1, s.2 other bytes asks);
+            bad_listing = λ e. let s = listed_none e in (s.1, s.2 other bytes asks);
             read_fault = job.read_fault_clause laws words asked reads w old new outcome works before.err_taken behind.err_taken before.err_faults behind.err_faults result reported;
             write_fault = job.write_fault_clause laws words asked reads w old new outcome works before.err_taken behind.err_taken before.err_faults behind.err_faults result reported;
           }
@@ -123,6 +126,7 @@ module _ (words : Words) (none : NoCommand words) (before behind : Seen) (same :
     bad_chunk = λ e. absurd (other Status.BadChunk (λ d. cc) (λ d. cc) (λ d. cc) e);
     rejected = λ e. absurd (other Status.Rejected (λ d. cc) (λ d. cc) (λ d. cc) e);
     not_decompiled = λ e. absurd (other Status.NotDecompiled (λ d. cc) (λ d. cc) (λ d. cc) e);
+    bad_listing = λ e. absurd (other Status.BadListing (λ d. cc) (λ d. cc) (λ d. cc) e);
     decompiled = λ file out bytes chunk asks of quiet. absurd (no_job _ asks.reads);
     write_fault = λ e. inr (inl (by_cause e));
     taken = λ asked bytes source asks as_source accepts. absurd (no_job asked asks.reads);

@@ -7,7 +7,7 @@ use Rattle.std.specs.Str.{bytes_eq}
 use Rattle.lua_num.specs.Bytes.{Text}
 use Rattle.chunk_io.specs.declared.layout.Layout.{Layout}
 use Rattle.suite.specs.declared.product.Product.{Product}
-use Rattle.suite.specs.Words.{Words, Job, put_product, Arguments, is_flag, steps_mark, layout_mark, arguments, behind_flag, with_file, with_strip, with_steps, with_layout, files_alone, one_file, run_of, layout_in, spelling_as, compilation, decompilation, job_with, texts, NoCommand}
+use Rattle.suite.specs.Words.{Words, Job, put_product, Arguments, is_flag, steps_mark, layout_mark, arguments, behind_flag, with_file, with_strip, with_steps, with_layout, files_alone, one_file, run_of, layout_in, spelling_as, compilation, two_files, job_with, texts, NoCommand}
 
 -- how many words these are at the most, but for `--`: each value of a flag is one behind the flag
 abbrev words_of : Arguments → ℕ
@@ -92,25 +92,33 @@ no_compilation (file ∷ out ∷ []) (suc (suc n)) [] layouts many = refl
 no_compilation (file ∷ out ∷ []) strips (number ∷ steps) layouts many = refl
 no_compilation (file ∷ out ∷ more ∷ files) strips steps layouts many = refl
 
-no_decompilation : (files : List Text) (strips : ℕ) (steps layouts : List Text) → 6 ≤ length files + strips + 2 * length steps + 2 * length layouts → decompilation files strips steps layouts ≡ None
-no_decompilation [] strips steps layouts many = refl
-no_decompilation (file ∷ []) strips steps layouts many = refl
-no_decompilation (file ∷ out ∷ []) zero [] [] many = absurd (omega arith)
-no_decompilation (file ∷ out ∷ []) zero [] (name ∷ layouts) many = refl
-no_decompilation (file ∷ out ∷ []) zero (number ∷ steps) layouts many = refl
-no_decompilation (file ∷ out ∷ []) (suc n) steps layouts many = refl
-no_decompilation (file ∷ out ∷ more ∷ files) strips steps layouts many = refl
+no_two : (p : Product) (files : List Text) (strips : ℕ) (steps layouts : List Text) → 6 ≤ length files + strips + 2 * length steps + 2 * length layouts → two_files p files strips steps layouts ≡ None
+no_two p [] strips steps layouts many = refl
+no_two p (file ∷ []) strips steps layouts many = refl
+no_two p (file ∷ out ∷ []) zero [] [] many = absurd (omega arith)
+no_two p (file ∷ out ∷ []) zero [] (name ∷ layouts) many = refl
+no_two p (file ∷ out ∷ []) zero (number ∷ steps) layouts many = refl
+no_two p (file ∷ out ∷ []) (suc n) steps layouts many = refl
+no_two p (file ∷ out ∷ more ∷ files) strips steps layouts many = refl
 
 no_job : (first : Text) (found : Arguments) → 6 ≤ words_of found → job_with first found ≡ None
-no_job first found many = by (bytes_eq first (codes "run")) (bytes_eq first (codes "list")) (bytes_eq first (codes "verify")) (bytes_eq first (codes "compile")) (bytes_eq first (codes "decompile"))
+no_job first found many = by (bytes_eq first (codes "run")) (bytes_eq first (codes "list")) (bytes_eq first (codes "verify")) (bytes_eq first (codes "globals")) (bytes_eq first (codes "compile")) (bytes_eq first (codes "decompile")) (bytes_eq first (codes "assemble"))
   where
-    by : (a b c d e : Bool) → (if a then run_of found.files found.strips found.steps found.layouts else (if b then option_map (put_product Product.Listing) (one_file found.files found.strips found.steps found.layouts) else (if c then option_map (put_product Product.Verdict) (one_file found.files found.strips found.steps found.layouts) else (if d then compilation found.files found.strips found.steps found.layouts else (if e then decompilation found.files found.strips found.steps found.layouts else None))))) ≡ None
-    by true b c d e = no_run found.files found.strips found.steps found.layouts many
-    by false true c d e = no_file (put_product Product.Listing) found.files found.strips found.steps found.layouts many
-    by false false true d e = no_file (put_product Product.Verdict) found.files found.strips found.steps found.layouts many
-    by false false false true e = no_compilation found.files found.strips found.steps found.layouts many
-    by false false false false true = no_decompilation found.files found.strips found.steps found.layouts many
-    by false false false false false = refl
+    one : (p : Product) → option_map (put_product p) (one_file found.files found.strips found.steps found.layouts) ≡ None
+    one p = no_file (put_product p) found.files found.strips found.steps found.layouts many
+
+    two : (p : Product) → two_files p found.files found.strips found.steps found.layouts ≡ None
+    two p = no_two p found.files found.strips found.steps found.layouts many
+
+    by : (a b c d e f g : Bool) → (if a then run_of found.files found.strips found.steps found.layouts else (if b then option_map (put_product Product.Listing) (one_file found.files found.strips found.steps found.layouts) else (if c then option_map (put_product Product.Verdict) (one_file found.files found.strips found.steps found.layouts) else (if d then option_map (put_product Product.Globals) (one_file found.files found.strips found.steps found.layouts) else (if e then compilation found.files found.strips found.steps found.layouts else (if f then two_files Product.Source found.files found.strips found.steps found.layouts else (if g then two_files Product.Assembly found.files found.strips found.steps found.layouts else None))))))) ≡ None
+    by true b c d e f g = no_run found.files found.strips found.steps found.layouts many
+    by false true c d e f g = one Product.Listing
+    by false false true d e f g = one Product.Verdict
+    by false false false true e f g = one Product.Globals
+    by false false false false true f g = no_compilation found.files found.strips found.steps found.layouts many
+    by false false false false false true g = two Product.Source
+    by false false false false false false true = two Product.Assembly
+    by false false false false false false false = refl
 
 -- more than six words behind the first are no command
 too_many_words : (first : Text) (words : Words) → 6 < length words → option_and_then (job_with first) (arguments (texts words)) ≡ None

@@ -1,13 +1,19 @@
 -- What is refused, and for which memory ran out, is carried out by putting and storing nothing.
-use Rattle.std.proofs.Common.{◌≡◌, ◌≢◌, ℕ, Bool, true, false, List, [], ◌∷◌, ◌++◌, Option, Some, IfSome, inl, inr, refl, subst}
+use Rattle.std.proofs.Common.{◌≡◌, ◌≢◌, ℕ, Bool, true, false, List, [], ◌∷◌, ◌++◌, Option, Some, IfSome, inl, inr, refl, sym, subst, ◌∙◌}
 use Rattle.std.specs.FinMap.{get}
 use Rattle.lua_num.specs.Bytes.{Text}
 use Rattle.proto.specs.Chunk.{Chunk}
+use Rattle.proto.specs.View.{view_proto}
+use Rattle.proto.specs.declared.proto.Proto.{Proto}
+use Rattle.rules.specs.Sound.{Sound}
+use Rattle.global_use.specs.Uses.{IsUseText}
 use Rattle.chunk_io.specs.declared.fault.ChunkFault.{ChunkFault}
 use Rattle.chunk_io.specs.declared.layout.Layout.{Layout}
 use Rattle.chunk_io.specs.Items.{IsChunkOf, is_chunk}
 use Rattle.front.specs.declared.fault.Fault.{Fault}
 use Rattle.decompile.specs.declared.refused.Refused.{Refused}
+use Rattle.asm_text.specs.declared.fault.ListFault.{ListFault}
+use Rattle.asm_text.specs.Faults.{StopsBy}
 use Rattle.decompile.specs.Sources.{IsRefusedBy}
 use Rattle.suite_io.specs.declared.calls.FileCall.{FileCall}
 use Rattle.suite_io.specs.Calls.{call_of}
@@ -20,7 +26,7 @@ use Rattle.suite.specs.Words.{Job, run_file, put_product, store_product, file_of
 use Rattle.suite.specs.Worlds.{World, Unasked}
 use Rattle.suite.specs.Seen.{Outside, outside}
 use Rattle.front.specs.Laws.{CompiledIsSound}
-use Rattle.suite.specs.Jobs.{put, stored, bad_source, bad_chunk, rejected, not_decompiled, source_name, HasChunk, Makes, IsTold, Refuses, Comes}
+use Rattle.suite.specs.Jobs.{put, stored, bad_source, bad_chunk, rejected, not_decompiled, bad_listing, source_name, HasChunk, Makes, IsTold, Refuses, Comes}
 use Rattle.suite.specs.Refusing.{IsBadSource, IsBadChunk, HasNone, IsRefused, IsRefusal}
 use Rattle.suite.proofs.Facts.{SoundOrRejected}
 use Rattle.suite.specs.Work.{Nothing, Does, DoesAlone, PutsText, StoresText, Works, fetched}
@@ -33,23 +39,25 @@ module _ (job : Job) (p : Product) (file : Text) (bytes : List ℕ) (w : World) 
     (source : (fault : Fault) → Refuses p file bytes (bad_source fault) → Comes job bytes w (bad_source fault))
     (chunk : (fault : ChunkFault) → Refuses p file bytes (bad_chunk fault) → Comes job bytes w (bad_chunk fault))
     (reject : (r : Rejection) → Refuses p file bytes (rejected r) → Comes job bytes w (rejected r))
-    (given_none : (r : Refused) → Refuses p file bytes (not_decompiled r) → Comes job bytes w (not_decompiled r)) where
+    (given_none : (r : Refused) → Refuses p file bytes (not_decompiled r) → Comes job bytes w (not_decompiled r))
+    (listed_none : (fault : ListFault) → Refuses p file bytes (bad_listing fault) → Comes job bytes w (bad_listing fault)) where
   refused_does : (outcome : Outcome) → Unasked w → IsRefusal p file bytes outcome → Does job bytes w outcome o o
   refused_does (Outcome.BadSource fault) unasked is = inl (record { end = bad_source fault; comes = source fault is; carried = (refl, nothing o); asks = inr unasked })
   refused_does (Outcome.BadChunk fault) unasked is = inl (record { end = bad_chunk fault; comes = chunk fault is; carried = (refl, nothing o); asks = inr unasked })
   refused_does (Outcome.Rejected r) unasked is = inl (record { end = rejected r; comes = reject r is; carried = (refl, nothing o); asks = inr unasked })
   refused_does (Outcome.NotDecompiled r) unasked is = inl (record { end = not_decompiled r; comes = given_none r is; carried = (refl, nothing o); asks = inr unasked })
+  refused_does (Outcome.BadListing fault) unasked is = inl (record { end = bad_listing fault; comes = listed_none fault is; carried = (refl, nothing o); asks = inr unasked })
   refused_does Outcome.OutOfMemory unasked is = inr (inr (refl, nothing o, unasked))
   refused_does outcome unasked is = absurd is
 
 pub run_refused : (file : Text) (steps : ℕ) (bytes : List ℕ) (w : World) (outcome : Outcome) (o : Outside) → Unasked w → IsRefusal Product.Verdict file bytes outcome → Does (run_file file steps) bytes w outcome o o
-run_refused file steps bytes w outcome o = refused_does (run_file file steps) Product.Verdict file bytes w o (λ f r. r) (λ f r. r) (λ f r. r) (λ f r. r) outcome
+run_refused file steps bytes w outcome o = refused_does (run_file file steps) Product.Verdict file bytes w o (λ f r. r) (λ f r. r) (λ f r. r) (λ f r. r) (λ f r. r) outcome
 
 pub put_refused : (p : Product) (file : Text) (bytes : List ℕ) (outcome : Outcome) (o : Outside) → IsRefusal p file bytes outcome → DoesAlone (put_product p file) bytes outcome o o
-put_refused p file bytes outcome o is = λ w unasked. refused_does (put_product p file) p file bytes w o (λ f r. r) (λ f r. r) (λ f r. r) (λ f r. r) outcome unasked is
+put_refused p file bytes outcome o is = λ w unasked. refused_does (put_product p file) p file bytes w o (λ f r. r) (λ f r. r) (λ f r. r) (λ f r. r) (λ f r. r) outcome unasked is
 
 pub store_refused : (p : Product) (file out : Text) (bytes : List ℕ) (outcome : Outcome) (o : Outside) → IsRefusal p file bytes outcome → DoesAlone (store_product p file out) bytes outcome o o
-store_refused p file out bytes outcome o is = λ w unasked. refused_does (store_product p file out) p file bytes w o (λ f r. r) (λ f r. r) (λ f r. r) (λ f r. r) outcome unasked is
+store_refused p file out bytes outcome o is = λ w unasked. refused_does (store_product p file out) p file bytes w o (λ f r. r) (λ f r. r) (λ f r. r) (λ f r. r) (λ f r. r) outcome unasked is
 
 -- a text that was made is put or stored
 pub put_does : (p : Product) (file : Text) (bytes text : List ℕ) (outcome : Outcome) (old new : Outside) → Makes p file bytes text → PutsText text outcome old new → DoesAlone (put_product p file) bytes outcome old new
@@ -70,6 +78,12 @@ none_verified file bytes (Outcome.BadSource fault) none = none
 none_verified file bytes (Outcome.BadChunk fault) none = none
 none_verified file bytes Outcome.OutOfMemory none = tt
 none_verified file bytes outcome none = absurd none
+
+pub none_used : (file : Text) (bytes : List ℕ) (outcome : Outcome) → HasNone bytes outcome → IsRefusal Product.Globals file bytes outcome
+none_used file bytes (Outcome.BadSource fault) none = none
+none_used file bytes (Outcome.BadChunk fault) none = none
+none_used file bytes Outcome.OutOfMemory none = tt
+none_used file bytes outcome none = absurd none
 
 pub none_spelled : (file : Text) (strip : Bool) (layout : Layout) (bytes : List ℕ) (outcome : Outcome) → IsBadSource bytes outcome → IsRefusal (Product.Spelling strip layout) file bytes outcome
 none_spelled file strip layout bytes (Outcome.BadSource fault) bad = (tt, bad)
@@ -101,12 +115,32 @@ is_told r other = tt
 pub not_decompiled_for : (file : Text) (bytes : List ℕ) (chunk : Chunk) (r : Refused) → r ≢ Refused.OutOfMemory → IsChunkOf bytes chunk → IsRefusedBy chunk r → IsRefusal Product.Source file bytes (Outcome.NotDecompiled r)
 not_decompiled_for file bytes chunk r other of refused = record { wants = tt; told = is_told r other; chunk = chunk; of = of; refused = refused }
 
+-- what is no listing is not assembled
+pub not_assembled : (file : Text) (bytes : List ℕ) (fault : ListFault) → fault ≢ ListFault.OutOfMemory → StopsBy bytes fault → IsRefusal Product.Assembly file bytes (Outcome.BadListing fault)
+not_assembled file bytes ListFault.OutOfMemory other stops = absurd (other refl)
+not_assembled file bytes fault other stops = (tt, stops)
+
 -- nor has one a good verdict whose chunk is rejected, which is none of a source
 pub not_sound : CompiledIsSound → SoundOrRejected → (file : Text) (bytes : List ℕ) (chunk : Chunk) (outcome : Outcome) → HasChunk file bytes chunk → IsRefused chunk outcome → IsRefusal Product.Verdict file bytes outcome
 not_sound sound or file bytes chunk (Outcome.Rejected r) (inl spelled) is = record { wants = tt; chunk = chunk; spelled = spelled.0; of = spelled.1; rejected = is }
 not_sound sound or file bytes chunk (Outcome.Rejected r) (inr compiled) is = absurd (or chunk r.path r.pc r.rule (sound (source_name file) bytes chunk compiled.1) is)
 not_sound sound or file bytes chunk Outcome.OutOfMemory has is = tt
 not_sound sound or file bytes chunk outcome has is = absurd is
+
+-- nor are its globals told
+pub not_sound_used : CompiledIsSound → SoundOrRejected → (file : Text) (bytes : List ℕ) (chunk : Chunk) (outcome : Outcome) → HasChunk file bytes chunk → IsRefused chunk outcome → IsRefusal Product.Globals file bytes outcome
+not_sound_used sound or file bytes chunk (Outcome.Rejected r) (inl spelled) is = record { wants = tt; chunk = chunk; spelled = spelled.0; of = spelled.1; rejected = is }
+not_sound_used sound or file bytes chunk (Outcome.Rejected r) (inr compiled) is = absurd (or chunk r.path r.pc r.rule (sound (source_name file) bytes chunk compiled.1) is)
+not_sound_used sound or file bytes chunk Outcome.OutOfMemory has is = tt
+not_sound_used sound or file bytes chunk outcome has is = absurd is
+
+-- what tells the globals of a sound chunk is made of a file that has it
+pub globals_made : (file : Text) (bytes : List ℕ) (p q r : Proto) (text : List ℕ) → r ≡ q → q ≡ p → HasChunk file bytes (view_proto p) → Sound (view_proto q) → IsUseText (view_proto r) text → Makes Product.Globals file bytes text
+globals_made file bytes p q r text same is has sound tells = record {
+  chunk = view_proto r;
+  has = subst (λ (x : Proto). HasChunk file bytes (view_proto x)) (sym (same ∙ is)) has;
+  is = ((λ spelled. subst (λ (x : Proto). Sound (view_proto x)) (sym same) sound), tells);
+}
 
 -- a command comes to what is done with the bytes that were fetched
 pub fetched_does : (job : Job) (w : World) (name : Text) (bytes given : List ℕ) (outcome : Outcome) (contents then : Option Contents) (calls later : List FileCall) (taken : Option (List ℕ)) (faults : ℕ) (new : Outside) → name ≡ file_of job → given ≡ bytes → then ≡ contents → later ≡ calls ++ call_of false name false ∷ [] → IfSome contents (λ held. get held name ≡ Some bytes) → Does job given w outcome (outside then later taken faults) new → Works (Some job) w outcome (outside contents calls taken faults) new

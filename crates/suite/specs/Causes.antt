@@ -9,7 +9,7 @@ use Rattle.suite.specs.Lines.{Refused}
 use Rattle.suite.specs.declared.product.Product.{Product}
 use Rattle.suite.specs.Words.{Words, Job, run_file, put_product, store_product, Reads, file_of}
 use Rattle.suite.specs.Seen.{Outside}
-use Rattle.suite.specs.Jobs.{End, stored, put, failed, unfinished, bad_source, bad_chunk, rejected, not_decompiled}
+use Rattle.suite.specs.Jobs.{End, stored, put, failed, unfinished, bad_source, bad_chunk, rejected, not_decompiled, bad_listing}
 use Rattle.suite.specs.Work.{out_of, IsStore}
 
 -- the status stays, or gives way where a put of its line was refused
@@ -53,6 +53,7 @@ status_at (bad_source fault) = Status.BadSource
 status_at (bad_chunk fault) = Status.BadChunk
 status_at (rejected rejection) = Status.Rejected
 status_at (not_decompiled refused) = Status.NotDecompiled
+status_at (bad_listing fault) = Status.BadListing
 
 -- statuses of work that ended before a run began
 abbrev pub IsRefusal : Status → Type 0
@@ -61,6 +62,7 @@ IsRefusal Status.BadSource = Unit {0}
 IsRefusal Status.BadChunk = Unit {0}
 IsRefusal Status.Rejected = Unit {0}
 IsRefusal Status.NotDecompiled = Unit {0}
+IsRefusal Status.BadListing = Unit {0}
 IsRefusal Status.ReadFault = Unit {0}
 IsRefusal status = ⊥
 
@@ -70,6 +72,7 @@ HasNoOutput (bad_source fault) = Unit {0}
 HasNoOutput (bad_chunk fault) = Unit {0}
 HasNoOutput (rejected rejection) = Unit {0}
 HasNoOutput (not_decompiled refused) = Unit {0}
+HasNoOutput (bad_listing fault) = Unit {0}
 HasNoOutput end = ⊥
 
 -- A job with these bytes comes to one end alone; but a chunk may have several sources, and it is not said which chunks are given one.

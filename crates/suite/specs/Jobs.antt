@@ -6,7 +6,7 @@ use Rattle.lua_model.specs.Endings.{Ending, Ended, Failed, Going}
 use Rattle.proto.specs.Chunk.{Chunk, strip}
 use Rattle.chunk_io.specs.declared.fault.ChunkFault.{ChunkFault}
 use Rattle.chunk_io.specs.Faults.{IsFault}
-use Rattle.chunk_io.specs.Items.{IsChunkOf, Spelled, is_chunk}
+use Rattle.chunk_io.specs.Items.{IsChunkOf, Spelled, is_chunk, le8}
 use Rattle.lister.specs.Listing.{listing}
 use Rattle.rules.specs.Run.{Conf, ran, course}
 use Rattle.rules.specs.Sound.{Sound, Rejected}
@@ -16,13 +16,17 @@ use Rattle.front.specs.declared.fault.Fault.{Fault}
 use Rattle.front.specs.Sources.{IsCompiled, IsFaultIn}
 use Rattle.decompile.specs.declared.refused.Refused.{Refused}
 use Rattle.decompile.specs.Sources.{IsSourceOf, IsRefusedBy}
+use Rattle.global_use.specs.Uses.{IsUseText}
+use Rattle.asm_text.specs.declared.fault.ListFault.{ListFault}
+use Rattle.asm_text.specs.Faults as listings
+use Rattle.asm_text.specs.Faults.{Assembles}
 use Rattle.suite.specs.declared.product.Product.{Product}
 use Rattle.suite.specs.declared.rejection.Rejection.{Rejection}
 use Rattle.suite.specs.Words.{Job, run_file, put_product, store_product}
 use Rattle.suite.specs.Worlds.{World, hosts_first, hosts_last, calls_of, replies_of, Unasked}
 
 -- what a job comes to: a text is stored or put; or a run failed, or is going after its steps, and has put a text; or the bytes have a fault, or their
--- chunk is rejected, or given no source
+-- chunk is rejected, or given no source, or they are no listing
 pub data End : Type 0 where
   stored : (text : List ℕ) → End
   put : (text : List ℕ) → End
@@ -32,6 +36,7 @@ pub data End : Type 0 where
   bad_chunk : ChunkFault → End
   rejected : Rejection → End
   not_decompiled : Refused → End
+  bad_listing : ListFault → End
 
 -- the source name of a file: `@` and its name
 abbrev pub source_name : Text → Text
@@ -47,21 +52,25 @@ SoundIfSpelled bytes chunk = is_chunk bytes ≡ true → Sound chunk
 
 -- ---- texts that are made of a file
 
--- the chunk of which a text is made; what is spelled is the chunk of a source, and a source is one of the chunk that is spelled, whatever the file begins with
+-- the chunk of which a text is made; what is spelled is the chunk of a source, or that of which the file is the listing, and a source is one of the chunk that is spelled, whatever the file
+-- begins with
 abbrev pub ChunkFor : Product → Text → List ℕ → Chunk → Type 0
 ChunkFor (Product.Spelling strip layout) file bytes chunk = IsCompiled (source_name file) bytes chunk
 ChunkFor Product.Source file bytes chunk = IsChunkOf bytes chunk
+ChunkFor Product.Assembly file bytes chunk = Assembles bytes chunk
 ChunkFor product file bytes chunk = HasChunk file bytes chunk
 
 abbrev pub stripped_if : Bool → Chunk → Chunk
 stripped_if stripped chunk = if stripped then strip chunk else chunk
 
--- the text: the chunk's listing, `ok` and a line end of a sound one, its spelling, or a source whose chunk it is, but for the numbers of lines
+-- the text: the chunk's listing, `ok` and a line end of a sound one, its spelling, a source whose chunk it is, but for the numbers of lines, or a line for each global of a sound one
 abbrev pub IsTextOf : Product → List ℕ → Chunk → List ℕ → Type 0
 IsTextOf Product.Listing bytes chunk text = text ≡ listing chunk
 IsTextOf Product.Verdict bytes chunk text = SoundIfSpelled bytes chunk × (text ≡ codes "ok" ++ 10 ∷ [])
 IsTextOf (Product.Spelling strip layout) bytes chunk text = Spelled text layout (stripped_if strip chunk)
 IsTextOf Product.Source bytes chunk text = IsSourceOf chunk text
+IsTextOf Product.Globals bytes chunk text = SoundIfSpelled bytes chunk × IsUseText chunk text
+IsTextOf Product.Assembly bytes chunk text = Spelled text le8 chunk
 
 pub record Makes (product : Product) (file : Text) (bytes : List ℕ) (text : List ℕ) : Type 0 where
   pub chunk : Chunk
@@ -74,16 +83,24 @@ pub record Makes (product : Product) (file : Text) (bytes : List ℕ) (text : Li
 abbrev pub IsSourceFor : Product → List ℕ → Type 0
 IsSourceFor (Product.Spelling strip layout) bytes = Unit {0}
 IsSourceFor Product.Source bytes = ⊥
+IsSourceFor Product.Assembly bytes = ⊥
 IsSourceFor product bytes = is_chunk bytes ≡ false
 
 abbrev pub IsChunkFor : Product → List ℕ → Type 0
 IsChunkFor (Product.Spelling strip layout) bytes = ⊥
 IsChunkFor Product.Source bytes = Unit {0}
+IsChunkFor Product.Assembly bytes = ⊥
 IsChunkFor product bytes = is_chunk bytes ≡ true
 
--- a verdict wants a sound chunk; that of a source is never rejected
+-- or as a listing
+abbrev pub IsListingFor : Product → Type 0
+IsListingFor Product.Assembly = Unit {0}
+IsListingFor product = ⊥
+
+-- a verdict wants a sound chunk, and so do globals; that of a source is never rejected
 abbrev pub WantsSound : Product → Type 0
 WantsSound Product.Verdict = Unit {0}
+WantsSound Product.Globals = Unit {0}
 WantsSound product = ⊥
 
 pub record IsRejectedFor (product : Product) (file : Text) (bytes : List ℕ) (rejection : Rejection) : Type 0 where
@@ -115,6 +132,7 @@ Refuses product file bytes (bad_source fault) = IsSourceFor product bytes × IsF
 Refuses product file bytes (bad_chunk fault) = IsChunkFor product bytes × IsFault bytes fault
 Refuses product file bytes (rejected rejection) = IsRejectedFor product file bytes rejection
 Refuses product file bytes (not_decompiled refused) = IsNotDecompiledFor product bytes refused
+Refuses product file bytes (bad_listing fault) = IsListingFor product × listings.IsFault bytes fault
 Refuses product file bytes end = ⊥
 
 -- ---- runs

@@ -2,6 +2,7 @@
 use Rattle.std.specs.Prelude.{◌≡◌, ℕ, List, [], ◌∷◌, ◌++◌, ◌⊎◌, Option, codes}
 use Rattle.std.specs.Fmt.{decimal}
 use Rattle.chunk_io.specs.Texts as chunk_faults
+use Rattle.asm_text.specs.Texts as list_faults
 use Rattle.front.specs.Texts.{fault_text}
 use Rattle.decompile.specs.Texts.{refusal_text}
 use Rattle.suite_io.specs.Parts.{TakesPart}
@@ -22,6 +23,7 @@ number_of Status.NotDecompiled = 7
 number_of Status.ReadFault = 8
 number_of Status.WriteFault = 9
 number_of Status.OutOfMemory = 10
+number_of Status.BadListing = 12
 
 -- the status of what the work came to
 abbrev pub status_of : Outcome → Status
@@ -33,6 +35,7 @@ status_of (Outcome.BadSource fault) = Status.BadSource
 status_of (Outcome.BadChunk fault) = Status.BadChunk
 status_of (Outcome.Rejected rejection) = Status.Rejected
 status_of (Outcome.NotDecompiled refused) = Status.NotDecompiled
+status_of (Outcome.BadListing fault) = Status.BadListing
 status_of Outcome.ReadFault = Status.ReadFault
 status_of Outcome.WriteFault = Status.WriteFault
 status_of Outcome.OutOfMemory = Status.OutOfMemory
@@ -58,6 +61,7 @@ line_of (Outcome.BadSource fault) name = line_with name (behind_name (fault_text
 line_of (Outcome.BadChunk fault) name = line_with name (behind_name (chunk_faults.fault_text fault))
 line_of (Outcome.Rejected rejection) name = line_with name (behind_name (rejection_text rejection))
 line_of (Outcome.NotDecompiled refused) name = line_with name (behind_name (refusal_text refused))
+line_of (Outcome.BadListing fault) name = line_with name (behind_name (list_faults.fault_text fault))
 line_of Outcome.ReadFault name = line_with name (behind_name (codes "read failed"))
 line_of Outcome.WriteFault name = line_with [] (codes "write failed")
 line_of Outcome.OutOfMemory name = line_with [] (codes "out of memory")
@@ -87,4 +91,5 @@ Reported (Outcome.BadSource fault) name result before after old new = IsPutOrWan
 Reported (Outcome.BadChunk fault) name result before after old new = IsPutOrWanting (Outcome.BadChunk fault) name result before after old new
 Reported (Outcome.Rejected rejection) name result before after old new = IsPutOrWanting (Outcome.Rejected rejection) name result before after old new
 Reported (Outcome.NotDecompiled refused) name result before after old new = IsPutOrWanting (Outcome.NotDecompiled refused) name result before after old new
+Reported (Outcome.BadListing fault) name result before after old new = IsPutOrWanting (Outcome.BadListing fault) name result before after old new
 Reported outcome name result before after old new = IsPut (status_of outcome) (line_of outcome name) result before after old new

@@ -29,6 +29,7 @@ RefusesFile Status.BadSource = Unit {0}
 RefusesFile Status.BadChunk = Unit {0}
 RefusesFile Status.Rejected = Unit {0}
 RefusesFile Status.NotDecompiled = Unit {0}
+RefusesFile Status.BadListing = Unit {0}
 RefusesFile status = ⊥
 
 -- a text is made of it; a run may also fail, or be going

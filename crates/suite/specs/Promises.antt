@@ -9,6 +9,7 @@ use Rattle.front.specs.declared.fault.Fault.{Fault}
 use Rattle.proto.specs.Chunk.{Chunk}
 use Rattle.chunk_io.specs.Items.{IsChunkOf}
 use Rattle.decompile.specs.declared.refused.Refused.{Refused}
+use Rattle.asm_text.specs.declared.fault.ListFault.{ListFault}
 use Rattle.suite.specs.declared.product.Product.{Product}
 use Rattle.suite.specs.declared.outcome.Outcome.{Outcome}
 use Rattle.suite.specs.declared.rejection.Rejection.{Rejection}
@@ -96,6 +97,7 @@ module _ (words : Words) (before behind : Seen) (result : Status) where
     pub bad_chunk : result ≡ Status.BadChunk → Fetched × (fault : ChunkFault) × ((job : Job) (bytes : List ℕ) → Asks job bytes → Comes job bytes (bad_chunk fault)) × Says (Outcome.BadChunk fault)
     pub rejected : result ≡ Status.Rejected → Fetched × (rejection : Rejection) × ((job : Job) (bytes : List ℕ) → Asks job bytes → Comes job bytes (rejected rejection)) × Says (Outcome.Rejected rejection)
     pub not_decompiled : result ≡ Status.NotDecompiled → Fetched × (refused : Refused) × ((job : Job) (bytes : List ℕ) → Asks job bytes → Comes job bytes (jobs.not_decompiled refused)) × Says (Outcome.NotDecompiled refused)
+    pub bad_listing : result ≡ Status.BadListing → Fetched × (fault : ListFault) × ((job : Job) (bytes : List ℕ) → Asks job bytes → Comes job bytes (jobs.bad_listing fault)) × Says (Outcome.BadListing fault)
     -- A chunk that is to be decompiled is given a source or refused, where no count of faults rose.
     pub decompiled : (file out : Text) (bytes : List ℕ) (chunk : Chunk) → Asks (store_product Product.Source file out) bytes → IsChunkOf bytes chunk → IsQuiet → (result ≡ Status.Done) ⊎ (result ≡ Status.NotDecompiled) ⊎ (result ≡ Status.OutOfMemory)
     pub write_fault : result ≡ Status.WriteFault → Rises before.outside.faults behind.outside.faults ⊎ Rises before.err_faults behind.err_faults ⊎ StoreFailed words before.outside.calls behind.outside.calls

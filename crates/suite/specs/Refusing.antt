@@ -8,7 +8,7 @@ use Rattle.rules.specs.Sound.{Rejected}
 use Rattle.front.specs.Sources.{IsFaultIn}
 use Rattle.suite.specs.declared.outcome.Outcome.{Outcome}
 use Rattle.suite.specs.declared.product.Product.{Product}
-use Rattle.suite.specs.Jobs.{bad_source, bad_chunk, rejected, not_decompiled, Refuses}
+use Rattle.suite.specs.Jobs.{bad_source, bad_chunk, rejected, not_decompiled, bad_listing, Refuses}
 
 -- the bytes of a source have no chunk, or memory ran out
 abbrev pub IsBadSource : List ℕ → Outcome → Type 0
@@ -41,5 +41,6 @@ IsRefusal product file bytes (Outcome.BadSource fault) = Refuses product file by
 IsRefusal product file bytes (Outcome.BadChunk fault) = Refuses product file bytes (bad_chunk fault)
 IsRefusal product file bytes (Outcome.Rejected rejection) = Refuses product file bytes (rejected rejection)
 IsRefusal product file bytes (Outcome.NotDecompiled refused) = Refuses product file bytes (not_decompiled refused)
+IsRefusal product file bytes (Outcome.BadListing fault) = Refuses product file bytes (bad_listing fault)
 IsRefusal product file bytes Outcome.OutOfMemory = Unit {0}
 IsRefusal product file bytes outcome = ⊥

@@ -143,9 +143,9 @@ compilation (file ∷ out ∷ []) strips [] layouts = option_and_then (λ strip.
 compilation files strips steps layouts = None
 
 -- two files, and no flag
-abbrev pub decompilation : List Text → (strips : ℕ) (steps layouts : List Text) → Option Job
-decompilation (file ∷ out ∷ []) zero [] [] = Some (store_product Product.Source file out)
-decompilation files strips steps layouts = None
+abbrev pub two_files : Product → List Text → (strips : ℕ) (steps layouts : List Text) → Option Job
+two_files product (file ∷ out ∷ []) zero [] [] = Some (store_product product file out)
+two_files product files strips steps layouts = None
 
 -- what the first word asks for, with the words behind it
 abbrev pub job_with : Text → Arguments → Option Job
@@ -153,8 +153,10 @@ job_with first found =
     if bytes_eq first (codes "run") then run_of found.files found.strips found.steps found.layouts
     else (if bytes_eq first (codes "list") then option_map (put_product Product.Listing) (one_file found.files found.strips found.steps found.layouts)
     else (if bytes_eq first (codes "verify") then option_map (put_product Product.Verdict) (one_file found.files found.strips found.steps found.layouts)
+    else (if bytes_eq first (codes "globals") then option_map (put_product Product.Globals) (one_file found.files found.strips found.steps found.layouts)
     else (if bytes_eq first (codes "compile") then compilation found.files found.strips found.steps found.layouts
-    else (if bytes_eq first (codes "decompile") then decompilation found.files found.strips found.steps found.layouts else None))))
+    else (if bytes_eq first (codes "decompile") then two_files Product.Source found.files found.strips found.steps found.layouts
+    else (if bytes_eq first (codes "assemble") then two_files Product.Assembly found.files found.strips found.steps found.layouts else None))))))
 
 -- what words ask for, where they are a command
 abbrev pub job_in : List Text → Option Job

@@ -11,7 +11,7 @@ use Rattle.suite.specs.declared.outcome.Outcome.{Outcome}
 use Rattle.suite.specs.Words.{Job, run_file, put_product, store_product, file_of}
 use Rattle.suite.specs.Seen.{Outside}
 use Rattle.suite.specs.Worlds.{World, hosts_first, Unasked}
-use Rattle.suite.specs.Jobs.{End, stored, put, failed, unfinished, bad_source, bad_chunk, rejected, not_decompiled, Comes, HasPut, HasStopped, HasGivenUp}
+use Rattle.suite.specs.Jobs.{End, stored, put, failed, unfinished, bad_source, bad_chunk, rejected, not_decompiled, bad_listing, Comes, HasPut, HasStopped, HasGivenUp}
 
 -- one call of files more, which changes nothing else
 abbrev pub with_call : FileCall → Outside → Outside
@@ -69,6 +69,7 @@ CarriesOut job (bad_source fault) outcome old new = (outcome ≡ Outcome.BadSour
 CarriesOut job (bad_chunk fault) outcome old new = (outcome ≡ Outcome.BadChunk fault) × Nothing old new
 CarriesOut job (rejected rejection) outcome old new = (outcome ≡ Outcome.Rejected rejection) × Nothing old new
 CarriesOut job (not_decompiled refused) outcome old new = (outcome ≡ Outcome.NotDecompiled refused) × Nothing old new
+CarriesOut job (bad_listing fault) outcome old new = (outcome ≡ Outcome.BadListing fault) × Nothing old new
 
 -- a run alone asks hosts, where it is begun
 abbrev pub MayAsk : Job → End → Type 0

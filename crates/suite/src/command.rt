@@ -15,6 +15,7 @@ use crate::output::{put_text, store_text};
 use crate::product::Product;
 use crate::running::run_bytes;
 use crate::words::Command;
+use hash_seed::Seed;
 use host::HostSet;
 use std::alloc::Global;
 use suite_io::{FileFault, Files, Sink, Word};
@@ -26,11 +27,12 @@ pub fn do_command<F: Files, O: Sink>(
     files: &mut F,
     out: &mut O,
     hosts: &mut HostSet,
+    seed: Seed,
 ) -> Outcome
     ensures { Works (Some (job_of command.entry)) (world (set_told heard hosts.old) (set_told heard hosts.new)) result (outside (F.contents files.old) (F.calls files.old) (O.taken out.old) (O.faults out.old)) (outside (F.contents files.new) (F.calls files.new) (O.taken out.new) (O.faults out.new)) }
 {
     match files.fetch(alloc, command.file()) {
-        Ok(bytes) => do_bytes(alloc, command, bytes.bytes(), files, out, hosts),
+        Ok(bytes) => do_bytes(alloc, command, bytes.bytes(), files, out, hosts, seed),
         Err(FileFault::Failed) => Outcome::ReadFault,
         Err(FileFault::OutOfMemory) => Outcome::OutOfMemory,
     }
@@ -43,11 +45,12 @@ fn do_bytes<F: Files, O: Sink>(
     files: &mut F,
     out: &mut O,
     hosts: &mut HostSet,
+    seed: Seed,
 ) -> Outcome
     ensures { Does (job_of command.entry) bytes.now (world (set_told heard hosts.old) (set_told heard hosts.new)) result (outside (F.contents files.old) (F.calls files.old) (O.taken out.old) (O.faults out.old)) (outside (F.contents files.new) (F.calls files.new) (O.taken out.new) (O.faults out.new)) }
 {
     match command {
-        Command::Run { file, steps } => run_bytes(alloc, bytes, file, steps, out, hosts),
+        Command::Run { file, steps } => run_bytes(alloc, bytes, file, steps, out, hosts, seed),
         Command::Put { product, file } => put_product(alloc, bytes, file, product, out),
         Command::Store {
             product,

@@ -10,8 +10,10 @@ ghost use Rattle.suite.specs.Refusing.{IsRefusal};
 use crate::chunk::{chunk_of, source_chunk, spelled_chunk, verified};
 use crate::outcome::Outcome;
 use crate::product::Product;
-use chunk_io::{Layout, dump_as};
+use asm_text::{ListFault, assemble};
+use chunk_io::{Layout, dump, dump_as};
 use decompile::{Refused, decompile};
+use global_use::global_text;
 use lister::list;
 use lua_num::ByteText;
 use proto::Proto;
@@ -33,6 +35,8 @@ pub fn made_text(
         Product::Verdict => verdict_on(alloc, bytes, file),
         Product::Spelling { strip, layout } => spelling_of(alloc, bytes, file, strip, layout),
         Product::Source => source_of(alloc, bytes),
+        Product::Globals => globals_of(alloc, bytes, file),
+        Product::Assembly => assembly_of(alloc, bytes),
     }
 }
 
@@ -103,6 +107,41 @@ fn source_of(alloc: Global, bytes: &[u8]) -> Result<ByteText, Outcome>
         Ok(text) => Ok(text),
         Err(Refused::OutOfMemory) => Err(Outcome::OutOfMemory),
         Err(refused) => Err(Outcome::NotDecompiled(refused)),
+    }
+}
+
+fn globals_of(alloc: Global, bytes: &[u8], file: &Word) -> Result<ByteText, Outcome>
+    ensures made { IfOk result (Makes product.Globals (string_bytes file.now) bytes.now) }
+    ensures none { IfErr result (IsRefusal product.Globals (string_bytes file.now) bytes.now) }
+{
+    // Laws: the chunk of a source is sound, so that it is never rejected.
+    front::compiled_is_sound();
+    rules::never_both();
+    let proto = match chunk_of(alloc, bytes, file) {
+        Ok(proto) => proto,
+        Err(outcome) => return Err(outcome),
+    };
+    match verified(alloc, proto) {
+        Ok(chunk) => match global_text(alloc, chunk.proto()) {
+            Ok(text) => Ok(text),
+            Err(_) => Err(Outcome::OutOfMemory),
+        },
+        Err(outcome) => Err(outcome),
+    }
+}
+
+fn assembly_of(alloc: Global, bytes: &[u8]) -> Result<ByteText, Outcome>
+    ensures made { IfOk result (λ text. (file : Text) → Makes product.Assembly file bytes.now text) }
+    ensures none { IfErr result (λ outcome. (file : Text) → IsRefusal product.Assembly file bytes.now outcome) }
+{
+    let proto = match assemble(alloc, bytes) {
+        Ok(proto) => proto,
+        Err(ListFault::OutOfMemory) => return Err(Outcome::OutOfMemory),
+        Err(fault) => return Err(Outcome::BadListing(fault)),
+    };
+    match dump(alloc, &proto) {
+        Ok(text) => Ok(text),
+        Err(_) => Err(Outcome::OutOfMemory),
     }
 }
 

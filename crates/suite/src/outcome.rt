@@ -4,6 +4,7 @@ ghost use Rattle.suite.specs.Lines.{status_of};
 
 use crate::rejection::Rejection;
 use crate::status::Status;
+use asm_text::ListFault;
 use chunk_io::ChunkFault;
 use decompile::Refused;
 use front::Fault;
@@ -22,6 +23,7 @@ pub enum Outcome {
     BadChunk(ChunkFault),
     Rejected(Rejection),
     NotDecompiled(Refused),
+    BadListing(ListFault),
     ReadFault,
     WriteFault,
     OutOfMemory,
@@ -41,6 +43,7 @@ impl Outcome {
             Outcome::BadChunk(_) => Status::BadChunk,
             Outcome::Rejected(_) => Status::Rejected,
             Outcome::NotDecompiled(_) => Status::NotDecompiled,
+            Outcome::BadListing(_) => Status::BadListing,
             Outcome::ReadFault => Status::ReadFault,
             Outcome::WriteFault => Status::WriteFault,
             Outcome::OutOfMemory => Status::OutOfMemory,

@@ -12,4 +12,8 @@ pub enum Product {
     Spelling { strip: bool, layout: Layout },
     /// The text of a source that has it; the file is read as a chunk, whatever it begins with.
     Source,
+    /// A line for each global that it names, where it is sound.
+    Globals,
+    /// The spelling of the chunk of which the file is the listing, whatever the file begins with.
+    Assembly,
 }

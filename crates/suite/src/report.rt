@@ -40,6 +40,10 @@ pub fn report<E: Sink>(alloc: Global, err: &mut E, outcome: Outcome, name: &str)
             let text = format!(in alloc; ": {refused}");
             put_made_line(err, status, name, text)
         }
+        Outcome::BadListing(fault) => {
+            let text = format!(in alloc; ": {fault}");
+            put_made_line(err, status, name, text)
+        }
         Outcome::ReadFault => put_line(err, status, name, b": read failed"),
         Outcome::WriteFault => put_line(err, status, "", b"write failed"),
         Outcome::OutOfMemory => put_line(err, status, "", b"out of memory"),

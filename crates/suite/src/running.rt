@@ -14,6 +14,7 @@ ghost use Rattle.suite.specs.Work.{Does};
 
 use crate::chunk::{chunk_of, verified};
 use crate::outcome::Outcome;
+use hash_seed::Seed;
 use host::HostSet;
 use machine::{RunEnd, run};
 use std::alloc::Global;
@@ -28,6 +29,7 @@ pub fn run_bytes<O: Sink>(
     steps: u64,
     out: &mut O,
     hosts: &mut HostSet,
+    seed: Seed,
 ) -> Outcome
     ensures { (contents : Option Contents) (calls : List FileCall) → Does (run_file (string_bytes file.now) steps) bytes.now (world (set_told heard hosts.old) (set_told heard hosts.new)) result (outside contents calls (O.taken out.old) (O.faults out.old)) (outside contents calls (O.taken out.new) (O.faults out.new)) }
 {
@@ -39,7 +41,7 @@ pub fn run_bytes<O: Sink>(
         Err(outcome) => return outcome,
     };
     match verified(alloc, proto) {
-        Ok(chunk) => run_chunk(alloc, &chunk, steps, out, hosts),
+        Ok(chunk) => run_chunk(alloc, &chunk, steps, out, hosts, seed),
         Err(outcome) => outcome,
     }
 }
@@ -50,12 +52,13 @@ fn run_chunk<O: Sink>(
     steps: u64,
     out: &mut O,
     hosts: &mut HostSet,
+    seed: Seed,
 ) -> Outcome
     ensures { (file : Text) (bytes : List ℕ) → HasChunk file bytes (view_proto chunk.now) → (contents : Option Contents) (calls : List FileCall) → Does (run_file file steps) bytes (world (set_told heard hosts.old) (set_told heard hosts.new)) result (outside contents calls (O.taken out.old) (O.faults out.old)) (outside contents calls (O.taken out.new) (O.faults out.new)) }
 {
     // Called for its clause that the chunk is sound.
     let _ = chunk.proto();
-    match run(alloc, chunk, steps, out, hosts) {
+    match run(alloc, chunk, steps, out, hosts, seed) {
         RunEnd::Done => Outcome::Done,
         RunEnd::Failed(why) => Outcome::ScriptFailed(why),
         RunEnd::Unfinished => Outcome::Unfinished(steps),

@@ -26,6 +26,8 @@ pub enum Status {
     /// Output, or the line that says why, could not be written.
     WriteFault = 9,
     OutOfMemory = 10,
+    /// The file is the listing of no chunk.
+    BadListing = 12,
 }
 
 impl Status {

@@ -8,15 +8,18 @@ use crate::outcome::Outcome;
 use crate::report::report;
 use crate::status::Status;
 use crate::words::read_words;
+use hash_seed::Seed;
 use host::HostSet;
 use std::alloc::Global;
 use suite_io::{Files, Sink, Word};
 
 /// Carries out the command that the words say: `run FILE [--steps N]` runs the chunk that the file spells or that the compiler makes of its source, where it
-/// is sound, with these hosts and for at most N steps, `list FILE` puts the listing of that chunk, `verify FILE` puts `ok` where it is sound, and
-/// `compile SRC OUT [--strip] [--layout L]` stores the chunk of a source as OUT, and `decompile CHUNK OUT` the text of a source of a chunk. Every other list of words is refused. The work goes in the order words,
+/// is sound, with these hosts and for at most N steps, `list FILE` puts the listing of that chunk, `verify FILE` puts `ok` where it is sound, `globals FILE` a line for each
+/// global that it names, `compile SRC OUT [--strip] [--layout L]` stores the chunk of a source as OUT, `decompile CHUNK OUT` the text of a source of a chunk, and `assemble IN OUT` the chunk of a
+/// listing. Every other list of words is refused. The work goes in the order words,
 /// fetch, reading (of source: tokens, tree, scopes, chunk), verification, run or listing or store, and the line for `err` that every status
-/// but `Done` has; the first refusal gives the status. What was put to `out` before a refusal stays. Want of memory is a free answer.
+/// but `Done` has; the first refusal gives the status. What was put to `out` before a refusal stays. Want of memory is a free answer. The seed says how a run hashes its
+/// texts and keys, and nothing else.
 ///
 /// What it promises of that is one record, `specs/Promises`, over what is seen before and behind.
 pub fn suite<F: Files, O: Sink, E: Sink>(
@@ -26,6 +29,7 @@ pub fn suite<F: Files, O: Sink, E: Sink>(
     out: &mut O,
     err: &mut E,
     hosts: &mut HostSet,
+    seed: Seed,
 ) -> Status
     ensures { Promises words.now
         (seen (F.contents files.old) (F.calls files.old) (O.taken out.old) (O.faults out.old) (E.taken err.old) (E.faults err.old) (set_told heard hosts.old))
@@ -37,11 +41,16 @@ pub fn suite<F: Files, O: Sink, E: Sink>(
     chunk_io::chunks_are_one();
     chunk_io::never_both();
     rules::never_both();
+    // A law: a chunk has one text of its globals.
+    global_use::texts_are_one();
+    // Laws: a text is the listing of one chunk, or has a fault.
+    asm_text::chunks_are_one();
+    asm_text::never_both();
     // A law: the chunk of a source does what the source means.
     front::compiled_does();
     match read_words(words) {
         Some(command) => {
-            let outcome = do_command(alloc, command, files, out, hosts);
+            let outcome = do_command(alloc, command, files, out, hosts, seed);
             report(alloc, err, outcome, command.file().as_str())
         }
         None => report(alloc, err, Outcome::BadWords, ""),

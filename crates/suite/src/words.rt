@@ -4,7 +4,7 @@ ghost use Rattle.std.specs.List.{list_all};
 ghost use Rattle.std.specs.String.{string_bytes};
 ghost use Rattle.std.specs.Str.{bytes_eq};
 ghost use Rattle.lua_num.specs.Bytes.{Text, is_digit};
-ghost use Rattle.suite.specs.Words.{Reads, NoCommand, Arguments as Asked, job_of, job_with, arguments as the_arguments, files_alone, with_strip as add_strip, with_file as add_file, with_steps as add_steps, with_layout as add_layout, one_file as the_one_file, run_of as the_run_of, steps_in as the_steps_in, strip_in as the_strip_in, layout_in as the_layout_in, layout_named as the_layout_named, has_room as the_has_room, compilation as the_compilation, decompilation as the_decompilation, is_flag as the_is_flag, texts};
+ghost use Rattle.suite.specs.Words.{Reads, NoCommand, Arguments as Asked, job_of, job_with, arguments as the_arguments, files_alone, with_strip as add_strip, with_file as add_file, with_steps as add_steps, with_layout as add_layout, one_file as the_one_file, run_of as the_run_of, steps_in as the_steps_in, strip_in as the_strip_in, layout_in as the_layout_in, layout_named as the_layout_named, has_room as the_has_room, compilation as the_compilation, two_files as the_two_files, is_flag as the_is_flag, texts};
 ghost use Rattle.suite.specs.Arguments.{Shows, IsFound, IsKind, AreValues};
 
 use crate::product::Product;
@@ -104,8 +104,8 @@ const MOST_ARGUMENTS: usize = 6;
 /// Sizes of 4 bytes tell no source name of a file whose name has this many bytes or more.
 const LONG_NAME: usize = 0xffff_fffe;
 
-/// The command of the words `run FILE [--steps N]`, `list FILE`, `verify FILE`, `compile SRC OUT [--strip] [--layout L]` or `decompile CHUNK OUT`; `None` for all other words. Flags may stand
-/// at any place behind the first word. Behind `--` all words stand for files; before it a word for a file begins with `-` only where
+/// The command of the words `run FILE [--steps N]`, `list FILE`, `verify FILE`, `globals FILE`, `compile SRC OUT [--strip] [--layout L]`, `decompile CHUNK OUT` or `assemble IN OUT`;
+/// `None` for all other words. Flags may stand at any place behind the first word. Behind `--` all words stand for files; before it a word for a file begins with `-` only where
 /// that is the whole word.
 pub fn read_words(words: &[Word]) -> Option<Command<'_>>
     ensures command { IfSome result (λ command. Reads words.now (job_of command)) }
@@ -273,8 +273,13 @@ fn command_of<'a>(first: &str, found: Arguments<'a>) -> Option<Command<'a>>
             product: Product::Verdict,
             file: one_file(found)?,
         }),
+        "globals" => Some(Command::Put {
+            product: Product::Globals,
+            file: one_file(found)?,
+        }),
         "compile" => compilation(found),
-        "decompile" => decompilation(found),
+        "decompile" => two_files(Product::Source, found),
+        "assemble" => two_files(Product::Assembly, found),
         _ => None,
     }
 }
@@ -344,18 +349,14 @@ fn compilation(found: Arguments<'_>) -> Option<Command<'_>>
     Some(Command::Store { product, file, out })
 }
 
-// The decompilation, where the words name two files, with no flag.
-fn decompilation(found: Arguments<'_>) -> Option<Command<'_>>
-    ensures some { (asked : Asked) → Shows found.entry asked → IfSome result (λ command. the_decompilation asked.files asked.strips asked.steps asked.layouts ≡ Some (job_of command)) }
-    ensures none { (asked : Asked) → Shows found.entry asked → IfNone result (the_decompilation asked.files asked.strips asked.steps asked.layouts ≡ None) }
+// What makes a text of one file and stores it as another, where the words name two files, with no flag.
+fn two_files(product: Product, found: Arguments<'_>) -> Option<Command<'_>>
+    ensures some { (asked : Asked) → Shows found.entry asked → IfSome result (λ command. the_two_files product asked.files asked.strips asked.steps asked.layouts ≡ Some (job_of command)) }
+    ensures none { (asked : Asked) → Shows found.entry asked → IfNone result (the_two_files product asked.files asked.strips asked.steps asked.layouts ≡ None) }
 {
     match (found.files, found.steps, found.layouts) {
         (FileWords::Two(file, out), ValueWords::No, ValueWords::No) if found.strips == 0 => {
-            Some(Command::Store {
-                product: Product::Source,
-                file,
-                out,
-            })
+            Some(Command::Store { product, file, out })
         }
         _ => None,
     }

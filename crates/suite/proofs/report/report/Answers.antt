@@ -19,3 +19,8 @@ pub returns-in-NotDecompiled : goal.returns-in-NotDecompiled
 returns-in-NotDecompiled g c =
     subst (λ (outcome : Outcome). Reported outcome c.args.name.now c.put_made_line-in-NotDecompiled.result (g.E.Sink.taken c.args.err.now) (g.E.Sink.taken c.put_made_line-in-NotDecompiled.new.err) (g.E.Sink.faults c.args.err.now) (g.E.Sink.faults c.put_made_line-in-NotDecompiled.new.err)) (sym c.in-NotDecompiled.is)
     (made_or_wanting string_bytes (Outcome.NotDecompiled c.in-NotDecompiled.refused) c.args.name.now _ _ c.format-text-in-NotDecompiled.result _ c.put_made_line-in-NotDecompiled.result _ _ _ _ (c.status-status.ensures ∙ ap status_of c.in-NotDecompiled.is) refl c.format-text-in-NotDecompiled.ensures.ok c.put_made_line-in-NotDecompiled.ensures.made c.put_made_line-in-NotDecompiled.ensures.wanting)
+
+pub returns-in-BadListing : goal.returns-in-BadListing
+returns-in-BadListing g c =
+    subst (λ (outcome : Outcome). Reported outcome c.args.name.now c.put_made_line-in-BadListing.result (g.E.Sink.taken c.args.err.now) (g.E.Sink.taken c.put_made_line-in-BadListing.new.err) (g.E.Sink.faults c.args.err.now) (g.E.Sink.faults c.put_made_line-in-BadListing.new.err)) (sym c.in-BadListing.is)
+    (made_or_wanting string_bytes (Outcome.BadListing c.in-BadListing.fault) c.args.name.now _ _ c.format-text-in-BadListing.result _ c.put_made_line-in-BadListing.result _ _ _ _ (c.status-status.ensures ∙ ap status_of c.in-BadListing.is) refl c.format-text-in-BadListing.ensures.ok c.put_made_line-in-BadListing.ensures.made c.put_made_line-in-BadListing.ensures.wanting)
