@@ -4,10 +4,12 @@
 // the files stay from call to call, and sinks and hosts are new. The host `ask`, number 0, replies true and 5, and the host
 // `readline` replies `x`, and then fails with `closed pipe`. A row may begin with a put that fails or finds no memory, as
 // `out fails 3: ` or `err full 2: `, with a call of files that fails, as `files fails 2: `, with how many bytes a put takes, as
-// `limit 1: `, or with a text, as `lines WORD: `: of what `out` took, only the lines that hold it are then printed. A row
-// with no `: ` is a heading.
+// `limit 1: `, or with a text, as `lines WORD: `: of what `out` took, only the lines that hold it are then printed. `each failing: ` goes
+// over each call of files and each put that can fail, and `each changed: ` over each change of a byte of the file `b` that the first call stores.
+// A row with no `: ` is a heading.
 #![tactic(auto)]
 
+mod every;
 mod full_sink;
 mod hosts;
 mod row;
@@ -16,7 +18,7 @@ use full_sink::FullSink;
 use hash_seed::Seed;
 use host::{Host, HostSet, ScriptHost};
 use hosts::{ask_replies, calls_text, line_replies};
-use row::{Ending, Row, read_row};
+use row::{Ending, Row, Scope, read_row};
 use std::alloc::{AllocError, Global};
 use std::io;
 use suite::{Status, suite};
@@ -26,11 +28,19 @@ fn main(rt: HostRuntime) -> io::Result<()> {
     for line in rt.lines(rt.alloc()) {
         let text = line?;
         match read_row(rt.alloc(), text.as_str())? {
-            Some(row) => println!(rt; "{text}  =>  {}", answer(rt.alloc(), &row)?)?,
+            Some(row) => println!(rt; "{text}  =>  {}", answer_of(rt.alloc(), &row)?)?,
             None => println!(rt; "{text}")?,
         }
     }
     Ok(())
+}
+
+fn answer_of(alloc: Global, row: &Row) -> Result<String, AllocError> {
+    match row.scope {
+        Scope::Once => answer(alloc, row),
+        Scope::EachFailing => every::failing(alloc, row),
+        Scope::EachChanged => every::changed(alloc, row),
+    }
 }
 
 fn answer(alloc: Global, row: &Row) -> Result<String, AllocError> {
@@ -122,7 +132,7 @@ fn lines_with(alloc: Global, taken: &[u8], shown: &str) -> Result<Vec<u8>, Alloc
 }
 
 // Calls the suite with the hosts of the rows. Answers the status, and what was asked of the hosts.
-fn called<O: Sink, E: Sink>(
+pub(crate) fn called<O: Sink, E: Sink>(
     alloc: Global,
     words: &[Word],
     files: &mut MemoryFiles,

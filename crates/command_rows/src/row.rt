@@ -11,6 +11,16 @@ pub enum Ending {
     Limit,
 }
 
+/// Over what the calls go.
+#[derive(Clone, Copy)]
+pub enum Scope {
+    Once,
+    /// Each call of files and each put that can fail, one after the other.
+    EachFailing,
+    /// Each change of a byte of the file that the first call stores.
+    EachChanged,
+}
+
 /// Calls of the suite, one after the other over the same files. The puts of these numbers end as `ending` says, and the call of
 /// files fails; no put or call has the number 0. Of what `out` took, the lines that hold the text `shown` are shown.
 #[derive(Drop)]
@@ -18,6 +28,7 @@ pub struct Row {
     pub calls: Vec<Vec<Word>>,
     pub source: Vec<u8>,
     pub shown: String,
+    pub scope: Scope,
     pub ending: Ending,
     pub limit: usize,
     pub out_ends: u64,
@@ -49,6 +60,7 @@ fn read_parts(
         calls: read_calls(alloc, words)?,
         source: read_source(alloc, source)?,
         shown: String::from_str(alloc, if sink == "lines" { end } else { "" })?,
+        scope: scope_of(front),
         ending: match (sink, kind) {
             ("limit", _) => Ending::Limit,
             (_, "full") => Ending::Full,
@@ -59,6 +71,14 @@ fn read_parts(
         err_ends: if sink == "err" { number } else { 0 },
         files_end: if sink == "files" { number } else { 0 },
     }))
+}
+
+fn scope_of(front: &str) -> Scope {
+    match front {
+        "each failing" => Scope::EachFailing,
+        "each changed" => Scope::EachChanged,
+        _ => Scope::Once,
+    }
 }
 
 fn read_calls(alloc: Global, text: &str) -> Result<Vec<Vec<Word>>, AllocError> {
