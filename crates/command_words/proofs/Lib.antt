@@ -1,0 +1,10 @@
+pub mod RuleLemmas
+pub mod TurnLemmas
+pub mod KindLemmas
+pub mod RowLemmas
+pub mod SettleLemmas
+pub mod AskedLemmas
+pub mod EndLemmas
+pub mod ReadLemmas
+pub mod FoundLemmas
+pub mod ParseLemmas
