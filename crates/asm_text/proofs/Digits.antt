@@ -1,12 +1,12 @@
 -- Numbers without leading zeros are their decimal texts.
-use Rattle.std.proofs.Common.{◌≡◌, ◌≢◌, ℕ, zero, suc, ◌+◌, ◌-◌, ◌*◌, ◌/◌, ◌%◌, ◌^◌, ◌<◌, ◌≤◌, Bool, true, false, cond, eqb, ltb, ◌&&◌, List, [], ◌∷◌, ◌++◌, length, Option, None, Some, refl, sym, ap, subst, ◌∙◌, append_assoc, arith, true≢false}
-use Rattle.std.proofs.lemmas.Bool.{ne_eqb, eq-eqb, eqb-true, eqb-false}
+use Rattle.std.proofs.Common.{◌≡◌, ◌≢◌, ℕ, zero, suc, ◌+◌, ◌-◌, ◌*◌, ◌/◌, ◌%◌, ◌^◌, ◌<◌, ◌≤◌, Bool, true, false, cond, eqb, ltb, ◌&&◌, [], ◌∷◌, ◌++◌, Option, None, Some, refl, sym, ap, subst, ◌∙◌, append_assoc, arith}
+use Rattle.std.proofs.lemmas.Bool.{ne_eqb, eqb-true, eqb-false}
 use Rattle.std.proofs.lemmas.Bool.Decides.{nat_tests}
 use Rattle.std.proofs.lemmas.Fmt.{decimal_digit, decimal_step_wide, decimal_by_steps_wide}
 use Rattle.std.specs.Fmt.{decimal}
 use Rattle.lua_num.specs.Bytes.{Text, is_digit}
 use Rattle.asm_text.specs.Reading.{◌&>=◌, if_below, digits_from, begins_digit, number_at}
-use Rattle.asm_text.proofs.Cutting.{the_same, same_pair}
+use Rattle.asm_text.proofs.Cutting.{the_same}
 use Rattle.asm_text.proofs.Fronts.{NoDigit, Takes}
 
 abbrev IsDigit : ℕ → Type 0

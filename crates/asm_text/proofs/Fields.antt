@@ -1,21 +1,20 @@
 -- The fields of an instruction are read from what shows them.
-use Rattle.std.proofs.Common.{◌≡◌, ◌≢◌, ℕ, zero, suc, ◌+◌, ◌-◌, ◌<◌, ◌≤◌, ◌^◌, ℤ, pos, negsuc, Bool, true, false, cond, eqb, leb, ◌&&◌, List, [], ◌∷◌, ◌++◌, length, Option, None, Some, refl, sym, ap, subst, ◌∙◌, append_assoc, arith, codes}
+use Rattle.std.proofs.Common.{◌≡◌, ℕ, ◌+◌, ◌-◌, ◌<◌, ◌≤◌, ℤ, pos, negsuc, Bool, true, false, cond, leb, ◌∷◌, ◌++◌, Option, None, Some, refl, sym, ap, subst, ◌∙◌, arith, codes}
 use Rattle.std.proofs.lemmas.Bool.{ne_eqb}
 use Rattle.std.proofs.lemmas.Bool.Decides.{nat_tests}
 use Rattle.std.specs.Prelude.{neg_ℤ, ◌≤ℤ◌}
 use Rattle.std.proofs.lemmas.Int.{ints}
 use Rattle.std.specs.Fmt.{decimal}
 use Rattle.lua_num.specs.Bytes.{Text}
-use Rattle.lua_num.specs.Numeral.{decimal_text}
 use Rattle.opcode.specs.declared.op.Op.{Op}
 use Rattle.opcode.specs.declared.op.Format.{Format}
 use Rattle.opcode.specs.declared.word.Instr.{Instr}
-use Rattle.opcode.specs.Word.{format_of, FieldsFit, InRange}
+use Rattle.opcode.specs.Word.{format_of, FieldsFit}
 use Rattle.lister.specs.Listing.{digits, is_constant, field_text, fields_text, Shape, shows_constant, shows_function, shows_jump, shows_two, shape_of}
-use Rattle.asm_text.specs.Reading.{◌&>=◌, then_cut, as_cut, after, behind, number_at, signed_at, field_from, field_at, instr, fields_at}
+use Rattle.asm_text.specs.Reading.{◌&>=◌, after, number_at, field_from, field_at, instr, fields_at}
 use Rattle.asm_text.proofs.Cutting.{the_same, after_there, after_back}
-use Rattle.asm_text.proofs.Fronts.{NoDigit, Takes, Starts, takes_then, takes_as, takes_behind, starts_behind, behind_back, behind_there}
-use Rattle.asm_text.proofs.Digits.{takes_number, FirstDigit, first_of_decimal}
+use Rattle.asm_text.proofs.Fronts.{NoDigit, Takes, Starts, takes_then, takes_as, takes_behind}
+use Rattle.asm_text.proofs.Digits.{takes_number, first_of_decimal}
 use Rattle.asm_text.proofs.Signed.{Within, takes_signed}
 
 -- ---- a field that may be a constant

@@ -1,18 +1,16 @@
 -- The lines of a chunk that some bytes spell are allowed, and a chunk with such lines is spelled by some bytes.
-use Rattle.std.proofs.Common.{◌≡◌, ◌≢◌, ℕ, zero, suc, ◌+◌, ◌<◌, ◌≤◌, ◌^◌, ℤ, Bool, true, false, cond, eqb, ◌||◌, List, [], ◌∷◌, ◌++◌, length, Option, None, Some, refl, sym, ap, subst, ◌∙◌, arith, codes}
-use Rattle.std.specs.Int.{Width, w32, w64, to_le_bytes, cast_unsigned}
+use Rattle.std.proofs.Common.{◌≡◌, ℕ, suc, ◌+◌, ◌<◌, ◌≤◌, Bool, true, false, cond, eqb, ◌||◌, List, [], ◌∷◌, ◌++◌, length, Option, None, Some, refl, ap, subst, arith, codes}
+use Rattle.std.specs.Int.{w32, w64, to_le_bytes, cast_unsigned}
 use Rattle.std.specs.List.{flat_map, AllByRecursion}
 use Rattle.std.proofs.lemmas.List.{length-append}
 use Rattle.lua_num.specs.Bytes.{Text}
 use Rattle.proto.specs.declared.parts.Constant.{Constant}
 use Rattle.proto.specs.declared.parts.LocVar.{LocVar}
 use Rattle.proto.specs.Chunk.{Own, Chunk, function, Functions, no_functions, and_function, function_count}
-use Rattle.lister.specs.Listing.{digits, line, spaced, quoted_byte, quoted, three_digits, source_text, constant_text, local_text, shown, is_block_next}
+use Rattle.lister.specs.Listing.{digits, line, spaced, quoted_byte, quoted, three_digits, local_text, shown, is_block_next}
 use Rattle.chunk_io.specs.declared.layout.Layout.{Layout}
-use Rattle.chunk_io.specs.Items.{Item, begin as begins, shape as shapes, int, instruction, any_size, some_size, text, ending, end as ends, tag, flag, number, bytes_of, Allowed as AllowedItem, header, string_items, source_items, constant_items, local_items, counted, shape_items, front_items, debug_items, function_items, each_items, items, spelling, Fits, Spelled, IsChunkOf, le8}
-use Rattle.asm_text.specs.Lines.{Place, begin, name, source, defined, shape, count, word, constant, lines, local, upvalue_name, end, words_from, constants_from, locals_from, names_from, own_places, function_places, each_places, listed, Shows, AreBytes, Allowed, IsOneLine, together, Show}
-use Rattle.asm_text.specs.Faults.{Assembles}
-use Rattle.asm_text.proofs.Shown.{all_first, all_second}
+use Rattle.chunk_io.specs.Items.{Item, shape as shapes, int, instruction, end as ends, flag, bytes_of, Allowed as AllowedItem, header, string_items, source_items, constant_items, local_items, counted, shape_items, front_items, debug_items, function_items, each_items, items, spelling, IsChunkOf, le8}
+use Rattle.asm_text.specs.Lines.{Place, begin, source, constant, local, upvalue_name, words_from, constants_from, locals_from, names_from, own_places, function_places, each_places, listed, Shows, AreBytes, Allowed, together, Show}
 use Rattle.asm_text.proofs.Whole.{AreLines}
 
 abbrev GoodItem : Item → Type 0

@@ -1,9 +1,9 @@
 -- Parts of a line: what is cut off a text is what stands there in its one spelling, and it is cut off.
-use Rattle.std.proofs.Common.{◌≡◌, ◌≢◌, ℕ, zero, suc, Bool, true, false, List, [], ◌∷◌, ◌++◌, length, Option, None, Some, refl, sym, ap, subst, ◌∙◌, append_assoc, arith}
+use Rattle.std.proofs.Common.{◌≡◌, ℕ, false, [], ◌∷◌, ◌++◌, Option, None, Some, refl, sym, ap, subst, ◌∙◌, append_assoc}
 use Rattle.std.proofs.lemmas.List.{append-nil}
 use Rattle.lua_num.specs.Bytes.{Text, is_digit}
 use Rattle.asm_text.specs.Reading.{Cut, ◌&>=◌, then_cut, as_cut, if_empty, whole, after, behind, begins_digit}
-use Rattle.asm_text.proofs.Cutting.{the_same, same_pair, after_there, after_back}
+use Rattle.asm_text.proofs.Cutting.{the_same, after_there, after_back}
 
 -- no digit follows
 abbrev pub NoDigit : Text → Type 0

@@ -1,5 +1,5 @@
 -- A function, with the functions in it.
-use Rattle.std.proofs.Common.{◌≡◌, ℕ, zero, suc, ◌+◌, ◌<◌, Bool, true, false, List, [], ◌∷◌, ◌++◌, length, Option, None, Some, Err, refl, sym, ap, subst, ◌∙◌, arith, codes}
+use Rattle.std.proofs.Common.{◌≡◌, ℕ, zero, suc, ◌+◌, false, List, [], ◌∷◌, ◌++◌, length, Option, None, Err, refl, sym, ap, ◌∙◌, arith, codes}
 use Rattle.std.specs.List.{flat_map}
 use Rattle.lua_num.specs.Bytes.{Text}
 use Rattle.proto.specs.declared.parts.Constant.{Constant}
@@ -7,8 +7,8 @@ use Rattle.proto.specs.declared.parts.LocVar.{LocVar}
 use Rattle.proto.specs.Chunk.{Own, Chunk, function, Functions, no_functions, and_function, function_count, functions_of}
 use Rattle.asm_text.specs.declared.front.Front.{Front}
 use Rattle.asm_text.specs.declared.miss.Miss.{Miss}
-use Rattle.asm_text.specs.Lines.{Place, begin, name, source, defined, shape, count, word, constant, lines, local, upvalue_name, words_from, constants_from, locals_from, names_from, own_places, function_places, each_places}
-use Rattle.asm_text.specs.Reading.{Read, then_at, as_at, many_at, line_at, counted_at, count_at, name_at, source_at, defined_at, shape_at, lines_at, item_at, constant_at, local_at, whole_quoted_at, word_line, next_word, next_number, code_at, constants_at, locals_at, names_at, front_at, debug_at, own_of, own_at, no_state, chunk_at}
+use Rattle.asm_text.specs.Lines.{Place, begin, name, source, defined, shape, count, lines, words_from, constants_from, locals_from, names_from, own_places, function_places, each_places}
+use Rattle.asm_text.specs.Reading.{Read, then_at, as_at, many_at, counted_at, next_word, next_number, code_at, constants_at, locals_at, names_at, front_at, debug_at, own_of, own_at, no_state, chunk_at}
 use Rattle.asm_text.proofs.Phrases.{Reads, reads_line}
 use Rattle.asm_text.proofs.Joined.{reads_then}
 use Rattle.asm_text.proofs.Begins.{begun, reads_begun, reads_too_deep}

@@ -22,3 +22,5 @@ pub mod Fitted
 pub mod OneAnswer
 pub mod Turns
 pub mod LoopStates
+mod Examples
+mod Uncounted

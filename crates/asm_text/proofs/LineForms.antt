@@ -1,23 +1,23 @@
 -- Each line of a listing, but for the words of code, is read as what it says.
-use Rattle.std.proofs.Common.{◌≡◌, ◌≢◌, ℕ, zero, suc, ◌+◌, ◌<◌, ◌≤◌, ◌^◌, ℤ, pos, negsuc, FitsSigned, w64, Bool, true, false, cond, eqb, not, ◌&&◌, List, [], ◌∷◌, ◌++◌, length, Option, None, Some, refl, sym, ap, subst, ◌∙◌, append_assoc, arith, codes}
+use Rattle.std.proofs.Common.{◌≡◌, ℕ, zero, suc, ◌<◌, ◌≤◌, ◌^◌, ℤ, pos, negsuc, Bool, true, false, cond, eqb, not, List, [], ◌∷◌, ◌++◌, length, Option, None, Some, refl, sym, ap, subst, ◌∙◌, append_assoc, arith, codes}
 use Rattle.std.specs.Str.{bytes_eq}
-use Rattle.std.specs.List.{flat_map, AllByRecursion}
+use Rattle.std.specs.List.{AllByRecursion}
 use Rattle.std.specs.Fmt.{decimal}
-use Rattle.std.proofs.lemmas.Bool.{ne_eqb, eqb-true, eqb-false}
+use Rattle.std.proofs.lemmas.Bool.{ne_eqb, eqb-false}
 use Rattle.std.proofs.lemmas.List.{append-nil}
 use Rattle.lua_num.specs.Bytes.{Text}
 use Rattle.lua_num.specs.Numeral.{decimal_text}
 use Rattle.proto.specs.declared.parts.Constant.{Constant}
 use Rattle.proto.specs.declared.parts.LocVar.{LocVar}
-use Rattle.lister.specs.Listing.{digits, spaced, quoted, constant_text, source_text, local_text, shown}
+use Rattle.lister.specs.Listing.{digits, spaced, quoted, constant_text, source_text, local_text}
 use Rattle.asm_text.specs.Lines.{Place, name, source, defined, shape, count, word, constant, lines, local, upvalue_name, IsWord, Allowed, AreBytes, IsAlike, Shows}
-use Rattle.asm_text.specs.Reading.{Cut, ◌&>=◌, then_cut, as_cut, whole, with_byte, cut_at, after, behind, number_at, spaced_at, spaced_many, quoted_at, whole_quoted_at, begins_quote, whole_number_at, constant_at, is_empty, is_some_cut, is_word, if_word, name_at, source_from, source_at, defined_at, four_at, shape_at, count_at, counted_lines, lines_at, item_at, local_at, word_at}
-use Rattle.asm_text.proofs.Cutting.{the_same, Lacks, cut_back, cut_there, after_there, after_back}
-use Rattle.asm_text.proofs.Fronts.{NoDigit, Takes, Starts, Wholes, takes_then, starts_then, takes_as, takes_behind, starts_behind, whole_of, wholes_behind, behind_back, behind_there}
+use Rattle.asm_text.specs.Reading.{◌&>=◌, then_cut, whole, with_byte, cut_at, behind, spaced_at, spaced_many, quoted_at, whole_quoted_at, begins_quote, whole_number_at, constant_at, is_some_cut, is_word, if_word, name_at, source_from, source_at, defined_at, four_at, shape_at, count_at, counted_lines, lines_at, item_at, local_at, word_at}
+use Rattle.asm_text.proofs.Cutting.{the_same, Lacks}
+use Rattle.asm_text.proofs.Fronts.{NoDigit, Takes, Starts, Wholes, takes_then, takes_as, takes_behind, starts_behind, whole_of, wholes_behind, behind_back, behind_there}
 use Rattle.asm_text.proofs.Digits.{takes_number, first_of_decimal}
-use Rattle.asm_text.proofs.Quotes.{takes_quoted, starts_quoted, whole_quoted}
+use Rattle.asm_text.proofs.Quotes.{takes_quoted, whole_quoted}
 use Rattle.asm_text.proofs.Signed.{Within, whole_numbers, fits_from, fits_to}
-use Rattle.asm_text.proofs.Names.{same_bytes, bytes_same}
+use Rattle.asm_text.proofs.Names.{same_bytes}
 use Rattle.asm_text.proofs.Fields.{takes_shown}
 use Rattle.asm_text.proofs.Words.{word_sound, word_complete}
 use Rattle.asm_text.proofs.Phrases.{Parses}

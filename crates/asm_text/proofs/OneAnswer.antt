@@ -1,6 +1,5 @@
 -- A text is the listing of one chunk, or has one fault: what reading gives is one.
-use Rattle.std.proofs.Common.{◌≡◌, ◌≢◌, ℕ, ◌<◌, true, false, List, length, Result, Ok, Err, refl, sym, ap, subst, ◌∙◌}
-use Rattle.std.specs.List.{AllByRecursion}
+use Rattle.std.proofs.Common.{◌≡◌, ◌≢◌, ◌⊎◌, inl, inr, ℕ, ◌<◌, Bool, true, false, length, Result, Ok, Err, refl, sym, ap, subst, ◌∙◌}
 use Rattle.std.specs.Str.{bytes_eq}
 use Rattle.asm_text.proofs.Names.{same_bytes, bytes_same}
 use Rattle.lua_num.specs.Bytes.{Text}
@@ -8,12 +7,11 @@ use Rattle.proto.specs.Chunk.{Chunk}
 use Rattle.lister.specs.Listing.{listing}
 use Rattle.asm_text.specs.declared.fault.ListFault.{ListFault}
 use Rattle.asm_text.specs.declared.miss.Miss.{Miss}
-use Rattle.asm_text.specs.Lines.{listed, Allowed}
 use Rattle.asm_text.specs.Faults.{IsFault, StopsBy, IsDifferent, IsCutOff, Assembles}
-use Rattle.asm_text.specs.Laws.{ChunksAreOne, FaultsAreOne, NeverBoth}
+use Rattle.asm_text.specs.Laws.{ChunksAreOne, FaultsAreOne, NeverBoth, ListingOrFault}
 use Rattle.asm_text.specs.Reading.{all_of, fault_of, differing_line}
-use Rattle.asm_text.proofs.Whole.{AreLines, found, again, missed, missed_again}
-use Rattle.asm_text.proofs.Shown.{InLines, listing_shown}
+use Rattle.asm_text.proofs.Whole.{found, again, missed, missed_again}
+use Rattle.asm_text.proofs.Shown.{listing_shown}
 use Rattle.asm_text.proofs.Differing.{is_different, number_of, really_differs}
 use Rattle.asm_text.proofs.Fitted.{spelled_allowed, lines_allowed_in, lines_spelled}
 
@@ -73,14 +71,21 @@ one_cause text f g (different n k d) (different o l b) =
 pub faults_one : FaultsAreOne
 faults_one text f g s t = one_cause text f g (cause text f s) (cause text g t)
 
-never_cause : (text : Text) (c : Chunk) (f : ListFault) → Assembles text c → Cause text f → ⊥
-never_cause text c f a (missing m e h) = no_two c m (sym (assembled_read text c a) ∙ e)
-never_cause text c f a (different n k d) =
-    let same : c ≡ d.chunk = one_read c d.chunk (sym (assembled_read text c a) ∙ different_read text n d) in
-    really_differs text n d (a.listed_as ∙ ap listing same)
+-- what is read as a chunk, and is its listing, has no fault
+never_cause : (text : Text) (c : Chunk) (f : ListFault) → all_of text ≡ Ok c → text ≡ listing c → Cause text f → ⊥
+never_cause text c f e is (missing m k h) = no_two c m (sym e ∙ k)
+never_cause text c f e is (different n k d) =
+    let same : c ≡ d.chunk = one_read c d.chunk (sym e ∙ different_read text n d) in
+    really_differs text n d (is ∙ ap listing same)
+
+pub read_no_fault : (text : Text) (c : Chunk) (f : ListFault) → all_of text ≡ Ok c → text ≡ listing c → IsFault text f → ⊥
+read_no_fault text c f e is s = never_cause text c f e is (cause text f s)
+
+pub read_again : (text : Text) (c d : Chunk) → all_of text ≡ Ok c → Assembles text d → d ≡ c
+read_again text c d e a = one_read d c (sym (assembled_read text d a) ∙ e)
 
 pub never_two : NeverBoth
-never_two text c f a s = never_cause text c f a (cause text f s)
+never_two text c f a s = read_no_fault text c f (assembled_read text c a) a.listed_as s
 
 -- ---- what the code answers
 
@@ -110,3 +115,26 @@ pub compared_other : (text : Text) (c : Chunk) (t shown : Text) (number : ℕ) �
 compared_other text c t shown number small e is same q line =
     let other : text ≢ listing c = λ f. false_no_true (q ∙ ap (λ x. bytes_eq x text) (same ∙ is ∙ sym f) ∙ bytes_same text) in
     subst (IsDifferent text) (sym (line ∙ ap (differing_line text) (same ∙ is))) (differs text c small e other)
+
+-- ---- one or the other
+
+abbrev ListingOr : Text → Type 0
+ListingOr text = ((c : Chunk) × Assembles text c) ⊎ ((f : ListFault) × IsFault text f)
+
+-- the text has its forms, and is the listing of the chunk or not
+where_read : (text : Text) (c : Chunk) (same : Bool) → length text < 18446744073709551616 → all_of text ≡ Ok c → same ≡ bytes_eq (listing c) text → ListingOr text
+where_read text c true small e q = inl (c, compared_same text c (listing c) (listing c) small e refl refl q)
+where_read text c false small e q =
+    let number = differing_line text (listing c) in
+    inr (ListFault.Differs number, compared_other text c (listing c) (listing c) number small e refl refl q refl)
+
+where_missed : (text : Text) (m : Miss) → all_of text ≡ Err m → ListingOr text
+where_missed text (Miss.BadLine left) e = let m = Miss.BadLine left in inr (fault_of text m, missed text m e)
+where_missed text (Miss.TooDeep left) e = let m = Miss.TooDeep left in inr (fault_of text m, missed text m e)
+
+either : (text : Text) (r : Read) → length text < 18446744073709551616 → all_of text ≡ r → ListingOr text
+either text (Ok c) small e = where_read text c (bytes_eq (listing c) text) small e refl
+either text (Err m) small e = where_missed text m e
+
+pub one_or_other : ListingOrFault
+one_or_other text small = either text (all_of text) small refl

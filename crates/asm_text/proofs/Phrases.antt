@@ -1,6 +1,5 @@
 -- Phrases: what a reader reads goes by the places that its values stand for. Each law is kept when phrases are put together.
-use Rattle.std.proofs.Common.{◌≡◌, ℕ, List, [], ◌∷◌, ◌++◌, length, Option, None, Some, Result, Ok, Err, refl, sym, ap, subst, ◌∙◌, append_assoc}
-use Rattle.std.specs.List.{AllByRecursion}
+use Rattle.std.proofs.Common.{◌≡◌, ℕ, List, [], ◌∷◌, ◌++◌, length, Option, None, Some, Result, Ok, Err, refl, sym, ap, subst, ◌∙◌}
 use Rattle.std.proofs.lemmas.List.{append-nil}
 use Rattle.lua_num.specs.Bytes.{Text}
 use Rattle.lister.specs.Listing.{line}
@@ -8,7 +7,7 @@ use Rattle.asm_text.specs.declared.miss.Miss.{Miss}
 use Rattle.asm_text.specs.Lines.{Place, Shows, Allowed, IsAlike, IsOneLine, together, Show}
 use Rattle.asm_text.specs.Reading.{Read, ◌>>=◌, cut_at, if_cut, if_parsed, one_line_at, line_at}
 use Rattle.asm_text.proofs.Cutting.{same_some, no_some, cut_there, cut_back}
-use Rattle.asm_text.proofs.Places.{HasLine, ShowsLine, shows_more, FirstShown, first_shown, no_lines, NotThere, MissesLeft, missed_line, line_missed}
+use Rattle.asm_text.proofs.Places.{HasLine, ShowsLine, shows_more, first_shown, no_lines, NotThere, MissesLeft, missed_line, line_missed}
 
 -- The bytes begin with lines of a value of the phrase.
 pub record Taken {V : Type 0} (places : V → List Place) (Is : V → Type 0) (bytes : List ℕ) (x : V × List ℕ) : Type 0 where

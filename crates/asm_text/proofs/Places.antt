@@ -1,10 +1,10 @@
 -- Lines that show places, in a row.
-use Rattle.std.proofs.Common.{◌≡◌, ◌≢◌, ℕ, ◌<◌, ◌≤◌, List, [], ◌∷◌, ◌++◌, length, refl, sym, ap, subst, ◌∙◌, append_assoc}
+use Rattle.std.proofs.Common.{◌≡◌, ◌≢◌, ℕ, ◌<◌, List, [], ◌∷◌, ◌++◌, length, refl, sym, ap, ◌∙◌, append_assoc}
 use Rattle.std.proofs.lemmas.Grind.{flat_map-append}
 use Rattle.lua_num.specs.Bytes.{Text}
 use Rattle.lister.specs.Listing.{line}
 use Rattle.asm_text.specs.declared.miss.Miss.{Miss}
-use Rattle.asm_text.specs.Lines.{Place, begin, name, source, defined, shape, count, word, constant, lines, local, upvalue_name, end, Shows, Allowed, HasForm, IsOneLine, together, ShowThen, Show}
+use Rattle.asm_text.specs.Lines.{Place, begin, end, Shows, Allowed, HasForm, IsOneLine, together, Show}
 
 -- a place that has a line
 abbrev pub HasLine : Place → Type 0

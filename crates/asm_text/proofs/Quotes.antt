@@ -1,7 +1,7 @@
 -- Texts between quotes are read from their one spelling.
-use Rattle.std.proofs.Common.{◌≡◌, ◌≢◌, ℕ, zero, suc, ◌+◌, ◌-◌, ◌*◌, ◌/◌, ◌%◌, ◌<◌, ◌≤◌, Bool, true, false, cond, eqb, ltb, leb, not, ◌&&◌, ◌||◌, List, [], ◌∷◌, ◌++◌, length, Option, None, Some, refl, sym, ap, subst, ◌∙◌, append_assoc, arith, codes}
-use Rattle.std.specs.List.{flat_map, AllByRecursion}
-use Rattle.std.proofs.lemmas.Bool.{cases_lt, eqb-true, eqb-false, ne_eqb}
+use Rattle.std.proofs.Common.{◌≡◌, ℕ, ◌+◌, ◌/◌, ◌%◌, ◌<◌, ◌≤◌, Bool, true, false, cond, eqb, ltb, not, ◌&&◌, ◌||◌, [], ◌∷◌, ◌++◌, Option, None, Some, refl, sym, ap, subst, ◌∙◌, append_assoc, arith, codes}
+use Rattle.std.specs.List.{flat_map}
+use Rattle.std.proofs.lemmas.Bool.{eqb-true}
 use Rattle.std.proofs.lemmas.Bool.Decides.{nat_tests}
 use Rattle.lua_num.specs.Bytes.{Text, is_digit}
 use Rattle.lister.specs.Listing.{quoted_byte, quoted, three_digits}
@@ -9,8 +9,8 @@ use Rattle.asm_text.specs.declared.quoted.Spot.{Spot}
 use Rattle.asm_text.specs.declared.quoted.Step.{Step}
 use Rattle.asm_text.specs.Lines.{AreBytes}
 use Rattle.asm_text.specs.Reading.{with_byte, is_plain, code_of, escaped, step_of, scan_at, quoted_at, whole_quoted_at}
-use Rattle.asm_text.proofs.Cutting.{the_same, same_pair}
-use Rattle.asm_text.proofs.Fronts.{NoDigit, Takes, takes_behind, Starts, starts_behind, Wholes, whole_of}
+use Rattle.asm_text.proofs.Cutting.{the_same}
+use Rattle.asm_text.proofs.Fronts.{Takes, takes_behind, Starts, starts_behind, Wholes, whole_of}
 
 abbrev IsDigit : ℕ → Type 0
 IsDigit byte = (48 ≤ byte) × (byte ≤ 57)

@@ -1,5 +1,5 @@
 -- The listing of a chunk is lines that show its places.
-use Rattle.std.proofs.Common.{◌≡◌, ◌≢◌, ℕ, zero, suc, ◌+◌, ◌-◌, ◌≤◌, cond, ◌<◌, ℤ, pos, Bool, true, false, List, [], ◌∷◌, ◌++◌, length, Option, None, Some, refl, sym, ap, subst, ◌∙◌, append_assoc, arith, codes}
+use Rattle.std.proofs.Common.{◌≡◌, ◌≢◌, ℕ, suc, ◌-◌, ◌≤◌, cond, pos, Bool, true, false, List, [], ◌∷◌, ◌++◌, length, Option, None, Some, refl, sym, ap, subst, ◌∙◌, append_assoc, arith, codes}
 use Rattle.std.specs.Prelude.{slice_get, ◌+ℤ◌}
 use Rattle.std.specs.List.{flat_map, AllByRecursion}
 use Rattle.std.proofs.lemmas.List.{append-nil}
@@ -11,10 +11,10 @@ use Rattle.opcode.specs.declared.word.Instr.{Instr}
 use Rattle.proto.specs.declared.parts.Constant.{Constant}
 use Rattle.proto.specs.declared.parts.LocVar.{LocVar}
 use Rattle.proto.specs.Chunk.{Own, Chunk, function, Functions, no_functions, and_function, function_count}
-use Rattle.lister.specs.Listing.{digits, line, spaced, quoted, constant_text, source_text, local_text, line_number, shown, is_block_next, op_name, Shape, shows_constant, shows_function, shows_jump, shows_two, shape_of, is_constant, field_text, fields_text, constants_shown, constant_or, constants_comment, comment, instruction_text, word_text, code_line, code_lines, numbered, counted_line, own_listing, function_listing, inner_listing, listing}
-use Rattle.asm_text.specs.Lines.{Place, begin, name, source, defined, shape, count, word, constant, lines, local, upvalue_name, words_from, constants_from, locals_from, names_from, own_places, function_places, each_places, listed, bare_text, is_some_list, names_something, has_comment, IsWord, ShowsWord, Shows, Allowed, IsOneLine, together, Show}
+use Rattle.lister.specs.Listing.{digits, line, spaced, quoted, constant_text, source_text, local_text, line_number, shown, is_block_next, op_name, Shape, shows_constant, shows_function, shows_jump, shows_two, shape_of, is_constant, field_text, fields_text, constants_shown, constant_or, constants_comment, comment, word_text, code_lines, numbered, counted_line, own_listing, function_listing, inner_listing, listing}
+use Rattle.asm_text.specs.Lines.{Place, begin, name, source, defined, shape, count, word, constant, lines, local, upvalue_name, words_from, constants_from, locals_from, names_from, own_places, function_places, each_places, listed, bare_text, is_some_list, names_something, has_comment, IsWord, ShowsWord, Allowed, IsOneLine, together, Show}
 use Rattle.asm_text.proofs.Places.{ShowsLine, shows_more, show_both}
-use Rattle.asm_text.proofs.Plain.{IsPlain, Plain, OneLine, all_append, line_append, one_line, no_spaces, no_brackets, plain_byte, plain_decimal, some_name, line_signed, line_spaced, line_quoted, line_constant, line_source, line_local, literal, line_op}
+use Rattle.asm_text.proofs.Plain.{Plain, OneLine, all_append, line_append, one_line, no_spaces, no_brackets, plain_byte, plain_decimal, some_name, line_signed, line_spaced, line_quoted, line_constant, line_source, line_local, literal, line_op}
 
 -- a text is lines that show these places
 pub record InLines (places : List Place) (text : Text) : Type 0 where

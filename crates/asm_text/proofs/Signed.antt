@@ -1,14 +1,14 @@
 -- Numbers with a sign are their decimal texts.
-use Rattle.std.proofs.Common.{◌≡◌, ◌≢◌, ℕ, zero, suc, ◌+◌, ◌<◌, ◌≤◌, ◌^◌, ℤ, pos, negsuc, FitsSigned, w64, Bool, true, false, cond, eqb, List, [], ◌∷◌, ◌++◌, length, Option, None, Some, refl, sym, ap, subst, ◌∙◌, append_assoc, arith, codes}
+use Rattle.std.proofs.Common.{◌≡◌, ℕ, zero, suc, ◌<◌, ◌≤◌, ◌^◌, ℤ, pos, negsuc, FitsSigned, w64, ◌∷◌, ◌++◌, Option, None, Some, refl, sym, ap, subst, arith, codes}
 use Rattle.std.proofs.lemmas.Bool.{ne_eqb}
 use Rattle.std.proofs.lemmas.Int.{ints}
 use Rattle.std.specs.Fmt.{decimal}
 use Rattle.lua_num.specs.Bytes.{Text}
 use Rattle.lua_num.specs.Numeral.{decimal_text}
-use Rattle.asm_text.specs.Reading.{◌&>=◌, as_cut, after, number_at, negated, signed_from, signed_at, whole_number_at}
+use Rattle.asm_text.specs.Reading.{◌&>=◌, after, number_at, negated, signed_from, signed_at, whole_number_at}
 use Rattle.asm_text.proofs.Cutting.{the_same, after_there, after_back}
 use Rattle.asm_text.proofs.Fronts.{NoDigit, Takes, Wholes, whole_of}
-use Rattle.asm_text.proofs.Digits.{takes_number, FirstDigit, first_of_decimal}
+use Rattle.asm_text.proofs.Digits.{takes_number, first_of_decimal}
 
 -- above minus low, and below high
 abbrev pub Within : (low high : ℕ) → ℤ → Type 0

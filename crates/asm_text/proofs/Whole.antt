@@ -1,5 +1,5 @@
 -- All the lines: they are those of a chunk, or one is missed, just as reading says.
-use Rattle.std.proofs.Common.{◌≡◌, ◌≢◌, ℕ, zero, suc, ◌+◌, ◌-◌, ◌<◌, Bool, true, false, cond, eqb, List, [], ◌∷◌, ◌++◌, length, take, Result, Ok, Err, refl, sym, ap, subst, ◌∙◌, append_assoc, arith}
+use Rattle.std.proofs.Common.{◌≡◌, ℕ, zero, suc, ◌-◌, cond, eqb, List, [], ◌∷◌, ◌++◌, length, take, Result, Ok, Err, refl, sym, ap, subst, ◌∙◌, append_assoc, arith}
 use Rattle.std.specs.List.{AllByRecursion}
 use Rattle.std.proofs.lemmas.Bool.{ne_eqb}
 use Rattle.std.proofs.lemmas.List.{append-nil, length-append, take-append-le}
@@ -8,10 +8,10 @@ use Rattle.lister.specs.Listing.{line}
 use Rattle.proto.specs.Chunk.{Chunk}
 use Rattle.asm_text.specs.declared.fault.ListFault.{ListFault}
 use Rattle.asm_text.specs.declared.miss.Miss.{Miss}
-use Rattle.asm_text.specs.Lines.{Place, begin, name, source, defined, shape, count, word, constant, lines, local, upvalue_name, end, listed, places, IsOneLine, together, Show}
+use Rattle.asm_text.specs.Lines.{Place, begin, end, listed, places, IsOneLine, together, Show}
 use Rattle.asm_text.specs.Faults.{Misses, IsCutOff}
 use Rattle.asm_text.specs.Reading.{◌>>=◌, chunk_at, all_of, line_ends, line_number, fault_of}
-use Rattle.asm_text.proofs.Places.{HasLine, ShowsLine, FirstShown, first_shown, MissesLeft}
+use Rattle.asm_text.proofs.Places.{MissesLeft}
 use Rattle.asm_text.proofs.Phrases.{Taken, MissIn, Sees, Reads, single_split}
 use Rattle.asm_text.proofs.Joined.{Side, in_first, in_second, side}
 use Rattle.asm_text.proofs.Functions.{reads_function}

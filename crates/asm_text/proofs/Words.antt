@@ -1,5 +1,5 @@
 -- The line of a word says which word it is.
-use Rattle.std.proofs.Common.{◌≡◌, ◌≢◌, ℕ, zero, suc, ◌+◌, ◌-◌, ◌*◌, ◌<◌, ◌≤◌, ◌^◌, ℤ, pos, negsuc, Bool, true, false, cond, IfSome, List, [], ◌∷◌, ◌++◌, length, Option, None, Some, refl, sym, ap, subst, ◌∙◌, append_assoc, arith, codes}
+use Rattle.std.proofs.Common.{◌≡◌, ◌≢◌, ℕ, ◌+◌, ◌*◌, ◌<◌, ◌^◌, ℤ, pos, negsuc, Bool, true, false, cond, IfSome, [], ◌∷◌, ◌++◌, Option, None, Some, refl, sym, ap, subst, ◌∙◌, append_assoc, arith, codes}
 use Rattle.std.specs.Prelude.{neg_ℤ, ◌≤ℤ◌}
 use Rattle.std.proofs.lemmas.Int.{ints}
 use Rattle.std.proofs.lemmas.List.{append-nil}
@@ -13,14 +13,13 @@ use Rattle.opcode.specs.Word.{op_number, format_of, excess_of, operands_of, word
 use Rattle.opcode.specs.Reading.{instr_of}
 use Rattle.opcode.proofs.WordReading.{word_is_read, read_back}
 use Rattle.lister.specs.Listing.{digits, fields_text, shape_of, op_name, shown}
-use Rattle.asm_text.specs.Lines.{word, bare_text, names_something, has_comment, ShowsWord}
+use Rattle.asm_text.specs.Lines.{bare_text, names_something, has_comment, ShowsWord}
 use Rattle.asm_text.specs.Reading.{◌&>=◌, cut_at, after, behind, number_at, fields_at, op_at, instr_at, is_some_text, is_empty, ends_line, if_ends, if_not_shown, plain_word_at, shown_word_at, bare_from, bare_at, word_at, whole}
-use Rattle.asm_text.proofs.Cutting.{the_same, no_some, Lacks, IsCut, cut_there, cut_back, after_there, after_back}
+use Rattle.asm_text.proofs.Cutting.{the_same, IsCut, cut_there, cut_back, after_there, after_back}
 use Rattle.asm_text.proofs.Fronts.{NoDigit, Takes, Wholes, whole_of, behind_back, behind_there}
 use Rattle.asm_text.proofs.Digits.{takes_number}
 use Rattle.asm_text.proofs.Names.{op_back, op_there, name_cut, no_word}
 use Rattle.asm_text.proofs.Fields.{format_by_shape, IsOf, takes_fields, starts_fields}
-use Rattle.asm_text.proofs.Phrases.{Parses}
 
 -- ---- an instruction
 

@@ -1,5 +1,5 @@
 -- Serves the bodies. Reading a listing line by line, with the first line that is missed. A place is how many bytes are left there.
-use Rattle.std.specs.Prelude.{◌≡◌, ℕ, zero, suc, ◌+◌, ◌-◌, ◌*◌, ◌%◌, ◌==◌, ◌||◌, ◌&&◌, not, nat_lt, nat_le, Bool, true, false, List, [], ◌∷◌, ◌++◌, length, take, Result, Ok, Err, Option, Some, None, option_map, ℤ, pos, neg_ℤ, codes, if◌then◌else◌}
+use Rattle.std.specs.Prelude.{◌≡◌, ℕ, zero, suc, ◌+◌, ◌-◌, ◌*◌, ◌==◌, ◌||◌, ◌&&◌, not, nat_lt, Bool, true, false, List, [], ◌∷◌, length, take, Result, Ok, Err, Option, Some, None, option_map, ℤ, pos, neg_ℤ, codes, if◌then◌else◌}
 use Rattle.std.specs.Str.{bytes_eq}
 use Rattle.lua_num.specs.Bytes.{Text, is_digit, is_within}
 use Rattle.opcode.specs.declared.op.Op.{Op}

@@ -19,4 +19,4 @@ mod shape;
 
 pub use assembling::assemble;
 pub use fault::ListFault;
-pub use laws::{chunks_are_one, faults_are_one, never_both};
+pub use laws::{chunks_are_one, faults_are_one, listing_or_fault, never_both};
