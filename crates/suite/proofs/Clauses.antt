@@ -18,15 +18,15 @@ use Rattle.suite_io.proofs.TakenPieces.{takes_none}
 use Rattle.suite.specs.declared.outcome.Outcome.{Outcome}
 use Rattle.suite.specs.declared.rejection.Rejection.{Rejection}
 use Rattle.suite.specs.declared.status.Status.{Status}
-use Rattle.suite.specs.Words.{Words, Job, run_file, put_product, store_product, job_in, texts, Reads, NoCommand, Asks, file_of, file_or_none, named}
+use Rattle.suite.specs.Words.{Words, Job, run_file, put_product, store_product, make_source, job_in, texts, Reads, NoCommand, Asks, file_of, file_or_none, named}
 use Rattle.suite.specs.Worlds.{World, Unasked}
 use Rattle.suite.specs.Seen.{Outside}
 use Rattle.suite.specs.Lines.{status_of, line_of, Reported}
 use Rattle.suite.specs.Jobs.{End, stored, put, failed, unfinished, bad_source, bad_chunk, rejected, not_decompiled, bad_listing, Comes}
-use Rattle.suite.specs.Work.{IsStore, IsRun, MayAsk, MayPut, StopsSo, fetched, FilesStay, CarriesOut, Carried, Does, DoesFetched, Works, out_of}
+use Rattle.suite.specs.Work.{IsStore, IsRun, MayAsk, MayPut, StopsSo, Fetches, first_calls, fetched, FilesStay, CarriesOut, Carried, Does, DoesFetched, Works, out_of}
 use Rattle.suite.specs.Causes.{Becomes, Fetched, StoreFailed, FilesFor, NoFault, Leaves, HasNoOutput, IsOnlyEnd, IsRefusal, status_at}
 use Rattle.suite.proofs.Facts.{Laws, count_snoc, same_bytes, whole_part, settled_is, becomes, put_becomes, no_memory_is, quiet_is, write_cause}
-use Rattle.suite.proofs.Ends.{Alike, alike, alike_status, alike_leaves, alike_none, decompiled_at, refused_not_run, put_may, failed_may, unfinished_may}
+use Rattle.suite.proofs.Ends.{Alike, alike, alike_status, alike_leaves, alike_none, decompiled_at, refused_not_run, put_may, failed_may, unfinished_may, refused_put}
 
 -- the list of calls behind two others is not told apart by what comes later
 later_both : (calls : List FileCall) (a b : FileCall) (xs ys : List FileCall) → (calls ++ a ∷ []) ++ xs ≡ (calls ++ b ∷ []) ++ ys → a ≡ b
@@ -38,13 +38,14 @@ stores_in : (job : Job) (bytes : List ℕ) (w : World) (text : List ℕ) → Com
 stores_in (run_file file steps) bytes w text comes = comes
 stores_in (put_product p file) bytes w text comes = comes
 stores_in (store_product p file out) bytes w text comes = tt
+stores_in (make_source count) bytes w text comes = comes
 
 -- what an outcome says of the end that was carried out
 abbrev Tells : Outcome → End → Type 0
 Tells (Outcome.BadSource fault) end = end ≡ bad_source fault
 Tells (Outcome.BadChunk fault) end = end ≡ bad_chunk fault
 Tells (Outcome.Rejected rejection) end = end ≡ rejected rejection
-Tells (Outcome.NotDecompiled refused) end = end ≡ not_decompiled refused
+Tells (Outcome.NotDecompiled refused) end = (text : List ℕ) × (end ≡ not_decompiled refused text)
 Tells (Outcome.BadListing fault) end = end ≡ bad_listing fault
 Tells Outcome.BadWords end = ⊥
 Tells Outcome.ReadFault end = ⊥
@@ -67,7 +68,7 @@ module _ (job : Job) (w : World) (old new : Outside) where
   called_later (bad_source fault) outcome c = ([], c.1.0.calls ∙ sym (append-nil old.calls))
   called_later (bad_chunk fault) outcome c = ([], c.1.0.calls ∙ sym (append-nil old.calls))
   called_later (rejected rejection) outcome c = ([], c.1.0.calls ∙ sym (append-nil old.calls))
-  called_later (not_decompiled refused) outcome c = ([], c.1.0.calls ∙ sym (append-nil old.calls))
+  called_later (not_decompiled refused text) outcome c = ([], c.1.calls ∙ sym (append-nil old.calls))
   called_later (bad_listing fault) outcome c = ([], c.1.0.calls ∙ sym (append-nil old.calls))
 
   -- what files come to behind the fetch
@@ -93,7 +94,7 @@ module _ (job : Job) (w : World) (old new : Outside) where
   files_behind bytes (bad_source fault) outcome comes c = same_files c.1.0
   files_behind bytes (bad_chunk fault) outcome comes c = same_files c.1.0
   files_behind bytes (rejected rejection) outcome comes c = same_files c.1.0
-  files_behind bytes (not_decompiled refused) outcome comes c = same_files c.1.0
+  files_behind bytes (not_decompiled refused text) outcome comes c = same_files c.1
   files_behind bytes (bad_listing fault) outcome comes c = same_files c.1.0
 
   -- at success all of it was put or stored
@@ -105,7 +106,7 @@ module _ (job : Job) (w : World) (old new : Outside) where
   done_leaves (bad_source fault) c = let differ = c.0 in cc
   done_leaves (bad_chunk fault) c = let differ = c.0 in cc
   done_leaves (rejected rejection) c = let differ = c.0 in cc
-  done_leaves (not_decompiled refused) c = let differ = c.0 in cc
+  done_leaves (not_decompiled refused text) c = let differ = c.0 in cc
   done_leaves (bad_listing fault) c = let differ = c.0 in cc
 
   -- where no count rose, all of it was, or memory ran out
@@ -126,7 +127,7 @@ module _ (job : Job) (w : World) (old new : Outside) where
   quiet_leaves (bad_source fault) outcome c quiet files = inl (ap status_of c.0, (c.1.0.contents, c.1.1))
   quiet_leaves (bad_chunk fault) outcome c quiet files = inl (ap status_of c.0, (c.1.0.contents, c.1.1))
   quiet_leaves (rejected rejection) outcome c quiet files = inl (ap status_of c.0, (c.1.0.contents, c.1.1))
-  quiet_leaves (not_decompiled refused) outcome c quiet files = inl (ap status_of c.0, (c.1.0.contents, c.1.1))
+  quiet_leaves (not_decompiled refused text) outcome c quiet files = inl (ap status_of c.0, (c.1.contents, c.2))
   quiet_leaves (bad_listing fault) outcome c quiet files = inl (ap status_of c.0, (c.1.0.contents, c.1.1))
 
   -- what was put is a first part of what is to be put
@@ -144,7 +145,10 @@ module _ (job : Job) (w : World) (old new : Outside) where
   part_put bytes (bad_source fault) outcome comes c = inl c.1.1
   part_put bytes (bad_chunk fault) outcome comes c = inl c.1.1
   part_put bytes (rejected rejection) outcome comes c = inl c.1.1
-  part_put bytes (not_decompiled refused) outcome comes c = inl c.1.1
+  part_put bytes (not_decompiled refused text) outcome comes c = elim (refused_put job bytes w refused text comes) [
+    | inl none ↦ inl (subst (Takes old.taken new.taken) none c.2)
+    | inr may ↦ inr (text, may, whole_part old.taken new.taken text c.2)
+  ]
   part_put bytes (bad_listing fault) outcome comes c = inl c.1.1
 
   -- a fault of writing: the sink's count rose, or the store failed
@@ -156,7 +160,7 @@ module _ (job : Job) (w : World) (old new : Outside) where
   written bytes (bad_source fault) comes c = let differ = c.0 in cc
   written bytes (bad_chunk fault) comes c = let differ = c.0 in cc
   written bytes (rejected rejection) comes c = let differ = c.0 in cc
-  written bytes (not_decompiled refused) comes c = let differ = c.0 in cc
+  written bytes (not_decompiled refused text) comes c = let differ = c.0 in cc
   written bytes (bad_listing fault) comes c = let differ = c.0 in cc
 
   -- what is refused is refused as that
@@ -164,7 +168,6 @@ module _ (job : Job) (w : World) (old new : Outside) where
   refused_as (bad_source fault) outcome c none = ap status_of c.0
   refused_as (bad_chunk fault) outcome c none = ap status_of c.0
   refused_as (rejected rejection) outcome c none = ap status_of c.0
-  refused_as (not_decompiled refused) outcome c none = ap status_of c.0
   refused_as (bad_listing fault) outcome c none = ap status_of c.0
   refused_as end outcome c none = absurd none
 
@@ -183,7 +186,7 @@ module _ (job : Job) (w : World) (old new : Outside) where
   tells (bad_source fault) outcome c = subst (λ o. Tells o (bad_source fault)) (sym c.0) refl
   tells (bad_chunk fault) outcome c = subst (λ o. Tells o (bad_chunk fault)) (sym c.0) refl
   tells (rejected rejection) outcome c = subst (λ o. Tells o (rejected rejection)) (sym c.0) refl
-  tells (not_decompiled refused) outcome c = subst (λ o. Tells o (not_decompiled refused)) (sym c.0) refl
+  tells (not_decompiled refused text) outcome c = subst (λ o. Tells o (not_decompiled refused text)) (sym c.0) (text, refl)
   tells (bad_listing fault) outcome c = subst (λ o. Tells o (bad_listing fault)) (sym c.0) refl
 
   -- a run that failed, or is going
@@ -197,7 +200,7 @@ module _ (job : Job) (w : World) (old new : Outside) where
   failed_as bytes why (bad_source fault) comes c = let differ = c.0 in absurd (cc)
   failed_as bytes why (bad_chunk fault) comes c = let differ = c.0 in absurd (cc)
   failed_as bytes why (rejected rejection) comes c = let differ = c.0 in absurd (cc)
-  failed_as bytes why (not_decompiled refused) comes c = let differ = c.0 in absurd (cc)
+  failed_as bytes why (not_decompiled refused t) comes c = let differ = c.0 in absurd (cc)
   failed_as bytes why (bad_listing fault) comes c = let differ = c.0 in absurd (cc)
 
   pub unfinished_as : (bytes : List ℕ) (steps : ℕ) (end : End) → Comes job bytes w end → CarriesOut job end (Outcome.Unfinished steps) old new → (text : List ℕ) × Comes job bytes w (unfinished steps text) × Leaves job (unfinished steps text) old new
@@ -210,14 +213,29 @@ module _ (job : Job) (w : World) (old new : Outside) where
   unfinished_as bytes steps (bad_source fault) comes c = let differ = c.0 in absurd (cc)
   unfinished_as bytes steps (bad_chunk fault) comes c = let differ = c.0 in absurd (cc)
   unfinished_as bytes steps (rejected rejection) comes c = let differ = c.0 in absurd (cc)
-  unfinished_as bytes steps (not_decompiled refused) comes c = let differ = c.0 in absurd (cc)
+  unfinished_as bytes steps (not_decompiled refused t) comes c = let differ = c.0 in absurd (cc)
   unfinished_as bytes steps (bad_listing fault) comes c = let differ = c.0 in absurd (cc)
 
--- a run alone asks hosts, and none where its outcome is a refusal
+  -- what is given no source, behind a run or behind none
+  pub not_decompiled_as : (bytes : List ℕ) (why : Refused) (end : End) → Comes job bytes w end → CarriesOut job end (Outcome.NotDecompiled why) old new → (text : List ℕ) × Comes job bytes w (not_decompiled why text) × Leaves job (not_decompiled why text) old new
+  not_decompiled_as bytes why (not_decompiled other text) comes c =
+      let same : other ≡ why = let e : Outcome.NotDecompiled why ≡ Outcome.NotDecompiled other = c.0 in cc in
+      (text, subst (λ r. Comes job bytes w (not_decompiled r text)) same comes, (c.1.contents, c.2))
+  not_decompiled_as bytes why (put text) comes c = absurd c
+  not_decompiled_as bytes why (stored text) comes c = absurd c
+  not_decompiled_as bytes why (failed other text) comes c = let differ = c.0 in absurd (cc)
+  not_decompiled_as bytes why (unfinished steps text) comes c = let differ = c.0 in absurd (cc)
+  not_decompiled_as bytes why (bad_source fault) comes c = let differ = c.0 in absurd (cc)
+  not_decompiled_as bytes why (bad_chunk fault) comes c = let differ = c.0 in absurd (cc)
+  not_decompiled_as bytes why (rejected rejection) comes c = let differ = c.0 in absurd (cc)
+  not_decompiled_as bytes why (bad_listing fault) comes c = let differ = c.0 in absurd (cc)
+
+-- a run alone asks hosts, also that of a made source, and none where its outcome is a refusal
 may_runs : (job : Job) (end : End) → MayAsk job end → IsRun (Some job)
 may_runs (run_file file steps) end may = tt
 may_runs (put_product p file) end may = absurd may
 may_runs (store_product p file out) end may = absurd may
+may_runs (make_source count) end may = tt
 
 not_refusal : (job : Job) (w : World) (old new : Outside) (end : End) (outcome : Outcome) → MayAsk job end → CarriesOut job end outcome old new → IsRefusal (status_of outcome) → ⊥
 not_refusal (run_file file steps) w old new (put text) Outcome.Done may c refuses = refuses
@@ -227,6 +245,14 @@ not_refusal (run_file file steps) w old new (put text) outcome may c refuses = c
 not_refusal (run_file file steps) w old new (failed why text) outcome may c refuses = subst (λ o. IsRefusal (status_of o)) c.0 refuses
 not_refusal (run_file file steps) w old new (unfinished n text) outcome may c refuses = subst (λ o. IsRefusal (status_of o)) c.0 refuses
 not_refusal (run_file file steps) w old new end outcome may c refuses = may
+not_refusal (make_source count) w old new (put text) Outcome.Done may c refuses = refuses
+not_refusal (make_source count) w old new (put text) Outcome.WriteFault may c refuses = refuses
+not_refusal (make_source count) w old new (put text) Outcome.OutOfMemory may c refuses = refuses
+not_refusal (make_source count) w old new (put text) outcome may c refuses = c
+not_refusal (make_source count) w old new (failed why text) outcome may c refuses = subst (λ o. IsRefusal (status_of o)) c.0 refuses
+not_refusal (make_source count) w old new (unfinished n text) outcome may c refuses = subst (λ o. IsRefusal (status_of o)) c.0 refuses
+not_refusal (make_source count) w old new (not_decompiled why text) outcome may c refuses = subst (λ o. IsRefusal (status_of o)) c.0 refuses
+not_refusal (make_source count) w old new end outcome may c refuses = may
 not_refusal (put_product p file) w old new end outcome may c refuses = may
 not_refusal (store_product p file out) w old new end outcome may c refuses = may
 
@@ -235,6 +261,9 @@ stop_is : (job : Job) (bytes : List ℕ) (w : World) (text : List ℕ) (outcome 
 stop_is (run_file file steps) bytes w text Outcome.WriteFault before later so = (tt, inl (refl, so.1))
 stop_is (run_file file steps) bytes w text Outcome.OutOfMemory before later so = (tt, inr refl)
 stop_is (run_file file steps) bytes w text outcome before later so = absurd so
+stop_is (make_source count) bytes w text Outcome.WriteFault before later so = (tt, inl (refl, so.1))
+stop_is (make_source count) bytes w text Outcome.OutOfMemory before later so = (tt, inr refl)
+stop_is (make_source count) bytes w text outcome before later so = absurd so
 stop_is (put_product p file) bytes w text outcome before later so = absurd so
 stop_is (store_product p file out) bytes w text outcome before later so = absurd so
 
@@ -247,7 +276,7 @@ leaves_before job old new (unfinished steps text) l = l
 leaves_before job old new (bad_source fault) l = l
 leaves_before job old new (bad_chunk fault) l = l
 leaves_before job old new (rejected rejection) l = l
-leaves_before job old new (not_decompiled refused) l = l
+leaves_before job old new (not_decompiled refused text) l = l
 leaves_before job old new (bad_listing fault) l = l
 
 count_same : (calls : List FileCall) (call : FileCall) → call.failed ≡ false → fault_count (calls ++ call ∷ []) ≡ fault_count calls
@@ -255,6 +284,36 @@ count_same calls call e =
     let both = sum_by-append (λ (c : FileCall). cond c.failed 1 0) calls (call ∷ []) in
     let none : 0 + cond call.failed 1 0 ≡ 0 = rw e refl in
     omega (arith, both, none)
+
+-- the first call is not told apart by what comes later; it raises the count where it fails
+first_both : (job : Job) (calls : List FileCall) (a b : Bool) (xs ys : List FileCall) → (a ≡ true → Fetches job) → (b ≡ true → Fetches job) → (calls ++ first_calls job a) ++ xs ≡ (calls ++ first_calls job b) ++ ys → a ≡ b
+first_both (run_file file steps) calls a b xs ys f g e = ap (λ (c : FileCall). c.failed) (later_both calls (call_of false file a) (call_of false file b) xs ys e)
+first_both (put_product p file) calls a b xs ys f g e = ap (λ (c : FileCall). c.failed) (later_both calls (call_of false file a) (call_of false file b) xs ys e)
+first_both (store_product p file out) calls a b xs ys f g e = ap (λ (c : FileCall). c.failed) (later_both calls (call_of false file a) (call_of false file b) xs ys e)
+first_both (make_source count) calls true b xs ys f g e = absurd (f refl)
+first_both (make_source count) calls false true xs ys f g e = absurd (g refl)
+first_both (make_source count) calls false false xs ys f g e = refl
+
+longer : (calls : List FileCall) (call : FileCall) (later : List FileCall) → calls ≡ (calls ++ call ∷ []) ++ later → ⊥
+longer calls call later e = let more = ap length e in absurd (omega (arith, more, length-append (calls ++ call ∷ []) later, length-append calls (call ∷ [])))
+
+some_first : (job : Job) (calls later : List FileCall) → Fetches job → calls ≡ (calls ++ first_calls job true) ++ later → ⊥
+some_first (run_file file steps) calls later f e = longer calls (call_of false file true) later e
+some_first (put_product p file) calls later f e = longer calls (call_of false file true) later e
+some_first (store_product p file out) calls later f e = longer calls (call_of false file true) later e
+some_first (make_source count) calls later f e = f
+
+first_same : (job : Job) (calls : List FileCall) → fault_count (calls ++ first_calls job false) ≡ fault_count calls
+first_same (run_file file steps) calls = count_same calls (call_of false file false) refl
+first_same (put_product p file) calls = count_same calls (call_of false file false) refl
+first_same (store_product p file out) calls = count_same calls (call_of false file false) refl
+first_same (make_source count) calls = ap fault_count (append-nil calls)
+
+first_grown : (job : Job) (calls : List FileCall) → Fetches job → fault_count (calls ++ first_calls job true) ≡ suc (fault_count calls)
+first_grown (run_file file steps) calls f = count_snoc calls (call_of false file true) refl
+first_grown (put_product p file) calls f = count_snoc calls (call_of false file true) refl
+first_grown (store_product p file out) calls f = count_snoc calls (call_of false file true) refl
+first_grown (make_source count) calls f = absurd f
 
 -- What an outcome of a status is.
 abbrev OfStatus : Status → Outcome → Type 0
@@ -292,7 +351,7 @@ module _ (laws : Laws) (words : Words) (job : Job) (reads : Reads words job) (w 
   pub named_is : named words ≡ file_of job
   named_is = ap file_or_none reads
 
-  -- the words ask for one job, and what is told of its file was fetched
+  -- the words ask for one job, and it is done with what is told of its file
   asked : (other : Job) → Reads words other → other ≡ job
   asked other r = let one : job_in (texts words) ≡ Some job = reads in let two : job_in (texts words) ≡ Some other = r in cc
 
@@ -300,7 +359,7 @@ module _ (laws : Laws) (words : Words) (job : Job) (reads : Reads words job) (w 
   told_job other bytes asks = subst (λ j. Asks words old.contents j bytes) (asked other asks.reads) asks
 
   same_told : (bytes : List ℕ) → Asks words old.contents job bytes → (f : DoesFetched job w outcome old new) → f.bytes ≡ bytes
-  same_told bytes asks f = sym (same_bytes old.contents (file_of job) bytes f.bytes asks.told f.told)
+  same_told bytes asks f = sym (same_bytes old.contents job bytes f.bytes asks.told f.told)
 
   -- the job was done with the bytes that are told of its file
   does_told : (bytes : List ℕ) → Asks words old.contents job bytes → (f : DoesFetched job w outcome old new) → Does job bytes w outcome (fetched job false old) new
@@ -313,23 +372,24 @@ module _ (laws : Laws) (words : Words) (job : Job) (reads : Reads words job) (w 
       by : Does job f.bytes w outcome (fetched job false old) new → Fetched words false old.calls new.calls
       by (inl c) =
           let later = called_later job w (fetched job false old) new c.end outcome c.carried in
-          record { job = job; reads = reads; later = later.0; listed = later.1 }
-      by (inr (inl stopped)) = record { job = job; reads = reads; later = []; listed = stopped.files.calls ∙ sym (append-nil (old.calls ++ call_of false (file_of job) false ∷ [])) }
-      by (inr (inr none)) = record { job = job; reads = reads; later = []; listed = none.1.0.calls ∙ sym (append-nil (old.calls ++ call_of false (file_of job) false ∷ [])) }
+          record { job = job; reads = reads; fetches = λ e. absurd (cc); later = later.0; listed = later.1 }
+      by (inr (inl stopped)) = record { job = job; reads = reads; fetches = λ e. absurd (cc); later = []; listed = stopped.files.calls ∙ sym (append-nil (old.calls ++ first_calls job false)) }
+      by (inr (inr none)) = record { job = job; reads = reads; fetches = λ e. absurd (cc); later = []; listed = none.1.0.calls ∙ sym (append-nil (old.calls ++ first_calls job false)) }
 
-  failed_calls : new ≡ fetched job true old → Fetched words true old.calls new.calls
-  failed_calls e = record { job = job; reads = reads; later = []; listed = ap (λ (o : Outside). o.calls) e ∙ sym (append-nil (old.calls ++ call_of false (file_of job) true ∷ [])) }
+  failed_calls : new ≡ fetched job true old → Fetches job → Fetched words true old.calls new.calls
+  failed_calls e f = record { job = job; reads = reads; fetches = λ fails. f; later = []; listed = ap (λ (o : Outside). o.calls) e ∙ sym (append-nil (old.calls ++ first_calls job true)) }
 
   -- it does not succeed and fail
   fetch_is_one : (a b : Bool) → Fetched words a old.calls new.calls → Fetched words b old.calls new.calls → a ≡ b
   fetch_is_one a b one other =
-      ap (λ (c : FileCall). c.failed) (later_both old.calls (call_of false (file_of one.job) a) (call_of false (file_of other.job) b) one.later other.later (sym one.listed ∙ other.listed))
+      let mine = asked one.job one.reads in
+      let others = asked other.job other.reads in
+      let first = subst (λ j. new.calls ≡ (old.calls ++ first_calls j a) ++ one.later) mine one.listed in
+      let second = subst (λ j. new.calls ≡ (old.calls ++ first_calls j b) ++ other.later) others other.listed in
+      first_both job old.calls a b one.later other.later (subst (λ j. a ≡ true → Fetches j) mine one.fetches) (subst (λ j. b ≡ true → Fetches j) others other.fetches) (sym first ∙ second)
 
-  not_fetched : new ≡ old → (fails : Bool) → Fetched words fails old.calls new.calls → ⊥
-  not_fetched e fails f =
-      let calls : old.calls ≡ (old.calls ++ call_of false (file_of f.job) fails ∷ []) ++ f.later = sym (ap (λ (o : Outside). o.calls) e) ∙ f.listed in
-      let more = ap length calls in
-      absurd (omega (arith, more, length-append (old.calls ++ call_of false (file_of f.job) fails ∷ []) f.later, length-append old.calls (call_of false (file_of f.job) fails ∷ [])))
+  not_fetched : new ≡ old → Fetched words true old.calls new.calls → ⊥
+  not_fetched e f = some_first f.job old.calls f.later (f.fetches refl) (sym (ap (λ (o : Outside). o.calls) e) ∙ f.listed)
 
   pub nothing_clause : NoCommand words ⊎ Fetched words true old.calls new.calls → Takes old.taken new.taken []
   nothing_clause (inl none) = let one : job_in (texts words) ≡ Some job = reads in let no : job_in (texts words) ≡ None = none in cc
@@ -451,7 +511,7 @@ module _ (laws : Laws) (words : Words) (job : Job) (reads : Reads words job) (w 
         ]
 
         faults_same : fault_count new.calls ≡ fault_count (fetched job false old).calls
-        faults_same = files ∙ sym (count_same old.calls (call_of false (file_of job) false) refl)
+        faults_same = files ∙ sym (first_same job old.calls)
 
         carried : Does job bytes w outcome (fetched job false old) new → ((end : End) × Comes job bytes w end × (result ≡ status_at end) × Leaves job end old new) ⊎ (result ≡ Status.OutOfMemory)
         carried (inl c) = elim (quiet_leaves job w (fetched job false old) new c.end outcome c.carried quiet faults_same) [
@@ -466,7 +526,7 @@ module _ (laws : Laws) (words : Words) (job : Job) (reads : Reads words job) (w 
 
         by : Works (Some job) w outcome old new → ((end : End) × Comes job bytes w end × (result ≡ status_at end) × Leaves job end old new) ⊎ (result ≡ Status.OutOfMemory)
         by (inl w) =
-            let grown = count_snoc old.calls (call_of false (file_of job) true) refl in
+            let grown = first_grown job old.calls w.3 in
             let count : fault_count new.calls ≡ suc (fault_count old.calls) = ap (λ (o : Outside). fault_count o.calls) w.1 ∙ grown in
             absurd (omega (arith, files, count))
         by (inr (inl w)) = inr (no_memory w.0)
@@ -564,8 +624,10 @@ module _ (laws : Laws) (words : Words) (job : Job) (reads : Reads words job) (w 
     pub rejected_clause : result ≡ Status.Rejected → Fetched words false old.calls new.calls × (rejection : Rejection) × ((other : Job) (bytes : List ℕ) → Asks words old.contents other bytes → Comes other bytes w (rejected rejection)) × Takes err_before err_later (line_of (Outcome.Rejected rejection) (named words))
     rejected_clause = told Status.Rejected Outcome.Rejected (λ a j bytes. Comes j bytes w (rejected a)) (λ e. cc) (λ e. cc) (λ e. cc) (of_status outcome Status.Rejected) (λ a bytes end comes c. subst (Comes job bytes w) (tells job w (fetched job false old) new end (Outcome.Rejected a) c) comes)
 
-    pub not_decompiled_clause : result ≡ Status.NotDecompiled → Fetched words false old.calls new.calls × (refused : Refused) × ((other : Job) (bytes : List ℕ) → Asks words old.contents other bytes → Comes other bytes w (not_decompiled refused)) × Takes err_before err_later (line_of (Outcome.NotDecompiled refused) (named words))
-    not_decompiled_clause = told Status.NotDecompiled Outcome.NotDecompiled (λ a j bytes. Comes j bytes w (not_decompiled a)) (λ e. cc) (λ e. cc) (λ e. cc) (of_status outcome Status.NotDecompiled) (λ a bytes end comes c. subst (Comes job bytes w) (tells job w (fetched job false old) new end (Outcome.NotDecompiled a) c) comes)
+    pub not_decompiled_clause : result ≡ Status.NotDecompiled → Fetched words false old.calls new.calls × (refused : Refused) × ((other : Job) (bytes : List ℕ) → Asks words old.contents other bytes → (text : List ℕ) × Comes other bytes w (not_decompiled refused text) × Leaves other (not_decompiled refused text) old new) × Takes err_before err_later (line_of (Outcome.NotDecompiled refused) (named words))
+    not_decompiled_clause =
+        told Status.NotDecompiled Outcome.NotDecompiled (λ a j bytes. (text : List ℕ) × Comes j bytes w (not_decompiled a text) × Leaves j (not_decompiled a text) old new) (λ e. cc) (λ e. cc) (λ e. cc) (of_status outcome Status.NotDecompiled)
+        (λ a bytes end comes c. not_decompiled_as job w (fetched job false old) new bytes a end comes c)
 
     pub bad_listing_clause : result ≡ Status.BadListing → Fetched words false old.calls new.calls × (fault : ListFault) × ((other : Job) (bytes : List ℕ) → Asks words old.contents other bytes → Comes other bytes w (bad_listing fault)) × Takes err_before err_later (line_of (Outcome.BadListing fault) (named words))
     bad_listing_clause = told Status.BadListing Outcome.BadListing (λ a j bytes. Comes j bytes w (bad_listing a)) (λ e. cc) (λ e. cc) (λ e. cc) (of_status outcome Status.BadListing) (λ a bytes end comes c. subst (Comes job bytes w) (tells job w (fetched job false old) new end (Outcome.BadListing a) c) comes)
@@ -602,7 +664,7 @@ module _ (laws : Laws) (words : Words) (job : Job) (reads : Reads words job) (w 
         never bytes c = subst (λ o. Tells o c.end) is (tells job w (fetched job false old) new c.end outcome c.carried)
 
         by : Works (Some job) w outcome old new → Fetched words true old.calls new.calls
-        by (inl w) = failed_calls w.1
+        by (inl w) = failed_calls w.1 w.3
         by (inr (inl w)) = let other = w.0 in absurd (cc (is))
         by (inr (inr f)) = absurd (never f.bytes (job_carried f.bytes (λ w. cc (is)) (λ w. cc (is)) f.does))
 
@@ -617,7 +679,7 @@ module _ (laws : Laws) (words : Words) (job : Job) (reads : Reads words job) (w 
 
         by : Works (Some job) w outcome old new → Becomes Status.ReadFault result err_old err_new
         by (inl w) = put_becomes err_before err_later err_old err_new Status.ReadFault _ result (never w.0)
-        by (inr (inl w)) = absurd (not_fetched w.1 true fails)
+        by (inr (inl w)) = absurd (not_fetched w.1 fails)
         by (inr (inr f)) = let differ : true ≡ false = fetch_is_one true false fails (fetched_calls f) in absurd (cc)
 
     pub refused_clause : (other : Job) (bytes : List ℕ) (end : End) → Asks words old.contents other bytes → Comes other bytes w end → IsOnlyEnd other end → HasNoOutput end → Fetched words false old.calls new.calls → Becomes (status_at end) result err_old err_new ⊎ (result ≡ Status.OutOfMemory)
@@ -637,8 +699,8 @@ module _ (laws : Laws) (words : Words) (job : Job) (reads : Reads words job) (w 
         carried (inr (inr want)) = inr (no_memory want.0)
 
         by : Works (Some job) w outcome old new → Becomes (status_at end) result err_old err_new ⊎ (result ≡ Status.OutOfMemory)
-        by (inl w) = let differ : true ≡ false = fetch_is_one true false (failed_calls w.1) fetch in absurd (cc)
-        by (inr (inl w)) = absurd (not_fetched w.1 false fetch)
+        by (inl w) = let differ : true ≡ false = fetch_is_one true false (failed_calls w.1 w.3) fetch in absurd (cc)
+        by (inr (inl w)) = inr (no_memory w.0)
         by (inr (inr f)) = carried (does_told bytes (told_job other bytes asks) f)
 
     pub write_fault_clause : result ≡ Status.WriteFault → Rises old.faults new.faults ⊎ Rises err_old err_new ⊎ StoreFailed words old.calls new.calls

@@ -18,12 +18,12 @@ use Rattle.suite_io.specs.Taken.{Takes}
 use Rattle.suite.specs.declared.product.Product.{Product}
 use Rattle.suite.specs.declared.rejection.Rejection.{Rejection}
 use Rattle.suite.specs.declared.status.Status.{Status}
-use Rattle.suite.specs.Words.{Job, run_file, put_product, store_product}
+use Rattle.suite.specs.Words.{Job, run_file, put_product, store_product, make_source, made_name, default_steps}
 use Rattle.suite.specs.Worlds.{World, hosts_first, replies_of}
 use Rattle.suite.specs.Seen.{Outside}
 use Rattle.suite.specs.Jobs.{End, stored, put, failed, unfinished, bad_source, bad_chunk, rejected, not_decompiled, bad_listing, source_name, SoundIfSpelled, HasChunk, ChunkFor, IsTextOf, Makes, IsSourceFor, IsChunkFor, IsListingFor, WantsSound, WantsSource, Refuses, HasRun, HasPut, ran_in, Comes}
 use Rattle.suite.specs.Work.{MayPut, IsRun}
-use Rattle.suite.specs.Causes.{status_at, Leaves, HasNoOutput, IsOnlyFor, IsOnlyEnd}
+use Rattle.suite.specs.Causes.{status_at, Leaves, HasNoOutput, IsOnlyFor, IsOnlyMade, IsOnlyEnd}
 use Rattle.suite.proofs.Facts.{Laws}
 
 -- what is shown of what a job comes to: the status at which it is carried out, and the text that is stored or put
@@ -40,7 +40,7 @@ shown (unfinished steps text) = puts Status.Unfinished text
 shown (bad_source fault) = refuses Status.BadSource
 shown (bad_chunk fault) = refuses Status.BadChunk
 shown (rejected rejection) = refuses Status.Rejected
-shown (not_decompiled refused) = refuses Status.NotDecompiled
+shown (not_decompiled refused text) = puts Status.NotDecompiled text
 shown (bad_listing fault) = refuses Status.BadListing
 
 abbrev pub Alike : End → End → Type 0
@@ -161,7 +161,7 @@ module _ (laws : Laws) where
   sound_refused file bytes c (bad_chunk fault) has sound refused = spells_no_fault file bytes c fault has refused.0 refused.1
   sound_refused file bytes c (rejected r) has sound refused =
       laws.sound_or_rejected refused.chunk r.path r.pc r.rule (subst Sound (same_chunk file bytes c refused.chunk has (inl (refused.spelled, refused.of))) (sound refused.spelled)) refused.rejected
-  sound_refused file bytes c (not_decompiled why) has sound refused = refused.wants
+  sound_refused file bytes c (not_decompiled why text) has sound refused = refused.0.wants
   sound_refused file bytes c (bad_listing fault) has sound refused = refused.0
   sound_refused file bytes c end has sound refused = refused
 
@@ -170,7 +170,7 @@ module _ (laws : Laws) where
   as_verdict file bytes (bad_source fault) refused = refused
   as_verdict file bytes (bad_chunk fault) refused = refused
   as_verdict file bytes (rejected r) refused = record { wants = tt; chunk = refused.chunk; spelled = refused.spelled; of = refused.of; rejected = refused.rejected }
-  as_verdict file bytes (not_decompiled why) refused = absurd refused.wants
+  as_verdict file bytes (not_decompiled why text) refused = absurd refused.0.wants
   as_verdict file bytes (bad_listing fault) refused = absurd refused.0
   as_verdict file bytes end refused = absurd refused
 
@@ -180,7 +180,7 @@ module _ (laws : Laws) where
   makes_refused p file bytes text (bad_source fault) single makes refused = no_source_fault p file bytes makes.chunk fault makes.has refused.0 refused.1
   makes_refused p file bytes text (bad_chunk fault) single makes refused = no_chunk_fault p file bytes makes.chunk fault makes.has refused.0 refused.1
   makes_refused p file bytes text (rejected r) single makes refused = refused.wants
-  makes_refused p file bytes text (not_decompiled why) single makes refused = source_or_text p single refused.wants
+  makes_refused p file bytes text (not_decompiled why t) single makes refused = source_or_text p single refused.0.wants
   makes_refused p file bytes text (bad_listing fault) single makes refused = no_list_fault p file bytes makes.chunk fault makes.has refused.0 refused.1
   makes_refused p file bytes text end single makes refused = refused
 
@@ -194,18 +194,18 @@ module _ (laws : Laws) where
   rejected_no_fault p file bytes r fault refused is = laws.chunk_or_fault bytes refused.chunk fault refused.of is
 
   -- what is given no source is a chunk
-  decompiled_no_source : (p : Product) (file : Text) (bytes : List ℕ) (why : Refused) → Refuses p file bytes (not_decompiled why) → IsSourceFor p bytes → ⊥
-  decompiled_no_source p file bytes why refused source = source_of_source p bytes source refused.wants
+  decompiled_no_source : (p : Product) (file : Text) (bytes : List ℕ) (why : Refused) (text : List ℕ) → Refuses p file bytes (not_decompiled why text) → IsSourceFor p bytes → ⊥
+  decompiled_no_source p file bytes why text refused source = source_of_source p bytes source refused.0.wants
 
-  decompiled_no_fault : (p : Product) (file : Text) (bytes : List ℕ) (why : Refused) (fault : ChunkFault) → Refuses p file bytes (not_decompiled why) → IsFault bytes fault → ⊥
-  decompiled_no_fault p file bytes why fault refused is = laws.chunk_or_fault bytes refused.chunk fault refused.of is
+  decompiled_no_fault : (p : Product) (file : Text) (bytes : List ℕ) (why : Refused) (text : List ℕ) (fault : ChunkFault) → Refuses p file bytes (not_decompiled why text) → IsFault bytes fault → ⊥
+  decompiled_no_fault p file bytes why text fault refused is = laws.chunk_or_fault bytes refused.0.chunk fault refused.0.of is
 
   -- one kind of refusal
   refused_alike : (p : Product) (file : Text) (bytes : List ℕ) (a b : End) → Refuses p file bytes a → Refuses p file bytes b → Alike a b
   refused_alike p file bytes (bad_source f) (bad_source g) one other = refl
   refused_alike p file bytes (bad_chunk f) (bad_chunk g) one other = refl
   refused_alike p file bytes (rejected r) (rejected s) one other = refl
-  refused_alike p file bytes (not_decompiled r) (not_decompiled s) one other = refl
+  refused_alike p file bytes (not_decompiled r t) (not_decompiled s u) one other = ap (puts Status.NotDecompiled) (one.1 ∙ sym other.1)
   refused_alike p file bytes (bad_listing f) (bad_listing g) one other = refl
   refused_alike p file bytes (bad_source f) (bad_chunk g) one other = absurd (not_source_and_chunk p bytes one.0 other.0)
   refused_alike p file bytes (bad_chunk f) (bad_source g) one other = absurd (not_source_and_chunk p bytes other.0 one.0)
@@ -213,24 +213,24 @@ module _ (laws : Laws) where
   refused_alike p file bytes (rejected r) (bad_source g) one other = absurd (rejected_no_source p file bytes r one other.0)
   refused_alike p file bytes (bad_chunk f) (rejected s) one other = absurd (rejected_no_fault p file bytes s f other one.1)
   refused_alike p file bytes (rejected r) (bad_chunk g) one other = absurd (rejected_no_fault p file bytes r g one other.1)
-  refused_alike p file bytes (bad_source f) (not_decompiled s) one other = absurd (decompiled_no_source p file bytes s other one.0)
-  refused_alike p file bytes (not_decompiled r) (bad_source g) one other = absurd (decompiled_no_source p file bytes r one other.0)
-  refused_alike p file bytes (bad_chunk f) (not_decompiled s) one other = absurd (decompiled_no_fault p file bytes s f other one.1)
-  refused_alike p file bytes (not_decompiled r) (bad_chunk g) one other = absurd (decompiled_no_fault p file bytes r g one other.1)
-  refused_alike p file bytes (rejected r) (not_decompiled s) one other = absurd (source_or_sound p one.wants other.wants)
-  refused_alike p file bytes (not_decompiled r) (rejected s) one other = absurd (source_or_sound p other.wants one.wants)
+  refused_alike p file bytes (bad_source f) (not_decompiled s u) one other = absurd (decompiled_no_source p file bytes s u other one.0)
+  refused_alike p file bytes (not_decompiled r t) (bad_source g) one other = absurd (decompiled_no_source p file bytes r t one other.0)
+  refused_alike p file bytes (bad_chunk f) (not_decompiled s u) one other = absurd (decompiled_no_fault p file bytes s u f other one.1)
+  refused_alike p file bytes (not_decompiled r t) (bad_chunk g) one other = absurd (decompiled_no_fault p file bytes r t g one other.1)
+  refused_alike p file bytes (rejected r) (not_decompiled s u) one other = absurd (source_or_sound p one.wants other.0.wants)
+  refused_alike p file bytes (not_decompiled r t) (rejected s) one other = absurd (source_or_sound p other.wants one.0.wants)
   refused_alike p file bytes (bad_source f) (bad_listing g) one other = absurd (source_not_listing p bytes one.0 other.0)
   refused_alike p file bytes (bad_listing f) (bad_source g) one other = absurd (source_not_listing p bytes other.0 one.0)
   refused_alike p file bytes (bad_chunk f) (bad_listing g) one other = absurd (chunk_not_listing p bytes one.0 other.0)
   refused_alike p file bytes (bad_listing f) (bad_chunk g) one other = absurd (chunk_not_listing p bytes other.0 one.0)
   refused_alike p file bytes (rejected r) (bad_listing g) one other = absurd (sound_not_listing p one.wants other.0)
   refused_alike p file bytes (bad_listing f) (rejected s) one other = absurd (sound_not_listing p other.wants one.0)
-  refused_alike p file bytes (not_decompiled r) (bad_listing g) one other = absurd (decompiled_not_listing p one.wants other.0)
-  refused_alike p file bytes (bad_listing f) (not_decompiled s) one other = absurd (decompiled_not_listing p other.wants one.0)
+  refused_alike p file bytes (not_decompiled r t) (bad_listing g) one other = absurd (decompiled_not_listing p one.0.wants other.0)
+  refused_alike p file bytes (bad_listing f) (not_decompiled s u) one other = absurd (decompiled_not_listing p other.0.wants one.0)
   refused_alike p file bytes (bad_source f) b one other = absurd other
   refused_alike p file bytes (bad_chunk f) b one other = absurd other
   refused_alike p file bytes (rejected r) b one other = absurd other
-  refused_alike p file bytes (not_decompiled r) b one other = absurd other
+  refused_alike p file bytes (not_decompiled r t) b one other = absurd other
   refused_alike p file bytes (bad_listing f) b one other = absurd other
   refused_alike p file bytes a b one other = absurd one
 
@@ -280,7 +280,7 @@ module _ (laws : Laws) where
   source_alike show file bytes a (bad_chunk g) (inl made) other only = absurd (laws.chunk_or_fault bytes made.1.chunk g made.1.has other.1)
   source_alike show file bytes a (bad_chunk g) (inr refused) other only = refused_alike Product.Source file bytes a (bad_chunk g) refused other
   source_alike show file bytes a (rejected s) one other only = absurd other.wants
-  source_alike show file bytes a (not_decompiled s) one other only = absurd only
+  source_alike show file bytes a (not_decompiled s u) one other only = absurd only
   source_alike show file bytes a (bad_listing g) one other only = absurd other.0
   source_alike show file bytes a b one other only = absurd other
 
@@ -301,6 +301,52 @@ module _ (laws : Laws) where
   source_not_stored file out bytes w (stored text) is only = absurd only
   source_not_stored file out bytes w end is only = is
 
+  -- made sources: what is no text and no want of a source is the only end
+  module _ (count : ℕ) (bytes : List ℕ) (w : World) where
+    made_with : (b : End) (ending : Ending) (text : List ℕ) → HasRun made_name bytes w default_steps ending text → Comes (make_source count) bytes w b → IsOnlyMade b → shown_run ending text ≡ shown b
+    made_with (failed why t) ending text ran other only = one_run made_name bytes w default_steps (shown_run ending text) (shown_run (Failed why) t) (ending, text, ran, refl) (Failed why, t, other, refl)
+    made_with (unfinished n t) ending text ran other only = one_run made_name bytes w default_steps (shown_run ending text) (shown_run Going t) (ending, text, ran, refl) (Going, t, other.1, refl)
+    made_with (put t) ending text ran other only = absurd only
+    made_with (not_decompiled why t) ending text ran other only = absurd only
+    made_with (stored t) ending text ran other only = absurd other
+    made_with (bad_source f) ending text ran other only = absurd (sound_refused made_name bytes ran.chunk (bad_source f) ran.has ran.sound other)
+    made_with (bad_chunk f) ending text ran other only = absurd (sound_refused made_name bytes ran.chunk (bad_chunk f) ran.has ran.sound other)
+    made_with (rejected r) ending text ran other only = absurd (sound_refused made_name bytes ran.chunk (rejected r) ran.has ran.sound other)
+    made_with (bad_listing f) ending text ran other only = absurd (sound_refused made_name bytes ran.chunk (bad_listing f) ran.has ran.sound other)
+
+    not_ended : (b : End) (text : List ℕ) → HasRun made_name bytes w default_steps Ended text → Comes (make_source count) bytes w b → IsOnlyMade b → ⊥
+    not_ended (failed why t) text ran other only = let same : puts Status.Done text ≡ puts Status.ScriptFailed t = made_with (failed why t) Ended text ran other only in cc
+    not_ended (unfinished n t) text ran other only = let same : puts Status.Done text ≡ puts Status.Unfinished t = made_with (unfinished n t) Ended text ran other only in cc
+    not_ended (put t) text ran other only = only
+    not_ended (not_decompiled why t) text ran other only = only
+    not_ended (stored t) text ran other only = other
+    not_ended (bad_source f) text ran other only = sound_refused made_name bytes ran.chunk (bad_source f) ran.has ran.sound other
+    not_ended (bad_chunk f) text ran other only = sound_refused made_name bytes ran.chunk (bad_chunk f) ran.has ran.sound other
+    not_ended (rejected r) text ran other only = sound_refused made_name bytes ran.chunk (rejected r) ran.has ran.sound other
+    not_ended (bad_listing f) text ran other only = sound_refused made_name bytes ran.chunk (bad_listing f) ran.has ran.sound other
+
+    refused_with : (a b : End) → Refuses Product.Verdict made_name bytes a → Comes (make_source count) bytes w b → IsOnlyMade b → Alike a b
+    refused_with a (failed why t) one other only = absurd (sound_refused made_name bytes other.chunk a other.has other.sound one)
+    refused_with a (unfinished n t) one other only = absurd (sound_refused made_name bytes other.1.chunk a other.1.has other.1.sound one)
+    refused_with a (put t) one other only = absurd only
+    refused_with a (not_decompiled why t) one other only = absurd only
+    refused_with a (stored t) one other only = absurd other
+    refused_with a (bad_source f) one other only = refused_alike Product.Verdict made_name bytes a (bad_source f) one other
+    refused_with a (bad_chunk f) one other only = refused_alike Product.Verdict made_name bytes a (bad_chunk f) one other
+    refused_with a (rejected r) one other only = refused_alike Product.Verdict made_name bytes a (rejected r) one other
+    refused_with a (bad_listing f) one other only = refused_alike Product.Verdict made_name bytes a (bad_listing f) one other
+
+    made_source_alike : (a b : End) → Comes (make_source count) bytes w a → Comes (make_source count) bytes w b → IsOnlyMade b → Alike a b
+    made_source_alike (failed why t) b one other only = made_with b (Failed why) t one other only
+    made_source_alike (unfinished n t) b one other only = made_with b Going t one.1 other only
+    made_source_alike (put t) b one other only = absurd (not_ended b one.output one.ran other only)
+    made_source_alike (not_decompiled why t) b one other only = absurd (not_ended b t one.ran other only)
+    made_source_alike (stored t) b one other only = absurd one
+    made_source_alike (bad_source f) b one other only = refused_with (bad_source f) b one other only
+    made_source_alike (bad_chunk f) b one other only = refused_with (bad_chunk f) b one other only
+    made_source_alike (rejected r) b one other only = refused_with (rejected r) b one other only
+    made_source_alike (bad_listing f) b one other only = refused_with (bad_listing f) b one other only
+
   pub alike : (job : Job) (bytes : List ℕ) (w : World) (a b : End) → Comes job bytes w a → Comes job bytes w b → IsOnlyEnd job b → Alike a b
   alike (run_file file steps) bytes w a b one other only =
       stories Product.Verdict file bytes (IsRunShown file bytes w steps) (one_run file bytes w steps)
@@ -314,11 +360,12 @@ module _ (laws : Laws) where
       source_alike stores file bytes a b (store_story Product.Source file out bytes w a one) (source_not_stored file out bytes w b other only) only
   alike (store_product p file out) bytes w a b one other only =
       made_alike stores p file bytes a b tt (store_story p file out bytes w a one) (store_story p file out bytes w b other)
+  alike (make_source count) bytes w a b one other only = made_source_alike count bytes w a b one other only
 
   -- a chunk of which a source is wanted is given one, or none
   pub decompiled_at : (file out : Text) (bytes : List ℕ) (w : World) (chunk : Chunk) (end : End) → IsChunkOf bytes chunk → Comes (store_product Product.Source file out) bytes w end → (status_at end ≡ Status.Done) ⊎ (status_at end ≡ Status.NotDecompiled)
   decompiled_at file out bytes w chunk (stored text) of comes = inl refl
-  decompiled_at file out bytes w chunk (not_decompiled why) of comes = inr refl
+  decompiled_at file out bytes w chunk (not_decompiled why text) of comes = inr refl
   decompiled_at file out bytes w chunk (bad_source fault) of comes = absurd comes.0
   decompiled_at file out bytes w chunk (bad_chunk fault) of comes = absurd (laws.chunk_or_fault bytes chunk fault of comes.1)
   decompiled_at file out bytes w chunk (rejected r) of comes = absurd comes.wants
@@ -330,12 +377,20 @@ module _ (laws : Laws) where
   run_refused file steps bytes w (bad_source fault) comes none = comes
   run_refused file steps bytes w (bad_chunk fault) comes none = comes
   run_refused file steps bytes w (rejected r) comes none = comes
-  run_refused file steps bytes w (not_decompiled why) comes none = comes
   run_refused file steps bytes w (bad_listing fault) comes none = comes
   run_refused file steps bytes w end comes none = absurd none
 
+  made_refused : (count : ℕ) (bytes : List ℕ) (w : World) (end : End) → Comes (make_source count) bytes w end → HasNoOutput end → Refuses Product.Verdict made_name bytes end
+  made_refused count bytes w (bad_source fault) comes none = comes
+  made_refused count bytes w (bad_chunk fault) comes none = comes
+  made_refused count bytes w (rejected r) comes none = comes
+  made_refused count bytes w (bad_listing fault) comes none = comes
+  made_refused count bytes w end comes none = absurd none
+
   pub refused_not_run : (job : Job) (bytes : List ℕ) (w : World) (text : List ℕ) (end : End) → IsRun (Some job) → MayPut job bytes w text → Comes job bytes w end → HasNoOutput end → ⊥
   refused_not_run (run_file file steps) bytes w text end runs may comes none = sound_refused file bytes may.chunk end may.has may.sound (run_refused file steps bytes w end comes none)
+  refused_not_run (make_source count) bytes w text end runs (inl may) comes none = sound_refused made_name bytes may.chunk end may.has may.sound (made_refused count bytes w end comes none)
+  refused_not_run (make_source count) bytes w text end runs (inr made) comes none = sound_refused made_name bytes made.ran.chunk end made.ran.has made.ran.sound (made_refused count bytes w end comes none)
   refused_not_run (put_product p file) bytes w text end runs may comes none = runs
   refused_not_run (store_product p file out) bytes w text end runs may comes none = runs
 
@@ -357,16 +412,26 @@ pub put_may : (job : Job) (bytes : List ℕ) (w : World) (text : List ℕ) → C
 put_may (run_file file steps) bytes w text comes = run_put file bytes w steps Ended text comes
 put_may (put_product p file) bytes w text comes = comes
 put_may (store_product p file out) bytes w text comes = comes
+put_may (make_source count) bytes w text comes = inr comes
 
 pub failed_may : (job : Job) (bytes : List ℕ) (w : World) (why text : List ℕ) → Comes job bytes w (failed why text) → MayPut job bytes w text
 failed_may (run_file file steps) bytes w why text comes = run_put file bytes w steps (Failed why) text comes
 failed_may (put_product p file) bytes w why text comes = absurd comes
 failed_may (store_product p file out) bytes w why text comes = absurd comes
+failed_may (make_source count) bytes w why text comes = inl (run_put made_name bytes w default_steps (Failed why) text comes)
 
 pub unfinished_may : (job : Job) (bytes : List ℕ) (w : World) (n : ℕ) (text : List ℕ) → Comes job bytes w (unfinished n text) → MayPut job bytes w text
 unfinished_may (run_file file steps) bytes w n text comes = run_put file bytes w steps Going text comes.1
 unfinished_may (put_product p file) bytes w n text comes = absurd comes
 unfinished_may (store_product p file out) bytes w n text comes = absurd comes
+unfinished_may (make_source count) bytes w n text comes = inl (run_put made_name bytes w default_steps Going text comes.1)
+
+-- what is given no source has put nothing, or the output of its run
+pub refused_put : (job : Job) (bytes : List ℕ) (w : World) (why : Refused) (text : List ℕ) → Comes job bytes w (not_decompiled why text) → (text ≡ []) ⊎ MayPut job bytes w text
+refused_put (run_file file steps) bytes w why text comes = inl comes.1
+refused_put (put_product p file) bytes w why text comes = inl comes.1
+refused_put (store_product p file out) bytes w why text comes = inl comes.1
+refused_put (make_source count) bytes w why text comes = inr (inl (run_put made_name bytes w default_steps Ended text comes.ran))
 
 -- so they have one status, and leave the same outside
 abbrev status_shown : Shown → Status
@@ -382,7 +447,7 @@ status_is (unfinished steps text) = refl
 status_is (bad_source fault) = refl
 status_is (bad_chunk fault) = refl
 status_is (rejected rejection) = refl
-status_is (not_decompiled refused) = refl
+status_is (not_decompiled refused text) = refl
 status_is (bad_listing fault) = refl
 
 pub alike_status : (a b : End) → Alike a b → status_at a ≡ status_at b
@@ -398,7 +463,6 @@ none_shown : (end : End) → HasNoOutput end → IsRefusedShown (shown end)
 none_shown (bad_source fault) none = tt
 none_shown (bad_chunk fault) none = tt
 none_shown (rejected rejection) none = tt
-none_shown (not_decompiled refused) none = tt
 none_shown (bad_listing fault) none = tt
 none_shown end none = absurd none
 
@@ -406,7 +470,6 @@ shown_none : (end : End) → IsRefusedShown (shown end) → HasNoOutput end
 shown_none (bad_source fault) none = tt
 shown_none (bad_chunk fault) none = tt
 shown_none (rejected rejection) none = tt
-shown_none (not_decompiled refused) none = tt
 shown_none (bad_listing fault) none = tt
 shown_none end none = absurd none
 
@@ -426,7 +489,7 @@ leaves_shown job (unfinished steps text) old new l = l
 leaves_shown job (bad_source fault) old new l = l
 leaves_shown job (bad_chunk fault) old new l = l
 leaves_shown job (rejected rejection) old new l = l
-leaves_shown job (not_decompiled refused) old new l = l
+leaves_shown job (not_decompiled refused text) old new l = l
 leaves_shown job (bad_listing fault) old new l = l
 
 shown_leaves : (job : Job) (end : End) (old new : Outside) → LeavesShown job (shown end) old new → Leaves job end old new
@@ -437,7 +500,7 @@ shown_leaves job (unfinished steps text) old new l = l
 shown_leaves job (bad_source fault) old new l = l
 shown_leaves job (bad_chunk fault) old new l = l
 shown_leaves job (rejected rejection) old new l = l
-shown_leaves job (not_decompiled refused) old new l = l
+shown_leaves job (not_decompiled refused text) old new l = l
 shown_leaves job (bad_listing fault) old new l = l
 
 pub alike_leaves : (job : Job) (a b : End) (old new : Outside) → Alike a b → Leaves job a old new → Leaves job b old new

@@ -19,7 +19,9 @@ use Rattle.suite_io.specs.Parts.{TakesPart}
 use Rattle.suite_io.specs.Taken.{Takes, Rises}
 use Rattle.suite.specs.declared.status.Status.{Status}
 use Rattle.suite.specs.declared.outcome.Outcome.{Outcome}
-use Rattle.suite.specs.Words.{Tells}
+use Rattle.suite.specs.Words.{Job, run_file, put_product, store_product, make_source, Tells, IsDoneWith}
+use Rattle.suite.specs.Work.{HasBytes}
+use Rattle.source_globals.specs.Named.{GlobalsOfSource}
 use Rattle.suite.specs.Lines.{status_of, line_of, Refused, IsPut, Reported}
 use Rattle.suite.specs.Causes.{Becomes}
 
@@ -29,7 +31,7 @@ SoundOrRejected = (chunk : Chunk) (path : List ℕ) (pc : ℕ) (rule : Rule) →
 abbrev pub UsesAreOne : Type 0
 UsesAreOne = (chunk : Chunk) (a b : Text) → IsUseText chunk a → IsUseText chunk b → a ≡ b
 
--- a file has one chunk, and no fault beside it; its chunk is not sound and rejected, and has one text of its globals; a text is the listing of one chunk, and has no fault beside it; and the chunk of a source does what the source means
+-- a file has one chunk, and no fault beside it; its chunk is not sound and rejected, and has one text of its globals; a text is the listing of one chunk, and has no fault beside it; and the chunk of a source does what the source means, and uses the globals that it mentions
 pub record Laws : Type 0 where
   pub compiled_are_one : sources.ChunksAreOne
   pub source_or_fault : sources.NeverBoth
@@ -40,6 +42,7 @@ pub record Laws : Type 0 where
   pub listed_are_one : listings.ChunksAreOne
   pub listing_or_fault : listings.NeverBoth
   pub compiled_does : CompiledDoes
+  pub globals_of_source : GlobalsOfSource
 
 pub count_snoc : (calls : List FileCall) (call : FileCall) → call.failed ≡ true → fault_count (calls ++ call ∷ []) ≡ suc (fault_count calls)
 count_snoc calls call e =
@@ -48,9 +51,15 @@ count_snoc calls call e =
     omega (arith, both, one)
 
 -- what was told of a file is what was fetched
-pub same_bytes : (contents : Option Contents) (file a b : List ℕ) → Tells contents file a → IfSome contents (λ held. get held file ≡ Some b) → a ≡ b
-same_bytes (Some held) file a b h k = cc
-same_bytes None file a b h k = absurd h
+same_held : (contents : Option Contents) (file a b : List ℕ) → Tells contents file a → IfSome contents (λ held. get held file ≡ Some b) → a ≡ b
+same_held (Some held) file a b h k = cc
+same_held None file a b h k = absurd h
+
+pub same_bytes : (contents : Option Contents) (job : Job) (a b : List ℕ) → IsDoneWith contents job a → HasBytes contents job b → a ≡ b
+same_bytes contents (run_file file steps) a b h k = same_held contents file a b h k
+same_bytes contents (put_product p file) a b h k = same_held contents file a b h k
+same_bytes contents (store_product p file out) a b h k = same_held contents file a b h k
+same_bytes contents (make_source count) a b h k = h ∙ sym k
 
 -- the whole output is a first part of itself
 pub whole_part : (before later : Option (List ℕ)) (text : List ℕ) → Takes before later text → TakesPart before later text

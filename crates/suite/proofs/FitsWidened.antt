@@ -1,12 +1,12 @@
 -- A chunk that fits a layout fits one with sizes of 8 bytes.
-use Rattle.std.proofs.Common.{◌≡◌, ℕ, suc, ◌^◌, ◌<◌, Bool, true, false, cond, eqb, List, [], ◌∷◌, ◌++◌, length, Option, None, Some, arith}
-use Rattle.std.specs.List.{AllByRecursion, flat_map}
+use Rattle.std.proofs.Common.{ℕ, suc, ◌^◌, ◌<◌, Bool, true, false, cond, eqb, List, [], ◌∷◌, length, Option, None, Some, arith}
+use Rattle.std.specs.List.{flat_map}
 use Rattle.lua_num.specs.Bytes.{Text}
 use Rattle.proto.specs.declared.parts.Constant.{Constant}
 use Rattle.proto.specs.declared.parts.LocVar.{LocVar}
 use Rattle.proto.specs.Chunk.{Own, Chunk, function, Functions, no_functions, and_function, function_count}
 use Rattle.chunk_io.specs.declared.layout.Layout.{Layout}
-use Rattle.chunk_io.specs.Items.{Item, begin, int, instruction, tag, number, any_size, some_size, end, Allowed, size_limit, le8, header, string_items, source_items, constant_items, local_items, counted, front_items, debug_items, function_items, each_items, items, Fits}
+use Rattle.chunk_io.specs.Items.{Item, begin, int, instruction, tag, any_size, some_size, end, size_limit, le8, header, string_items, source_items, constant_items, local_items, counted, front_items, debug_items, function_items, each_items, items, Fits}
 use Rattle.suite.proofs.FitsStripped.{Keeps, same, both, one}
 
 wide : (l : Layout) (n : ℕ) → n < size_limit l → n < size_limit le8

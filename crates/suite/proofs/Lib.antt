@@ -10,3 +10,5 @@ pub mod Ends
 pub mod Clauses
 pub mod Meant
 pub mod Promised
+mod Tried
+mod Mentioned

@@ -1,5 +1,5 @@
 -- Accepted source is taken for every job, and its run does what it means: from the other promises, and the law of compiled source.
-use Rattle.std.proofs.Common.{◌≡◌, ◌≢◌, ◌⊎◌, ℕ, suc, ◌+◌, ◌*◌, ◌≤◌, Bool, true, false, List, [], ◌∷◌, ◌++◌, inl, inr, Some, refl, sym, ap, subst, ◌∙◌, cond, arith}
+use Rattle.std.proofs.Common.{◌≡◌, ◌≢◌, ◌⊎◌, ℕ, suc, ◌*◌, ◌≤◌, Bool, true, false, List, [], ◌∷◌, ◌++◌, inl, inr, Some, refl, sym, ap, subst, ◌∙◌, cond, arith}
 use Rattle.std.proofs.lemmas.List.Sums.{sum_by-append}
 use Rattle.lua_num.specs.Bytes.{Text}
 use Rattle.lua_tree.specs.Syntax.{Source}
@@ -24,8 +24,8 @@ use Rattle.suite.specs.declared.status.Status.{Status}
 use Rattle.suite.specs.declared.outcome.Outcome.{Outcome}
 use Rattle.suite.specs.declared.rejection.Rejection.{Rejection}
 use Rattle.suite.specs.Lines.{line_of}
-use Rattle.suite.specs.Words.{Words, Job, run_file, put_product, store_product, NoCommand, file_of, named}
-use Rattle.suite.specs.Work.{out_of}
+use Rattle.suite.specs.Words.{Words, Job, run_file, put_product, store_product, make_source, NoCommand, named}
+use Rattle.suite.specs.Work.{out_of, IsStore, Fetches, first_calls}
 use Rattle.suite.specs.Worlds.{World, hosts_first, replies_of}
 use Rattle.suite.specs.Seen.{Seen, between}
 use Rattle.suite.specs.Jobs.{End, stored, put, failed, unfinished, bad_source, bad_chunk, rejected, not_decompiled, bad_listing, Comes, HasChunk, HasRun, source_name, Refuses}
@@ -48,6 +48,7 @@ module _ (laws : Laws) (bytes : List ℕ) (w : World) where
   never_bad_source (run_file file steps) source fault accepts comes = no_fault file source fault accepts comes.1
   never_bad_source (put_product p file) source fault accepts comes = no_fault file source fault accepts comes.1
   never_bad_source (store_product p file out) source fault accepts comes = no_fault file source fault accepts comes.1
+  never_bad_source (make_source count) source fault accepts comes = no_fault [] source fault accepts comes.1
 
   product_bad_chunk : (p : Product) (file : Text) (fault : ChunkFault) → IsReadAsSource (put_product p file) bytes → Refuses p file bytes (bad_chunk fault) → ⊥
   product_bad_chunk Product.Listing file fault source is = not_both (is_chunk bytes) source is.0
@@ -61,6 +62,7 @@ module _ (laws : Laws) (bytes : List ℕ) (w : World) where
   never_bad_chunk (run_file file steps) fault source comes = product_bad_chunk Product.Verdict file fault source comes
   never_bad_chunk (put_product p file) fault source comes = product_bad_chunk p file fault source comes
   never_bad_chunk (store_product p file out) fault source comes = product_bad_chunk p file fault source comes
+  never_bad_chunk (make_source count) fault source comes = source
 
   product_rejected : (p : Product) (file : Text) (r : Rejection) → IsReadAsSource (put_product p file) bytes → Refuses p file bytes (rejected r) → ⊥
   product_rejected Product.Verdict file r source is = not_both (is_chunk bytes) source is.spelled
@@ -71,20 +73,23 @@ module _ (laws : Laws) (bytes : List ℕ) (w : World) where
   never_rejected (run_file file steps) r source comes = product_rejected Product.Verdict file r source comes
   never_rejected (put_product p file) r source comes = product_rejected p file r source comes
   never_rejected (store_product p file out) r source comes = product_rejected p file r source comes
+  never_rejected (make_source count) r source comes = source
 
-  product_not_decompiled : (p : Product) (file : Text) (r : Refused) → IsReadAsSource (put_product p file) bytes → Refuses p file bytes (not_decompiled r) → ⊥
-  product_not_decompiled Product.Source file r source is = source
-  product_not_decompiled p file r source is = is.wants
+  product_not_decompiled : (p : Product) (file : Text) (r : Refused) (text : List ℕ) → IsReadAsSource (put_product p file) bytes → Refuses p file bytes (not_decompiled r text) → ⊥
+  product_not_decompiled Product.Source file r text source is = source
+  product_not_decompiled p file r text source is = is.0.wants
 
-  never_not_decompiled : (job : Job) (r : Refused) → IsReadAsSource job bytes → Comes job bytes w (not_decompiled r) → ⊥
-  never_not_decompiled (run_file file steps) r source comes = product_not_decompiled Product.Verdict file r source comes
-  never_not_decompiled (put_product p file) r source comes = product_not_decompiled p file r source comes
-  never_not_decompiled (store_product p file out) r source comes = product_not_decompiled p file r source comes
+  never_not_decompiled : (job : Job) (r : Refused) (text : List ℕ) → IsReadAsSource job bytes → Comes job bytes w (not_decompiled r text) → ⊥
+  never_not_decompiled (run_file file steps) r text source comes = product_not_decompiled Product.Verdict file r text source comes
+  never_not_decompiled (put_product p file) r text source comes = product_not_decompiled p file r text source comes
+  never_not_decompiled (store_product p file out) r text source comes = product_not_decompiled p file r text source comes
+  never_not_decompiled (make_source count) r text source comes = source
 
   never_bad_listing : (job : Job) (fault : ListFault) → IsReadAsSource job bytes → Comes job bytes w (bad_listing fault) → ⊥
   never_bad_listing (run_file file steps) fault source comes = comes.0
   never_bad_listing (put_product p file) fault source comes = source_not_listing p bytes source comes.0
   never_bad_listing (store_product p file out) fault source comes = source_not_listing p bytes source comes.0
+  never_bad_listing (make_source count) fault source comes = source
 
 -- a call that failed raises the count of faults, whatever comes behind it
 fault_rises : (calls : List FileCall) (call : FileCall) (later : List FileCall) → call.failed ≡ true → suc (fault_count calls) ≤ fault_count ((calls ++ call ∷ []) ++ later)
@@ -99,6 +104,18 @@ store_rises calls fetch store e =
     let both = sum_by-append (λ (c : FileCall). cond c.failed 1 0) calls (fetch ∷ []) in
     omega (arith, one, both)
 
+fetch_rises : (job : Job) (calls later : List FileCall) → Fetches job → suc (fault_count calls) ≤ fault_count ((calls ++ first_calls job true) ++ later)
+fetch_rises (run_file file steps) calls later f = fault_rises calls (call_of false file true) later refl
+fetch_rises (put_product p file) calls later f = fault_rises calls (call_of false file true) later refl
+fetch_rises (store_product p file out) calls later f = fault_rises calls (call_of false file true) later refl
+fetch_rises (make_source count) calls later f = absurd f
+
+store_behind : (job : Job) (calls : List FileCall) (store : FileCall) → IsStore job → store.failed ≡ true → suc (fault_count calls) ≤ fault_count ((calls ++ first_calls job false) ++ store ∷ [])
+store_behind (store_product p file out) calls store stores e = store_rises calls (call_of false file false) store e
+store_behind (run_file file steps) calls store stores e = absurd stores
+store_behind (put_product p file) calls store stores e = absurd stores
+store_behind (make_source count) calls store stores e = absurd stores
+
 -- ---- what the other promises say of one job
 
 pub record OfJob (words : Words) (job : Job) (bytes : List ℕ) (before behind : Seen) (result : Status) : Type 0 where
@@ -110,22 +127,23 @@ pub record OfJob (words : Words) (job : Job) (bytes : List ℕ) (before behind :
   pub bad_source : result ≡ Status.BadSource → (fault : Fault) × Comes job bytes (between before behind) (bad_source fault)
   pub bad_chunk : result ≡ Status.BadChunk → (fault : ChunkFault) × Comes job bytes (between before behind) (bad_chunk fault)
   pub rejected : result ≡ Status.Rejected → (r : Rejection) × Comes job bytes (between before behind) (rejected r)
-  pub not_decompiled : result ≡ Status.NotDecompiled → (r : Refused) × Comes job bytes (between before behind) (not_decompiled r)
+  pub not_decompiled : result ≡ Status.NotDecompiled → (r : Refused) × (text : List ℕ) × Comes job bytes (between before behind) (not_decompiled r text)
   pub bad_listing : result ≡ Status.BadListing → (fault : ListFault) × Comes job bytes (between before behind) (bad_listing fault)
   pub read_fault : result ≡ Status.ReadFault → Fetched words true before.outside.calls behind.outside.calls
   pub write_fault : result ≡ Status.WriteFault → Rises before.outside.faults behind.outside.faults ⊎ Rises before.err_faults behind.err_faults ⊎ StoreFailed words before.outside.calls behind.outside.calls
 
 -- no text is made by a run that failed or is going
-text_or_run : (job : Job) (bytes : List ℕ) (w : World) (status : Status) → (status ≡ Status.ScriptFailed → (why : List ℕ) × (text : List ℕ) × Comes job bytes w (failed why text)) → (status ≡ Status.Unfinished → (n : ℕ) × (text : List ℕ) × Comes job bytes w (unfinished n text)) → (status ≡ Status.Done) ⊎ (status ≡ Status.ScriptFailed) ⊎ (status ≡ Status.Unfinished) ⊎ (status ≡ Status.OutOfMemory) → IsGood job status
-text_or_run (run_file file steps) bytes w status fails goes is = is
-text_or_run (put_product p file) bytes w status fails goes (inl e) = inl e
-text_or_run (put_product p file) bytes w status fails goes (inr (inl e)) = absurd (fails e).2
-text_or_run (put_product p file) bytes w status fails goes (inr (inr (inl e))) = absurd (goes e).2
-text_or_run (put_product p file) bytes w status fails goes (inr (inr (inr e))) = inr e
-text_or_run (store_product p file out) bytes w status fails goes (inl e) = inl e
-text_or_run (store_product p file out) bytes w status fails goes (inr (inl e)) = absurd (fails e).2
-text_or_run (store_product p file out) bytes w status fails goes (inr (inr (inl e))) = absurd (goes e).2
-text_or_run (store_product p file out) bytes w status fails goes (inr (inr (inr e))) = inr e
+text_or_run : (job : Job) (bytes : List ℕ) (w : World) (status : Status) → IsReadAsSource job bytes → (status ≡ Status.ScriptFailed → (why : List ℕ) × (text : List ℕ) × Comes job bytes w (failed why text)) → (status ≡ Status.Unfinished → (n : ℕ) × (text : List ℕ) × Comes job bytes w (unfinished n text)) → (status ≡ Status.Done) ⊎ (status ≡ Status.ScriptFailed) ⊎ (status ≡ Status.Unfinished) ⊎ (status ≡ Status.OutOfMemory) → IsGood job status
+text_or_run (run_file file steps) bytes w status source fails goes is = is
+text_or_run (put_product p file) bytes w status source fails goes (inl e) = inl e
+text_or_run (put_product p file) bytes w status source fails goes (inr (inl e)) = absurd (fails e).2
+text_or_run (put_product p file) bytes w status source fails goes (inr (inr (inl e))) = absurd (goes e).2
+text_or_run (put_product p file) bytes w status source fails goes (inr (inr (inr e))) = inr e
+text_or_run (store_product p file out) bytes w status source fails goes (inl e) = inl e
+text_or_run (store_product p file out) bytes w status source fails goes (inr (inl e)) = absurd (fails e).2
+text_or_run (store_product p file out) bytes w status source fails goes (inr (inr (inl e))) = absurd (goes e).2
+text_or_run (store_product p file out) bytes w status source fails goes (inr (inr (inr e))) = inr e
+text_or_run (make_source count) bytes w status source fails goes is = absurd source
 
 module _ (laws : Laws) (words : Words) (before behind : Seen) (result : Status) (job : Job) (bytes : List ℕ) (source : Source) (of : OfJob words job bytes before behind result) (as_source : IsReadAsSource job bytes) (accepts : Accepts bytes source) where
   never_refused : (status : Status) → result ≡ status → RefusesFile status → ⊥
@@ -133,13 +151,13 @@ module _ (laws : Laws) (words : Words) (before behind : Seen) (result : Status) 
   never_refused Status.BadSource e refuses = let c = of.bad_source e in never_bad_source laws bytes (between before behind) job source c.0 accepts c.1
   never_refused Status.BadChunk e refuses = let c = of.bad_chunk e in never_bad_chunk laws bytes (between before behind) job c.0 as_source c.1
   never_refused Status.Rejected e refuses = let c = of.rejected e in never_rejected laws bytes (between before behind) job c.0 as_source c.1
-  never_refused Status.NotDecompiled e refuses = let c = of.not_decompiled e in never_not_decompiled laws bytes (between before behind) job c.0 as_source c.1
+  never_refused Status.NotDecompiled e refuses = let c = of.not_decompiled e in never_not_decompiled laws bytes (between before behind) job c.0 c.1 as_source c.2
   never_refused Status.BadListing e refuses = let c = of.bad_listing e in never_bad_listing laws bytes (between before behind) job c.0 as_source c.1
   never_refused status e refuses = refuses
 
   no_read_fault : IsQuiet words before behind result → Fetched words true before.outside.calls behind.outside.calls → ⊥
   no_read_fault quiet f =
-      let rises = fault_rises before.outside.calls (call_of false (file_of f.job) true) f.later refl in
+      let rises = fetch_rises f.job before.outside.calls f.later (f.fetches refl) in
       let same = ap fault_count f.listed in
       let quiet_files = quiet.files in
       absurd (omega (arith, rises, same, quiet_files))
@@ -166,7 +184,7 @@ module _ (laws : Laws) (words : Words) (before behind : Seen) (result : Status) 
     where
       no_store : StoreFailed words before.outside.calls behind.outside.calls → ⊥
       no_store f =
-          let rises = store_rises before.outside.calls (call_of false (file_of f.job) false) (call_of true (out_of f.job) true) refl in
+          let rises = store_behind f.job before.outside.calls (call_of true (out_of f.job) true) f.stores refl in
           let same = ap fault_count f.listed in
           let quiet_files = quiet.files in
           absurd (omega (arith, rises, same, quiet_files))
@@ -175,7 +193,7 @@ module _ (laws : Laws) (words : Words) (before behind : Seen) (result : Status) 
   is_taken = record {
     never_refused = λ refuses. never_refused result refl refuses;
     good = λ quiet.
-        text_or_run job bytes (between before behind) result
+        text_or_run job bytes (between before behind) result as_source
         (λ e. let f = of.script_failed e in (f.0, f.1, f.2))
         (λ e. let f = of.unfinished e in (f.0, f.1, f.2))
         (one_of quiet result refl);
@@ -232,7 +250,7 @@ module _ (laws : Laws) (words : Words) (before behind : Seen) (result : Status) 
   at_done (bad_source fault) comes e l = absurd (cc)
   at_done (bad_chunk fault) comes e l = absurd (cc)
   at_done (rejected r) comes e l = absurd (cc)
-  at_done (not_decompiled r) comes e l = absurd (cc)
+  at_done (not_decompiled r text) comes e l = absurd (cc)
   at_done (bad_listing fault) comes e l = absurd (cc)
 
   at_unfinished : result ≡ Status.Unfinished → GoesOn source w before.outside.taken behind.outside.taken steps

@@ -1,19 +1,21 @@
 -- What the top call promises, for words that ask for a job and for those that ask for none.
-use Rattle.std.proofs.Common.{◌≡◌, ◌≢◌, ℕ, List, [], inl, inr, Some, None, refl, sym, ap, subst, ◌∙◌}
+use Rattle.std.proofs.Common.{◌≡◌, ◌≢◌, ℕ, List, [], inl, inr, Option, Some, None, refl, sym, ap, subst, ◌∙◌}
 use Rattle.suite_io.proofs.TakenPieces.{takes_none}
 use Rattle.suite_io.specs.Taken.{Takes, Rises}
 use Rattle.suite.specs.declared.outcome.Outcome.{Outcome}
 use Rattle.suite.specs.declared.status.Status.{Status}
-use Rattle.suite.specs.Words.{Words, Job, job_in, texts, Reads, NoCommand, Asks, file_of, file_or_none, named}
+use Rattle.suite.specs.declared.product.Product.{Product}
+use Rattle.suite.specs.Words.{Words, Job, put_product, job_in, texts, Reads, NoCommand, Asks, file_of, file_or_none, named}
 use Rattle.suite.specs.Worlds.{Unasked}
 use Rattle.suite.specs.Seen.{Seen, Outside, between}
 use Rattle.suite.specs.Lines.{Reported}
 use Rattle.suite.specs.Work.{Works}
 use Rattle.suite.specs.Causes.{FilesFor}
 use Rattle.suite.specs.Promises.{Promises}
-use Rattle.suite.proofs.Facts.{Laws, settled_is, put_becomes, write_cause}
+use Rattle.suite.proofs.Facts.{Laws, no_memory_is, settled_is, put_becomes, write_cause}
 use Rattle.suite.proofs.Clauses as job
 use Rattle.suite.proofs.Meant.{OfJob, is_taken, is_meant}
+use Rattle.suite.proofs.Mentioned.{are_mentioned}
 
 -- words that ask for a job
 module _ (laws : Laws) (words : Words) (asked : Job) (reads : Reads words asked) (before behind : Seen) (outcome : Outcome)
@@ -52,6 +54,7 @@ module _ (laws : Laws) (words : Words) (asked : Job) (reads : Reads words asked)
         write_fault = job.write_fault_clause laws words asked reads w old new outcome works before.err_taken behind.err_taken before.err_faults behind.err_faults result reported;
         taken = λ other bytes source asks as_source accepts. is_taken laws words before behind result other bytes source (of_job other bytes asks) as_source accepts;
         meant = λ file steps bytes source asks as_source accepts. is_meant laws words before behind result file steps bytes source (of_job _ bytes asks) as_source accepts;
+        mentioned = λ file bytes source asks as_source accepts e. let d = (done e).2 (put_product Product.Globals file) bytes asks in are_mentioned laws file bytes source as_source accepts (between before behind) before.outside behind.outside d.0 d.1 d.2 d.3;
         line = job.line_clause laws words asked reads w old new outcome works before.err_taken behind.err_taken before.err_faults behind.err_faults result reported;
       }
     where
@@ -80,7 +83,7 @@ module _ (laws : Laws) (words : Words) (asked : Job) (reads : Reads words asked)
             bad_source = λ e. let s = source e in (s.1, s.2 other bytes asks);
             bad_chunk = λ e. let s = chunk e in (s.1, s.2 other bytes asks);
             rejected = λ e. let s = reject e in (s.1, s.2 other bytes asks);
-            not_decompiled = λ e. let s = given_none e in (s.1, s.2 other bytes asks);
+            not_decompiled = λ e. let s = given_none e in let t = s.2 other bytes asks in (s.1, t.0, t.1);
             bad_listing = λ e. let s = listed_none e in (s.1, s.2 other bytes asks);
             read_fault = job.read_fault_clause laws words asked reads w old new outcome works before.err_taken behind.err_taken before.err_faults behind.err_faults result reported;
             write_fault = job.write_fault_clause laws words asked reads w old new outcome works before.err_taken behind.err_taken before.err_faults behind.err_faults result reported;
@@ -107,7 +110,7 @@ module _ (words : Words) (none : NoCommand words) (before behind : Seen) (same :
 
   pub none_promised : Promises words before behind result
   none_promised = record {
-    whole = (Outcome.BadWords, subst (λ j. Works j (between before behind) Outcome.BadWords before.outside behind.outside) (sym none) (refl, same, unasked), named_so);
+    whole = (Outcome.BadWords, subst (λ j. Works j (between before behind) Outcome.BadWords before.outside behind.outside) (sym none) (inl refl, same, unasked), named_so);
     carried_out = λ asked bytes end asks comes only quiet. absurd (no_job asked asks.reads);
     done = λ e. absurd (other Status.Done (λ d. cc) (λ d. cc) (λ d. cc) e);
     part = λ asked bytes asks. absurd (no_job asked asks.reads);
@@ -118,7 +121,7 @@ module _ (words : Words) (none : NoCommand words) (before behind : Seen) (same :
     script_failed = λ e. absurd (other Status.ScriptFailed (λ d. cc) (λ d. cc) (λ d. cc) e);
     unfinished = λ e. absurd (other Status.Unfinished (λ d. cc) (λ d. cc) (λ d. cc) e);
     bad_words = λ e. none;
-    no_command = λ no. put_becomes before.err_taken behind.err_taken before.err_faults behind.err_faults Status.BadWords _ result reported;
+    no_command = λ no. inl (put_becomes before.err_taken behind.err_taken before.err_faults behind.err_faults Status.BadWords _ result reported);
     read_fault = λ e. absurd (other Status.ReadFault (λ d. cc) (λ d. cc) (λ d. cc) e);
     fetch_failed = λ fetch. absurd (no_job fetch.job fetch.reads);
     refused = λ asked bytes end asks comes only no fetch. absurd (no_job asked asks.reads);
@@ -131,5 +134,56 @@ module _ (words : Words) (none : NoCommand words) (before behind : Seen) (same :
     write_fault = λ e. inr (inl (by_cause e));
     taken = λ asked bytes source asks as_source accepts. absurd (no_job asked asks.reads);
     meant = λ file steps bytes source asks as_source accepts. absurd (no_job _ asks.reads);
+    mentioned = λ file bytes source asks as_source accepts e. absurd (no_job _ asks.reads);
     line = λ no_fault no_want. let s = settled_is before.err_taken behind.err_taken before.err_faults behind.err_faults Outcome.BadWords (named words) result named_so no_fault no_want in (Outcome.BadWords, sym s.0, s.1);
   }
+
+-- words that were not read, since memory ran out
+module _ (words : Words) (before behind : Seen) (same : behind.outside ≡ before.outside) (unasked : Unasked (between before behind)) (result : Status)
+    (reported : Reported Outcome.OutOfMemory [] result before.err_taken behind.err_taken before.err_faults behind.err_faults) where
+  wants : result ≡ Status.OutOfMemory
+  wants = no_memory_is before.err_taken behind.err_taken before.err_faults behind.err_faults _ result reported
+
+  -- and ask for nothing
+  nothing_promised : NoCommand words → Promises words before behind result
+  nothing_promised none = record {
+    whole = (Outcome.OutOfMemory, subst (λ j. Works j (between before behind) Outcome.OutOfMemory before.outside behind.outside) (sym none) (inr refl, same, unasked), reported);
+    carried_out = λ asked bytes end asks comes only quiet. inr wants;
+    done = λ e. let w = wants in absurd (cc);
+    part = λ asked bytes asks. inl unput;
+    nothing = λ cause. unput;
+    files = subst (λ j. FilesFor j before.outside behind.outside) (sym none) (ap (λ (o : Outside). o.calls) same, ap (λ (o : Outside). o.contents) same);
+    hosts = inr unasked;
+    unasked = λ refuses. unasked;
+    script_failed = λ e. let w = wants in absurd (cc);
+    unfinished = λ e. let w = wants in absurd (cc);
+    bad_words = λ e. none;
+    no_command = λ no. inr wants;
+    read_fault = λ e. let w = wants in absurd (cc);
+    fetch_failed = λ fetch. absurd (no_asked fetch.job fetch.reads);
+    refused = λ asked bytes end asks comes only no fetch. inr wants;
+    bad_source = λ e. let w = wants in absurd (cc);
+    bad_chunk = λ e. let w = wants in absurd (cc);
+    rejected = λ e. let w = wants in absurd (cc);
+    not_decompiled = λ e. let w = wants in absurd (cc);
+    bad_listing = λ e. let w = wants in absurd (cc);
+    decompiled = λ file out bytes chunk asks of quiet. inr (inr wants);
+    write_fault = λ e. let w = wants in absurd (cc);
+    taken = λ asked bytes source asks as_source accepts. absurd (no_asked asked asks.reads);
+    meant = λ file steps bytes source asks as_source accepts. absurd (no_asked _ asks.reads);
+    mentioned = λ file bytes source asks as_source accepts e. absurd (no_asked _ asks.reads);
+    line = λ no_fault no_want. absurd (no_want wants);
+  }
+    where
+      no_asked : (asked : Job) → Reads words asked → ⊥
+      no_asked asked reads = let one : job_in (texts words) ≡ Some asked = reads in let no : job_in (texts words) ≡ None = none in cc
+
+      unput : Takes before.outside.taken behind.outside.taken []
+      unput = subst (λ (o : Outside). Takes before.outside.taken o.taken []) (sym same) (takes_none before.outside.taken)
+
+  pub wanting_promised : Laws → Promises words before behind result
+  wanting_promised laws = by (job_in (texts words)) refl
+    where
+      by : (o : Option Job) → job_in (texts words) ≡ o → Promises words before behind result
+      by None none = nothing_promised none
+      by (Some asked) reads = some_promised laws words asked reads before behind Outcome.OutOfMemory (inr (inl (refl, same, unasked))) result reported

@@ -7,7 +7,7 @@ use Rattle.suite_io.proofs.TakenPieces.{takes_both}
 part_first : (x y : List ℕ) (a b : Option (List ℕ)) → TakesPart a b x → TakesPart a b (x ++ y)
 part_first x y a b (part, (rest, e), t) = (part, (rest ++ y, sym (append_assoc part rest y) ∙ ap (λ l. l ++ y) e), t)
 
-part_then : (x y : List ℕ) (a b c : Option (List ℕ)) → Takes a b x → TakesPart b c y → TakesPart a c (x ++ y)
+pub part_then : (x y : List ℕ) (a b c : Option (List ℕ)) → Takes a b x → TakesPart b c y → TakesPart a c (x ++ y)
 part_then x y a b c h (part, (rest, e), t) =
     (x ++ part, (rest, append_assoc x part rest ∙ ap (λ l. x ++ l) e), takes_both a b c x part h t)
 

@@ -23,7 +23,7 @@ use Rattle.suite.specs.Jobs.{HasChunk, HasRun, HasPut, put, failed, unfinished}
 use Rattle.suite.specs.Work.{Does}
 
 -- the only first part of nothing is nothing
-part_of_none : (taken later : Option (List ℕ)) → TakesPart taken later [] → Takes taken later []
+pub part_of_none : (taken later : Option (List ℕ)) → TakesPart taken later [] → Takes taken later []
 part_of_none taken later (text, (rest, e), t) = subst (Takes taken later) (front_nil text rest (sym e)) t
   where
     front_nil : (front behind : List ℕ) → [] ≡ front ++ behind → front ≡ []
@@ -46,22 +46,27 @@ module _ (file : Text) (steps : ℕ) (bytes : List ℕ) (chunk : Chunk) (has : H
   replies : (es : List Event) → Logs es before behind → replies_in es ++ [] ≡ replies_of (world before behind)
   replies es log = append-nil (replies_in es) ∙ sym (replies_logged es) ∙ ap replies_in_log (sym (logged es log))
 
-  -- a run that came so far
+  -- a run that came so far, of this chunk
+  pub ran_of : (n : ℕ) (end : Ending) (es : List Event) → RanTo chunk (hosts_of before) es n end → LeavesHosts chunk (hosts_of before) es n behind → Logs es before behind → (r : HasRun file bytes (world before behind) n end (output es)) × (r.chunk ≡ chunk)
+  ran_of n end es ran_to leaves log = (
+    record {
+      chunk = chunk;
+      has = has;
+      sound = λ spelled. sound;
+      events = es;
+      comes = subst (λ (r : List Reply). course (ran chunk (hosts_of before) r n) ≡ Some (record { ending = end; events = es })) (replies es log) (ran_to []);
+      is = refl;
+      called = logged es log;
+      live = subst (λ (r : List Reply). hosts_at (ran chunk (hosts_of before) r n) ≡ hosts_of behind) (replies es log) (leaves []);
+    },
+    refl,
+  )
+
   has_run : (n : ℕ) (end : Ending) (es : List Event) → RanTo chunk (hosts_of before) es n end → LeavesHosts chunk (hosts_of before) es n behind → Logs es before behind → HasRun file bytes (world before behind) n end (output es)
-  has_run n end es ran_to leaves log =
-      record {
-        chunk = chunk;
-        has = has;
-        sound = λ spelled. sound;
-        events = es;
-        comes = subst (λ (r : List Reply). course (ran chunk (hosts_of before) r n) ≡ Some (record { ending = end; events = es })) (replies es log) (ran_to []);
-        is = refl;
-        called = logged es log;
-        live = subst (λ (r : List Reply). hosts_at (ran chunk (hosts_of before) r n) ≡ hosts_of behind) (replies es log) (leaves []);
-      }
+  has_run n end es ran_to leaves log = (ran_of n end es ran_to leaves log).0
 
   -- what it put, whatever became of the hosts
-  has_put : (n : ℕ) (end : Ending) (es : List Event) → RanTo chunk (hosts_of before) es n end → HasPut file bytes (hosts_of before) (output es)
+  pub has_put : (n : ℕ) (end : Ending) (es : List Event) → RanTo chunk (hosts_of before) es n end → HasPut file bytes (hosts_of before) (output es)
   has_put n end es ran_to = record {
     chunk = chunk;
     has = has;

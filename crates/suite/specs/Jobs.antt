@@ -4,6 +4,7 @@ use Rattle.lua_num.specs.Bytes.{Text}
 use Rattle.lua_model.specs.Store.{Host, Reply, Event, output}
 use Rattle.lua_model.specs.Endings.{Ending, Ended, Failed, Going}
 use Rattle.proto.specs.Chunk.{Chunk, strip}
+use Rattle.made_source.specs.Made.{account}
 use Rattle.chunk_io.specs.declared.fault.ChunkFault.{ChunkFault}
 use Rattle.chunk_io.specs.Faults.{IsFault}
 use Rattle.chunk_io.specs.Items.{IsChunkOf, Spelled, is_chunk, le8}
@@ -22,11 +23,11 @@ use Rattle.asm_text.specs.Faults as listings
 use Rattle.asm_text.specs.Faults.{Assembles}
 use Rattle.suite.specs.declared.product.Product.{Product}
 use Rattle.suite.specs.declared.rejection.Rejection.{Rejection}
-use Rattle.suite.specs.Words.{Job, run_file, put_product, store_product}
+use Rattle.suite.specs.Words.{Job, run_file, put_product, store_product, make_source, made_name, default_steps}
 use Rattle.suite.specs.Worlds.{World, hosts_first, hosts_last, calls_of, replies_of, Unasked}
 
 -- what a job comes to: a text is stored or put; or a run failed, or is going after its steps, and has put a text; or the bytes have a fault, or their
--- chunk is rejected, or given no source, or they are no listing
+-- chunk is rejected, or given no source, behind a run that has put a text or behind none, or they are no listing
 pub data End : Type 0 where
   stored : (text : List ℕ) → End
   put : (text : List ℕ) → End
@@ -35,7 +36,7 @@ pub data End : Type 0 where
   bad_source : Fault → End
   bad_chunk : ChunkFault → End
   rejected : Rejection → End
-  not_decompiled : Refused → End
+  not_decompiled : Refused → (text : List ℕ) → End
   bad_listing : ListFault → End
 
 -- the source name of a file: `@` and its name
@@ -131,7 +132,7 @@ abbrev pub Refuses : Product → Text → List ℕ → End → Type 0
 Refuses product file bytes (bad_source fault) = IsSourceFor product bytes × IsFaultIn bytes fault
 Refuses product file bytes (bad_chunk fault) = IsChunkFor product bytes × IsFault bytes fault
 Refuses product file bytes (rejected rejection) = IsRejectedFor product file bytes rejection
-Refuses product file bytes (not_decompiled refused) = IsNotDecompiledFor product bytes refused
+Refuses product file bytes (not_decompiled refused text) = IsNotDecompiledFor product bytes refused × (text ≡ [])
 Refuses product file bytes (bad_listing fault) = IsListingFor product × listings.IsFault bytes fault
 Refuses product file bytes end = ⊥
 
@@ -181,6 +182,22 @@ pub record HasPut (file : Text) (bytes : List ℕ) (hosts : List Host) (text : L
   pub comes : course (ran chunk hosts replies steps) ≡ Some (record { ending = ending; events = events })
   pub is : text ≡ output events
 
+-- ---- made sources
+
+-- the run of a made source ended, a source was found of its chunk, and the text is the run's output with the account behind it
+pub record HasMade (bytes : List ℕ) (w : World) (text : List ℕ) : Type 0 where
+  pub output : List ℕ
+  pub ran : HasRun made_name bytes w default_steps Ended output
+  pub source : List ℕ
+  pub of : IsSourceOf ran.chunk source
+  pub is : text ≡ output ++ account bytes ran.chunk
+
+-- or no source was found of its chunk, and the text is the run's output
+pub record HasNoSource (bytes : List ℕ) (w : World) (why : Refused) (text : List ℕ) : Type 0 where
+  pub ran : HasRun made_name bytes w default_steps Ended text
+  pub told : IsTold why
+  pub refused : IsRefusedBy ran.chunk why
+
 -- ---- jobs
 
 -- What a job comes to with the bytes of its file, among these hosts. A run refuses what has no good verdict.
@@ -193,3 +210,8 @@ Comes (put_product product file) bytes w (put text) = Makes product file bytes t
 Comes (put_product product file) bytes w end = Refuses product file bytes end
 Comes (store_product product file out) bytes w (stored text) = Makes product file bytes text
 Comes (store_product product file out) bytes w end = Refuses product file bytes end
+Comes (make_source count) bytes w (put text) = HasMade bytes w text
+Comes (make_source count) bytes w (failed why text) = HasRun made_name bytes w default_steps (Failed why) text
+Comes (make_source count) bytes w (unfinished n text) = (n ≡ default_steps) × HasRun made_name bytes w default_steps Going text
+Comes (make_source count) bytes w (not_decompiled why text) = HasNoSource bytes w why text
+Comes (make_source count) bytes w end = Refuses Product.Verdict made_name bytes end

@@ -1,5 +1,4 @@
 pub mod Words
-pub mod Arguments
 pub mod Rejections
 pub mod Lines
 pub mod Worlds
@@ -10,3 +9,4 @@ pub mod Causes
 pub mod Meant
 pub mod Promises
 pub mod Refusing
+pub mod Trying

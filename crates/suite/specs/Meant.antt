@@ -1,5 +1,10 @@
 -- To be believed. What accepted source means, beside what its run came to.
-use Rattle.std.specs.Prelude.{◌≡◌, ◌≢◌, ◌⊎◌, ◌≤◌, ℕ, ◌*◌, false, List, Option}
+use Rattle.std.specs.Prelude.{◌≡◌, ◌≢◌, ◌⊎◌, ◌≤◌, ◌↔◌, ℕ, ◌+◌, ◌*◌, false, List, Contains, Option}
+use Rattle.std.specs.Cmp.Lexicographic.{slice_cmp}
+use Rattle.std.specs.List.{flat_map}
+use Rattle.std.specs.List.Sorted.{IsStrictlySortedBy}
+use Rattle.std.specs.Ordering.{nat_cmp}
+use Rattle.lua_num.specs.Bytes.{Text}
 use Rattle.lua_tree.specs.Syntax.{Source}
 use Rattle.lua_model.specs.Store.{Event, output}
 use Rattle.lua_model.specs.Endings.{Course, Ending, Ended, Failed, Going, IsPrefix}
@@ -7,19 +12,22 @@ use Rattle.source_meaning.specs.Meaning.{meaning}
 use Rattle.chunk_io.specs.Items.{is_chunk}
 use Rattle.machine.specs.Outside.{calls_in}
 use Rattle.suite_io.specs.Taken.{Takes}
+use Rattle.global_use.specs.Uses.{use_line}
+use Rattle.source_globals.specs.Named.{source_gets, source_sets}
 use Rattle.suite.specs.declared.outcome.Outcome.{Outcome}
 use Rattle.suite.specs.declared.status.Status.{Status}
-use Rattle.suite.specs.Words.{Job, run_file, put_product, store_product}
+use Rattle.suite.specs.Words.{Job, run_file, put_product, store_product, make_source}
 use Rattle.suite.specs.Lines.{line_of}
 use Rattle.suite.specs.Seen.{Seen, between}
 use Rattle.suite.specs.Worlds.{World, hosts_first, replies_of, calls_of}
 use Rattle.suite.specs.Jobs.{IsSourceFor}
 
--- the bytes are read as source for a job
+-- the bytes of a file are read as source for a job
 abbrev pub IsReadAsSource : Job → List ℕ → Type 0
 IsReadAsSource (run_file file steps) bytes = is_chunk bytes ≡ false
 IsReadAsSource (put_product product file) bytes = IsSourceFor product bytes
 IsReadAsSource (store_product product file out) bytes = IsSourceFor product bytes
+IsReadAsSource (make_source count) bytes = ⊥
 
 -- ---- accepted source is refused for no job
 
@@ -70,3 +78,12 @@ pub record IsMeant (source : Source) (steps : ℕ) (name : List ℕ) (before beh
   pub unfinished : status ≡ Status.Unfinished → GoesOn source (between before behind) before.outside.taken behind.outside.taken steps
   -- where the source has come out within an eighth of the steps, and no count of faults rose, the run has too
   pub over : quiet → (ticks : ℕ) → 8 * ticks ≤ steps → (meant_by source (between before behind) ticks).ending ≢ Going → (status ≡ Status.Done) ⊎ (status ≡ Status.ScriptFailed) ⊎ (status ≡ Status.OutOfMemory)
+
+-- ---- its globals are told as it mentions them
+
+-- a line for each global that it mentions, in the order of the names' bytes, with how often it gets and sets it
+pub record AreMentioned (source : Source) (text : List ℕ) : Type 0 where
+  pub names : List Text
+  pub ordered : IsStrictlySortedBy (slice_cmp nat_cmp) names
+  pub mentioned : (name : Text) → Contains names name ↔ (1 ≤ source_gets source name + source_sets source name)
+  pub lines : text ≡ flat_map (λ name. use_line name (source_gets source name) (source_sets source name)) names

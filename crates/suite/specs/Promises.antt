@@ -15,7 +15,7 @@ use Rattle.suite.specs.declared.outcome.Outcome.{Outcome}
 use Rattle.suite.specs.declared.rejection.Rejection.{Rejection}
 use Rattle.suite.specs.declared.status.Status.{Status}
 use Rattle.suite.specs.Words as asking
-use Rattle.suite.specs.Words.{Words, Job, run_file, store_product, job_in, texts, NoCommand, named}
+use Rattle.suite.specs.Words.{Words, Job, run_file, put_product, store_product, job_in, texts, NoCommand, named}
 use Rattle.suite.specs.Seen.{Seen, between}
 use Rattle.suite.specs.Worlds.{Unasked}
 use Rattle.suite.specs.Lines.{Reported, status_of, line_of}
@@ -25,10 +25,10 @@ use Rattle.suite.specs.Work.{Works, MayPut, IsRun}
 use Rattle.suite.specs.Causes as causes
 use Rattle.suite.specs.Causes.{FilesFor, StoreFailed, HasNoOutput, IsOnlyEnd, IsRefusal, status_at}
 use Rattle.scheme.specs.Accepts.{Accepts}
-use Rattle.suite.specs.Meant.{IsReadAsSource, IsTaken, IsMeant}
+use Rattle.suite.specs.Meant.{IsReadAsSource, IsTaken, IsMeant, AreMentioned}
 
 module _ (words : Words) (before behind : Seen) (result : Status) where
-  -- the words ask for this, of a file that is told to have these bytes; this is what it then comes to; and so it was left outside
+  -- the words ask for this, which is done with these bytes; this is what it then comes to; and so it was left outside
   abbrev pub Asks : Job → List ℕ → Type 0
   Asks job bytes = asking.Asks words before.outside.contents job bytes
 
@@ -38,7 +38,7 @@ module _ (words : Words) (before behind : Seen) (result : Status) where
   abbrev pub Leaves : Job → End → Type 0
   Leaves job end = causes.Leaves job end before.outside behind.outside
 
-  -- one fetch of the file that the words name, which succeeded or failed
+  -- one fetch of the file that the words name, which succeeded or failed; none, where a source is made
   abbrev pub Fetched : Type 0
   Fetched = causes.Fetched words false before.outside.calls behind.outside.calls
 
@@ -89,14 +89,14 @@ module _ (words : Words) (before behind : Seen) (result : Status) where
     pub unfinished : result ≡ Status.Unfinished → Fetched × (steps : ℕ)
         × ((job : Job) (bytes : List ℕ) → Asks job bytes → (text : List ℕ) × Comes job bytes (unfinished steps text) × Leaves job (unfinished steps text)) × Says (Outcome.Unfinished steps)
     pub bad_words : result ≡ Status.BadWords → NoCommand words
-    pub no_command : NoCommand words → Becomes Status.BadWords
+    pub no_command : NoCommand words → Becomes Status.BadWords ⊎ (result ≡ Status.OutOfMemory)
     pub read_fault : result ≡ Status.ReadFault → FetchFailed
     pub fetch_failed : FetchFailed → Becomes Status.ReadFault
     pub refused : (job : Job) (bytes : List ℕ) (end : End) → Asks job bytes → Comes job bytes end → IsOnlyEnd job end → HasNoOutput end → Fetched → Becomes (status_at end) ⊎ (result ≡ Status.OutOfMemory)
     pub bad_source : result ≡ Status.BadSource → Fetched × (fault : Fault) × ((job : Job) (bytes : List ℕ) → Asks job bytes → Comes job bytes (bad_source fault)) × Says (Outcome.BadSource fault)
     pub bad_chunk : result ≡ Status.BadChunk → Fetched × (fault : ChunkFault) × ((job : Job) (bytes : List ℕ) → Asks job bytes → Comes job bytes (bad_chunk fault)) × Says (Outcome.BadChunk fault)
     pub rejected : result ≡ Status.Rejected → Fetched × (rejection : Rejection) × ((job : Job) (bytes : List ℕ) → Asks job bytes → Comes job bytes (rejected rejection)) × Says (Outcome.Rejected rejection)
-    pub not_decompiled : result ≡ Status.NotDecompiled → Fetched × (refused : Refused) × ((job : Job) (bytes : List ℕ) → Asks job bytes → Comes job bytes (jobs.not_decompiled refused)) × Says (Outcome.NotDecompiled refused)
+    pub not_decompiled : result ≡ Status.NotDecompiled → Fetched × (refused : Refused) × ((job : Job) (bytes : List ℕ) → Asks job bytes → (text : List ℕ) × Comes job bytes (jobs.not_decompiled refused text) × Leaves job (jobs.not_decompiled refused text)) × Says (Outcome.NotDecompiled refused)
     pub bad_listing : result ≡ Status.BadListing → Fetched × (fault : ListFault) × ((job : Job) (bytes : List ℕ) → Asks job bytes → Comes job bytes (jobs.bad_listing fault)) × Says (Outcome.BadListing fault)
     -- A chunk that is to be decompiled is given a source or refused, where no count of faults rose.
     pub decompiled : (file out : Text) (bytes : List ℕ) (chunk : Chunk) → Asks (store_product Product.Source file out) bytes → IsChunkOf bytes chunk → IsQuiet → (result ≡ Status.Done) ⊎ (result ≡ Status.NotDecompiled) ⊎ (result ≡ Status.OutOfMemory)
@@ -104,5 +104,7 @@ module _ (words : Words) (before behind : Seen) (result : Status) where
     -- Accepted source is taken for every job: a text is made of it, and it is run; and its run does what it means.
     pub taken : (job : Job) (bytes : List ℕ) (source : Source) → Asks job bytes → IsReadAsSource job bytes → Accepts bytes source → IsTaken job IsQuiet result
     pub meant : (file : Text) (steps : ℕ) (bytes : List ℕ) (source : Source) → Asks (run_file file steps) bytes → IsReadAsSource (run_file file steps) bytes → Accepts bytes source → IsMeant source steps (named words) before behind IsQuiet result
+    -- Its globals are told as it mentions them.
+    pub mentioned : (file : Text) (bytes : List ℕ) (source : Source) → Asks (put_product Product.Globals file) bytes → IsReadAsSource (put_product Product.Globals file) bytes → Accepts bytes source → result ≡ Status.Done → (text : List ℕ) × AreMentioned source text × Puts text
     -- The line of the status, whole wherever no put of it can have been refused.
     pub line : result ≢ Status.WriteFault → result ≢ Status.OutOfMemory → (settled : Outcome) × (status_of settled ≡ result) × Says settled

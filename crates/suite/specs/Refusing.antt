@@ -1,5 +1,5 @@
 -- Serves the bodies. What the work comes to where a file is refused.
-use Rattle.std.specs.Prelude.{◌≡◌, ℕ, true, false, List}
+use Rattle.std.specs.Prelude.{◌≡◌, ℕ, true, false, List, []}
 use Rattle.lua_num.specs.Bytes.{Text}
 use Rattle.proto.specs.Chunk.{Chunk}
 use Rattle.chunk_io.specs.Faults.{IsFault}
@@ -40,7 +40,7 @@ abbrev pub IsRefusal : Product → Text → List ℕ → Outcome → Type 0
 IsRefusal product file bytes (Outcome.BadSource fault) = Refuses product file bytes (bad_source fault)
 IsRefusal product file bytes (Outcome.BadChunk fault) = Refuses product file bytes (bad_chunk fault)
 IsRefusal product file bytes (Outcome.Rejected rejection) = Refuses product file bytes (rejected rejection)
-IsRefusal product file bytes (Outcome.NotDecompiled refused) = Refuses product file bytes (not_decompiled refused)
+IsRefusal product file bytes (Outcome.NotDecompiled refused) = Refuses product file bytes (not_decompiled refused [])
 IsRefusal product file bytes (Outcome.BadListing fault) = Refuses product file bytes (bad_listing fault)
 IsRefusal product file bytes Outcome.OutOfMemory = Unit {0}
 IsRefusal product file bytes outcome = ⊥

@@ -1,92 +1,44 @@
 -- To be believed. How the words are read, and what they ask for.
-use Rattle.std.specs.Prelude.{◌≡◌, ◌==◌, ◌&&◌, ◌||◌, ◌-◌, ◌^◌, ℕ, zero, suc, Bool, true, false, nat_lt, nat_le, List, [], ◌∷◌, length, map, take, drop, Option, Some, None, option_map, option_and_then, codes, String, if◌then◌else◌}
+use Rattle.std.specs.Prelude.{◌≡◌, ◌==◌, ◌&&◌, ◌||◌, ◌-◌, ◌^◌, ℕ, zero, suc, Bool, true, false, nat_lt, nat_le, List, [], ◌∷◌, length, Option, Some, None, option_map, option_and_then, codes, if◌then◌else◌}
 use Rattle.std.specs.Str.{bytes_eq}
 use Rattle.std.specs.String.{string_bytes}
-use Rattle.std.specs.declared.alloc.Global.{Global}
 use Rattle.std.specs.FinMap.{get}
 use Rattle.lua_num.specs.Bytes.{Text, is_digit}
 use Rattle.lua_num.specs.Numeral.{worth_of, digits_value}
 use Rattle.suite_io.specs.Contents.{Contents}
+use Rattle.made_source.specs.Made.{made}
 use Rattle.chunk_io.specs.declared.layout.Layout.{Layout}
 use Rattle.chunk_io.specs.Items.{le4, le8, be4, be8}
+pub use Rattle.command_words.specs.Arguments.{Words, texts}
+use Rattle.command_words.specs.Arguments.{Arguments, arguments}
 use Rattle.suite.specs.declared.product.Product.{Product}
 use Rattle.suite.specs.declared.words.Command.{Command}
 
-abbrev pub Words : Type 0
-Words = List (String Global)
-
-abbrev pub texts : Words → List Text
-texts words = map string_bytes words
-
--- what words ask for: to run a file for at most so many steps, to put a text that is made of it, or to store one as another file
+-- what words ask for: to run a file for at most so many steps, to put a text that is made of it, or to store one as another file; or to make a source with so many functions, and to try the suite
+-- on it
 pub data Job : Type 0 where
   run_file : (file : Text) (steps : ℕ) → Job
   put_product : Product → (file : Text) → Job
   store_product : Product → (file out : Text) → Job
+  make_source : (count : ℕ) → Job
 
--- the file that is fetched
+-- the name of a made source, which no file has
+abbrev pub made_name : Text
+made_name = codes "made"
+
+-- the file that is fetched, or that name
 abbrev pub file_of : Job → Text
 file_of (run_file file steps) = file
 file_of (put_product product file) = file
 file_of (store_product product file out) = file
+file_of (make_source count) = made_name
 
 -- what a command asks for
 abbrev pub job_of : Command → Job
-job_of (Command.Run file steps) = run_file (string_bytes file.now) steps
-job_of (Command.Put product file) = put_product product (string_bytes file.now)
-job_of (Command.Store product file out) = store_product product (string_bytes file.now) (string_bytes out.now)
-
--- a word that begins with `-` and is longer
-abbrev pub is_flag : Text → Bool
-is_flag [] = false
-is_flag (byte ∷ text) = (byte == 45) && nat_lt 0 (length text)
-
--- the words behind the first one: those that stand for files, how many are `--strip`, and what stands behind each `--steps` and each `--layout`, all in order
-pub record Arguments : Type 0 where
-  pub files : List Text
-  pub strips : ℕ
-  pub steps : List Text
-  pub layouts : List Text
-
-abbrev pub with_file : Text → Arguments → Arguments
-with_file word found = record found { files = word ∷ found.files }
-
-abbrev pub with_strip : Arguments → Arguments
-with_strip found = record found { strips = suc found.strips }
-
-abbrev pub with_steps : Text → Arguments → Arguments
-with_steps number found = record found { steps = number ∷ found.steps }
-
-abbrev pub with_layout : Text → Arguments → Arguments
-with_layout name found = record found { layouts = name ∷ found.layouts }
-
-abbrev pub files_alone : List Text → Arguments
-files_alone words = record { files = words; strips = 0; steps = []; layouts = [] }
-
--- `--steps=` and `--layout=`, before a value in one word
-abbrev pub steps_mark : Text
-steps_mark = codes "--steps="
-
-abbrev pub layout_mark : Text
-layout_mark = codes "--layout="
-
--- Behind `--` all words stand for files. Before it no flag but `--strip`, `--steps N`, `--steps=N`, `--layout L` and `--layout=L` stands in a command.
-abbrev mutual
-  pub arguments : List Text → Option Arguments
-  arguments [] = Some (files_alone [])
-  arguments (word ∷ words) =
-      if bytes_eq word (codes "--") then Some (files_alone words)
-      else (if bytes_eq word (codes "--strip") then option_map with_strip (arguments words)
-      else (if bytes_eq word (codes "--steps") then behind_flag with_steps words
-      else (if bytes_eq (take 8 word) steps_mark then option_map (with_steps (drop 8 word)) (arguments words)
-      else (if bytes_eq word (codes "--layout") then behind_flag with_layout words
-      else (if bytes_eq (take 9 word) layout_mark then option_map (with_layout (drop 9 word)) (arguments words)
-      else (if is_flag word then None else option_map (with_file word) (arguments words)))))))
-
-  -- the value of a flag is the next word
-  pub behind_flag : (Text → Arguments → Arguments) → List Text → Option Arguments
-  behind_flag with_value [] = None
-  behind_flag with_value (value ∷ words) = option_map (with_value value) (arguments words)
+job_of (Command.Run file steps) = run_file (string_bytes file) steps
+job_of (Command.Put product file) = put_product product (string_bytes file)
+job_of (Command.Store product file out) = store_product product (string_bytes file) (string_bytes out)
+job_of (Command.Make count) = make_source count
 
 abbrev pub below_2_63 : ℕ → Option ℕ
 below_2_63 n = if nat_lt n (2 ^ 63) then Some n else None
@@ -104,10 +56,15 @@ abbrev pub one_file : List Text → (strips : ℕ) (steps layouts : List Text) �
 one_file (file ∷ []) zero [] [] = Some file
 one_file files strips steps layouts = None
 
+-- the number of steps that is given once, or none
+abbrev pub steps_given : List Text → Option ℕ
+steps_given [] = Some default_steps
+steps_given (number ∷ []) = steps_in number
+steps_given numbers = None
+
 -- one file, with a number of steps or none
 abbrev pub run_of : List Text → (strips : ℕ) (steps layouts : List Text) → Option Job
-run_of (file ∷ []) zero [] [] = Some (run_file file default_steps)
-run_of (file ∷ []) zero (number ∷ []) [] = option_map (run_file file) (steps_in number)
+run_of (file ∷ []) zero numbers [] = option_map (run_file file) (steps_given numbers)
 run_of files strips steps layouts = None
 
 -- `--strip` once or not at all
@@ -147,16 +104,47 @@ abbrev pub two_files : Product → List Text → (strips : ℕ) (steps layouts :
 two_files product (file ∷ out ∷ []) zero [] [] = Some (store_product product file out)
 two_files product files strips steps layouts = None
 
--- what the first word asks for, with the words behind it
+-- a made source has 1 to 20,000 functions
+abbrev pub in_reach : ℕ → Option ℕ
+in_reach n = if nat_lt 0 n && nat_le n 20000 then Some n else None
+
+-- the number of 1 to 5 decimal digits, where it is in reach
+abbrev pub count_in : Text → Option ℕ
+count_in text = if nat_le (length text) 5 then option_and_then in_reach (worth_of is_digit digits_value text) else None
+
+-- one number, and no flag
+abbrev pub making : List Text → (strips : ℕ) (steps layouts : List Text) → Option Job
+making (number ∷ []) zero [] [] = option_map make_source (count_in number)
+making words strips steps layouts = None
+
+-- ---- what a command asks for, with the arguments behind its name
+
+abbrev pub running : Arguments → Option Job
+running found = run_of found.files found.strips found.steps found.layouts
+
+abbrev pub putting : Product → Arguments → Option Job
+putting product found = option_map (put_product product) (one_file found.files found.strips found.steps found.layouts)
+
+abbrev pub compiling : Arguments → Option Job
+compiling found = compilation found.files found.strips found.steps found.layouts
+
+abbrev pub storing : Product → Arguments → Option Job
+storing product found = two_files product found.files found.strips found.steps found.layouts
+
+abbrev pub making_source : Arguments → Option Job
+making_source found = making found.files found.strips found.steps found.layouts
+
+-- what the first word asks for, with the arguments behind it
 abbrev pub job_with : Text → Arguments → Option Job
 job_with first found =
-    if bytes_eq first (codes "run") then run_of found.files found.strips found.steps found.layouts
-    else (if bytes_eq first (codes "list") then option_map (put_product Product.Listing) (one_file found.files found.strips found.steps found.layouts)
-    else (if bytes_eq first (codes "verify") then option_map (put_product Product.Verdict) (one_file found.files found.strips found.steps found.layouts)
-    else (if bytes_eq first (codes "globals") then option_map (put_product Product.Globals) (one_file found.files found.strips found.steps found.layouts)
-    else (if bytes_eq first (codes "compile") then compilation found.files found.strips found.steps found.layouts
-    else (if bytes_eq first (codes "decompile") then two_files Product.Source found.files found.strips found.steps found.layouts
-    else (if bytes_eq first (codes "assemble") then two_files Product.Assembly found.files found.strips found.steps found.layouts else None))))))
+    if bytes_eq first (codes "run") then running found
+    else (if bytes_eq first (codes "list") then putting Product.Listing found
+    else (if bytes_eq first (codes "verify") then putting Product.Verdict found
+    else (if bytes_eq first (codes "globals") then putting Product.Globals found
+    else (if bytes_eq first (codes "compile") then compiling found
+    else (if bytes_eq first (codes "decompile") then storing Product.Source found
+    else (if bytes_eq first (codes "assemble") then storing Product.Assembly found
+    else (if bytes_eq first (codes "make-source") then making_source found else None)))))))
 
 -- what words ask for, where they are a command
 abbrev pub job_in : List Text → Option Job
@@ -182,7 +170,12 @@ abbrev pub Tells : Option Contents → Text → List ℕ → Type 0
 Tells (Some held) file bytes = get held file ≡ Some bytes
 Tells None file bytes = ⊥
 
--- the words ask for this, of a file that is told to have these bytes
+-- a job is done with these bytes: those that its file is told to have, or the made source
+abbrev pub IsDoneWith : Option Contents → Job → List ℕ → Type 0
+IsDoneWith contents (make_source count) bytes = bytes ≡ made count
+IsDoneWith contents job bytes = Tells contents (file_of job) bytes
+
+-- the words ask for this, which is done with these bytes
 pub record Asks (words : Words) (contents : Option Contents) (job : Job) (bytes : List ℕ) : Type 0 where
   pub reads : Reads words job
-  pub told : Tells contents (file_of job) bytes
+  pub told : IsDoneWith contents job bytes

@@ -14,49 +14,58 @@ use crate::outcome::Outcome;
 use crate::output::{put_text, store_text};
 use crate::product::Product;
 use crate::running::run_bytes;
-use crate::words::Command;
+use crate::trying::try_source;
+use crate::words::{Command, Origin};
 use hash_seed::Seed;
 use host::HostSet;
+use made_source::made;
 use std::alloc::Global;
 use suite_io::{FileFault, Files, Sink, Word};
 
-/// Fetches the file of a command, and does with its bytes what the command asks for.
+/// Fetches the file of a command, or makes its source, and does with the bytes what the command asks for.
 pub fn do_command<F: Files, O: Sink>(
     alloc: Global,
-    command: Command<'_>,
+    command: &Command,
     files: &mut F,
     out: &mut O,
     hosts: &mut HostSet,
     seed: Seed,
 ) -> Outcome
-    ensures { Works (Some (job_of command.entry)) (world (set_told heard hosts.old) (set_told heard hosts.new)) result (outside (F.contents files.old) (F.calls files.old) (O.taken out.old) (O.faults out.old)) (outside (F.contents files.new) (F.calls files.new) (O.taken out.new) (O.faults out.new)) }
+    ensures { Works (Some (job_of command.now)) (world (set_told heard hosts.old) (set_told heard hosts.new)) result (outside (F.contents files.old) (F.calls files.old) (O.taken out.old) (O.faults out.old)) (outside (F.contents files.new) (F.calls files.new) (O.taken out.new) (O.faults out.new)) }
 {
-    match files.fetch(alloc, command.file()) {
-        Ok(bytes) => do_bytes(alloc, command, bytes.bytes(), files, out, hosts, seed),
-        Err(FileFault::Failed) => Outcome::ReadFault,
-        Err(FileFault::OutOfMemory) => Outcome::OutOfMemory,
+    match command.origin() {
+        Origin::File(file) => match files.fetch(alloc, file) {
+            Ok(bytes) => do_bytes(alloc, command, bytes.bytes(), files, out, hosts, seed),
+            Err(FileFault::Failed) => Outcome::ReadFault,
+            Err(FileFault::OutOfMemory) => Outcome::OutOfMemory,
+        },
+        Origin::Made(count) => match made(alloc, count) {
+            Ok(text) => do_bytes(alloc, command, text.bytes(), files, out, hosts, seed),
+            Err(_) => Outcome::OutOfMemory,
+        },
     }
 }
 
 fn do_bytes<F: Files, O: Sink>(
     alloc: Global,
-    command: Command<'_>,
+    command: &Command,
     bytes: &[u8],
     files: &mut F,
     out: &mut O,
     hosts: &mut HostSet,
     seed: Seed,
 ) -> Outcome
-    ensures { Does (job_of command.entry) bytes.now (world (set_told heard hosts.old) (set_told heard hosts.new)) result (outside (F.contents files.old) (F.calls files.old) (O.taken out.old) (O.faults out.old)) (outside (F.contents files.new) (F.calls files.new) (O.taken out.new) (O.faults out.new)) }
+    ensures { Does (job_of command.now) bytes.now (world (set_told heard hosts.old) (set_told heard hosts.new)) result (outside (F.contents files.old) (F.calls files.old) (O.taken out.old) (O.faults out.old)) (outside (F.contents files.new) (F.calls files.new) (O.taken out.new) (O.faults out.new)) }
 {
     match command {
-        Command::Run { file, steps } => run_bytes(alloc, bytes, file, steps, out, hosts, seed),
-        Command::Put { product, file } => put_product(alloc, bytes, file, product, out),
+        Command::Run { file, steps } => run_bytes(alloc, bytes, file, *steps, out, hosts, seed),
+        Command::Put { product, file } => put_product(alloc, bytes, file, *product, out),
         Command::Store {
             product,
             file,
             out: name,
-        } => store_product(alloc, bytes, file, product, name, files),
+        } => store_product(alloc, bytes, file, *product, name, files),
+        Command::Make { .. } => try_source(alloc, bytes, out, hosts, seed),
     }
 }
 

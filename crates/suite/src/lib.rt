@@ -12,6 +12,7 @@ mod report;
 mod running;
 mod status;
 mod top;
+mod trying;
 mod words;
 
 pub use status::Status;

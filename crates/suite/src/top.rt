@@ -15,8 +15,8 @@ use suite_io::{Files, Sink, Word};
 
 /// Carries out the command that the words say: `run FILE [--steps N]` runs the chunk that the file spells or that the compiler makes of its source, where it
 /// is sound, with these hosts and for at most N steps, `list FILE` puts the listing of that chunk, `verify FILE` puts `ok` where it is sound, `globals FILE` a line for each
-/// global that it names, `compile SRC OUT [--strip] [--layout L]` stores the chunk of a source as OUT, `decompile CHUNK OUT` the text of a source of a chunk, and `assemble IN OUT` the chunk of a
-/// listing. Every other list of words is refused. The work goes in the order words,
+/// global that it names, `compile SRC OUT [--strip] [--layout L]` stores the chunk of a source as OUT, `decompile CHUNK OUT` the text of a source of a chunk, `assemble IN OUT` the chunk of a
+/// listing, and `make-source N` makes a source with N functions, runs its chunk, finds a source of it again, and puts an account. Every other list of words is refused. The work goes in the order words,
 /// fetch, reading (of source: tokens, tree, scopes, chunk), verification, run or listing or store, and the line for `err` that every status
 /// but `Done` has; the first refusal gives the status. What was put to `out` before a refusal stays. Want of memory is a free answer. The seed says how a run hashes its
 /// texts and keys, and nothing else.
@@ -48,10 +48,16 @@ pub fn suite<F: Files, O: Sink, E: Sink>(
     asm_text::never_both();
     // A law: the chunk of a source does what the source means.
     front::compiled_does();
-    match read_words(words) {
+    // A law: it gets and sets each global as often as the source does.
+    source_globals::globals_of_source();
+    let asked = match read_words(alloc, words) {
+        Ok(asked) => asked,
+        Err(_) => return report(alloc, err, Outcome::OutOfMemory, ""),
+    };
+    match asked {
         Some(command) => {
-            let outcome = do_command(alloc, command, files, out, hosts, seed);
-            report(alloc, err, outcome, command.file().as_str())
+            let outcome = do_command(alloc, &command, files, out, hosts, seed);
+            report(alloc, err, outcome, command.name())
         }
         None => report(alloc, err, Outcome::BadWords, ""),
     }

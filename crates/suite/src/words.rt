@@ -1,306 +1,243 @@
 // Reading the words of a call.
-ghost use Rattle.std.specs.Prelude.{◌≡◌, ◌∷◌, List, codes, false, Some, None, IfSome, IfNone, ◌+◌, ◌<◌, ◌≤◌, ◌^◌, length};
+ghost use Rattle.std.specs.Prelude.{◌≡◌, List, codes, Some, None, IfSome, IfNone, IfOk, option_and_then, drop};
 ghost use Rattle.std.specs.List.{list_all};
 ghost use Rattle.std.specs.String.{string_bytes};
-ghost use Rattle.std.specs.Str.{bytes_eq};
-ghost use Rattle.lua_num.specs.Bytes.{Text, is_digit};
-ghost use Rattle.suite.specs.Words.{Reads, NoCommand, Arguments as Asked, job_of, job_with, arguments as the_arguments, files_alone, with_strip as add_strip, with_file as add_file, with_steps as add_steps, with_layout as add_layout, one_file as the_one_file, run_of as the_run_of, steps_in as the_steps_in, strip_in as the_strip_in, layout_in as the_layout_in, layout_named as the_layout_named, has_room as the_has_room, compilation as the_compilation, two_files as the_two_files, is_flag as the_is_flag, texts};
-ghost use Rattle.suite.specs.Arguments.{Shows, IsFound, IsKind, AreValues};
+ghost use Rattle.lua_num.specs.Bytes.{is_digit};
+ghost use Rattle.command_words.specs.Arguments.{arguments, in_list, texts};
+ghost use Rattle.suite.specs.Words.{Reads, NoCommand, job_of, running as the_running, putting as the_putting, compiling as the_compiling, storing as the_storing, making_source as the_making_source, steps_given, steps_in as the_steps_in, count_in as the_count_in, layout_in as the_layout_in, layout_named as the_layout_named, has_room as the_has_room};
 
 use crate::product::Product;
 use chunk_io::Layout;
+use command_words::{Form, read_arguments};
 use lua_num::numeral;
+use std::alloc::{AllocError, Global};
 use suite_io::Word;
 
 /// What the words ask for.
-#[derive(Clone, Copy)]
-pub enum Command<'a> {
+#[derive(Drop)]
+pub enum Command {
     /// At most this many steps of a run.
     Run {
-        file: &'a Word,
+        file: Word,
         steps: u64,
     },
     /// A text that is made of the file is put.
     Put {
         product: Product,
-        file: &'a Word,
+        file: Word,
     },
     /// A text that is made of the file is stored as `out`.
     Store {
         product: Product,
-        file: &'a Word,
-        out: &'a Word,
+        file: Word,
+        out: Word,
+    },
+    /// A source with this many functions is made, and the suite is tried on it.
+    Make {
+        count: u32,
     },
 }
 
-impl<'a> Command<'a> {
-    ghost use Rattle.suite.specs.Words.{file_of};
+/// Where the bytes come from with which a command is carried out.
+#[derive(Clone, Copy)]
+pub enum Origin<'a> {
+    /// The file is fetched.
+    File(&'a Word),
+    /// A source with this many functions is made.
+    Made(u32),
+}
 
-    /// The file that is fetched.
-    pub fn file(self) -> &'a Word
-        ensures { string_bytes result.now ≡ file_of (job_of self.entry) }
+impl Command {
+    ghost use Rattle.suite.specs.Words.{file_of};
+    ghost use Rattle.suite.specs.Trying.{HasOrigin};
+
+    /// The file that is fetched, or how many functions the made source has.
+    pub fn origin(&self) -> Origin<'_>
+        ensures { HasOrigin (job_of self.now) result }
     {
         match self {
             Command::Run { file, .. } | Command::Put { file, .. } | Command::Store { file, .. } =>
-                file,
+                Origin::File(file),
+            Command::Make { count } => Origin::Made(*count),
+        }
+    }
+
+    /// The name of the file that is fetched, or that of a made source.
+    pub fn name(&self) -> &str
+        ensures { result.now ≡ file_of (job_of self.now) }
+    {
+        match self {
+            Command::Run { file, .. } | Command::Put { file, .. } | Command::Store { file, .. } =>
+                file.as_str(),
+            Command::Make { .. } => MADE_NAME,
         }
     }
 }
 
-/// The words behind the first one: those that stand for files, how many of the others are `--strip`, and what stands behind `--steps` and `--layout`.
-#[derive(Clone, Copy)]
-struct Arguments<'a> {
-    files: FileWords<'a>,
-    strips: usize,
-    steps: ValueWords<'a>,
-    layouts: ValueWords<'a>,
-}
-
-/// The words that stand for files, of which no command has more than two.
-#[derive(Clone, Copy)]
-enum FileWords<'a> {
-    No,
-    One(&'a Word),
-    Two(&'a Word, &'a Word),
-    More,
-}
-
-/// What stands behind a flag with a value, which no command has twice.
-#[derive(Clone, Copy)]
-enum ValueWords<'a> {
-    No,
-    One(&'a str),
-    More,
-}
-
-/// What a word is that does not stand behind `--`.
-#[derive(Clone, Copy)]
-enum WordKind<'a> {
-    /// `--`.
-    End,
-    Strip,
-    /// `--steps`: the number is the next word.
-    Steps,
-    /// `--steps=` and the number.
-    StepsWith(&'a str),
-    /// `--layout`: its name is the next word.
-    Layout,
-    /// `--layout=` and its name.
-    LayoutWith(&'a str),
-    /// A flag that stands in no command.
-    OtherFlag,
-    File,
-}
+/// The name of a made source, which no file has.
+pub const MADE_NAME: &str = "made";
 
 /// How many steps a run has where no number is given.
-const DEFAULT_STEPS: u64 = 1_000_000_000;
+pub const DEFAULT_STEPS: u64 = 1_000_000_000;
 
 /// No number of steps has more digits.
 const MOST_DIGITS: usize = 19;
 
-/// No command has more words than these behind the first: two files, `--strip`, `--layout`, its name and `--`.
-const MOST_ARGUMENTS: usize = 6;
+/// No count of functions of a made source has more digits, and none is higher.
+const MOST_COUNT_DIGITS: usize = 5;
+
+const MOST_FUNCTIONS: i64 = 20_000;
 
 /// Sizes of 4 bytes tell no source name of a file whose name has this many bytes or more.
 const LONG_NAME: usize = 0xffff_fffe;
 
-/// The command of the words `run FILE [--steps N]`, `list FILE`, `verify FILE`, `globals FILE`, `compile SRC OUT [--strip] [--layout L]`, `decompile CHUNK OUT` or `assemble IN OUT`;
+/// What stands behind `run`.
+const RUN: Form = Form {
+    out: false,
+    strip: false,
+    steps: true,
+    layout: false,
+};
+
+/// What stands behind `compile`.
+const COMPILE: Form = Form {
+    out: true,
+    strip: true,
+    steps: false,
+    layout: true,
+};
+
+/// One word and no flag.
+const ONE: Form = Form {
+    out: false,
+    strip: false,
+    steps: false,
+    layout: false,
+};
+
+/// Two words and no flag.
+const TWO: Form = Form {
+    out: true,
+    strip: false,
+    steps: false,
+    layout: false,
+};
+
+/// The command of the words `run FILE [--steps N]`, `list FILE`, `verify FILE`, `globals FILE`, `compile SRC OUT [--strip] [--layout L]`, `decompile CHUNK OUT`, `assemble IN OUT` or `make-source N`;
 /// `None` for all other words. Flags may stand at any place behind the first word. Behind `--` all words stand for files; before it a word for a file begins with `-` only where
-/// that is the whole word.
-pub fn read_words(words: &[Word]) -> Option<Command<'_>>
-    ensures command { IfSome result (λ command. Reads words.now (job_of command)) }
-    ensures none { IfNone result (NoCommand words.now) }
+/// that is the whole word. Fails only where memory runs out.
+pub fn read_words(alloc: Global, words: &[Word]) -> Result<Option<Command>, AllocError>
+    ensures command { IfOk result (λ r. IfSome r (λ command. Reads words.now (job_of command))) }
+    ensures none { IfOk result (λ r. IfNone r (NoCommand words.now)) }
 {
-    let [first, rest @ ..] = words else {
-        return None;
+    let [first, ..] = words else {
+        return Ok(None);
     };
-    if rest.len() > MOST_ARGUMENTS {
-        return None;
+    match first.as_str() {
+        "run" => run_in(alloc, words),
+        "list" => put_in(alloc, words, Product::Listing),
+        "verify" => put_in(alloc, words, Product::Verdict),
+        "globals" => put_in(alloc, words, Product::Globals),
+        "compile" => compilation_in(alloc, words),
+        "decompile" => store_in(alloc, words, Product::Source),
+        "assemble" => store_in(alloc, words, Product::Assembly),
+        "make-source" => made_source_in(alloc, words),
+        _ => Ok(None),
     }
-    command_of(first.as_str(), read_arguments(rest)?)
 }
 
-// What the words behind the first one are, if none of them is a flag that stands in no command.
-fn read_arguments(words: &[Word]) -> Option<Arguments<'_>>
-    ensures some { IfSome result (IsFound (the_arguments (texts words.now))) }
-    ensures none { IfNone result (the_arguments (texts words.now) ≡ None) }
-    ensures strips { IfSome result (λ found. found.strips ≤ length words.now) }
+// The run, where the words behind the first one name a file, with a number of steps or none.
+fn run_in(alloc: Global, words: &[Word]) -> Result<Option<Command>, AllocError>
+    ensures command { IfOk result (λ r. IfSome r (λ command. option_and_then the_running (arguments (drop 1 (texts words.now))) ≡ Some (job_of command))) }
+    ensures none { IfOk result (λ r. IfNone r (option_and_then the_running (arguments (drop 1 (texts words.now))) ≡ None)) }
 {
-    let [word, rest @ ..] = words else {
-        return Some(file_arguments(words));
+    let Some(found) = read_arguments(alloc, words, RUN)? else {
+        return Ok(None);
     };
-    match kind_of(word.as_str()) {
-        WordKind::End => Some(file_arguments(rest)),
-        WordKind::Strip => Some(with_strip(read_arguments(rest)?)),
-        WordKind::Steps => {
-            let [number, behind @ ..] = rest else {
-                return None;
-            };
-            Some(with_steps(number.as_str(), read_arguments(behind)?))
-        }
-        WordKind::StepsWith(number) => Some(with_steps(number, read_arguments(rest)?)),
-        WordKind::Layout => {
-            let [name, behind @ ..] = rest else {
-                return None;
-            };
-            Some(with_layout(name.as_str(), read_arguments(behind)?))
-        }
-        WordKind::LayoutWith(name) => Some(with_layout(name, read_arguments(rest)?)),
-        WordKind::OtherFlag => None,
-        WordKind::File => Some(with_file(word, read_arguments(rest)?)),
-    }
-}
-
-// What a word is where it does not stand behind `--`.
-fn kind_of(word: &str) -> WordKind<'_>
-    ensures { IsKind result word.now }
-{
-    match word {
-        "--" => WordKind::End,
-        "--strip" => WordKind::Strip,
-        "--steps" => WordKind::Steps,
-        "--layout" => WordKind::Layout,
-        _ => with_value(word),
-    }
-}
-
-// What a word is that is no flag by itself.
-fn with_value(word: &str) -> WordKind<'_>
-    requires end { bytes_eq word.now (codes "--") ≡ false }
-    requires strip { bytes_eq word.now (codes "--strip") ≡ false }
-    requires steps { bytes_eq word.now (codes "--steps") ≡ false }
-    requires layout { bytes_eq word.now (codes "--layout") ≡ false }
-    ensures { IsKind result word.now }
-{
-    if let Some(number) = word.strip_prefix("--steps=") {
-        return WordKind::StepsWith(number);
-    }
-    if let Some(name) = word.strip_prefix("--layout=") {
-        return WordKind::LayoutWith(name);
-    }
-    if is_flag(word) {
-        WordKind::OtherFlag
-    } else {
-        WordKind::File
-    }
-}
-
-// Words that all stand for files.
-fn file_arguments(words: &[Word]) -> Arguments<'_>
-    ensures shows { Shows result (files_alone (texts words.now)) }
-    ensures strips { result.strips ≡ 0 }
-{
-    let files = match words {
-        [] => FileWords::No,
-        [one] => FileWords::One(one),
-        [one, other] => FileWords::Two(one, other),
-        _ => FileWords::More,
+    let Some(steps) = steps_of(found.steps) else {
+        return Ok(None);
     };
-    Arguments {
-        files,
-        strips: 0,
-        steps: ValueWords::No,
-        layouts: ValueWords::No,
-    }
+    let file = found.file.to_string(alloc)?;
+    Ok(Some(Command::Run { file, steps }))
 }
 
-fn with_strip(found: Arguments<'_>) -> Arguments<'_>
-    requires { found.strips + 1 < 2 ^ 64 }
-    ensures shows { (asked : Asked) → Shows found.entry asked → Shows result (add_strip asked) }
-    ensures strips { result.strips ≡ found.entry.strips + 1 }
+// The text of a file that is put, where the words behind the first one name one.
+fn put_in(alloc: Global, words: &[Word], product: Product) -> Result<Option<Command>, AllocError>
+    ensures command { IfOk result (λ r. IfSome r (λ command. option_and_then (the_putting product) (arguments (drop 1 (texts words.now))) ≡ Some (job_of command))) }
+    ensures none { IfOk result (λ r. IfNone r (option_and_then (the_putting product) (arguments (drop 1 (texts words.now))) ≡ None)) }
 {
-    Arguments {
-        files: found.files,
-        strips: found.strips + 1,
-        ..found
-    }
-}
-
-fn with_steps<'a>(number: &'a str, found: Arguments<'a>) -> Arguments<'a>
-    ensures shows { (asked : Asked) → Shows found.entry asked → Shows result (add_steps number.now asked) }
-    ensures strips { result.strips ≡ found.entry.strips }
-{
-    Arguments {
-        steps: one_more(number, found.steps),
-        ..found
-    }
-}
-
-fn with_layout<'a>(name: &'a str, found: Arguments<'a>) -> Arguments<'a>
-    ensures shows { (asked : Asked) → Shows found.entry asked → Shows result (add_layout name.now asked) }
-    ensures strips { result.strips ≡ found.entry.strips }
-{
-    Arguments {
-        layouts: one_more(name, found.layouts),
-        ..found
-    }
-}
-
-// The values of a flag, with one before them.
-fn one_more<'a>(value: &'a str, values: ValueWords<'a>) -> ValueWords<'a>
-    ensures { (asked : List Text) → AreValues values.entry asked → AreValues result (value.now ∷ asked) }
-{
-    match values {
-        ValueWords::No => ValueWords::One(value),
-        ValueWords::One(_) | ValueWords::More => ValueWords::More,
-    }
-}
-
-fn with_file<'a>(word: &'a Word, found: Arguments<'a>) -> Arguments<'a>
-    ensures shows { (asked : Asked) → Shows found.entry asked → Shows result (add_file (string_bytes word.now) asked) }
-    ensures strips { result.strips ≡ found.entry.strips }
-{
-    let files = match found.files {
-        FileWords::No => FileWords::One(word),
-        FileWords::One(other) => FileWords::Two(word, other),
-        FileWords::Two(_, _) | FileWords::More => FileWords::More,
+    let Some(found) = read_arguments(alloc, words, ONE)? else {
+        return Ok(None);
     };
-    Arguments { files, ..found }
+    let file = found.file.to_string(alloc)?;
+    Ok(Some(Command::Put { product, file }))
 }
 
-// The command of the first word, with the words behind it.
-fn command_of<'a>(first: &str, found: Arguments<'a>) -> Option<Command<'a>>
-    ensures command { (asked : Asked) → Shows found.entry asked → IfSome result (λ command. job_with first.now asked ≡ Some (job_of command)) }
-    ensures none { (asked : Asked) → Shows found.entry asked → IfNone result (job_with first.now asked ≡ None) }
+// The compilation, where the words behind the first one name two files, with `--strip` and a layout or without.
+fn compilation_in(alloc: Global, words: &[Word]) -> Result<Option<Command>, AllocError>
+    ensures command { IfOk result (λ r. IfSome r (λ command. option_and_then the_compiling (arguments (drop 1 (texts words.now))) ≡ Some (job_of command))) }
+    ensures none { IfOk result (λ r. IfNone r (option_and_then the_compiling (arguments (drop 1 (texts words.now))) ≡ None)) }
 {
-    match first {
-        "run" => run_of(found),
-        "list" => Some(Command::Put {
-            product: Product::Listing,
-            file: one_file(found)?,
-        }),
-        "verify" => Some(Command::Put {
-            product: Product::Verdict,
-            file: one_file(found)?,
-        }),
-        "globals" => Some(Command::Put {
-            product: Product::Globals,
-            file: one_file(found)?,
-        }),
-        "compile" => compilation(found),
-        "decompile" => two_files(Product::Source, found),
-        "assemble" => two_files(Product::Assembly, found),
-        _ => None,
+    let Some(found) = read_arguments(alloc, words, COMPILE)? else {
+        return Ok(None);
+    };
+    let Some(out) = found.out else {
+        return Ok(None);
+    };
+    let Some(layout) = layout_of(found.layout) else {
+        return Ok(None);
+    };
+    if !has_room(layout, found.file) {
+        return Ok(None);
+    }
+    let strip = found.strip;
+    Ok(Some(Command::Store {
+        product: Product::Spelling { strip, layout },
+        file: found.file.to_string(alloc)?,
+        out: out.to_string(alloc)?,
+    }))
+}
+
+// The text of one file that is stored as another, where the words behind the first one name two.
+fn store_in(alloc: Global, words: &[Word], product: Product) -> Result<Option<Command>, AllocError>
+    ensures command { IfOk result (λ r. IfSome r (λ command. option_and_then (the_storing product) (arguments (drop 1 (texts words.now))) ≡ Some (job_of command))) }
+    ensures none { IfOk result (λ r. IfNone r (option_and_then (the_storing product) (arguments (drop 1 (texts words.now))) ≡ None)) }
+{
+    let Some(found) = read_arguments(alloc, words, TWO)? else {
+        return Ok(None);
+    };
+    let Some(out) = found.out else {
+        return Ok(None);
+    };
+    Ok(Some(Command::Store {
+        product,
+        file: found.file.to_string(alloc)?,
+        out: out.to_string(alloc)?,
+    }))
+}
+
+// The source that is made, where the words behind the first one are a number.
+fn made_source_in(alloc: Global, words: &[Word]) -> Result<Option<Command>, AllocError>
+    ensures command { IfOk result (λ r. IfSome r (λ command. option_and_then the_making_source (arguments (drop 1 (texts words.now))) ≡ Some (job_of command))) }
+    ensures none { IfOk result (λ r. IfNone r (option_and_then the_making_source (arguments (drop 1 (texts words.now))) ≡ None)) }
+{
+    let Some(found) = read_arguments(alloc, words, ONE)? else {
+        return Ok(None);
+    };
+    match count_in(found.file) {
+        Some(count) => Ok(Some(Command::Make { count })),
+        None => Ok(None),
     }
 }
 
-// The run, where the words name one file, with a number of steps or none.
-fn run_of(found: Arguments<'_>) -> Option<Command<'_>>
-    ensures some { (asked : Asked) → Shows found.entry asked → IfSome result (λ command. the_run_of asked.files asked.strips asked.steps asked.layouts ≡ Some (job_of command)) }
-    ensures none { (asked : Asked) → Shows found.entry asked → IfNone result (the_run_of asked.files asked.strips asked.steps asked.layouts ≡ None) }
+// The number of steps that is given, or how many a run has without.
+fn steps_of(text: Option<&str>) -> Option<u64>
+    ensures { result ≡ steps_given (in_list text.entry) }
 {
-    let (FileWords::One(file), ValueWords::No) = (found.files, found.layouts) else {
-        return None;
-    };
-    if found.strips != 0 {
-        return None;
+    match text {
+        Some(text) => steps_in(text),
+        None => Some(DEFAULT_STEPS),
     }
-    let steps = match found.steps {
-        ValueWords::No => DEFAULT_STEPS,
-        ValueWords::One(number) => steps_in(number)?,
-        ValueWords::More => return None,
-    };
-    Some(Command::Run { file, steps })
 }
 
 // The number of 1 to 19 decimal digits, where it is below 2^63.
@@ -314,6 +251,20 @@ fn steps_in(text: &str) -> Option<u64>
     Some(number as u64)
 }
 
+// The number of 1 to 5 decimal digits, from 1 to 20,000.
+fn count_in(text: &str) -> Option<u32>
+    ensures { result ≡ the_count_in text.now }
+{
+    if text.len() > MOST_COUNT_DIGITS || !is_decimal(text) {
+        return None;
+    }
+    let number = numeral(text.as_bytes())?;
+    if number < 1 || number > MOST_FUNCTIONS {
+        return None;
+    }
+    Some(number as u32)
+}
+
 // Decimal digits alone.
 fn is_decimal(text: &str) -> bool
     ensures { result ≡ list_all is_digit text.now }
@@ -321,66 +272,13 @@ fn is_decimal(text: &str) -> bool
     text.bytes().all(|byte| byte.is_ascii_digit())
 }
 
-// The file, where the words name one and no more, with no flag.
-fn one_file(found: Arguments<'_>) -> Option<&Word>
-    ensures some { (asked : Asked) → Shows found.entry asked → IfSome result (λ file. the_one_file asked.files asked.strips asked.steps asked.layouts ≡ Some (string_bytes file.now)) }
-    ensures none { (asked : Asked) → Shows found.entry asked → IfNone result (the_one_file asked.files asked.strips asked.steps asked.layouts ≡ None) }
+// The layout that is named, or else this suite's own.
+fn layout_of(name: Option<&str>) -> Option<Layout>
+    ensures { result ≡ the_layout_in (in_list name.entry) }
 {
-    match (found.files, found.steps, found.layouts) {
-        (FileWords::One(file), ValueWords::No, ValueWords::No) if found.strips == 0 => Some(file),
-        _ => None,
-    }
-}
-
-// The compilation, where the words name two files, with `--strip` and a layout or without.
-fn compilation(found: Arguments<'_>) -> Option<Command<'_>>
-    ensures some { (asked : Asked) → Shows found.entry asked → IfSome result (λ command. the_compilation asked.files asked.strips asked.steps asked.layouts ≡ Some (job_of command)) }
-    ensures none { (asked : Asked) → Shows found.entry asked → IfNone result (the_compilation asked.files asked.strips asked.steps asked.layouts ≡ None) }
-{
-    let (FileWords::Two(file, out), ValueWords::No) = (found.files, found.steps) else {
-        return None;
-    };
-    let strip = strip_in(found.strips)?;
-    let layout = layout_in(found.layouts)?;
-    if !has_room(layout, file) {
-        return None;
-    }
-    let product = Product::Spelling { strip, layout };
-    Some(Command::Store { product, file, out })
-}
-
-// What makes a text of one file and stores it as another, where the words name two files, with no flag.
-fn two_files(product: Product, found: Arguments<'_>) -> Option<Command<'_>>
-    ensures some { (asked : Asked) → Shows found.entry asked → IfSome result (λ command. the_two_files product asked.files asked.strips asked.steps asked.layouts ≡ Some (job_of command)) }
-    ensures none { (asked : Asked) → Shows found.entry asked → IfNone result (the_two_files product asked.files asked.strips asked.steps asked.layouts ≡ None) }
-{
-    match (found.files, found.steps, found.layouts) {
-        (FileWords::Two(file, out), ValueWords::No, ValueWords::No) if found.strips == 0 => {
-            Some(Command::Store { product, file, out })
-        }
-        _ => None,
-    }
-}
-
-// `--strip` once or not at all.
-fn strip_in(strips: usize) -> Option<bool>
-    ensures { result ≡ the_strip_in strips }
-{
-    match strips {
-        0 => Some(false),
-        1 => Some(true),
-        _ => None,
-    }
-}
-
-// The layout that is named once, or else this suite's own.
-fn layout_in(names: ValueWords<'_>) -> Option<Layout>
-    ensures { (asked : List Text) → AreValues names.entry asked → result ≡ the_layout_in asked }
-{
-    match names {
-        ValueWords::No => Some(Layout::le8()),
-        ValueWords::One(name) => layout_named(name),
-        ValueWords::More => None,
+    match name {
+        Some(name) => layout_named(name),
+        None => Some(Layout::le8()),
     }
 }
 
@@ -398,15 +296,8 @@ fn layout_named(name: &str) -> Option<Layout>
 }
 
 // Whether the source name of a file has a size in a layout.
-fn has_room(layout: Layout, file: &Word) -> bool
-    ensures { result ≡ the_has_room layout (string_bytes file.now) }
+fn has_room(layout: Layout, file: &str) -> bool
+    ensures { result ≡ the_has_room layout file.now }
 {
     layout.size == 8 || file.len() < LONG_NAME
-}
-
-// A word that begins with `-` and is longer.
-fn is_flag(word: &str) -> bool
-    ensures { result ≡ the_is_flag word.now }
-{
-    word.len() > 1 && word.starts_with('-')
 }
