@@ -30,7 +30,7 @@ past [] (suc i) l = refl
 past (x ∷ xs) zero l = absurd (omega arith)
 past (x ∷ xs) (suc i) l = past xs i (omega arith)
 
-pub drop_at : (vs : List Value) (i : ℕ) (d : Value) → i < length vs → drop i vs ≡ get_or vs i d ∷ drop (i + 1) vs
+pub drop_at : {A : Type 0} (vs : List A) (i : ℕ) (d : A) → i < length vs → drop i vs ≡ get_or vs i d ∷ drop (i + 1) vs
 drop_at [] i d l = absurd (omega arith)
 drop_at (v ∷ vs) zero d l = refl
 drop_at (v ∷ vs) (suc i) d l = drop_at vs i d (omega arith) ∙ ap (λ m. get_or vs i d ∷ drop m (v ∷ vs)) (after_one i)
@@ -40,6 +40,13 @@ drop_past [] zero l = refl
 drop_past [] (suc i) l = refl
 drop_past (v ∷ vs) zero l = absurd (omega arith)
 drop_past (v ∷ vs) (suc i) l = drop_past vs i (omega arith)
+
+-- of a list of pairs, from a place where one stands
+pub pair_here : (ps : Entries) (i : ℕ) (d : Value × Value) → i < length ps → is_nil_value (get_or ps i d).1 ≡ false → first_pair (drop i ps) ≡ Some (get_or ps i d)
+pair_here ps i d l n = ap first_pair (drop_at ps i d l) ∙ ap (λ b. if b then first_pair (drop (i + 1) ps) else Some (get_or ps i d)) n
+
+pub pair_skipped : (ps : Entries) (i : ℕ) (d : Value × Value) → i < length ps → is_nil_value (get_or ps i d).1 ≡ true → first_pair (drop (i + 1) ps) ≡ first_pair (drop i ps)
+pair_skipped ps i d l n = sym (ap first_pair (drop_at ps i d l) ∙ ap (λ b. if b then first_pair (drop (i + 1) ps) else Some (get_or ps i d)) n)
 
 -- of a row and other pairs
 abbrev pub first_in : List Value → Entries → ℕ → Option (Value × Value)

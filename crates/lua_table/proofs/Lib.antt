@@ -2,6 +2,7 @@ pub mod Borders
 pub mod Equality
 pub mod Examples
 pub mod First
+pub mod Lists
 pub mod Mapped
 pub mod Places
 pub mod Rows

@@ -24,7 +24,7 @@ all_keys P (p ∷ ps) k v h l = by (same_value k p.0) refl (all_keys P ps k v h.
     by true e r = subst (λ b. AllByRecursion P (keys_of (if b then ((p.0, v) ∷ ps) else (p ∷ with_entry ps k v)))) (sym e) h
     by false e r = subst (λ b. AllByRecursion P (keys_of (if b then ((p.0, v) ∷ ps) else (p ∷ with_entry ps k v)))) (sym e) (h.0, r)
 
-distinct : (ps : Entries) (k v : Value) → IsDistinct same_value (keys_of ps) → IsDistinct same_value (keys_of (with_entry ps k v))
+pub distinct : (ps : Entries) (k v : Value) → IsDistinct same_value (keys_of ps) → IsDistinct same_value (keys_of (with_entry ps k v))
 unfolding IsDistinct
 distinct [] k v h = by (is_nil_value v) refl
   where

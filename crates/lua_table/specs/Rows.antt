@@ -1,5 +1,7 @@
--- Serves the bodies: rows of values as pairs.
-use Rattle.std.specs.Prelude.{◌≡◌, ◌≢◌, ℕ, ◌+◌, ◌<◌, false, List, [], ◌∷◌}
+-- Serves the bodies: rows of values as pairs, and short lists of pairs.
+use Rattle.std.specs.Prelude.{◌≡◌, ◌≢◌, ℕ, ◌+◌, ◌<◌, ◌≤◌, false, List, [], ◌∷◌, length}
+use Rattle.std.specs.List.{IsDistinct}
+use Rattle.std.specs.Map.{keys_of}
 use Rattle.lua_model.specs.declared.Value.{Value}
 use Rattle.lua_model.specs.Value.{same_value}
 use Rattle.lua_table.specs.Entries.{Entries, entry, is_nil_value, number_key}
@@ -20,3 +22,8 @@ row_pairs n (v ∷ vs) = (number_key (n + 1), v) ∷ row_pairs (n + 1) vs
 -- the key is none of the first n numbers from 1
 abbrev pub IsOutside : ℕ → Value → Type 0
 IsOutside n k = (i : ℕ) → i < n → same_value k (number_key (i + 1)) ≡ false
+
+-- at most eight pairs, no two with one key
+pub record AreFew (ps : Entries) : Type 0 where
+  pub few : length ps ≤ 8
+  pub apart : IsDistinct same_value (keys_of ps)

@@ -2,6 +2,8 @@
 ghost use Rattle.std.specs.Prelude.{◌≡◌};
 ghost use Rattle.lua_table.specs.declared.fault.SetFault.TheVariants.{OutOfMemory};
 
+use crate::few::Few;
+use crate::hashed::Hashed;
 use lua_model::Value;
 use std::alloc::AllocFailed;
 use thiserror::Error;
@@ -35,6 +37,22 @@ impl From<AllocFailed<(Value, Value)>> for SetFault {
     ghost from_gives = { λ _ fault. fault ≡ OutOfMemory };
 
     fn from(_error: AllocFailed<(Value, Value)>) -> Self {
+        SetFault::OutOfMemory
+    }
+}
+
+impl From<AllocFailed<Few>> for SetFault {
+    ghost from_gives = { λ _ fault. fault ≡ OutOfMemory };
+
+    fn from(_error: AllocFailed<Few>) -> Self {
+        SetFault::OutOfMemory
+    }
+}
+
+impl From<AllocFailed<Hashed>> for SetFault {
+    ghost from_gives = { λ _ fault. fault ≡ OutOfMemory };
+
+    fn from(_error: AllocFailed<Hashed>) -> Self {
         SetFault::OutOfMemory
     }
 }

@@ -1,10 +1,13 @@
 // Pairs in a map, in the order in which keys were first given a value.
-ghost use Rattle.std.specs.Prelude.{◌≡◌, ◌^◌, ◌≤◌, true, false, ◌↔◌, [], Err, Some, None, OnOk, OnErr, IfOk, IsTrue, length, drop};
+ghost use Rattle.std.specs.Prelude.{◌≡◌, ◌^◌, ◌≤◌, true, false, ◌↔◌, [], Err, Some, None, OnOk, OnErr, IfOk, IfErr, IsTrue, length, drop};
+ghost use Rattle.std.specs.List.{IsDistinct};
+ghost use Rattle.std.specs.Map.{keys_of};
+ghost use Rattle.lua_model.specs.Value.{same_value};
 ghost use Rattle.lua_table.specs.Entries.{is_nil_value, entry, has_place, with_entry, first_pair, pair_after};
 
 use crate::fault::{NextFault, SetFault};
 use crate::keys::is_nil;
-use hash_seed::{KeyHash, Seed};
+use hash_seed::KeyHash;
 use indexmap::IndexMap;
 use lua_model::Value;
 use std::alloc::Global;
@@ -31,12 +34,22 @@ impl Model for Hashed {
 }
 
 impl Hashed {
-    pub(crate) fn new(alloc: Global, seed: Seed) -> Self
-        ensures { result ≡ [] }
+    /// The pairs of a list, no two of which have one key.
+    pub(crate) fn from_pairs(
+        alloc: Global,
+        hash: KeyHash,
+        pairs: &[(Value, Value)],
+    ) -> Result<Self, SetFault>
+        requires small { length pairs.now ≤ 2 ^ 62 }
+        requires apart { IsDistinct same_value (keys_of pairs.now) }
+        ensures pairs { IfOk result (λ m. m ≡ pairs.now) }
+        ensures fault { IfErr result (λ e. e ≡ SetFault.OutOfMemory) }
     {
-        Self {
-            map: IndexMap::with_hasher(alloc, seed.keys()),
+        let mut map = IndexMap::with_hasher(alloc, hash);
+        for (key, value) in pairs {
+            map.insert(*key, *value)?;
         }
+        Ok(Self { map })
     }
 
     pub(crate) fn len(&self) -> usize

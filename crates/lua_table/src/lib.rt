@@ -1,10 +1,12 @@
-//! Tables: a row of values under the keys from 1, and a map of the other pairs, behind one list of pairs.
+//! Tables: a row of values under the keys from 1, and the other pairs in a short list or a map, behind one list of pairs.
 #![tactic(auto)]
 
 mod fault;
+mod few;
 mod hashed;
 mod keys;
 mod laws;
+mod rest;
 mod rowed;
 mod table;
 

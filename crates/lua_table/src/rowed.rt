@@ -1,11 +1,11 @@
-// Pairs as a row of values under the keys from 1, and a map of the others.
+// Pairs as a row of values under the keys from 1, and the others behind them.
 ghost use Rattle.std.specs.Prelude.{◌≡◌, ◌^◌, ◌+◌, ◌++◌, ◌≤◌, true, false, ◌↔◌, [], Err, Some, None, OnOk, OnErr, IfOk, length, drop};
 ghost use Rattle.lua_table.specs.Entries.{is_nil_value, entry, has_place, with_entry, first_pair, next_of};
 ghost use Rattle.lua_table.specs.Rows.{row_pairs};
 
 use crate::fault::{NextFault, SetFault};
-use crate::hashed::Hashed;
 use crate::keys::{is_after, is_nil, number, slot};
+use crate::rest::Rest;
 use hash_seed::Seed;
 use lua_model::Value;
 use std::alloc::Global;
@@ -19,7 +19,7 @@ const MOST_VALUES: usize = 1 << 61;
 #[derive(Drop)]
 pub(crate) struct Rowed {
     row: Vec<Value>,
-    rest: Hashed,
+    rest: Rest,
 }
 
 impl Model for Rowed {
@@ -40,7 +40,7 @@ impl Rowed {
     {
         Self {
             row: Vec::new(alloc),
-            rest: Hashed::new(alloc, seed),
+            rest: Rest::new(alloc, seed),
         }
     }
 
@@ -101,7 +101,7 @@ impl Rowed {
 }
 
 /// The first pair whose value is not nil, from a place of the row on.
-fn first_of(row: &[Value], rest: &Hashed, start: usize) -> Option<(Value, Value)>
+fn first_of(row: &[Value], rest: &Rest, start: usize) -> Option<(Value, Value)>
     ensures { result ≡ first_pair (row_pairs start (drop start row.now) ++ rest.now) }
 {
     for i in start..row.len() {

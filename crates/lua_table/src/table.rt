@@ -21,6 +21,9 @@ pub struct Table {
     full_to: usize,
 }
 
+// A program may hold many tables that stay empty.
+const _: () = prove!(size_of::<Table>() <= 56);
+
 impl Model for Table {
     ghost use Rattle.std.specs.Prelude.{◌+◌, ◌<◌, ◌≤◌, ◌^◌};
     ghost use Rattle.lua_table.specs.Entries.{Entries, IsBorder};
