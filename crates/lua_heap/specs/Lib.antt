@@ -1,3 +1,4 @@
 pub mod State
 pub mod Inside
+pub mod Links
 pub mod Grown

@@ -7,8 +7,9 @@ ghost use Rattle.string_pool.specs.Texts.{with_text, TextsDiffer};
 ghost use Rattle.lua_heap.specs.State.{empty, datum, IsOf, Keeps};
 
 use crate::cells::{Cell, CellId};
+use crate::links::MetaLink;
 use hash_seed::Seed;
-use lua_model::{TableId, TextId, Value};
+use lua_model::{TextId, Value};
 use lua_num::ByteText;
 use lua_table::Table;
 use std::alloc::{AllocError, Global};
@@ -19,8 +20,10 @@ use string_pool::Pool;
 #[derive(Drop)]
 pub struct Entity {
     pub table: Table,
-    pub metatable: Option<TableId>,
+    pub metatable: MetaLink,
 }
+
+const _: () = prove!(size_of::<Entity>() <= 64);
 
 /// A function of the chunk, by its number, and its cells.
 #[derive(Drop)]

@@ -5,6 +5,7 @@ mod cells;
 mod closures;
 mod globals;
 mod heap;
+mod links;
 mod operands;
 mod tables;
 mod values;

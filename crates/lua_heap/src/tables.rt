@@ -6,6 +6,7 @@ ghost use Rattle.lua_model.specs.Store.{table_at, raw_get, raw_set, new_table, w
 ghost use Rattle.lua_heap.specs.State.{datum, IsOf, Keeps, pair_of, pairs_of, ArePairsOf, own_store, with_store, meta_of, IsMetaOf, has_key, next_of};
 
 use crate::heap::{Entity, Heap};
+use crate::links::MetaLink;
 use lua_model::{TableId, Value, border_is_least};
 use lua_table::{NextFault, SetFault, Table};
 use std::alloc::{AllocError, Global};
@@ -21,7 +22,7 @@ impl Heap {
         let index = self.tables.len();
         self.tables.push(Entity {
             table: Table::new(alloc, self.seed),
-            metatable: None,
+            metatable: MetaLink::none(),
         })?;
         Ok(TableId { index })
     }
@@ -113,7 +114,7 @@ impl Heap {
         ensures meta { meta_of result ≡ (table_at (own_store self.now) id.index).meta }
         ensures known { IsMetaOf self.now result }
     {
-        self.tables[id.index].metatable
+        self.tables[id.index].metatable.id()
     }
 
     /// Gives a table this metatable, or takes its metatable away.
@@ -123,6 +124,7 @@ impl Heap {
         ensures state { self.new ≡ with_store self.old (with_metatable (own_store self.old) id.index (meta_of metatable)) }
         ensures keeps { Keeps self.old self.new }
     {
-        self.tables[id.index].metatable = metatable;
+        let entity = &mut self.tables[id.index];
+        entity.metatable = MetaLink::new(metatable);
     }
 }
