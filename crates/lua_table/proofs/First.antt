@@ -1,13 +1,11 @@
 -- The first pair with a value, from a place on.
-use Rattle.std.proofs.Common.{◌≡◌, ℕ, zero, suc, ◌+◌, ◌<◌, ◌≤◌, true, false, List, [], ◌∷◌, ◌++◌, Option, None, Some, length, drop, get_or, position, cond, if◌then◌else◌, refl, sym, ap, ◌∙◌, arith}
+use Rattle.std.proofs.Common.{◌≡◌, ℕ, zero, suc, ◌+◌, ◌<◌, ◌≤◌, true, false, List, [], ◌∷◌, ◌++◌, Option, None, Some, length, take, drop, get_or, position, cond, if◌then◌else◌, refl, sym, ap, ◌∙◌, arith}
 use Rattle.std.specs.List.{position_from, slice_get}
 use Rattle.std.specs.Map.{keys_of}
 use Rattle.std.proofs.lemmas.Iterator.Adapters.{position_from-zero}
 use Rattle.lua_model.specs.declared.Value.{Value}
-use Rattle.lua_model.specs.declared.Value.TheVariants.{Nil}
 use Rattle.lua_model.specs.Value.{same_value}
-use Rattle.lua_table.proofs.Places.{found, missing}
-use Rattle.lua_table.specs.Entries.{Entries, first_pair, pair_after, number_key, is_nil_value}
+use Rattle.lua_table.specs.Entries.{Entries, first_pair, number_key, is_nil_value}
 use Rattle.lua_table.specs.Rows.{row_pairs}
 use Rattle.lua_table.proofs.Mapped.{eq, value_eq}
 
@@ -29,6 +27,13 @@ past [] zero l = refl
 past [] (suc i) l = refl
 past (x ∷ xs) zero l = absurd (omega arith)
 past (x ∷ xs) (suc i) l = past xs i (omega arith)
+
+-- the part before a place
+pub got_taken : {A : Type 0} (n i : ℕ) (xs : List A) → i < n → slice_get (take n xs) i ≡ slice_get xs i
+got_taken zero i xs l = absurd (omega arith)
+got_taken (suc n) i [] l = refl
+got_taken (suc n) zero (x ∷ xs) l = refl
+got_taken (suc n) (suc i) (x ∷ xs) l = got_taken n i xs (omega arith)
 
 pub drop_at : {A : Type 0} (vs : List A) (i : ℕ) (d : A) → i < length vs → drop i vs ≡ get_or vs i d ∷ drop (i + 1) vs
 drop_at [] i d l = absurd (omega arith)
@@ -67,9 +72,3 @@ keys_from (p ∷ ps) k s = ap (λ b. cond b (Some s) (position_from (eq k) (s + 
 
 pub keys_place : (ps : Entries) (k : Value) → position (eq k) (keys_of ps) ≡ position (λ p. same_value k p.0) ps
 keys_place ps k = position_from-zero (eq k) (keys_of ps) ∙ keys_from ps k 0 ∙ sym (position_from-zero (λ p. same_value k p.0) ps)
-
-pub after_place : (ps : Entries) (k : Value) (i : ℕ) → position (eq k) (keys_of ps) ≡ Some i → pair_after ps k ≡ Some (first_pair (drop (i + 1) ps))
-after_place ps k i e = (found same_value Nil is_nil_value ps k i (sym (keys_place ps k) ∙ e)).next
-
-pub after_none : (ps : Entries) (k : Value) → position (eq k) (keys_of ps) ≡ None → pair_after ps k ≡ None
-after_none ps k e = (missing same_value Nil is_nil_value ps k (sym (keys_place ps k) ∙ e)).next

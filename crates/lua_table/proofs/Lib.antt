@@ -1,3 +1,4 @@
+pub mod Around
 pub mod Borders
 pub mod Equality
 pub mod Examples

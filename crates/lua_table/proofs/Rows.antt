@@ -80,17 +80,6 @@ appended vs es k v h e q n =
     ∙ ap (λ r. row_pairs 0 vs ++ with_entry r k v) (sym e)
     ∙ sym ((miss vs es k h).written v)
 
-pub nil_skipped : (vs : List Value) (es : Entries) (k v : Value) → IsOutside (length vs) k → es ≡ [] → is_nil_value v ≡ true → row_pairs 0 vs ++ es ≡ with_entry (row_pairs 0 vs ++ es) k v
-nil_skipped vs es k v h e n =
-    ap (λ r. row_pairs 0 vs ++ r) e
-    ∙ ap (λ b. row_pairs 0 vs ++ (if b then [] else ((k, v) ∷ []))) (sym n)
-    ∙ ap (λ r. row_pairs 0 vs ++ with_entry r k v) (sym e)
-    ∙ sym ((miss vs es k h).written v)
-
--- nothing stands there
-pub nothing : (vs : List Value) (es : Entries) (k : Value) → IsOutside (length vs) k → es ≡ [] → has_place (row_pairs 0 vs ++ es) k ≡ false
-nothing vs es k h e = (miss vs es k h).placed ∙ ap (λ r. has_place r k) e
-
 length_from : (n : ℕ) (vs : List Value) (es : Entries) → length (row_pairs n vs ++ es) ≡ length vs + length es
 length_from n [] es = let q : length es ≡ 0 + length es = omega arith in q
 length_from n (v ∷ vs) es = ap suc (length_from (n + 1) vs es) ∙ (let q : suc (length vs + length es) ≡ suc (length vs) + length es = omega arith in q)

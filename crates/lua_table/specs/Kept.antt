@@ -1,10 +1,10 @@
 -- Serves the bodies: the pairs that are not in the row.
 use Rattle.std.specs.Prelude.{[]}
-use Rattle.lua_table.specs.Entries.{Entries}
+use Rattle.lua_table.specs.Rows.{Split}
 use Rattle.lua_table.specs.declared.rest.Kept.{Kept}
-use Rattle.lua_table.specs.declared.rest.Kept.TheVariants.{Nothing, Listed, Mapped}
+use Rattle.lua_table.specs.declared.rest.Kept.TheVariants.{Nothing, InList, InMap}
 
-abbrev pub kept_pairs : Kept → Entries
-kept_pairs (Nothing hash) = []
-kept_pairs (Listed few) = few.value
-kept_pairs (Mapped map) = map.value
+abbrev pub kept_split : Kept → Split
+kept_split (Nothing hash) = record { pairs = []; before = 0 }
+kept_split (InList list) = record { pairs = list.value.pairs; before = list.value.before }
+kept_split (InMap map) = record { pairs = map.value.pairs; before = map.value.before }

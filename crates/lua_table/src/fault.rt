@@ -2,8 +2,7 @@
 ghost use Rattle.std.specs.Prelude.{◌≡◌};
 ghost use Rattle.lua_table.specs.declared.fault.SetFault.TheVariants.{OutOfMemory};
 
-use crate::few::Few;
-use crate::hashed::Hashed;
+use crate::rest::{Listed, Mapped};
 use lua_model::Value;
 use std::alloc::AllocFailed;
 use thiserror::Error;
@@ -41,18 +40,18 @@ impl From<AllocFailed<(Value, Value)>> for SetFault {
     }
 }
 
-impl From<AllocFailed<Few>> for SetFault {
+impl From<AllocFailed<Listed>> for SetFault {
     ghost from_gives = { λ _ fault. fault ≡ OutOfMemory };
 
-    fn from(_error: AllocFailed<Few>) -> Self {
+    fn from(_error: AllocFailed<Listed>) -> Self {
         SetFault::OutOfMemory
     }
 }
 
-impl From<AllocFailed<Hashed>> for SetFault {
+impl From<AllocFailed<Mapped>> for SetFault {
     ghost from_gives = { λ _ fault. fault ≡ OutOfMemory };
 
-    fn from(_error: AllocFailed<Hashed>) -> Self {
+    fn from(_error: AllocFailed<Mapped>) -> Self {
         SetFault::OutOfMemory
     }
 }

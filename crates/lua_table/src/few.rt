@@ -1,9 +1,9 @@
 // A few pairs in a list, which is looked through without hashing.
-ghost use Rattle.std.specs.Prelude.{◌≡◌, ◌≤◌, ◌<◌, false, ◌↔◌, [], ◌∷◌, Err, Some, None, OnOk, OnErr, IfOk, IfErr, IfSome, IsTrue, length, drop, position};
+ghost use Rattle.std.specs.Prelude.{◌≡◌, ◌≤◌, ◌<◌, false, ◌↔◌, [], ◌∷◌, Err, OnOk, OnErr, IfOk, IfErr, IfSome, IsTrue, length, take, drop, position};
 ghost use Rattle.lua_model.specs.Value.{same_value};
-ghost use Rattle.lua_table.specs.Entries.{is_nil_value, entry, has_place, with_entry, first_pair, pair_after};
+ghost use Rattle.lua_table.specs.Entries.{is_nil_value, entry, has_place, with_entry, first_pair};
 
-use crate::fault::{NextFault, SetFault};
+use crate::fault::SetFault;
 use crate::hashed::Hashed;
 use crate::keys::is_nil;
 use hash_seed::KeyHash;
@@ -68,7 +68,8 @@ impl Few {
         self.pairs.len() >= MOST_PAIRS
     }
 
-    fn place(&self, key: Value) -> Option<usize>
+    /// Where a key stands.
+    pub(crate) fn place(&self, key: Value) -> Option<usize>
         ensures place { result ≡ position (λ p. same_value key p.0) self.now }
         ensures near { IfSome result (λ i. i < 8) }
     {
@@ -121,27 +122,17 @@ impl Few {
         Hashed::from_pairs(alloc, self.hash, self.pairs.as_slice())
     }
 
-    /// The first pair whose value is not nil, from a place on.
-    pub(crate) fn first_from(&self, start: usize) -> Option<(Value, Value)>
-        ensures { result ≡ first_pair (drop start self.now) }
+    /// The first pair whose value is not nil, from a place on and before another.
+    pub(crate) fn first_in(&self, start: usize, end: usize) -> Option<(Value, Value)>
+        requires { end ≤ length self.now }
+        ensures { result ≡ first_pair (drop start (take end self.now)) }
     {
-        for i in start..self.pairs.len() {
+        for i in start..end {
             let (key, value) = self.pairs[i];
             if !is_nil(value) {
                 return Some((key, value));
             }
         }
         None
-    }
-
-    /// The first pair whose value is not nil behind the place of a key.
-    pub(crate) fn next(&self, key: Value) -> Result<Option<(Value, Value)>, NextFault>
-        ensures pair { IfOk result (λ p. pair_after self.now key ≡ Some p) }
-        ensures unknown { OnErr result (pair_after self.now key ≡ None) }
-    {
-        match self.place(key) {
-            Some(i) => Ok(self.first_from(i + 1)),
-            None => Err(NextFault::UnknownKey),
-        }
     }
 }

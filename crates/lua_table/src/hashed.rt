@@ -1,11 +1,11 @@
 // Pairs in a map, in the order in which keys were first given a value.
-ghost use Rattle.std.specs.Prelude.{◌≡◌, ◌^◌, ◌≤◌, true, false, ◌↔◌, [], Err, Some, None, OnOk, OnErr, IfOk, IfErr, IsTrue, length, drop};
+ghost use Rattle.std.specs.Prelude.{◌≡◌, ◌^◌, ◌<◌, ◌≤◌, true, false, ◌↔◌, [], Err, OnOk, OnErr, IfOk, IfErr, IfSome, IsTrue, length, take, drop, position};
 ghost use Rattle.std.specs.List.{IsDistinct};
 ghost use Rattle.std.specs.Map.{keys_of};
 ghost use Rattle.lua_model.specs.Value.{same_value};
-ghost use Rattle.lua_table.specs.Entries.{is_nil_value, entry, has_place, with_entry, first_pair, pair_after};
+ghost use Rattle.lua_table.specs.Entries.{is_nil_value, entry, has_place, with_entry, first_pair};
 
-use crate::fault::{NextFault, SetFault};
+use crate::fault::SetFault;
 use crate::keys::is_nil;
 use hash_seed::KeyHash;
 use indexmap::IndexMap;
@@ -104,12 +104,20 @@ impl Hashed {
         Ok(())
     }
 
-    /// The first pair whose value is not nil, from a place on.
-    pub(crate) fn first_from(&self, start: usize) -> Option<(Value, Value)>
-        ensures { result ≡ first_pair (drop start self.now) }
+    /// Where a key stands.
+    pub(crate) fn place(&self, key: Value) -> Option<usize>
+        ensures place { result ≡ position (λ p. same_value key p.0) self.now }
+        ensures near { IfSome result (λ i. i < 2 ^ 62) }
     {
-        let len = self.map.len();
-        for i in start..len {
+        self.map.get_index_of(&key)
+    }
+
+    /// The first pair whose value is not nil, from a place on and before another.
+    pub(crate) fn first_in(&self, start: usize, end: usize) -> Option<(Value, Value)>
+        requires { end ≤ length self.now }
+        ensures { result ≡ first_pair (drop start (take end self.now)) }
+    {
+        for i in start..end {
             let Some((key, value)) = self.map.get_index(i) else {
                 return None;
             };
@@ -118,16 +126,5 @@ impl Hashed {
             }
         }
         None
-    }
-
-    /// The first pair whose value is not nil behind the place of a key.
-    pub(crate) fn next(&self, key: Value) -> Result<Option<(Value, Value)>, NextFault>
-        ensures pair { IfOk result (λ p. pair_after self.now key ≡ Some p) }
-        ensures unknown { OnErr result (pair_after self.now key ≡ None) }
-    {
-        match self.map.get_index_of(&key) {
-            Some(i) => Ok(self.first_from(i + 1)),
-            None => Err(NextFault::UnknownKey),
-        }
     }
 }

@@ -1,6 +1,6 @@
-// Pairs as a row of values under the keys from 1, and the others behind them.
-ghost use Rattle.std.specs.Prelude.{◌≡◌, ◌^◌, ◌+◌, ◌++◌, ◌≤◌, true, false, ◌↔◌, [], Err, Some, None, OnOk, OnErr, IfOk, length, drop};
-ghost use Rattle.lua_table.specs.Entries.{is_nil_value, entry, has_place, with_entry, first_pair, next_of};
+// Pairs as a row of values under the keys from 1, and the others before and behind them.
+ghost use Rattle.std.specs.Prelude.{◌≡◌, ◌^◌, ◌+◌, ◌++◌, ◌<◌, ◌≤◌, true, false, ◌↔◌, [], Err, Some, None, OnOk, OnErr, IfOk, IsTrue, length, take, drop};
+ghost use Rattle.lua_table.specs.Entries.{is_nil_value, entry, has_place, with_entry, first_pair, next_of, number_key};
 ghost use Rattle.lua_table.specs.Rows.{row_pairs};
 
 use crate::fault::{NextFault, SetFault};
@@ -14,8 +14,8 @@ use std::marker::Model;
 /// How many values a row may hold.
 const MOST_VALUES: usize = 1 << 61;
 
-/// The values of the keys 1, 2, 3 .. as a row, and the other pairs behind them. A pair never moves, so the row grows only
-/// while there are no others. Contracts see the list of pairs.
+/// The values of the keys 1, 2, 3 .. as a row, and the other pairs. A pair never moves, so the row grows only while no
+/// other pair has come behind it. Contracts see the list of pairs.
 #[derive(Drop)]
 pub(crate) struct Rowed {
     row: Vec<Value>,
@@ -23,15 +23,14 @@ pub(crate) struct Rowed {
 }
 
 impl Model for Rowed {
-    ghost use Rattle.std.specs.Prelude.{◌++◌, ◌≤◌, ◌^◌, length};
     ghost use Rattle.lua_table.specs.Entries.{Entries};
-    ghost use Rattle.lua_table.specs.Rows.{row_pairs};
+    ghost use Rattle.lua_table.specs.Rows.{around, IsRowed};
 
     ghost Value = { Entries };
 
-    ghost view = { λ t. row_pairs 0 t.row.items ++ t.rest };
+    ghost view = { λ t. around t.rest t.row.items };
 
-    ghost invariant = { λ t. length t.row.items ≤ 2 ^ 61 };
+    ghost invariant = { λ t. IsRowed t.rest t.row.items };
 }
 
 impl Rowed {
@@ -72,7 +71,7 @@ impl Rowed {
             self.row[i] = value;
             return Ok(());
         }
-        if !self.rest.is_empty() || !is_after(key, self.row.len()) {
+        if !goes_on(self.row.as_slice(), &self.rest, key) {
             return self.rest.set(key, value);
         }
         if is_nil(value) {
@@ -82,6 +81,7 @@ impl Rowed {
             return Err(SetFault::OutOfMemory);
         }
         self.row.push(value)?;
+        self.rest.mark();
         Ok(())
     }
 
@@ -90,24 +90,60 @@ impl Rowed {
         ensures pair { IfOk result (λ p. next_of self.now key ≡ Some p) }
         ensures unknown { OnErr result (next_of self.now key ≡ None) }
     {
+        let row = self.row.as_slice();
         if is_nil(key) {
-            return Ok(first_of(self.row.as_slice(), &self.rest, 0));
+            return Ok(first_from(row, &self.rest, 0));
         }
-        match slot(key, self.row.len()) {
-            Some(i) => Ok(first_of(self.row.as_slice(), &self.rest, i + 1)),
-            None => self.rest.next(key),
+        if let Some(i) = slot(key, row.len()) {
+            return Ok(first_in_row(row, &self.rest, i + 1));
         }
+        let Some(i) = self.rest.place(key) else {
+            return Err(NextFault::UnknownKey);
+        };
+        if i < self.rest.before() {
+            return Ok(first_from(row, &self.rest, i + 1));
+        }
+        Ok(self.rest.first_in(i + 1, self.rest.len()))
+    }
+}
+
+/// Whether the row goes on with this key: it is the next number, has no place, and no pair has come behind the row.
+fn goes_on(row: &[Value], rest: &Rest, key: Value) -> bool
+    ensures next { IsTrue result → key ≡ number_key (length row.now + 1) }
+    ensures apart { IsTrue result → has_place rest.now.pairs key ≡ false }
+    ensures last { IsTrue result → 0 < length row.now → rest.now.before ≡ length rest.now.pairs }
+{
+    if !is_after(key, row.len()) {
+        return false;
+    }
+    if !row.is_empty() && rest.before() != rest.len() {
+        return false;
+    }
+    match rest.place(key) {
+        Some(_) => false,
+        None => true,
+    }
+}
+
+/// The first pair whose value is not nil, from a place of the pairs before the row on.
+fn first_from(row: &[Value], rest: &Rest, start: usize) -> Option<(Value, Value)>
+    requires { rest.now.before ≤ length rest.now.pairs }
+    ensures { result ≡ first_pair (drop start (take rest.now.before rest.now.pairs) ++ (row_pairs 0 row.now ++ drop rest.now.before rest.now.pairs)) }
+{
+    match rest.first_in(start, rest.before()) {
+        Some(pair) => Some(pair),
+        None => first_in_row(row, rest, 0),
     }
 }
 
 /// The first pair whose value is not nil, from a place of the row on.
-fn first_of(row: &[Value], rest: &Rest, start: usize) -> Option<(Value, Value)>
-    ensures { result ≡ first_pair (row_pairs start (drop start row.now) ++ rest.now) }
+fn first_in_row(row: &[Value], rest: &Rest, start: usize) -> Option<(Value, Value)>
+    ensures { result ≡ first_pair (row_pairs start (drop start row.now) ++ drop rest.now.before rest.now.pairs) }
 {
     for i in start..row.len() {
         if !is_nil(row[i]) {
             return Some((number(i + 1), row[i]));
         }
     }
-    rest.first_from(0)
+    rest.first_in(rest.before(), rest.len())
 }
