@@ -12,6 +12,8 @@ use Rattle.upvalue.specs.Shared.{Shares}
 use Rattle.machine.specs.declared.function.Function.{Function}
 use Rattle.machine.specs.declared.running.Running.{Running}
 use Rattle.machine.specs.declared.did.Did.{Did}
+use Rattle.machine.specs.declared.word.Word.{Word}
+use Rattle.machine.specs.Decoded.{instr_in}
 use Rattle.machine.specs.Fits.{FitsFrame}
 use Rattle.machine.specs.Frames.{effect_of}
 use Rattle.machine.specs.Outside.{around}
@@ -66,6 +68,12 @@ goes_on {fs} {old} {new} i o is does = record {
       });
   is = refl;
 }
+
+-- the same of a word whose fields were read
+pub goes_on_word : {fs : List Function} {old new : Running} (w : Word) (i : Instr) → i ≡ instr_in w → (o : Op) → w.op ≡ o → DoesSeen fs (λ m. effect o m i) old new Did.Next → GoesOn fs (instr_in w) old new
+goes_on_word {fs} {old} {new} w i same o is does =
+    let P : Instr → Type 0 = λ x. DoesSeen fs (λ m. effect o m x) old new Did.Next in
+    goes_on (instr_in w) o is (subst P same does)
 
 -- a word that worked on the registers of the topmost frame and the heap, with this pc behind it, and went on to another
 pub quick_goes : (fs : List Function) (f : Function) (old new : Running) (pc next : ℕ) (i : Instr) → slice_get fs old.top.function ≡ Some f → new ≡ record old { heap = new.heap; stack = new.stack } → Does (λ m. effect i.op m i) old.heap new.heap f (top old.stack.frames) (top new.stack.frames) pc (Did.Jumps next) → new.stack.frames ≡ with_top old.stack.frames (top new.stack.frames) → Shares new.stack new.heap → GoesOn fs i (with_pc old pc) (with_pc new next)

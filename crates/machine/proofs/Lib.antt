@@ -39,6 +39,7 @@ pub mod RunSteps
 pub mod RunsSoFar
 pub mod QuickSteps
 pub mod InPlace
+pub mod DecodedWords
 pub mod WordsNext
 pub mod WordsInRow
 pub mod TableEntries

@@ -16,6 +16,7 @@ use Rattle.rules.specs.State.{value_of}
 use Rattle.rules.proofs.Lists.{get_front, get_last, none_some, some_one}
 use Rattle.machine.specs.declared.function.Function.{Function}
 use Rattle.machine.specs.Frames.{data_of}
+use Rattle.machine.specs.Decoded.{decoded_of}
 use Rattle.machine.specs.Loaded.{IsLoadedAs, AreLoaded, all_functions, all_in}
 use Rattle.machine.specs.Loading.{list_of, LeadTo, AreSoFar, Loads, LoadsAll}
 
@@ -92,6 +93,7 @@ still_loaded : (s t : HeapState) (all more : List Chunk) (c : Chunk) (f : Functi
 still_loaded s t all more c f keeps lead is = record {
   code = is.code;
   room = is.room;
+  words = is.words;
   constants = is.constants ∙ sym (data_are_kept s t keeps f.constants.items is.known);
   known = values_are_kept s t keeps f.constants.items is.known;
   inner = lead_at more f.inner.items (functions c) lead;
@@ -146,12 +148,13 @@ so_far_push h all fs c f so lead is = record {
 pub inner_are : (p : Proto) (inner : Functions) → view_protos (out-Proto p).functions ≡ inner → inner ≡ functions (view_proto p)
 inner_are p inner is = sym is ∙ sym (ap functions (view_proto_fields p))
 
-pub made_is : (h : HeapState) (all : List Chunk) (p : Proto) (f : Function) → f.code.items ≡ (out-Proto p).code → length f.code.items < 2 ^ 32 → map value_of (out-Proto p).constants ≡ data_of h f.constants.items → AreOf h f.constants.items → LeadTo all f.inner.items (functions (view_proto p)) → f.upvalues ≡ (out-Proto p).upvalues → f.params ≡ (out-Proto p).params → f.vararg ≡ (out-Proto p).vararg → f.registers ≡ (out-Proto p).registers → IsLoadedAs h all (view_proto p) f
-made_is h all p f code room constants known lead upvalues params vararg registers =
+pub made_is : (h : HeapState) (all : List Chunk) (p : Proto) (f : Function) → f.code.items ≡ (out-Proto p).code → length f.code.items < 2 ^ 32 → f.words.items ≡ map decoded_of f.code.items → map value_of (out-Proto p).constants ≡ data_of h f.constants.items → AreOf h f.constants.items → LeadTo all f.inner.items (functions (view_proto p)) → f.upvalues ≡ (out-Proto p).upvalues → f.params ≡ (out-Proto p).params → f.vararg ≡ (out-Proto p).vararg → f.registers ≡ (out-Proto p).registers → IsLoadedAs h all (view_proto p) f
+made_is h all p f code room words constants known lead upvalues params vararg registers =
     let same : own_fields p ≡ own (view_proto p) = sym (ap own (view_proto_fields p)) in
     record {
       code = code ∙ ap (λ o. o.code) same;
       room = room;
+      words = words;
       constants = ap (λ o. map value_of o.constants) (sym same) ∙ constants;
       known = known;
       inner = lead_at all f.inner.items (functions (view_proto p)) lead;

@@ -10,7 +10,10 @@ use Rattle.rules.specs.State.{State, Effect, Goes, at_pc}
 use Rattle.rules.specs.Step.{effect}
 use Rattle.machine.specs.declared.function.Function.{Function}
 use Rattle.machine.specs.declared.did.Did.{Did}
+use Rattle.machine.specs.declared.word.Word.{Word}
+use Rattle.machine.specs.Decoded.{instr_in}
 use Rattle.machine.specs.Frames.{showing}
+use Rattle.machine.specs.Memory.{NeedsNone}
 use Rattle.machine.specs.Words.{Does, IsStep, pc_of, number_of}
 
 same_pc : (m : State) (pc : ℕ) → m.top.pc ≡ pc → Goes m ≡ Goes (at_pc m pc)
@@ -46,6 +49,23 @@ pub for_op : {old new : HeapState} {f : Function} {before behind : List Value} {
 for_op {old} {new} {f} {before} {behind} {pc} {did} i o is does =
     let P : Op → Type 0 = λ x. Does (λ m. effect x m i) old new f before behind pc did in
     subst P (sym is) does
+
+-- the same of a word whose fields were read
+pub done_word : {h : HeapState} {f : Function} {before behind : List Value} {pc : ℕ} (w : Word) (i : Instr) → i ≡ instr_in w → (o : Op) (did : Did) (next : ℕ) → w.op ≡ o → IsStep did → next ≡ pc_of did pc → Does (λ m. effect o m i) h h f before behind pc did → Does (λ m. effect w.op m (instr_in w)) h h f before behind pc (Did.Jumps next)
+done_word {h} {f} {before} {behind} {pc} w i same o did next is step at does =
+    let P : Instr → Type 0 = λ x. Does (λ m. effect o m x) h h f before behind pc did in
+    done_does (instr_in w) o did next is step at (subst P same does)
+
+pub for_word : {old new : HeapState} {f : Function} {before behind : List Value} {pc : ℕ} {did : Did} (w : Word) (i : Instr) → i ≡ instr_in w → (o : Op) → w.op ≡ o → Does (λ m. effect o m i) old new f before behind pc did → Does (λ m. effect w.op m (instr_in w)) old new f before behind pc did
+for_word {old} {new} {f} {before} {behind} {pc} {did} w i same o is does =
+    let P : Instr → Type 0 = λ x. Does (λ m. effect o m x) old new f before behind pc did in
+    for_op (instr_in w) o is (subst P same does)
+
+pub needs_word : (w : Word) (i : Instr) → i ≡ instr_in w → (o : Op) → w.op ≡ o → (m : State) → NeedsNone w.op m (instr_in w) → NeedsNone o m i
+needs_word w i same o is m needs =
+    let P : Op → Type 0 = λ x. NeedsNone x m (instr_in w) in
+    let Q : Instr → Type 0 = λ x. NeedsNone o m x in
+    subst Q (sym same) (subst P is needs)
 
 pub if_some : {A : Type 0} (o : Option A) (P Q : A → Type 0) → ((a : A) → P a → Q a) → IfSome o P → IfSome o Q
 if_some (Some a) P Q then p = then a p

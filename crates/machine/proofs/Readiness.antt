@@ -33,6 +33,7 @@ use Rattle.machine.specs.Loaded.{all_functions, IsLoadedAs}
 use Rattle.machine.specs.Ready.{FitsHere, with_pc, IsReady}
 use Rattle.machine.specs.Seen.{Around, numbered, cells_in, seen}
 use Rattle.machine.specs.Whole.{IsWhole}
+use Rattle.machine.proofs.DecodedWords.{decoded_at}
 use Rattle.machine.proofs.FramesAbove.{loaded_at}
 use Rattle.machine.proofs.Ranges.{doing, fits, fits_frame}
 
@@ -135,9 +136,15 @@ module _ (c : Chunk) (a : Around) (fs : List Function) (k : Running) (whole : Is
 pub ready : (c : Chunk) (a : Around) (functions : List Function) (k : Running) → IsWhole c functions k → Inv (seen c a k) → IsReady functions k
 ready c a fs k whole inv f at =
     let i = current_there c a fs k whole inv in
+    let as_loaded = loaded c a fs k whole inv f at i.0 i.1 in
+    let there : option_and_then instr_of (slice_get f.code.items k.top.pc) ≡ Some i.0 = ap (λ code. option_and_then instr_of (slice_get code k.top.pc)) as_loaded.code ∙ (does c a fs k whole inv f at i.0 i.1).at in
+    let decoded = decoded_at f.code.items f.words.items k.top.pc i.0 as_loaded.words there in
     record {
       i = i.0;
-      at = ap (λ code. option_and_then instr_of (slice_get code k.top.pc)) (loaded c a fs k whole inv f at i.0 i.1).code ∙ (does c a fs k whole inv f at i.0 i.1).at;
+      at = there;
+      word = decoded.word;
+      has = decoded.has;
+      means = decoded.means;
       fits = fits_here c a fs k whole inv f at i.0 i.1;
     }
 

@@ -173,6 +173,7 @@ loaded_stays old new all fs keeps loaded = record {
       record {
         code = one.code;
         room = one.room;
+        words = one.words;
         constants = one.constants ∙ sym (data_are_kept old new keeps f.constants.items one.known);
         known = values_are_kept old new keeps f.constants.items one.known;
         inner = one.inner;

@@ -1,7 +1,7 @@
 -- Words of one frame in a row, whose pc is kept beside it.
 use Rattle.std.proofs.Common.{◌≡◌, ◌∙◌, ◌+◌, ◌<◌, ℕ, suc, List, length, Option, Some, None, IfSome, OnSome, refl, sym, subst, arith}
 use Rattle.std.specs.Prelude.{get_or, slice_get, option_and_then}
-use Rattle.std.proofs.lemmas.Option.{slice_get_read, none-some, same_Some}
+use Rattle.std.proofs.lemmas.Option.{slice_get_read, same_Some}
 use Rattle.opcode.specs.Reading.{instr_of}
 use Rattle.opcode.specs.declared.word.Instr.{Instr}
 use Rattle.proto.specs.Chunk.{Chunk}
@@ -9,6 +9,8 @@ use Rattle.rules.specs.State.{State}
 use Rattle.upvalue.specs.State.{top}
 use Rattle.machine.specs.declared.function.Function.{Function}
 use Rattle.machine.specs.declared.running.Running.{Running}
+use Rattle.machine.specs.declared.word.Word.{Word}
+use Rattle.machine.specs.Decoded.{instr_in}
 use Rattle.machine.specs.Fits.{IsOther}
 use Rattle.machine.specs.Frames.{showing}
 use Rattle.machine.specs.Memory.{NeedsNone, NeedsNoneNext}
@@ -34,39 +36,36 @@ module _ (fs : List Function) (f : Function) (old k : Running) (pc n : ℕ) (rea
   word : HasWord fs f (with_pc k pc)
   word = ready n (with_pc k pc) went f at
 
-  pub row_there : pc < length f.code.items
+  pub row_there : pc < length f.words.items
   row_there = word_there fs f (with_pc k pc) word
 
-  module _ (w : ℕ) (o : Option Instr) (read : w ≡ get_or f.code.items pc w) (decoded : o ≡ instr_of w) where
-    is_word : option_and_then instr_of (slice_get f.code.items pc) ≡ o
-    is_word = word_decoded fs f (with_pc k pc) w o word read decoded
-
-    pub row_decoded : o ≡ None → ⊥
-    row_decoded none = none-some word.i (sym (is_word ∙ none) ∙ word.at)
+  module _ (x : Word) (read : x ≡ get_or f.words.items pc x) where
+    is_word : option_and_then instr_of (slice_get f.code.items pc) ≡ Some (instr_in x)
+    is_word = word_decoded fs f (with_pc k pc) x word read
 
     -- that may be done
-    pub row_fits : (i : Instr) → o ≡ Some i → IsSafe fs (with_pc k pc) → FitsAt f k (pc + 1) i
-    row_fits i some safe = record {
+    pub row_fits : IsSafe fs (with_pc k pc) → FitsAt f k (pc + 1) (instr_in x)
+    row_fits safe = record {
       functions = fs;
       safe = safe_behind_word fs (with_pc k pc) k.top.pc safe;
       at = at;
-      fits = word_fits fs f (with_pc k pc) i word (is_word ∙ some);
+      fits = word_fits fs f (with_pc k pc) (instr_in x) word is_word;
     }
 
     -- and is one word more, where it was done
-    pub row_further : (i : Instr) (new : Running) → o ≡ Some i → GoesOn fs i (with_pc k (pc + 1)) new → IsSafe fs (with_pc k pc) → GoesSteps fs (n + 1) old new × IsSafe fs new
-    row_further i new some done safe =
-        let next : GoesNext fs (with_pc k pc) new = next_in_place fs f (with_pc k pc) new i at (is_word ∙ some) done in
+    pub row_further : (new : Running) → GoesOn fs (instr_in x) (with_pc k (pc + 1)) new → IsSafe fs (with_pc k pc) → GoesSteps fs (n + 1) old new × IsSafe fs new
+    row_further new done safe =
+        let next : GoesNext fs (with_pc k pc) new = next_in_place fs f (with_pc k pc) new (instr_in x) at is_word done in
         let behind_it : suc n ≡ n + 1 = omega arith in
         (subst (λ m. GoesSteps fs m old new) behind_it (with_pc k pc, went, next), next.safe safe)
 
     -- or is none that takes no memory, where it was not done
-    pub row_not_such : (i : Instr) → o ≡ Some i → ((m : State) → Runs m k.heap f (pc + 1) → NeedsNone i.op (showing m k.heap (top k.stack.frames)) i → ⊥) → (c : Chunk) (a : Around) → IsWhole c fs (with_pc k pc) → NeedsNoneNext (seen c a (with_pc k pc)) → ⊥
-    row_not_such i some taken = not_such fs f (with_pc k pc) i at (is_word ∙ some) (λ d b here. taken (seen d b (with_pc k (pc + 1))) (top_runs d b fs (with_pc k (pc + 1)) f here at))
+    pub row_not_such : ((m : State) → Runs m k.heap f (pc + 1) → NeedsNone x.op (showing m k.heap (top k.stack.frames)) (instr_in x) → ⊥) → (c : Chunk) (a : Around) → IsWhole c fs (with_pc k pc) → NeedsNoneNext (seen c a (with_pc k pc)) → ⊥
+    row_not_such taken = not_such fs f (with_pc k pc) (instr_in x) at is_word (λ d b here. taken (seen d b (with_pc k (pc + 1))) (top_runs d b fs (with_pc k (pc + 1)) f here at))
 
     -- or is one that asks for more
-    pub row_other : (i : Instr) → o ≡ Some i → IsOther i.op → IsOtherNext fs (with_pc k pc)
-    row_other i some other g j here there =
+    pub row_other : IsOther x.op → IsOtherNext fs (with_pc k pc)
+    row_other other g j here there =
         let same_function : f ≡ g = cc in
-        let found : option_and_then instr_of (slice_get f.code.items pc) ≡ Some j = subst (λ (x : Function). option_and_then instr_of (slice_get x.code.items pc) ≡ Some j) (sym same_function) there in
-        subst (λ (x : Instr). IsOther x.op) (same_Some i j (sym (is_word ∙ some) ∙ found)) other
+        let found : option_and_then instr_of (slice_get f.code.items pc) ≡ Some j = subst (λ (h : Function). option_and_then instr_of (slice_get h.code.items pc) ≡ Some j) (sym same_function) there in
+        subst (λ (i : Instr). IsOther i.op) (same_Some (instr_in x) j (sym is_word ∙ found)) other

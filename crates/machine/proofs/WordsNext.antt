@@ -1,7 +1,7 @@
 -- The word that is done next: what is read, and what a word that was done in place comes to.
 use Rattle.std.proofs.Common.{◌≡◌, ◌∙◌, ◌+◌, ◌<◌, ℕ, suc, Bool, true, false, List, length, Option, Some, None, refl, sym, ap, subst, arith}
 use Rattle.std.specs.Prelude.{get_or, slice_get, option_and_then, if◌then◌else◌}
-use Rattle.std.proofs.lemmas.Option.{slice_get_within, slice_get-get_or, slice_get_read, option_and_then_some, same_Some}
+use Rattle.std.proofs.lemmas.Option.{slice_get_within, slice_get-get_or, slice_get_read, same_Some}
 use Rattle.opcode.specs.Reading.{instr_of}
 use Rattle.opcode.specs.declared.word.Instr.{Instr}
 use Rattle.proto.specs.Chunk.{Chunk}
@@ -13,6 +13,8 @@ use Rattle.rules.specs.Run.{Going, current, after}
 use Rattle.rules.specs.Step.{effect}
 use Rattle.machine.specs.declared.function.Function.{Function}
 use Rattle.machine.specs.declared.running.Running.{Running}
+use Rattle.machine.specs.declared.word.Word.{Word}
+use Rattle.machine.specs.Decoded.{instr_in}
 use Rattle.machine.specs.Memory.{NeedsNone, NeedsNoneNext}
 use Rattle.machine.specs.Ready.{FitsHere, GoesNext, GoesOn, HasWord, IsReady, with_pc}
 use Rattle.machine.specs.Seen.{Around, seen}
@@ -43,12 +45,14 @@ whole_behind_word c fs k pc whole = record { safe = safe_behind_word fs k pc who
 pub ready_word : (fs : List Function) (k : Running) (other : Function) → IsSafe fs k → IsReady fs k → HasWord fs (get_or fs k.top.function other) k
 ready_word fs k other safe ready = ready (get_or fs k.top.function other) (slice_get-get_or fs k.top.function other safe.top_frame.function)
 
-pub word_there : (fs : List Function) (f : Function) (k : Running) → HasWord fs f k → k.top.pc < length f.code.items
-word_there fs f k word = option_and_then_some instr_of (slice_get f.code.items k.top.pc) word.i word.at (λ w found is. slice_get_within f.code.items k.top.pc w found)
+pub word_there : (fs : List Function) (f : Function) (k : Running) → HasWord fs f k → k.top.pc < length f.words.items
+word_there fs f k word = slice_get_within f.words.items k.top.pc word.word word.has
 
--- what was read and decoded is its instruction
-pub word_decoded : (fs : List Function) (f : Function) (k : Running) (w : ℕ) (o : Option Instr) → HasWord fs f k → w ≡ get_or f.code.items k.top.pc w → o ≡ instr_of w → option_and_then instr_of (slice_get f.code.items k.top.pc) ≡ o
-word_decoded fs f k w o word read decoded = ap (option_and_then instr_of) (slice_get_read f.code.items (length f.code.items) k.top.pc w refl (word_there fs f k word) read) ∙ sym decoded
+-- what was read is its instruction
+pub word_decoded : (fs : List Function) (f : Function) (k : Running) (x : Word) → HasWord fs f k → x ≡ get_or f.words.items k.top.pc x → option_and_then instr_of (slice_get f.code.items k.top.pc) ≡ Some (instr_in x)
+word_decoded fs f k x word read =
+    let found = slice_get_read f.words.items (length f.words.items) k.top.pc x refl (word_there fs f k word) read in
+    word.at ∙ ap Some (sym word.means ∙ ap instr_in (same_Some word.word x (sym word.has ∙ found)))
 
 -- and may be done
 pub word_fits : (fs : List Function) (f : Function) (k : Running) (i : Instr) → HasWord fs f k → option_and_then instr_of (slice_get f.code.items k.top.pc) ≡ Some i → FitsHere fs f (with_pc k (k.top.pc + 1)) i
@@ -57,11 +61,11 @@ word_fits fs f k i word is =
     subst (λ n. FitsHere fs f (with_pc k n) i) behind_it (subst (λ (x : Instr). FitsHere fs f (with_pc k (suc k.top.pc)) x) (same_Some word.i i (sym word.at ∙ is)) word.fits)
 
 -- what the word asks of the machine whose pc is behind it
-pub fits_behind : (fs : List Function) (old : Running) (i : Instr) (other : Function) (w : ℕ) (o : Option Instr) → IsSafe fs old → IsReady fs old → w ≡ get_or (get_or fs old.top.function other).code.items old.top.pc w → o ≡ instr_of w → o ≡ Some i → (f : Function) → slice_get fs old.top.function ≡ Some f → FitsHere fs f (with_pc old (old.top.pc + 1)) i
-fits_behind fs old i other w o safe ready read decoded some f at =
+pub fits_behind : (fs : List Function) (old : Running) (i : Instr) (other : Function) (x : Word) → IsSafe fs old → IsReady fs old → x ≡ get_or (get_or fs old.top.function other).words.items old.top.pc x → i ≡ instr_in x → (f : Function) → slice_get fs old.top.function ≡ Some f → FitsHere fs f (with_pc old (old.top.pc + 1)) i
+fits_behind fs old i other x safe ready read decoded f at =
     let here = get_or fs old.top.function other in
     let word = ready_word fs old other safe ready in
-    let is = word_decoded fs here old w o word read decoded ∙ some in
+    let is = word_decoded fs here old x word read ∙ ap Some (sym decoded) in
     let same = same_Some here f (sym (slice_get-get_or fs old.top.function other safe.top_frame.function) ∙ at) in
     subst (λ (x : Function). FitsHere fs x (with_pc old (old.top.pc + 1)) i) same (word_fits fs here old i word is)
 

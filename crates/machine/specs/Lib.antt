@@ -1,3 +1,4 @@
+pub mod Decoded
 pub mod Fits
 pub mod Frames
 pub mod Loaded

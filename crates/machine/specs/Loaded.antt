@@ -4,6 +4,7 @@ use Rattle.proto.specs.Chunk.{Chunk, Functions, function, no_functions, and_func
 use Rattle.lua_heap.specs.State.{HeapState, AreOf}
 use Rattle.rules.specs.State.{value_of}
 use Rattle.machine.specs.declared.function.Function.{Function}
+use Rattle.machine.specs.Decoded.{decoded_of}
 use Rattle.machine.specs.Frames.{data_of}
 
 abbrev mutual
@@ -18,6 +19,7 @@ abbrev mutual
 pub record IsLoadedAs (h : HeapState) (all : List Chunk) (c : Chunk) (f : Function) : Type 0 where
   pub code : f.code.items ≡ (own c).code
   pub room : length f.code.items < 2 ^ 32
+  pub words : f.words.items ≡ map decoded_of f.code.items
   pub constants : map value_of (own c).constants ≡ data_of h f.constants.items
   pub known : AreOf h f.constants.items
   pub inner : (n : ℕ) → option_and_then (slice_get all) (slice_get f.inner.items n) ≡ function_at (functions c) n

@@ -12,6 +12,8 @@ use Rattle.rules.specs.Step.{effect}
 use Rattle.upvalue.specs.State.{top}
 use Rattle.machine.specs.declared.function.Function.{Function}
 use Rattle.machine.specs.declared.running.Running.{Running}
+use Rattle.machine.specs.declared.word.Word.{Word}
+use Rattle.machine.specs.Decoded.{instr_in}
 use Rattle.machine.specs.declared.did.Did.{Did}
 use Rattle.machine.specs.declared.settling.Settled.{Settled}
 use Rattle.machine.specs.Fits.{Fits, FitsFrame, AreCaptures, IsOther}
@@ -49,6 +51,9 @@ pub record GoesNext (functions : List Function) (old new : Running) : Type 0 whe
 pub record HasWord (functions : List Function) (f : Function) (k : Running) : Type 0 where
   pub i : Instr
   pub at : option_and_then instr_of (slice_get f.code.items k.top.pc) ≡ Some i
+  pub word : Word
+  pub has : slice_get f.words.items k.top.pc ≡ Some word
+  pub means : instr_in word ≡ i
   pub fits : FitsHere functions f (with_pc k (suc k.top.pc)) i
 
 abbrev pub IsReady : List Function → Running → Type 0

@@ -21,6 +21,7 @@ mod settling;
 mod stepping;
 mod topmost;
 mod upvalues;
+mod word;
 mod words;
 
 pub use machine::{Machine, StepEnd};

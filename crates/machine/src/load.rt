@@ -6,11 +6,13 @@ ghost use Rattle.proto.specs.View.{view_proto};
 ghost use Rattle.lua_heap.specs.State.{datum, IsOf, AreOf};
 ghost use Rattle.lua_heap.specs.Grown.{Grown};
 ghost use Rattle.rules.specs.State.{value_of};
+ghost use Rattle.machine.specs.Decoded.{decoded_of};
 ghost use Rattle.machine.specs.Frames.{data_of};
 ghost use Rattle.machine.specs.Loaded.{AreLoaded, IsLoadedAs, all_functions};
 ghost use Rattle.machine.specs.Loading.{LeadTo, Loads, LoadsAll};
 
 use crate::function::Function;
+use crate::word::Word;
 use lua_heap::{Heap, text_value};
 use lua_model::Value;
 use proto::{Constant, Proto};
@@ -81,8 +83,10 @@ fn made(
 {
     let constants = constant_values(alloc, heap, proto.constants.items())?;
     let code = proto.code.items().to_vec(alloc)?;
+    let words = decoded(alloc, code.as_slice())?;
     Ok(Function {
         code,
+        words,
         constants,
         inner,
         upvalues: proto.upvalues,
@@ -90,6 +94,13 @@ fn made(
         vararg: proto.vararg,
         registers: proto.registers,
     })
+}
+
+/// Words, each decoded.
+fn decoded(alloc: Global, code: &[u32]) -> Result<Vec<Word>, AllocError>
+    ensures { IfOk result (λ words. words.items ≡ map decoded_of code.now) }
+{
+    code.iter().map(|bits| Word::new(*bits)).collect(alloc)
 }
 
 /// Constants as values of the heap.

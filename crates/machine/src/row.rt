@@ -4,6 +4,7 @@ ghost use Rattle.proto.specs.Chunk.{Chunk};
 ghost use Rattle.rules.specs.State.{State};
 ghost use Rattle.upvalue.specs.State.{top};
 ghost use Rattle.machine.specs.declared.function.Function.{Function as TheFunction};
+ghost use Rattle.machine.specs.Decoded.{instr_in};
 ghost use Rattle.machine.specs.Fits.{IsOther};
 ghost use Rattle.machine.specs.Frames.{showing};
 ghost use Rattle.machine.specs.Memory.{NeedsNone, NeedsNoneNext};
@@ -16,7 +17,8 @@ use crate::function::Function;
 use crate::running::Running;
 use crate::topmost::quick_at;
 use crate::upvalues::{close, get_upvalue, set_upvalue};
-use opcode::{Instr, Op, decode};
+use crate::word::Word;
+use opcode::Op;
 
 /// Does words of the topmost frame in place, one after another, at most so many; answers how many it did. It takes memory only for a new entry of
 /// a table.
@@ -32,10 +34,8 @@ pub fn do_row(running: &mut Running, functions: &[Function], steps: u64) -> u64
     let mut pc = running.top.pc;
     let mut done = 0;
     while done < steps {
-        let Some(i) = decode(function.code[pc]) else {
-            unreachable!();
-        };
-        match word_at(running, function, pc + 1, i) {
+        let word = function.words[pc];
+        match word_at(running, function, pc + 1, word) {
             Some(next) => pc = next,
             None => {
                 running.top.pc = pc;
@@ -50,19 +50,19 @@ pub fn do_row(running: &mut Running, functions: &[Function], steps: u64) -> u64
 
 /// Does a word in place, where it is a common one, and answers the pc that it goes on to; where it is not, nothing is done. The pc is that behind
 /// the word, whatever the pc of the frame.
-fn word_at(running: &mut Running, function: &Function, pc: usize, i: Instr) -> Option<usize>
-    requires { FitsAt function.now running.old pc i }
-    ensures some { (functions : List TheFunction) → slice_get functions running.old.top.function ≡ Some function.now → IfSome result (λ next. GoesOn functions i (with_pc running.old pc) (with_pc running.new next)) }
+fn word_at(running: &mut Running, function: &Function, pc: usize, word: Word) -> Option<usize>
+    requires { FitsAt function.now running.old pc (instr_in word) }
+    ensures some { (functions : List TheFunction) → slice_get functions running.old.top.function ≡ Some function.now → IfSome result (λ next. GoesOn functions (instr_in word) (with_pc running.old pc) (with_pc running.new next)) }
     ensures none { IfNone result (running.new ≡ running.old) }
-    ensures other { IfNone result (IsOther i.op) }
-    ensures taken { IfNone result ((m : State) → Runs m running.old.heap function.now pc → NeedsNone i.op (showing m running.old.heap (top running.old.stack.frames)) i → ⊥) }
+    ensures other { IfNone result (IsOther word.op) }
+    ensures taken { IfNone result ((m : State) → Runs m running.old.heap function.now pc → NeedsNone word.op (showing m running.old.heap (top running.old.stack.frames)) (instr_in word) → ⊥) }
     ensures top { running.new.top ≡ running.old.top }
 {
-    match i.op {
-        Op::GetUpval => get_upvalue(running, i),
-        Op::SetUpval => set_upvalue(running, i),
-        Op::Close => close(running, i),
-        _ => return quick_at(running, function, pc, i),
+    match word.op {
+        Op::GetUpval => get_upvalue(running, word.abc()),
+        Op::SetUpval => set_upvalue(running, word.abc()),
+        Op::Close => close(running, word.abc()),
+        _ => return quick_at(running, function, pc, word),
     }
     Some(pc)
 }

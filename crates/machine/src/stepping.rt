@@ -21,7 +21,7 @@ use crate::running::Running;
 use crate::settling::{Settled, settle, tail_call};
 use crate::topmost::perform_plain;
 use host::HostSet;
-use opcode::{Instr, Op, decode};
+use opcode::{Instr, Op};
 use std::alloc::{AllocError, Global};
 
 /// Does a word in the topmost frame that was not done in place; the pc of the frame is that behind the word.
@@ -62,12 +62,9 @@ fn take_word(running: &mut Running, functions: &[Function]) -> Instr
     ensures is { (f : TheFunction) → slice_get functions.now running.old.top.function ≡ Some f → option_and_then instr_of (slice_get f.code.items running.old.top.pc) ≡ Some result }
     ensures fits { (f : TheFunction) → slice_get functions.now running.new.top.function ≡ Some f → FitsHere functions.now f running.new result }
 {
-    let word = functions[running.top.function].code[running.top.pc];
-    let Some(i) = decode(word) else {
-        unreachable!();
-    };
+    let word = functions[running.top.function].words[running.top.pc];
     running.top.pc += 1;
-    i
+    word.instr()
 }
 
 /// Does the word that is next, where it is a common CALL or RETURN. `false` where it is not: then nothing is done. Where memory runs out the machine

@@ -8,6 +8,7 @@ ghost use Rattle.upvalue.specs.State.{top, with_top};
 ghost use Rattle.upvalue.specs.Shared.{Shares};
 ghost use Rattle.machine.specs.declared.function.Function.{Function as TheFunction};
 ghost use Rattle.machine.specs.declared.did.Did.{Did as TheDid};
+ghost use Rattle.machine.specs.Decoded.{instr_in};
 ghost use Rattle.machine.specs.Fits.{Fits, IsPlain, IsInner, IsOther};
 ghost use Rattle.machine.specs.Frames.{data_of, landing_of, showing};
 ghost use Rattle.machine.specs.Memory.{NeedsNone};
@@ -17,6 +18,7 @@ ghost use Rattle.machine.specs.Words.{Does, Runs, calls_of, calls_left};
 use crate::did::{Did, Landing};
 use crate::function::Function;
 use crate::running::Running;
+use crate::word::Word;
 use crate::words::{land, perform, quick};
 use lua_heap::ValueList;
 use opcode::Instr;
@@ -42,22 +44,22 @@ pub fn perform_plain(
 
 /// Does a word of the topmost frame in place that works on no cells, where it is a common one, and answers the pc that it goes on to; where it is
 /// not, nothing is done. The pc is that behind the word, whatever the pc of the frame.
-pub fn quick_at(running: &mut Running, function: &Function, pc: usize, i: Instr) -> Option<usize>
+pub fn quick_at(running: &mut Running, function: &Function, pc: usize, word: Word) -> Option<usize>
     requires shares { Shares running.old.stack running.old.heap }
     requires constants { AreOf running.old.heap function.now.constants.items }
-    requires inner { IsInner i.op }
-    requires fits { Fits i.op function.now (top running.old.stack.frames) pc i }
-    ensures some { IfSome result (λ next. Does (λ m. effect i.op m i) running.old.heap running.new.heap function.now (top running.old.stack.frames) (top running.new.stack.frames) pc (TheDid.Jumps next)) }
+    requires inner { IsInner word.op }
+    requires fits { Fits word.op function.now (top running.old.stack.frames) pc (instr_in word) }
+    ensures some { IfSome result (λ next. Does (λ m. effect word.op m (instr_in word)) running.old.heap running.new.heap function.now (top running.old.stack.frames) (top running.new.stack.frames) pc (TheDid.Jumps next)) }
     ensures frames { OnSome result (running.new.stack.frames ≡ with_top running.old.stack.frames (top running.new.stack.frames)) }
     ensures shares { OnSome result (Shares running.new.stack running.new.heap) }
     ensures rest { running.new ≡ record running.old { heap = running.new.heap; stack = running.new.stack } }
     ensures none { IfNone result (running.new ≡ running.old) }
-    ensures other { IfNone result (IsOther i.op) }
-    ensures taken { IfNone result ((m : State) → Runs m running.old.heap function.now pc → NeedsNone i.op (showing m running.old.heap (top running.old.stack.frames)) i → ⊥) }
+    ensures other { IfNone result (IsOther word.op) }
+    ensures taken { IfNone result ((m : State) → Runs m running.old.heap function.now pc → NeedsNone word.op (showing m running.old.heap (top running.old.stack.frames)) (instr_in word) → ⊥) }
 {
     let base = running.stack.base();
     let registers = &mut running.stack.all_registers()[base..];
-    quick(&mut running.heap, registers, function, pc, i)
+    quick(&mut running.heap, registers, function, pc, word)
 }
 
 /// Results to where a landing of the topmost frame says.

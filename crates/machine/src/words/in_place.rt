@@ -9,6 +9,7 @@ ghost use Rattle.lua_heap.specs.State.{HeapState};
 ghost use Rattle.rules.specs.State.{State};
 ghost use Rattle.rules.specs.Step.{effect, do_arith as do_arith_of, do_compare as do_compare_of};
 ghost use Rattle.machine.specs.declared.did.Did.{Did as TheDid};
+ghost use Rattle.machine.specs.Decoded.{instr_in};
 ghost use Rattle.machine.specs.Fits.{Fits, IsInner, IsOther};
 ghost use Rattle.machine.specs.Frames.{showing};
 ghost use Rattle.machine.specs.Memory.{NeedsNone, Computes, Compares};
@@ -17,6 +18,7 @@ ghost use Rattle.machine.specs.Words.{AreKnown, Does, Runs, IsOperand, IsTest, I
 use crate::did::Did;
 use crate::function::Function;
 use crate::operands::operand;
+use crate::word::Word;
 use crate::words::arithmetic::do_not;
 use crate::words::entries::{get_entry, get_method_entry, set_entry};
 use crate::words::jumps::{branch, jump};
@@ -37,40 +39,40 @@ pub fn quick(
     registers: &mut [Value],
     function: &Function,
     pc: usize,
-    i: Instr,
+    word: Word,
 ) -> Option<usize>
     requires known { AreKnown heap.old function.now registers.old }
-    requires inner { IsInner i.op }
-    requires fits { Fits i.op function.now registers.old pc i }
-    ensures some { IfSome result (λ next. Does (λ m. effect i.op m i) heap.old heap.new function.now registers.old registers.new pc (TheDid.Jumps next)) }
+    requires inner { IsInner word.op }
+    requires fits { Fits word.op function.now registers.old pc (instr_in word) }
+    ensures some { IfSome result (λ next. Does (λ m. effect word.op m (instr_in word)) heap.old heap.new function.now registers.old registers.new pc (TheDid.Jumps next)) }
     ensures none { IfNone result ((registers.new ≡ registers.old) × (heap.new ≡ heap.old)) }
-    ensures other { IfNone result (IsOther i.op) }
-    ensures taken { IfNone result ((m : State) → Runs m heap.old function.now pc → NeedsNone i.op (showing m heap.old registers.old) i → ⊥) }
+    ensures other { IfNone result (IsOther word.op) }
+    ensures taken { IfNone result ((m : State) → Runs m heap.old function.now pc → NeedsNone word.op (showing m heap.old registers.old) (instr_in word) → ⊥) }
 {
-    match i.op {
-        Op::Move => Some(pc_behind(copy(registers, i), pc)),
-        Op::LoadK => Some(pc_behind(load_constant(registers, function, i), pc)),
-        Op::LoadBool => Some(pc_behind(load_bool(registers, pc, i), pc)),
-        Op::LoadNil => Some(pc_behind(load_nil(registers, i), pc)),
-        Op::GetGlobal => Some(pc_behind(get_global(heap, registers, function, i), pc)),
-        Op::Not => Some(pc_behind(do_not(registers, i), pc)),
-        Op::Jmp => Some(jump(pc, i.sbx)),
-        Op::Test => Some(pc_behind(test(registers, function, pc, i), pc)),
-        Op::TestSet => Some(pc_behind(test_set(registers, function, pc, i), pc)),
-        Op::ForLoop => Some(pc_behind(for_loop(registers, pc, i), pc)),
-        Op::ForPrep => quick_prepare(heap, registers, pc, i),
-        Op::GetTable => get_entry(heap, registers, function, pc, i),
-        Op::SetTable => set_entry(heap, registers, function, pc, i),
-        Op::Self_ => get_method_entry(heap, registers, function, pc, i),
-        Op::Add => quick_arith(registers, function, pc, ArithOp::Add, i),
-        Op::Sub => quick_arith(registers, function, pc, ArithOp::Sub, i),
-        Op::Mul => quick_arith(registers, function, pc, ArithOp::Mul, i),
-        Op::Div => quick_arith(registers, function, pc, ArithOp::Div, i),
-        Op::Mod => quick_arith(registers, function, pc, ArithOp::Rem, i),
-        Op::Pow => quick_arith(registers, function, pc, ArithOp::Pow, i),
-        Op::Eq => quick_compare(registers, function, pc, CompareOp::Eq, i),
-        Op::Lt => quick_compare(registers, function, pc, CompareOp::Lt, i),
-        Op::Le => quick_compare(registers, function, pc, CompareOp::Le, i),
+    match word.op {
+        Op::Move => Some(pc_behind(copy(registers, word.abc()), pc)),
+        Op::LoadK => Some(pc_behind(load_constant(registers, function, word.abx()), pc)),
+        Op::LoadBool => Some(pc_behind(load_bool(registers, pc, word.abc()), pc)),
+        Op::LoadNil => Some(pc_behind(load_nil(registers, word.abc()), pc)),
+        Op::GetGlobal => Some(pc_behind(get_global(heap, registers, function, word.abx()), pc)),
+        Op::Not => Some(pc_behind(do_not(registers, word.abc()), pc)),
+        Op::Jmp => Some(jump(pc, word.asbx().sbx)),
+        Op::Test => Some(pc_behind(test(registers, function, pc, word.abc()), pc)),
+        Op::TestSet => Some(pc_behind(test_set(registers, function, pc, word.abc()), pc)),
+        Op::ForLoop => Some(pc_behind(for_loop(registers, pc, word.asbx()), pc)),
+        Op::ForPrep => quick_prepare(heap, registers, pc, word.asbx()),
+        Op::GetTable => get_entry(heap, registers, function, pc, word.abc()),
+        Op::SetTable => set_entry(heap, registers, function, pc, word.abc()),
+        Op::Self_ => get_method_entry(heap, registers, function, pc, word.abc()),
+        Op::Add => quick_arith(registers, function, pc, ArithOp::Add, word.abc()),
+        Op::Sub => quick_arith(registers, function, pc, ArithOp::Sub, word.abc()),
+        Op::Mul => quick_arith(registers, function, pc, ArithOp::Mul, word.abc()),
+        Op::Div => quick_arith(registers, function, pc, ArithOp::Div, word.abc()),
+        Op::Mod => quick_arith(registers, function, pc, ArithOp::Rem, word.abc()),
+        Op::Pow => quick_arith(registers, function, pc, ArithOp::Pow, word.abc()),
+        Op::Eq => quick_compare(registers, function, pc, CompareOp::Eq, word.abc()),
+        Op::Lt => quick_compare(registers, function, pc, CompareOp::Lt, word.abc()),
+        Op::Le => quick_compare(registers, function, pc, CompareOp::Le, word.abc()),
         _ => None,
     }
 }
@@ -88,6 +90,7 @@ fn pc_behind(did: Did, pc: usize) -> usize
 }
 
 // ADD, SUB, MUL, DIV, MOD or POW of two numbers, where it does not fail.
+#[inline(always)]
 fn quick_arith(
     registers: &mut [Value],
     function: &Function,
@@ -129,6 +132,7 @@ fn computed(op: ArithOp, x: i64, y: i64) -> Option<i64>
 }
 
 // EQ, LT or LE of two numbers.
+#[inline(always)]
 fn quick_compare(
     registers: &[Value],
     function: &Function,

@@ -12,23 +12,15 @@ ghost use Rattle.machine.specs.Words.{Runs, IsTest, IsDidOf, IsAwaited, calls_le
 
 use crate::did::Did;
 use crate::function::Function;
-use opcode::{Instr, Op, decode};
+use crate::word::sbx_of;
 
 /// The distance of the JMP at this pc.
 fn distance(function: &Function, pc: usize) -> i32
     requires jmp { IsTest function.now pc }
     ensures { jmp_of (option_and_then instr_of (slice_get function.now.code.items pc)) ≡ Some result }
 {
-    match decode(function.code[pc]) {
-        Some(
-            Instr {
-                op: Op::Jmp,
-                sbx,
-                ..
-            },
-        ) => sbx,
-        _ => unreachable!(),
-    }
+    let bits = function.code[pc];
+    sbx_of(bits)
 }
 
 /// The pc that a jump by this distance goes to, from the pc after its word.

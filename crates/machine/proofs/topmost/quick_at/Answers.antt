@@ -5,6 +5,7 @@ use Rattle.lua_heap.specs.State.{HeapState, AreOf, IsOf}
 use Rattle.rules.specs.Step.{effect}
 use Rattle.machine.specs.declared.function.Function.{Function}
 use Rattle.machine.specs.declared.did.Did.{Did}
+use Rattle.machine.specs.Decoded.{instr_in}
 use Rattle.machine.specs.Fits.{Fits}
 use Rattle.machine.specs.Frames.{showing}
 use Rattle.machine.specs.Memory.{NeedsNone}
@@ -29,22 +30,22 @@ quick-requires-clause-known c =
 pub quick-requires-clause-fits : goal.quick-requires-clause-fits
 quick-requires-clause-fits c =
     let part = part_is c.args.running.now.stack.frames c.base-base.result c.all_registers.result.now c.base-base.ensures c.all_registers.ensures.values in
-    subst (λ (vs : List Value). Fits c.args.i.op c.args.function.now vs c.args.pc c.args.i) (sym part) c.requires.fits
+    subst (λ (vs : List Value). Fits c.args.word.op c.args.function.now vs c.args.pc (instr_in c.args.word)) (sym part) c.requires.fits
 
 pub returns-clause-some : goal.returns-clause-some
 returns-clause-some c =
     let old = c.args.running.now in
-    if_some c.quick.result _ _ (λ next does. does_top old.stack old.heap c.quick.new.heap c.args.function.now (λ m. effect c.args.i.op m c.args.i) c.base-base.result c.all_registers.result.now c.quick.new.registers c.args.pc (Did.Jumps next) c.base-base.ensures c.all_registers.ensures.values does) c.quick.ensures.some
+    if_some c.quick.result _ _ (λ next does. does_top old.stack old.heap c.quick.new.heap c.args.function.now (λ m. effect c.args.word.op m (instr_in c.args.word)) c.base-base.result c.all_registers.result.now c.quick.new.registers c.args.pc (Did.Jumps next) c.base-base.ensures c.all_registers.ensures.values does) c.quick.ensures.some
 
 pub returns-clause-frames : goal.returns-clause-frames
 returns-clause-frames c =
     let old = c.args.running.now in
-    on_some c.quick.result _ _ (λ next does. top_alone old.stack old.heap c.quick.new.heap c.args.function.now (λ m. effect c.args.i.op m c.args.i) c.base-base.result c.all_registers.result.now c.quick.new.registers c.args.pc (Did.Jumps next) c.base-base.ensures c.all_registers.ensures.values does) c.quick.ensures.some
+    on_some c.quick.result _ _ (λ next does. top_alone old.stack old.heap c.quick.new.heap c.args.function.now (λ m. effect c.args.word.op m (instr_in c.args.word)) c.base-base.result c.all_registers.result.now c.quick.new.registers c.args.pc (Did.Jumps next) c.base-base.ensures c.all_registers.ensures.values does) c.quick.ensures.some
 
 pub returns-clause-shares : goal.returns-clause-shares
 returns-clause-shares c =
     let old = c.args.running.now in
-    on_some c.quick.result _ _ (λ next does. still_shares old.stack old.heap c.quick.new.heap c.args.function.now (λ m. effect c.args.i.op m c.args.i) c.base-base.result c.all_registers.result.now c.quick.new.registers c.args.pc (Did.Jumps next) c.base-base.ensures c.all_registers.ensures.values does c.requires.shares) c.quick.ensures.some
+    on_some c.quick.result _ _ (λ next does. still_shares old.stack old.heap c.quick.new.heap c.args.function.now (λ m. effect c.args.word.op m (instr_in c.args.word)) c.base-base.result c.all_registers.result.now c.quick.new.registers c.args.pc (Did.Jumps next) c.base-base.ensures c.all_registers.ensures.values does c.requires.shares) c.quick.ensures.some
 
 pub returns-clause-none : goal.returns-clause-none
 returns-clause-none c =
@@ -56,6 +57,6 @@ returns-clause-none c =
 pub returns-clause-taken : goal.returns-clause-taken
 returns-clause-taken c =
     let old = c.args.running.now in
-    let i = c.args.i in
+    let word = c.args.word in
     let part = part_is old.stack.frames c.base-base.result c.all_registers.result.now c.base-base.ensures c.all_registers.ensures.values in
-    none_weaker c.quick.result _ _ (λ taken m runs needs. taken m runs (subst (λ (vs : List Value). NeedsNone i.op (showing m old.heap vs) i) (sym part) needs)) c.quick.ensures.taken
+    none_weaker c.quick.result _ _ (λ taken m runs needs. taken m runs (subst (λ (vs : List Value). NeedsNone word.op (showing m old.heap vs) (instr_in word)) (sym part) needs)) c.quick.ensures.taken
