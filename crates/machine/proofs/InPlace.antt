@@ -75,6 +75,11 @@ goes_on_word {fs} {old} {new} w i same o is does =
     let P : Instr → Type 0 = λ x. DoesSeen fs (λ m. effect o m x) old new Did.Next in
     goes_on (instr_in w) o is (subst P same does)
 
+pub framed_as_word : (fs : List Function) (f : Function) (k : Running) (w : Word) (i : Instr) → i ≡ instr_in w → (o : Op) → w.op ≡ o → FitsHere fs f k (instr_in w) → FitsFrame o f (top k.stack.frames) k.top.results (length (cells_in k.heap k.top.closure)) k.top.pc i
+framed_as_word fs f k w i same o is fits =
+    let P : Instr → Type 0 = λ x. FitsFrame o f (top k.stack.frames) k.top.results (length (cells_in k.heap k.top.closure)) k.top.pc x in
+    subst P (sym same) (framed_as fs f k (instr_in w) o is fits)
+
 -- a word that worked on the registers of the topmost frame and the heap, with this pc behind it, and went on to another
 pub quick_goes : (fs : List Function) (f : Function) (old new : Running) (pc next : ℕ) (i : Instr) → slice_get fs old.top.function ≡ Some f → new ≡ record old { heap = new.heap; stack = new.stack } → Does (λ m. effect i.op m i) old.heap new.heap f (top old.stack.frames) (top new.stack.frames) pc (Did.Jumps next) → new.stack.frames ≡ with_top old.stack.frames (top new.stack.frames) → Shares new.stack new.heap → GoesOn fs i (with_pc old pc) (with_pc new next)
 quick_goes fs f old new pc next i at rest does frames shares = record {

@@ -12,6 +12,7 @@ ghost use Rattle.upvalue.specs.State.{top};
 ghost use Rattle.machine.specs.declared.did.Did.TheVariants.{Next};
 ghost use Rattle.machine.specs.declared.did.Landing.{Landing as TheLanding};
 ghost use Rattle.machine.specs.declared.function.Function.{Function as TheFunction};
+ghost use Rattle.machine.specs.Decoded.{instr_in};
 ghost use Rattle.machine.specs.Fits.{FitsFrame};
 ghost use Rattle.machine.specs.Frames.{data_of};
 ghost use Rattle.machine.specs.Ready.{FitsHere, GoesOn};
@@ -24,6 +25,7 @@ use crate::entering::{DEPTH_LIMIT, enter};
 use crate::function::Function;
 use crate::leaving::leave;
 use crate::running::Running;
+use crate::word::Word;
 use crate::words::{count_of, put_all, results_to};
 use lua_model::{ClosureId, Value};
 use opcode::{Instr, Op};
@@ -35,16 +37,16 @@ pub fn cross(
     alloc: Global,
     running: &mut Running,
     functions: &[Function],
-    i: Instr,
+    word: Word,
 ) -> Result<bool, AllocError>
     requires safe { IsSafe functions.now running.old }
-    requires fits { (f : TheFunction) → slice_get functions.now running.old.top.function ≡ Some f → FitsHere functions.now f running.old i }
-    ensures done { IfOk result (λ done. IsTrue done → GoesOn functions.now i running.old running.new) }
+    requires fits { (f : TheFunction) → slice_get functions.now running.old.top.function ≡ Some f → FitsHere functions.now f running.old (instr_in word) }
+    ensures done { IfOk result (λ done. IsTrue done → GoesOn functions.now (instr_in word) running.old running.new) }
     ensures not_done { IfOk result (λ done. IsFalse done → running.new ≡ running.old) }
 {
-    match i.op {
-        Op::Call => call_in_place(alloc, running, functions, i),
-        Op::Return => Ok(return_in_place(running, functions, i)),
+    match word.op {
+        Op::Call => call_in_place(alloc, running, functions, word.abc()),
+        Op::Return => Ok(return_in_place(running, functions, word.abc())),
         _ => Ok(false),
     }
 }

@@ -19,7 +19,7 @@ use crate::load::load;
 use crate::row::do_row;
 use crate::running::Running;
 use crate::settling::Settled;
-use crate::stepping::{cross_next, turn};
+use crate::stepping::turn;
 use hash_seed::Seed;
 use host::HostSet;
 use lua_num::ByteText;
@@ -135,16 +135,12 @@ pub fn go_on(
 {
     // Called for its clause that the chunk is sound.
     let _ = chunk.proto();
-    let mut done = 0;
-    while done < steps {
-        let functions = machine.functions.as_slice();
-        done += do_row(&mut machine.running, functions, steps - done);
-        if done == steps || !cross_next(alloc, &mut machine.running, functions)? {
-            break;
-        }
-        done += 1;
-    }
-    Ok(done)
+    do_row(
+        alloc,
+        &mut machine.running,
+        machine.functions.as_slice(),
+        steps,
+    )
 }
 
 /// Puts the pieces, in order; there are none behind it. At an error a first part of them was put.

@@ -1,5 +1,5 @@
-// Words of the topmost frame in a row.
-ghost use Rattle.std.specs.Prelude.{◌≡◌, ◌<◌, ◌≤◌, List, slice_get, Some, IfSome, IfNone};
+// Words in a row.
+ghost use Rattle.std.specs.Prelude.{◌≡◌, ◌<◌, ◌≤◌, List, slice_get, Some, Ok, IfSome, IfNone, IfOk};
 ghost use Rattle.proto.specs.Chunk.{Chunk};
 ghost use Rattle.rules.specs.State.{State};
 ghost use Rattle.upvalue.specs.State.{top};
@@ -13,39 +13,52 @@ ghost use Rattle.machine.specs.Seen.{Around, seen};
 ghost use Rattle.machine.specs.Whole.{IsSafe, IsWhole};
 ghost use Rattle.machine.specs.Words.{Runs};
 
+use crate::crossing::cross;
 use crate::function::Function;
 use crate::running::Running;
 use crate::topmost::quick_at;
 use crate::upvalues::{close, get_upvalue, set_upvalue};
 use crate::word::Word;
 use opcode::Op;
+use std::alloc::{AllocError, Global};
 
-/// Does words of the topmost frame in place, one after another, at most so many; answers how many it did. It takes memory only for a new entry of
-/// a table.
-pub fn do_row(running: &mut Running, functions: &[Function], steps: u64) -> u64
+/// Does words in place, one after another, at most so many, from function to function where these are called and left by common words; answers how
+/// many it did. It takes memory only for a frame, and for a new entry of a table. Where memory runs out the machine is only dropped.
+pub fn do_row(
+    alloc: Global,
+    running: &mut Running,
+    functions: &[Function],
+    steps: u64,
+) -> Result<u64, AllocError>
     requires safe { IsSafe functions.now running.old }
     requires ready { IsReadyOnwards functions.now running.old }
-    ensures went { GoesSteps functions.now result running.old running.new }
-    ensures no_more { result ≤ steps }
-    ensures other { result < steps → IsOtherNext functions.now running.new }
-    ensures first { result ≡ 0 → 0 < steps → (c : Chunk) (a : Around) → IsWhole c functions.now running.old → NeedsNoneNext (seen c a running.old) → ⊥ }
+    ensures went { IfOk result (λ done. GoesSteps functions.now done running.old running.new) }
+    ensures no_more { IfOk result (λ done. done ≤ steps) }
+    ensures other { IfOk result (λ done. done < steps → IsOtherNext functions.now running.new) }
+    ensures first { steps ≡ 1 → (c : Chunk) (a : Around) → IsWhole c functions.now running.old → NeedsNoneNext (seen c a running.old) → result ≡ Ok 1 }
 {
-    let function = &functions[running.top.function];
+    let mut function = &functions[running.top.function];
     let mut pc = running.top.pc;
     let mut done = 0;
     while done < steps {
         let word = function.words[pc];
-        match word_at(running, function, pc + 1, word) {
-            Some(next) => pc = next,
-            None => {
-                running.top.pc = pc;
-                return done;
-            }
+        if let Some(next) = word_at(running, function, pc + 1, word) {
+            pc = next;
+            done += 1;
+            continue;
         }
+        running.top.pc = pc + 1;
+        let crossed = cross(alloc, running, functions, word)?;
+        if !crossed {
+            running.top.pc = pc;
+            return Ok(done);
+        }
+        function = &functions[running.top.function];
+        pc = running.top.pc;
         done += 1;
     }
     running.top.pc = pc;
-    done
+    Ok(done)
 }
 
 /// Does a word in place, where it is a common one, and answers the pc that it goes on to; where it is not, nothing is done. The pc is that behind

@@ -1,5 +1,5 @@
 // Steps: one word with the calls, landings and failures that belong to it.
-ghost use Rattle.std.specs.Prelude.{◌≡◌, ◌+◌, slice_get, option_and_then, Some, IfOk, OnErr, IsTrue, IsFalse};
+ghost use Rattle.std.specs.Prelude.{◌≡◌, ◌+◌, slice_get, option_and_then, Some, IfOk, OnErr};
 ghost use Rattle.opcode.specs.Reading.{instr_of};
 ghost use Rattle.host.specs.Views.{set_told};
 ghost use Rattle.rules.specs.Step.{effect};
@@ -7,12 +7,11 @@ ghost use Rattle.machine.specs.declared.function.Function.{Function as TheFuncti
 ghost use Rattle.machine.specs.Begun.{BeginsSeen, BeginsWhole, BrokeOff};
 ghost use Rattle.machine.specs.Fits.{IsOther};
 ghost use Rattle.machine.specs.Outside.{AreNamed};
-ghost use Rattle.machine.specs.Ready.{FitsHere, GoesNext, IsOtherNext, IsReady, Steps, with_pc};
+ghost use Rattle.machine.specs.Ready.{FitsHere, IsOtherNext, IsReady, Steps, with_pc};
 ghost use Rattle.machine.specs.Settled.{DoesOutside};
 ghost use Rattle.machine.specs.Whole.{IsSafe};
 
 use crate::closures::make_closure;
-use crate::crossing::cross;
 use crate::did::Did;
 use crate::function::Function;
 use crate::leaving::return_word;
@@ -65,27 +64,6 @@ fn take_word(running: &mut Running, functions: &[Function]) -> Instr
     let word = functions[running.top.function].words[running.top.pc];
     running.top.pc += 1;
     word.instr()
-}
-
-/// Does the word that is next, where it is a common CALL or RETURN. `false` where it is not: then nothing is done. Where memory runs out the machine
-/// is only dropped.
-pub fn cross_next(
-    alloc: Global,
-    running: &mut Running,
-    functions: &[Function],
-) -> Result<bool, AllocError>
-    requires safe { IsSafe functions.now running.old }
-    requires ready { IsReady functions.now running.old }
-    ensures done { IfOk result (λ done. IsTrue done → GoesNext functions.now running.old running.new) }
-    ensures not_done { IfOk result (λ done. IsFalse done → running.new ≡ running.old) }
-{
-    let pc = running.top.pc;
-    let i = take_word(running, functions);
-    let crossed = cross(alloc, running, functions, i)?;
-    if !crossed {
-        running.top.pc = pc;
-    }
-    Ok(crossed)
 }
 
 /// Does one step of the rules, of a word that is not done in place.
