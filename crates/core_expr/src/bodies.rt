@@ -1,4 +1,7 @@
 // The functions that stand in one, as source.
+ghost use Rattle.std.specs.Prelude.{◌≡◌, [], ◌∷◌, ◌++◌, Some, None, OnOk, slice_set};
+ghost use Rattle.core_expr.specs.Values.{view_recovered, view_left, view_bodies};
+ghost use Rattle.core_expr.specs.Writing.{function_left};
 
 use lua_tree::Body;
 use std::alloc::{AllocError, Global};
@@ -18,20 +21,27 @@ pub struct Bodies {
 
 impl Bodies {
     /// No functions, which takes no memory.
-    pub fn new(alloc: Global) -> Self {
+    pub fn new(alloc: Global) -> Self
+        ensures { view_bodies result ≡ [] }
+    {
         Self {
             bodies: Vec::new(alloc),
         }
     }
 
     /// Appends a function.
-    pub fn push(&mut self, body: Recovered) -> Result<(), AllocError> {
+    pub fn push(&mut self, body: Recovered) -> Result<(), AllocError>
+        ensures { OnOk result (view_bodies self.new ≡ view_bodies self.old ++ Some (view_recovered body) ∷ []) }
+    {
         self.bodies.push(Some(body))?;
         Ok(())
     }
 
     /// Takes the function of a number, where it is still there.
-    pub fn take(&mut self, number: u32) -> Option<Recovered> {
+    pub fn take(&mut self, number: u32) -> Option<Recovered>
+        ensures taken { view_left result ≡ function_left (view_bodies self.old) number }
+        ensures left { view_bodies self.new ≡ slice_set (view_bodies self.old) number None }
+    {
         self.bodies.get_mut(number as usize)?.take()
     }
 }

@@ -1,8 +1,14 @@
 // Calls, and their arguments.
+ghost use Rattle.std.specs.Prelude.{◌≡◌, false, option_map, IfOk, OnOk, Err};
+ghost use Rattle.core_expr.specs.Held.{view_written_args};
+ghost use Rattle.core_expr.specs.Standing.{view_writer, behind, behind_values, behind_short, behind_arguments, worded, worded_arguments, worded_short, worded_only, can_word, can_word_values};
+ghost use Rattle.core_expr.specs.Values.{view_core, view_core_list, values_of, constant_value, call_value, method_value};
+ghost use Rattle.core_expr.specs.Writing.{view_written};
+ghost use Rattle.core_expr.specs.declared.fault.CoreFault.TheVariants.{NotScheme};
 
 use crate::cores::{Core, Cores};
 use crate::fault::CoreFault;
-use crate::nodes::{WrittenArgs, call, copied, method};
+use crate::nodes::{WrittenArgs, call, copied, listed, method, tabled};
 use crate::scope::Written;
 use crate::writer::Writer;
 use lua_tree::Args;
@@ -10,7 +16,11 @@ use lua_tree::Args;
 impl Writer<'_> {
     /// A call.
     #[cycle(writing)]
-    pub fn call(&mut self, on: &Core, args: &Cores, open: bool) -> Result<Written, CoreFault> {
+    pub fn call(&mut self, on: &Core, args: &Cores, open: bool) -> Result<Written, CoreFault>
+        ensures made { IfOk result (λ written. view_written written ≡ worded (view_writer self.old) (call_value (view_core on.now) (view_core_list args.now) «open» 0)) }
+        ensures behind { OnOk result (view_writer self.new ≡ behind (call_value (view_core on.now) (view_core_list args.now) «open» 0) (view_writer self.old)) }
+        ensures refused { result ≡ Err NotScheme → can_word (view_writer self.old) (call_value (view_core on.now) (view_core_list args.now) «open» 0) ≡ false }
+    {
         let on = self.prefix(on)?;
         let args = self.arguments(args, open)?;
         Ok(call(self.alloc, on, args)?)
@@ -24,52 +34,82 @@ impl Writer<'_> {
         name: u32,
         args: &Cores,
         open: bool,
-    ) -> Result<Written, CoreFault> {
+    ) -> Result<Written, CoreFault>
+        ensures made { IfOk result (λ written. view_written written ≡ worded (view_writer self.old) (method_value (view_core on.now) name (view_core_list args.now) «open» 0)) }
+        ensures behind { OnOk result (view_writer self.new ≡ behind (method_value (view_core on.now) name (view_core_list args.now) «open» 0) (view_writer self.old)) }
+        ensures refused { result ≡ Err NotScheme → can_word (view_writer self.old) (method_value (view_core on.now) name (view_core_list args.now) «open» 0) ≡ false }
+    {
         let on = self.prefix(on)?;
         let Some(text) = self.scope.constant_name(name) else {
             return Err(CoreFault::NotScheme);
         };
         self.take_constant(name);
         let args = self.arguments(args, open)?;
-        let text = copied(self.alloc, text)?;
         Ok(method(self.alloc, on, text, args)?)
     }
 
     // The arguments of a call.
     #[cycle(writing)]
-    fn arguments(&mut self, args: &Cores, open: bool) -> Result<WrittenArgs, CoreFault> {
-        if self.scope.short && !open {
-            if let [only] = args.items() {
-                if let Some(short) = self.short_argument(only)? {
-                    return Ok(short);
-                }
-            }
+    fn arguments(&mut self, args: &Cores, open: bool) -> Result<WrittenArgs, CoreFault>
+        ensures made { IfOk result (λ written. view_written_args written ≡ worded_arguments (view_writer self.old) (view_core_list args.now) «open») }
+        ensures behind { OnOk result (view_writer self.new ≡ behind_values (view_core_list args.now) (view_writer self.old)) }
+        ensures refused { result ≡ Err NotScheme → can_word_values (view_writer self.old) (view_core_list args.now) ≡ false }
+    {
+        let items = args.items();
+        if let Some(short) = self.short_arguments(items, open)? {
+            return Ok(short);
         }
-        let list = self.list(args.items(), open)?;
-        Ok(WrittenArgs {
-            args: Args::List(list.exps),
-            levels: list.levels,
-        })
+        let list = self.list(items, open)?;
+        Ok(listed(list))
+    }
+
+    // The arguments without parentheses, where that is asked for and they are one string or constructor.
+    #[cycle(writing)]
+    fn short_arguments(
+        &mut self,
+        args: &[Core],
+        open: bool,
+    ) -> Result<Option<WrittenArgs>, CoreFault>
+        ensures made { IfOk result (λ written. option_map view_written_args written ≡ worded_short (view_writer self.old) (values_of args.now) «open») }
+        ensures behind { OnOk result (view_writer self.new ≡ behind_arguments (worded_short (view_writer self.old) (values_of args.now) «open») (values_of args.now) (view_writer self.old)) }
+        ensures refused { result ≡ Err NotScheme → can_word_values (view_writer self.old) (values_of args.now) ≡ false }
+    {
+        if open {
+            return Ok(None);
+        }
+        if !self.scope.short {
+            return Ok(None);
+        }
+        if args.len() != 1 {
+            return Ok(None);
+        }
+        self.short_argument(&args[0])
     }
 
     // The only argument as one without parentheses, where it is a string or a constructor.
     #[cycle(writing)]
-    fn short_argument(&mut self, only: &Core) -> Result<Option<WrittenArgs>, CoreFault> {
+    fn short_argument(&mut self, only: &Core) -> Result<Option<WrittenArgs>, CoreFault>
+        ensures made { IfOk result (λ written. option_map view_written_args written ≡ worded_only (view_writer self.old) (view_core only.now)) }
+        ensures behind { OnOk result (view_writer self.new ≡ behind_short (worded_only (view_writer self.old) (view_core only.now)) (view_core only.now) (view_writer self.old)) }
+        ensures refused { result ≡ Err NotScheme → can_word (view_writer self.old) (view_core only.now) ≡ false }
+    {
         match only {
             Core::Constant(number) => self.short_text(*number),
             Core::Table { items, open, .. } => {
                 let items = self.items(items, *open)?;
-                Ok(Some(WrittenArgs {
-                    args: Args::Table(items.items),
-                    levels: items.levels,
-                }))
+                Ok(Some(tabled(items)))
             }
             _ => Ok(None),
         }
     }
 
     // A constant as an argument without parentheses, where it is a string.
-    fn short_text(&mut self, number: u32) -> Result<Option<WrittenArgs>, CoreFault> {
+    #[tactic(auto, unfolding(crate::specs::Standing::view_writer))]
+    fn short_text(&mut self, number: u32) -> Result<Option<WrittenArgs>, CoreFault>
+        ensures made { IfOk result (λ written. option_map view_written_args written ≡ worded_only (view_writer self.old) (constant_value number)) }
+        ensures behind { OnOk result (view_writer self.new ≡ behind_short (worded_only (view_writer self.old) (constant_value number)) (constant_value number) (view_writer self.old)) }
+        ensures refused { result ≡ Err NotScheme → can_word (view_writer self.old) (constant_value number) ≡ false }
+    {
         let Some(text) = self.scope.text(number) else {
             return Ok(None);
         };

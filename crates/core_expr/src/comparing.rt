@@ -1,4 +1,7 @@
 // Which operand of a comparison was written first: its word has them in the order of `<`, so that shows only in the registers and constants that they took.
+ghost use Rattle.std.specs.Prelude.{◌≡◌, ◌≤◌, ◌-◌, nat_lt};
+ghost use Rattle.std.specs.Option.{SomeIff};
+ghost use Rattle.core_expr.specs.Targets.{is_swapped, mirrored, has_mirror};
 
 use crate::counting::taken_behind;
 use crate::writing::Comparison;
@@ -8,7 +11,9 @@ use lua_tree::BinaryOp;
 const FIRST_CONSTANT: u32 = 256;
 
 /// Whether a comparison was written as `>` or `>=`, with its operands the other way round. The registers below `base` are those of locals, and so many constants are taken before it.
-pub fn is_swapped(comparison: &Comparison, base: usize, taken: u32) -> bool {
+pub fn is_swapped(comparison: &Comparison, base: usize, taken: u32) -> bool
+    ensures { result ≡ is_swapped base taken comparison.now }
+{
     let b = comparison.b;
     let c = comparison.c;
     if !has_mirror(comparison.op) {
@@ -30,7 +35,9 @@ pub fn is_swapped(comparison: &Comparison, base: usize, taken: u32) -> bool {
 }
 
 /// The operator that says the same with its operands the other way round.
-pub fn mirrored(op: BinaryOp) -> BinaryOp {
+pub fn mirrored(op: BinaryOp) -> BinaryOp
+    ensures { result ≡ mirrored op }
+{
     match op {
         BinaryOp::Lt => BinaryOp::Gt,
         BinaryOp::Le => BinaryOp::Ge,
@@ -38,15 +45,21 @@ pub fn mirrored(op: BinaryOp) -> BinaryOp {
     }
 }
 
-fn has_mirror(op: BinaryOp) -> bool {
+fn has_mirror(op: BinaryOp) -> bool
+    ensures { result ≡ has_mirror op }
+{
     op == BinaryOp::Lt || op == BinaryOp::Le
 }
 
 // The number of the constant that a field has.
-fn constant_of(field: u32) -> Option<u32> {
+fn constant_of(field: u32) -> Option<u32>
+    ensures { SomeIff result (256 ≤ field) (field - 256) }
+{
     field.checked_sub(FIRST_CONSTANT)
 }
 
-fn is_local(register: u32, base: usize) -> bool {
+fn is_local(register: u32, base: usize) -> bool
+    ensures { result ≡ nat_lt register base }
+{
     (register as usize) < base
 }

@@ -1,8 +1,10 @@
 // Values as words make them.
-ghost use Rattle.std.specs.Prelude.{◌≡◌};
+ghost use Rattle.std.specs.Prelude.{◌≡◌, [], ◌∷◌, ◌++◌, OnOk};
 ghost use Rattle.core_expr.specs.declared.cores.Cores.{out-Cores};
 ghost use Rattle.core_expr.specs.declared.cores.Operands.{out-Operands};
 ghost use Rattle.core_expr.specs.declared.cores.CoreItems.{out-CoreItems};
+ghost use Rattle.core_expr.specs.Values.{view_core};
+ghost use Rattle.core_expr.specs.Writing.{is_multiple};
 
 use lua_tree::{BinaryOp, UnaryOp};
 use std::alloc::{AllocError, Global};
@@ -110,14 +112,18 @@ pub struct CoreItems {
 
 impl Cores {
     /// No values, which takes no memory.
-    pub fn new(alloc: Global) -> Self {
+    pub fn new(alloc: Global) -> Self
+        ensures items { (out-Cores result).cores.items ≡ [] }
+    {
         Self {
             cores: Vec::new(alloc),
         }
     }
 
     /// Appends a value.
-    pub fn push(&mut self, core: Core) -> Result<(), AllocError> {
+    pub fn push(&mut self, core: Core) -> Result<(), AllocError>
+        ensures items { OnOk result ((out-Cores self.new).cores.items ≡ (out-Cores self.old).cores.items ++ core ∷ []) }
+    {
         self.cores.push(core)?;
         Ok(())
     }
@@ -130,26 +136,34 @@ impl Cores {
     }
 
     /// The values of a `Vec`, which takes no memory.
-    pub fn from_vec(cores: Vec<Core>) -> Self {
+    pub fn from_vec(cores: Vec<Core>) -> Self
+        ensures items { (out-Cores result).cores.items ≡ cores.items }
+    {
         Self { cores }
     }
 
     /// The values as a `Vec`, given back without taking memory.
-    pub fn into_vec(self) -> Vec<Core> {
+    pub fn into_vec(self) -> Vec<Core>
+        ensures items { result.items ≡ (out-Cores self).cores.items }
+    {
         self.cores
     }
 }
 
 impl Operands {
     /// No operands, which takes no memory.
-    pub fn new(alloc: Global) -> Self {
+    pub fn new(alloc: Global) -> Self
+        ensures items { (out-Operands result).operands.items ≡ [] }
+    {
         Self {
             operands: Vec::new(alloc),
         }
     }
 
     /// Appends an operand.
-    pub fn push(&mut self, operand: Operand) -> Result<(), AllocError> {
+    pub fn push(&mut self, operand: Operand) -> Result<(), AllocError>
+        ensures items { OnOk result ((out-Operands self.new).operands.items ≡ (out-Operands self.old).operands.items ++ operand ∷ []) }
+    {
         self.operands.push(operand)?;
         Ok(())
     }
@@ -162,21 +176,27 @@ impl Operands {
     }
 
     /// The operands as a `Vec`, given back without taking memory.
-    pub fn into_vec(self) -> Vec<Operand> {
+    pub fn into_vec(self) -> Vec<Operand>
+        ensures items { result.items ≡ (out-Operands self).operands.items }
+    {
         self.operands
     }
 }
 
 impl CoreItems {
     /// No items, which takes no memory.
-    pub fn new(alloc: Global) -> Self {
+    pub fn new(alloc: Global) -> Self
+        ensures items { (out-CoreItems result).items.items ≡ [] }
+    {
         Self {
             items: Vec::new(alloc),
         }
     }
 
     /// Appends an item.
-    pub fn push(&mut self, item: CoreItem) -> Result<(), AllocError> {
+    pub fn push(&mut self, item: CoreItem) -> Result<(), AllocError>
+        ensures items { OnOk result ((out-CoreItems self.new).items.items ≡ (out-CoreItems self.old).items.items ++ item ∷ []) }
+    {
         self.items.push(item)?;
         Ok(())
     }
@@ -189,14 +209,18 @@ impl CoreItems {
     }
 
     /// The items as a `Vec`, given back without taking memory.
-    pub fn into_vec(self) -> Vec<CoreItem> {
+    pub fn into_vec(self) -> Vec<CoreItem>
+        ensures items { result.items ≡ (out-CoreItems self).items.items }
+    {
         self.items
     }
 }
 
 impl Core {
     /// A call, a method call or `...`, which can give several values.
-    pub fn is_multiple(&self) -> bool {
+    pub fn is_multiple(&self) -> bool
+        ensures { result ≡ is_multiple (view_core self.now) }
+    {
         matches!(self, Core::Call { .. } | Core::Method { .. } | Core::Vararg)
     }
 }

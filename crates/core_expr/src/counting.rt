@@ -1,15 +1,23 @@
 // How many constants are taken behind an expression, as writing it would count them.
+ghost use Rattle.std.specs.Prelude.{◌≡◌};
+ghost use Rattle.core_expr.specs.Counting.{with_constant, taken_behind, taken_behind_operand, taken_behind_values, taken_behind_operands, taken_behind_items};
+ghost use Rattle.core_expr.specs.Held.{taken_behind_item};
+ghost use Rattle.core_expr.specs.Values.{view_core, view_operand, values_of, operands_of, items_of};
 
 use crate::cores::{Core, CoreItem, Operand};
 
 /// How many constants are taken with one of this number.
-pub fn with_constant(taken: u32, number: u32) -> u32 {
+pub fn with_constant(taken: u32, number: u32) -> u32
+    ensures { result ≡ with_constant taken number }
+{
     taken.max(number.saturating_add(1))
 }
 
 /// How many constants are taken behind an operand.
 #[cycle(counting)]
-pub fn taken_behind(operand: &Operand, taken: u32) -> u32 {
+pub fn taken_behind(operand: &Operand, taken: u32) -> u32
+    ensures { result ≡ taken_behind_operand (view_operand operand.now) taken }
+{
     match operand {
         Operand::Constant(number) => with_constant(taken, *number),
         Operand::Value(core) => behind_value(core, taken),
@@ -17,7 +25,9 @@ pub fn taken_behind(operand: &Operand, taken: u32) -> u32 {
 }
 
 #[cycle(counting)]
-fn behind_value(core: &Core, taken: u32) -> u32 {
+fn behind_value(core: &Core, taken: u32) -> u32
+    ensures { result ≡ taken_behind (view_core core.now) taken }
+{
     match core {
         Core::Constant(number) | Core::Global(number) => with_constant(taken, *number),
         Core::Index { on, keys, .. } => behind_operands(keys.items(), behind_value(on, taken)),
@@ -40,7 +50,9 @@ fn behind_value(core: &Core, taken: u32) -> u32 {
 }
 
 #[cycle(counting)]
-fn behind_values(cores: &[Core], taken: u32) -> u32 {
+fn behind_values(cores: &[Core], taken: u32) -> u32
+    ensures { result ≡ taken_behind_values (values_of cores.now) taken }
+{
     let mut taken = taken;
     for core in cores {
         taken = behind_value(core, taken);
@@ -49,7 +61,9 @@ fn behind_values(cores: &[Core], taken: u32) -> u32 {
 }
 
 #[cycle(counting)]
-fn behind_operands(operands: &[Operand], taken: u32) -> u32 {
+fn behind_operands(operands: &[Operand], taken: u32) -> u32
+    ensures { result ≡ taken_behind_operands (operands_of operands.now) taken }
+{
     let mut taken = taken;
     for operand in operands {
         taken = taken_behind(operand, taken);
@@ -58,13 +72,22 @@ fn behind_operands(operands: &[Operand], taken: u32) -> u32 {
 }
 
 #[cycle(counting)]
-fn behind_items(items: &[CoreItem], taken: u32) -> u32 {
+fn behind_items(items: &[CoreItem], taken: u32) -> u32
+    ensures { result ≡ taken_behind_items (items_of items.now) taken }
+{
     let mut taken = taken;
     for item in items {
-        taken = match item {
-            CoreItem::Positional(core) => behind_value(core, taken),
-            CoreItem::Keyed(key, value) => taken_behind(value, taken_behind(key, taken)),
-        };
+        taken = behind_item(item, taken);
     }
     taken
+}
+
+#[cycle(counting)]
+fn behind_item(item: &CoreItem, taken: u32) -> u32
+    ensures { result ≡ taken_behind_item item.now taken }
+{
+    match item {
+        CoreItem::Positional(core) => behind_value(core, taken),
+        CoreItem::Keyed(key, value) => taken_behind(value, taken_behind(key, taken)),
+    }
 }

@@ -1,6 +1,7 @@
 // Why a value cannot be made or written.
 
-use std::alloc::AllocError;
+use crate::scope::Written;
+use std::alloc::{AllocError, AllocFailed};
 
 /// Why a value cannot be made or written.
 #[derive(Clone, Copy, Debug, PartialEq, Eq)]
@@ -17,6 +18,17 @@ impl From<AllocError> for CoreFault {
     ghost from_gives = { λ _ fault. fault ≡ OutOfMemory };
 
     fn from(_error: AllocError) -> Self {
+        CoreFault::OutOfMemory
+    }
+}
+
+impl From<AllocFailed<Written>> for CoreFault {
+    ghost use Rattle.std.specs.Prelude.{◌≡◌};
+    ghost use Rattle.core_expr.specs.declared.fault.CoreFault.TheVariants.{OutOfMemory};
+
+    ghost from_gives = { λ _ fault. fault ≡ OutOfMemory };
+
+    fn from(_error: AllocFailed<Written>) -> Self {
         CoreFault::OutOfMemory
     }
 }

@@ -1,4 +1,10 @@
 // Operators, with their operands in parentheses where they bind too loosely.
+ghost use Rattle.std.specs.Prelude.{◌≡◌, false, true, not, [], map, IfOk, Err};
+ghost use Rattle.lua_tree.specs.Precedence.{level_of_op, level_of, is_unary, is_right_associative, left_binds};
+ghost use Rattle.lua_tree.specs.View.{view_exp};
+ghost use Rattle.core_expr.specs.Held.{stands_bare};
+ghost use Rattle.core_expr.specs.Writing.{unless, is_power, joined, applied, chain, view_written};
+ghost use Rattle.core_expr.specs.declared.fault.CoreFault.TheVariants.{NotScheme};
 
 use crate::fault::CoreFault;
 use crate::nodes::{binary, parenthesized, unary};
@@ -7,63 +13,104 @@ use lua_tree::{BinaryOp, Exp, ExpKind, UnaryOp};
 use std::alloc::{AllocError, Global};
 
 // How strongly an operator before an operand binds.
-const UNARY_POWER: u32 = 8;
+const UNARY_LEVEL: u32 = 7;
 
 // How strongly an operator between two operands binds.
-fn power(op: BinaryOp) -> u32 {
+fn level_of_op(op: BinaryOp) -> u32
+    ensures { result ≡ level_of_op op }
+{
     match op {
         BinaryOp::Eq | BinaryOp::Ne | BinaryOp::Lt | BinaryOp::Le | BinaryOp::Gt | BinaryOp::Ge =>
             3,
-        BinaryOp::Concat => 5,
-        BinaryOp::Add | BinaryOp::Sub => 6,
-        BinaryOp::Mul | BinaryOp::Div | BinaryOp::Rem => 7,
-        BinaryOp::Pow => 10,
+        BinaryOp::Concat => 4,
+        BinaryOp::Add | BinaryOp::Sub => 5,
+        BinaryOp::Mul | BinaryOp::Div | BinaryOp::Rem => 6,
+        BinaryOp::Pow => 8,
     }
+}
+
+// How strongly an expression binds: from 1, an `or`, to 9, what stands for itself.
+fn level_of(exp: &Exp) -> u32
+    ensures { result ≡ level_of (view_exp exp.now) }
+{
+    match &exp.kind {
+        ExpKind::Or(_, _) => 1,
+        ExpKind::And(_, _) => 2,
+        ExpKind::Binary { op, .. } => level_of_op(*op),
+        ExpKind::Unary { .. } => UNARY_LEVEL,
+        _ => 9,
+    }
+}
+
+fn is_unary(exp: &Exp) -> bool
+    ensures { result ≡ is_unary (view_exp exp.now) }
+{
+    matches!(&exp.kind, ExpKind::Unary { .. })
 }
 
 // A place beside an operator.
 #[derive(Clone, Copy)]
 struct Place {
-    power: u32,
+    level: u32,
     is_right: bool,
     // Whether what binds as strongly as the operator stands here bare.
     takes_equal: bool,
 }
 
 impl Place {
-    fn left_of(op: BinaryOp) -> Self {
+    fn left_of(op: BinaryOp) -> Self
+        ensures { result ≡ record { level = level_of_op op; is_right = false; takes_equal = not (is_right_associative op) } }
+    {
         Self {
-            power: power(op),
+            level: level_of_op(op),
             is_right: false,
-            takes_equal: op != BinaryOp::Pow && op != BinaryOp::Concat,
+            takes_equal: !is_right_associative(op),
         }
     }
 
     // Behind `..` stands its last operand, which is in parentheses where it is a `..` of its own.
-    fn right_of(op: BinaryOp) -> Self {
+    fn right_of(op: BinaryOp) -> Self
+        ensures { result ≡ record { level = level_of_op op; is_right = true; takes_equal = is_power op } }
+    {
         Self {
-            power: power(op),
+            level: level_of_op(op),
             is_right: true,
-            takes_equal: op == BinaryOp::Pow,
+            takes_equal: is_power(op),
         }
     }
 
-    // Whether an expression stands here without parentheses.
-    fn takes(self, exp: &Exp) -> bool {
-        match &exp.kind {
-            ExpKind::Unary { .. } => self.is_right || self.power < UNARY_POWER,
-            ExpKind::Binary { op, .. } => {
-                let own = power(*op);
-                own > self.power || own == self.power && self.takes_equal
-            }
-            ExpKind::And(_, _) | ExpKind::Or(_, _) => false,
-            _ => true,
+    // Whether an expression stands here without parentheses. On the right one that begins with an operator does.
+    fn takes(self, exp: &Exp) -> bool
+        ensures { result ≡ stands_bare self.level self.is_right self.takes_equal (view_exp exp.now) }
+    {
+        if self.is_right && is_unary(exp) {
+            return true;
+        }
+        let level = level_of(exp);
+        if self.takes_equal {
+            self.level <= level
+        } else {
+            self.level < level
         }
     }
 }
 
+fn is_right_associative(op: BinaryOp) -> bool
+    ensures { result ≡ is_right_associative op }
+{
+    matches!(op, BinaryOp::Concat | BinaryOp::Pow)
+}
+
+fn is_power(op: BinaryOp) -> bool
+    ensures { result ≡ is_power op }
+{
+    matches!(op, BinaryOp::Pow)
+}
+
 // An operand at its place.
-fn placed(alloc: Global, operand: Written, place: Place) -> Result<Written, AllocError> {
+fn placed(alloc: Global, operand: Written, place: Place) -> Result<Written, AllocError>
+    ensures { IfOk result (λ written. view_written written ≡ unless (stands_bare place.level place.is_right place.takes_equal (view_written operand).words) (view_written operand)) }
+{
     if place.takes(&operand.exp) {
         Ok(operand)
     } else {
@@ -77,20 +124,25 @@ pub fn joined(
     op: BinaryOp,
     left: Written,
     right: Written,
-) -> Result<Written, AllocError> {
+) -> Result<Written, AllocError>
+    ensures { IfOk result (λ written. view_written written ≡ joined op (view_written left) (view_written right)) }
+{
     let left = placed(alloc, left, Place::left_of(op))?;
     let right = placed(alloc, right, Place::right_of(op))?;
     binary(alloc, op, left, right)
 }
 
 /// Operands joined by `..`, of which there is one at least.
-pub fn chained(alloc: Global, operands: Vec<Written>) -> Result<Written, CoreFault> {
+pub fn chained(alloc: Global, operands: Vec<Written>) -> Result<Written, CoreFault>
+    ensures made { IfOk result (λ written. view_written written ≡ chain (map view_written operands.items)) }
+    ensures refused { result ≡ Err NotScheme → operands.items ≡ [] }
+{
     let mut operands = operands;
     let Some(last) = operands.pop() else {
         return Err(CoreFault::NotScheme);
     };
     let mut chain = placed(alloc, last, Place::right_of(BinaryOp::Concat))?;
-    for operand in operands.into_iter().rev() {
+    while let Some(operand) = operands.pop() {
         let operand = placed(alloc, operand, Place::left_of(BinaryOp::Concat))?;
         chain = binary(alloc, BinaryOp::Concat, operand, chain)?;
     }
@@ -98,7 +150,9 @@ pub fn chained(alloc: Global, operands: Vec<Written>) -> Result<Written, CoreFau
 }
 
 /// An operator before an operand.
-pub fn applied(alloc: Global, op: UnaryOp, of: Written) -> Result<Written, AllocError> {
+pub fn applied(alloc: Global, op: UnaryOp, of: Written) -> Result<Written, AllocError>
+    ensures { IfOk result (λ written. view_written written ≡ applied op (view_written of)) }
+{
     let of = if binds_looser(&of.exp) {
         parenthesized(alloc, of)?
     } else {
@@ -108,9 +162,8 @@ pub fn applied(alloc: Global, op: UnaryOp, of: Written) -> Result<Written, Alloc
 }
 
 // Whether it binds more loosely than an operator before an operand.
-fn binds_looser(exp: &Exp) -> bool {
-    match &exp.kind {
-        ExpKind::Binary { op, .. } => *op != BinaryOp::Pow,
-        _ => false,
-    }
+fn binds_looser(exp: &Exp) -> bool
+    ensures { result ≡ not (left_binds 7 false (view_exp exp.now)) }
+{
+    level_of(exp) < UNARY_LEVEL
 }

@@ -1,4 +1,11 @@
 // The paths of function statements.
+ghost use Rattle.std.specs.Prelude.{◌≡◌, true, false, [], ◌∷◌, ◌++◌, IfOk, OnOk, Err, is_some};
+ghost use Rattle.core_expr.specs.Held.{place_of, name_of, variable_of};
+ghost use Rattle.core_expr.specs.Places.{field_name};
+ghost use Rattle.core_expr.specs.Targets.{are_fields, long_path, has_long_path, field_path, has_field_path};
+ghost use Rattle.core_expr.specs.Values.{view_core, view_operand, operands_of};
+ghost use Rattle.core_expr.specs.Writing.{text_or_empty};
+ghost use Rattle.core_expr.specs.declared.fault.CoreFault.TheVariants.{NotScheme};
 
 use crate::cores::{Core, Operand};
 use crate::fault::CoreFault;
@@ -12,7 +19,10 @@ pub fn variable_path(
     alloc: Global,
     scope: &Scope<'_>,
     variable: Variable,
-) -> Result<Names, CoreFault> {
+) -> Result<Names, CoreFault>
+    ensures path { IfOk result (λ path. path ≡ text_or_empty (name_of (place_of scope.now) variable) ∷ []) }
+    ensures refused { result ≡ Err NotScheme → is_some (name_of (place_of scope.now) variable) ≡ false }
+{
     let name = scope.name(variable).ok_or(CoreFault::NotScheme)?;
     let mut names = Names::new(alloc);
     names.push(copied(alloc, name)?)?;
@@ -25,7 +35,10 @@ pub fn field_path(
     scope: &Scope<'_>,
     on: &Core,
     key: &Operand,
-) -> Result<Option<Names>, CoreFault> {
+) -> Result<Option<Names>, CoreFault>
+    ensures path { IfOk result (λ path. path ≡ field_path (place_of scope.now) (view_core on.now) (view_operand key.now)) }
+    ensures refused { result ≡ Err NotScheme → has_field_path (place_of scope.now) (view_core on.now) (view_operand key.now) ≡ false }
+{
     match on {
         Core::Index { on, keys, .. } => long_path(alloc, scope, on, keys.items(), key),
         _ => long_path(alloc, scope, on, &[], key),
@@ -39,7 +52,10 @@ fn long_path(
     on: &Core,
     keys: &[Operand],
     key: &Operand,
-) -> Result<Option<Names>, CoreFault> {
+) -> Result<Option<Names>, CoreFault>
+    ensures path { IfOk result (λ path. path ≡ long_path (place_of scope.now) (view_core on.now) (operands_of keys.now) (view_operand key.now)) }
+    ensures refused { result ≡ Err NotScheme → has_long_path (place_of scope.now) (view_core on.now) (operands_of keys.now) (view_operand key.now) ≡ false }
+{
     let Some(variable) = variable_of(on) else {
         return Ok(None);
     };
@@ -55,7 +71,9 @@ fn long_path(
 }
 
 // The variable that a value is.
-fn variable_of(core: &Core) -> Option<Variable> {
+fn variable_of(core: &Core) -> Option<Variable>
+    ensures { result ≡ variable_of (view_core core.now) }
+{
     match core {
         Core::Local(register) => Some(Variable::Local(*register)),
         Core::Upvalue(number) => Some(Variable::Upvalue(*number)),
@@ -65,8 +83,15 @@ fn variable_of(core: &Core) -> Option<Variable> {
 }
 
 // Whether all keys can be written as fields.
-fn are_fields(scope: &Scope<'_>, keys: &[Operand]) -> bool {
-    keys.iter().all(|key| scope.field_name(key).is_some())
+fn are_fields(scope: &Scope<'_>, keys: &[Operand]) -> bool
+    ensures { result ≡ are_fields (place_of scope.now) (operands_of keys.now) }
+{
+    for key in keys {
+        if scope.field_name(key).is_none() {
+            return false;
+        }
+    }
+    true
 }
 
 // Appends the name of a field.
@@ -75,7 +100,9 @@ fn push_field(
     scope: &Scope<'_>,
     names: &mut Names,
     key: &Operand,
-) -> Result<(), AllocError> {
+) -> Result<(), AllocError>
+    ensures { OnOk result (is_some (field_name (place_of scope.now) (view_operand key.now)) ≡ true → names.new ≡ names.old ++ text_or_empty (field_name (place_of scope.now) (view_operand key.now)) ∷ []) }
+{
     if let Some((_, name)) = scope.field_name(key) {
         names.push(copied(alloc, name)?)?;
     }

@@ -1,4 +1,13 @@
 // From values to expressions.
+ghost use Rattle.std.specs.Prelude.{◌≡◌, IfOk, OnOk, Err, false};
+ghost use Rattle.proto.specs.Chunk.{own};
+ghost use Rattle.proto.specs.View.{view_proto};
+ghost use Rattle.core_expr.specs.Counting.{taken_behind, taken_behind_values, taken_behind_operand, left_by, left_by_values, left_by_operand};
+ghost use Rattle.core_expr.specs.Places.{place};
+ghost use Rattle.core_expr.specs.Targets.{word_target, taken_behind_target, left_by_target, can_write_target, word_comparison, left_by_comparison, can_write_comparison, path_of, can_have_path};
+ghost use Rattle.core_expr.specs.Values.{view_core, view_core_list, view_operand, view_bodies};
+ghost use Rattle.core_expr.specs.Writing.{word, word_values, word_operand, can_write, can_write_values, can_write_operand, view_written, view_written_list};
+ghost use Rattle.core_expr.specs.declared.fault.CoreFault.TheVariants.{NotScheme};
 
 use crate::bodies::Bodies;
 use crate::comparing::{is_swapped, mirrored};
@@ -10,6 +19,7 @@ use crate::writer::Writer;
 use lua_num::Names;
 use lua_tree::BinaryOp;
 use std::alloc::Global;
+use std::mem::replace;
 
 /// What is assigned to.
 #[derive(Drop)]
@@ -31,17 +41,23 @@ pub struct Comparison {
     pub right: Operand,
 }
 
-/// The expression of a value. `taken` is how many constants the words before have taken, and then how many with it.
+/// The expression of a value. `taken` is how many constants the words before have taken, and then how many with it; `bodies` has the functions that are left. After a refusal `bodies` is of no
+/// use, here and below. In time linear in the value.
 pub fn write_expression(
     alloc: Global,
     scope: &Scope<'_>,
     bodies: &mut Bodies,
     core: Core,
     taken: &mut u32,
-) -> Result<Written, CoreFault> {
-    let mut writer = Writer::new(alloc, scope, bodies, *taken);
+) -> Result<Written, CoreFault>
+    ensures made { IfOk result (λ written. view_written written ≡ word (place (own (view_proto scope.now.proto.now)) scope.now.entries.now scope.now.short) taken.old (view_bodies bodies.old) (view_core core)) }
+    ensures taken { OnOk result (taken.new ≡ taken_behind (view_core core) taken.old) }
+    ensures left { OnOk result (view_bodies bodies.new ≡ left_by (view_core core) (view_bodies bodies.old)) }
+    ensures refused { result ≡ Err NotScheme → can_write (place (own (view_proto scope.now.proto.now)) scope.now.entries.now scope.now.short) (view_bodies bodies.old) (view_core core) ≡ false }
+{
+    let mut writer = Writer::new(alloc, scope, replace(bodies, Bodies::new(alloc)), *taken);
     let written = writer.expression(&core)?;
-    *taken = writer.taken;
+    writer.finish(bodies, taken);
     Ok(written)
 }
 
@@ -52,10 +68,15 @@ pub fn write_operand(
     bodies: &mut Bodies,
     operand: Operand,
     taken: &mut u32,
-) -> Result<Written, CoreFault> {
-    let mut writer = Writer::new(alloc, scope, bodies, *taken);
+) -> Result<Written, CoreFault>
+    ensures made { IfOk result (λ written. view_written written ≡ word_operand (place (own (view_proto scope.now.proto.now)) scope.now.entries.now scope.now.short) taken.old (view_bodies bodies.old) (view_operand operand)) }
+    ensures taken { OnOk result (taken.new ≡ taken_behind_operand (view_operand operand) taken.old) }
+    ensures left { OnOk result (view_bodies bodies.new ≡ left_by_operand (view_operand operand) (view_bodies bodies.old)) }
+    ensures refused { result ≡ Err NotScheme → can_write_operand (place (own (view_proto scope.now.proto.now)) scope.now.entries.now scope.now.short) (view_bodies bodies.old) (view_operand operand) ≡ false }
+{
+    let mut writer = Writer::new(alloc, scope, replace(bodies, Bodies::new(alloc)), *taken);
     let written = writer.operand(&operand)?;
-    *taken = writer.taken;
+    writer.finish(bodies, taken);
     Ok(written)
 }
 
@@ -67,10 +88,15 @@ pub fn write_list(
     cores: Cores,
     open: bool,
     taken: &mut u32,
-) -> Result<WrittenList, CoreFault> {
-    let mut writer = Writer::new(alloc, scope, bodies, *taken);
+) -> Result<WrittenList, CoreFault>
+    ensures made { IfOk result (λ written. view_written_list written ≡ word_values (place (own (view_proto scope.now.proto.now)) scope.now.entries.now scope.now.short) taken.old (view_bodies bodies.old) (view_core_list cores) «open») }
+    ensures taken { OnOk result (taken.new ≡ taken_behind_values (view_core_list cores) taken.old) }
+    ensures left { OnOk result (view_bodies bodies.new ≡ left_by_values (view_core_list cores) (view_bodies bodies.old)) }
+    ensures refused { result ≡ Err NotScheme → can_write_values (place (own (view_proto scope.now.proto.now)) scope.now.entries.now scope.now.short) (view_bodies bodies.old) (view_core_list cores) ≡ false }
+{
+    let mut writer = Writer::new(alloc, scope, replace(bodies, Bodies::new(alloc)), *taken);
     let list = writer.list(cores.items(), open)?;
-    *taken = writer.taken;
+    writer.finish(bodies, taken);
     Ok(list)
 }
 
@@ -81,8 +107,13 @@ pub fn write_target(
     bodies: &mut Bodies,
     target: Target,
     taken: &mut u32,
-) -> Result<Written, CoreFault> {
-    let mut writer = Writer::new(alloc, scope, bodies, *taken);
+) -> Result<Written, CoreFault>
+    ensures made { IfOk result (λ written. view_written written ≡ word_target (place (own (view_proto scope.now.proto.now)) scope.now.entries.now scope.now.short) taken.old (view_bodies bodies.old) target) }
+    ensures taken { OnOk result (taken.new ≡ taken_behind_target target taken.old) }
+    ensures left { OnOk result (view_bodies bodies.new ≡ left_by_target target (view_bodies bodies.old)) }
+    ensures refused { result ≡ Err NotScheme → can_write_target (place (own (view_proto scope.now.proto.now)) scope.now.entries.now scope.now.short) (view_bodies bodies.old) target ≡ false }
+{
+    let mut writer = Writer::new(alloc, scope, replace(bodies, Bodies::new(alloc)), *taken);
     let written = match target {
         Target::Local(register) => writer.variable(Variable::Local(register))?,
         Target::Upvalue(number) => writer.variable(Variable::Upvalue(number))?,
@@ -93,7 +124,7 @@ pub fn write_target(
             writer.with_key(on, &key)?
         }
     };
-    *taken = writer.taken;
+    writer.finish(bodies, taken);
     Ok(written)
 }
 
@@ -104,7 +135,11 @@ pub fn write_comparison(
     bodies: &mut Bodies,
     comparison: Comparison,
     taken: u32,
-) -> Result<Written, CoreFault> {
+) -> Result<Written, CoreFault>
+    ensures made { IfOk result (λ written. view_written written ≡ word_comparison (place (own (view_proto scope.now.proto.now)) scope.now.entries.now scope.now.short) taken (view_bodies bodies.old) comparison) }
+    ensures left { OnOk result (view_bodies bodies.new ≡ left_by_comparison (place (own (view_proto scope.now.proto.now)) scope.now.entries.now scope.now.short) taken (view_bodies bodies.old) comparison) }
+    ensures refused { result ≡ Err NotScheme → can_write_comparison (place (own (view_proto scope.now.proto.now)) scope.now.entries.now scope.now.short) taken (view_bodies bodies.old) comparison ≡ false }
+{
     let is_swapped = is_swapped(&comparison, scope.entries.len(), taken);
     let Comparison {
         op,
@@ -112,12 +147,15 @@ pub fn write_comparison(
         right,
         ..
     } = comparison;
-    let mut writer = Writer::new(alloc, scope, bodies, taken);
-    if is_swapped {
-        writer.binary(mirrored(op), &right, &left)
+    let mut writer = Writer::new(alloc, scope, replace(bodies, Bodies::new(alloc)), taken);
+    let written = if is_swapped {
+        writer.binary(mirrored(op), &right, &left)?
     } else {
-        writer.binary(op, &left, &right)
-    }
+        writer.binary(op, &left, &right)?
+    };
+    let mut taken = taken;
+    writer.finish(bodies, &mut taken);
+    Ok(written)
 }
 
 /// The names by which a function statement says a target, or none where it cannot.
@@ -125,7 +163,10 @@ pub fn function_path(
     alloc: Global,
     scope: &Scope<'_>,
     target: &Target,
-) -> Result<Option<Names>, CoreFault> {
+) -> Result<Option<Names>, CoreFault>
+    ensures path { IfOk result (λ path. path ≡ path_of (place (own (view_proto scope.now.proto.now)) scope.now.entries.now scope.now.short) target.now) }
+    ensures refused { result ≡ Err NotScheme → can_have_path (place (own (view_proto scope.now.proto.now)) scope.now.entries.now scope.now.short) target.now ≡ false }
+{
     let variable = match target {
         Target::Local(register) => Variable::Local(*register),
         Target::Upvalue(number) => Variable::Upvalue(*number),

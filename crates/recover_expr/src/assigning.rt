@@ -203,7 +203,7 @@ fn written_targets(
     for target in targets {
         let written = written_target(function, state, target, taken)?;
         levels = written.levels.max(levels);
-        exps.push(written.exp)?;
+        exps.push(Box::into_inner(written.exp))?;
     }
     Ok(WrittenList { exps, levels })
 }

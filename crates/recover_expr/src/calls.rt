@@ -78,7 +78,7 @@ fn call_statement(
     let mut taken = state.taken;
     let call = written(function, state, core, &mut taken)?;
     let levels = call.levels.saturating_add(1);
-    let part = StepPart::Statement(StatKind::Call(call.exp));
+    let part = StepPart::Statement(StatKind::Call(Box::into_inner(call.exp)));
     Ok(state.draft(DraftKind::Act, word.next, levels, part))
 }
 

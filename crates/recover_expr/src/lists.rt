@@ -74,7 +74,7 @@ pub fn adjusted(
 // A list with an expression behind it.
 fn with_last(list: WrittenList, last: Written) -> Result<WrittenList, AllocError> {
     let WrittenList { mut exps, levels } = list;
-    exps.push(last.exp)?;
+    exps.push(Box::into_inner(last.exp))?;
     let levels = levels.max(last.levels);
     Ok(WrittenList { exps, levels })
 }

@@ -99,7 +99,12 @@ fn test_step(
         target: function.target(jump)?,
         negated: negated_levels(&exp, levels),
     };
-    Ok(state.draft(kind, jump.next, levels, StepPart::Condition(exp)))
+    Ok(state.draft(
+        kind,
+        jump.next,
+        levels,
+        StepPart::Condition(Box::into_inner(exp)),
+    ))
 }
 
 /// A test.

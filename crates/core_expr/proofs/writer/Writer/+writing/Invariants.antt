@@ -1,9 +1,14 @@
 -- What decreases along the calls that write an expression: the size of what is written, and where that stays the rank of the function.
-use Rattle.std.proofs.Common.{◌+◌, ◌*◌, max}
+use Rattle.std.proofs.Common.{◌≡◌, ◌+◌, ◌*◌, ◌++◌, max, drop, false, map}
 use Rattle.core_expr.specs.declared.cores.Core.{size-Core}
 use Rattle.core_expr.specs.declared.cores.Cores.{size-Cores}
 use Rattle.core_expr.specs.declared.cores.Operand.{size-Operand}
 use Rattle.core_expr.specs.declared.cores.Operands.{size-Operands}
+use Rattle.core_expr.specs.Held.{view_written_items, join_wordings}
+use Rattle.core_expr.specs.Standing.{view_writer, behind_values, behind_operands, behind_items, worded_values, worded_each, worded_keys, worded_items, can_word_values, can_word_operands, can_word_items}
+use Rattle.core_expr.specs.Values.{values_of, operands_of, items_of}
+use Rattle.core_expr.specs.Writing.{view_written, view_written_list}
+use Rattle.core_expr.proofs.Turns.{join_lists}
 use Rattle.core_expr.proofs.writer.Writer.+writing.Given as goal
 
 abbrev pub decreases-expression : goal.decreases-expression
@@ -45,6 +50,9 @@ decreases-method l = 64 * max (size-Core l.on.now) (size-Cores l.args.now) + 40
 abbrev pub decreases-arguments : goal.decreases-arguments
 decreases-arguments l = 64 * goal.size-arguments l + 30
 
+abbrev pub decreases-short_arguments : goal.decreases-short_arguments
+decreases-short_arguments l = 64 * goal.size-short_arguments l + 26
+
 abbrev pub decreases-short_argument : goal.decreases-short_argument
 decreases-short_argument l = 64 * goal.size-short_argument l + 24
 
@@ -59,3 +67,33 @@ decreases-item l = 64 * goal.size-item l + 12
 
 abbrev pub decreases-keyed_item : goal.decreases-keyed_item
 decreases-keyed_item l = 64 * max (size-Operand l.key.now) (size-Operand l.value.now) + 20
+
+-- ---- loops: what is written so far, and what is left, make the whole
+
+abbrev pub invariant-list-loop-i : goal.invariant-list-loop-i
+invariant-list-loop-i l = record {
+  made : join_lists (view_written_list l.list) (worded_values (view_writer l.self) (values_of (drop l.i l.cores)) l.«open») ≡ worded_values (view_writer l.fn.self) (values_of l.cores) l.«open»;
+  behind : behind_values (values_of (drop l.i l.cores)) (view_writer l.self) ≡ behind_values (values_of l.cores) (view_writer l.fn.self);
+  refused : can_word_values (view_writer l.self) (values_of (drop l.i l.cores)) ≡ false → can_word_values (view_writer l.fn.self) (values_of l.cores) ≡ false;
+}
+
+abbrev pub invariant-indexed-loop-key : goal.invariant-indexed-loop-key
+invariant-indexed-loop-key l = record {
+  made : worded_keys (view_writer l.self) (view_written l.written) (operands_of (drop l.key-index l.key-items)) ≡ worded_keys (view_writer l.initial.self) (view_written l.initial.written) (operands_of l.key-items);
+  behind : behind_operands (operands_of (drop l.key-index l.key-items)) (view_writer l.self) ≡ behind_operands (operands_of l.key-items) (view_writer l.initial.self);
+  refused : can_word_operands (view_writer l.self) (operands_of (drop l.key-index l.key-items)) ≡ false → can_word_operands (view_writer l.initial.self) (operands_of l.key-items) ≡ false;
+}
+
+abbrev pub invariant-concat-loop-operand : goal.invariant-concat-loop-operand
+invariant-concat-loop-operand l = record {
+  made : map view_written l.written.items ++ worded_each (view_writer l.self) (values_of (drop l.operand-index l.operand-items)) ≡ worded_each (view_writer l.fn.self) (values_of l.operand-items);
+  behind : behind_values (values_of (drop l.operand-index l.operand-items)) (view_writer l.self) ≡ behind_values (values_of l.operand-items) (view_writer l.fn.self);
+  refused : can_word_values (view_writer l.self) (values_of (drop l.operand-index l.operand-items)) ≡ false → can_word_values (view_writer l.fn.self) (values_of l.operand-items) ≡ false;
+}
+
+abbrev pub invariant-items-loop-i : goal.invariant-items-loop-i
+invariant-items-loop-i l = record {
+  made : join_wordings (view_written_items l.written) (worded_items (view_writer l.self) (items_of (drop l.i l.all)) l.«open») ≡ worded_items (view_writer l.fn.self) (items_of l.all) l.«open»;
+  behind : behind_items (items_of (drop l.i l.all)) (view_writer l.self) ≡ behind_items (items_of l.all) (view_writer l.fn.self);
+  refused : can_word_items (view_writer l.self) (items_of (drop l.i l.all)) ≡ false → can_word_items (view_writer l.fn.self) (items_of l.all) ≡ false;
+}
