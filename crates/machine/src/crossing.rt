@@ -93,7 +93,8 @@ fn call_in_place(
     Ok(true)
 }
 
-/// CALL of this closure with these arguments, which stand in the registers behind it.
+/// CALL of this closure with these arguments, which stand in the registers behind it. What makes a frame is inlined here, once for all numbers of arguments.
+#[inline(never)]
 fn call_with(
     alloc: Global,
     running: &mut Running,

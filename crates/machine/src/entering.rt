@@ -32,6 +32,7 @@ use upvalue::ValueStack;
 
 /// Puts a frame of a function above: its registers nil, the parameters set from the arguments, the others kept where it is vararg, and
 /// the table of these in the register behind the parameters where its flags ask for one. Where memory runs out the machine is only dropped.
+#[inline(always)]
 pub fn enter(
     alloc: Global,
     running: &mut Running,
@@ -192,6 +193,7 @@ fn extra_arguments(
 }
 
 /// Registers for a frame of a function above: nil, with the parameters set from the arguments.
+#[inline(always)]
 fn put_arguments(
     stack: &mut ValueStack,
     function: &Function,
@@ -229,6 +231,7 @@ fn arg_table(alloc: Global, heap: &mut Heap, extra: &[Value]) -> Result<Value, A
 }
 
 /// The registers of a new frame: the parameters, and behind them the table of the extra arguments where the function's flags ask for one.
+#[inline(always)]
 pub fn put_registers(
     alloc: Global,
     heap: &mut Heap,
