@@ -1,0 +1,10 @@
+pub mod Makers
+pub mod Trees
+pub mod Expressions
+pub mod Lists
+pub mod Functions
+pub mod Statements
+pub mod Every
+pub mod Marks
+pub mod Scopes
+pub mod Whole
