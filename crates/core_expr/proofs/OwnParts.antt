@@ -1,16 +1,19 @@
 -- What a function has beside the functions in it, and what a slice gives of it.
-use Rattle.std.proofs.Common.{◌≡◌, refl, sym, ap, ◌∙◌, ℕ, List, Option, Some, None, Bor, length, min, take, arith}
+use Rattle.std.proofs.Common.{◌≡◌, refl, sym, ap, ◌∙◌, ℕ, List, Option, Some, None, Bor, length, min, take, true, arith}
 use Rattle.std.proofs.lemmas.List.{take_min}
 use Rattle.std.specs.List.{slice_get}
 use Rattle.std.specs.Option.{option_copied}
+use Rattle.std.specs.Prelude.{is_some}
 use Rattle.std.specs.Slice.{IsItemAt}
 use Rattle.std.proofs.lemmas.Option.{slice_get_read, slice_get_past}
+use Rattle.lua_num.specs.Bytes.{Text}
 use Rattle.proto.proofs.Views.{own_fields, view_proto_fields}
 use Rattle.proto.specs.Chunk.{own}
 use Rattle.proto.specs.View.{view_proto}
+use Rattle.proto.specs.declared.parts.Constant.{Constant}
 use Rattle.proto.specs.declared.parts.LocVar.{LocVar}
 use Rattle.proto.specs.declared.proto.Proto.{Proto, out-Proto}
-use Rattle.core_expr.specs.Places.{Place, name_of_local, name_of_entry, local_name}
+use Rattle.core_expr.specs.Places.{Place, as_text, as_name, name_of_local, name_of_entry, local_name}
 
 pub own_is : (p : Proto) → own (view_proto p) ≡ own_fields p
 own_is p = ap own (view_proto_fields p)
@@ -35,6 +38,11 @@ got_of {items = items} i found is same = got items i found is ∙ ap (λ those. 
 -- the name of a local by its entry
 pub local_is : (at : Place) (r entry : ℕ) (local : Option LocVar) → Some entry ≡ slice_get at.entries r → local ≡ slice_get at.of.locals entry → name_of_local local ≡ local_name at r
 local_is at r entry local entry_is is = ap name_of_local is ∙ ap (name_of_entry at) entry_is
+
+-- a constant that is a name is there
+pub name_there : (found : Option Constant) {name : Text} → Some name ≡ as_name (as_text found) → is_some found ≡ true
+name_there None is = cc
+name_there (Some constant) is = refl
 
 -- as many as there are of the first ones
 pub first_small : {A : Type 0} (items : List A) (count : ℕ) → count ≡ min (length items) 256 → take count items ≡ take 256 items

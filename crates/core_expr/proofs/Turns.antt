@@ -1,7 +1,7 @@
 -- Turns of the loops over lists of values, operands and items.
-use Rattle.std.proofs.Common.{◌≡◌, refl, sym, ap, ◌∙◌, ℕ, ◌+◌, ◌<◌, ◌≤◌, max, Bool, true, false, List, [], ◌∷◌, ◌++◌, length, drop, length-drop, get_or, append_assoc, Option, Some, None, arith}
+use Rattle.std.proofs.Common.{◌≡◌, refl, sym, ap, ◌∙◌, ℕ, ◌+◌, ◌<◌, ◌≤◌, max, Bool, true, false, List, [], ◌∷◌, ◌++◌, length, drop, length-drop, get_or, append_assoc, append-nil, Option, Some, None, arith}
 use Rattle.std.specs.Prelude.{◌&&◌, not, ◌==◌}
-use Rattle.std.proofs.lemmas.Bool.{and_right, and_left}
+use Rattle.std.proofs.lemmas.Bool.{and_left}
 use Rattle.std.proofs.lemmas.Bool.Decides.{nat_tests}
 use Rattle.std.proofs.lemmas.List.{drop_more, at_drop_all}
 use Rattle.lua_num.specs.Bytes.{Text}
@@ -75,11 +75,15 @@ pub behind_turn : (items : List Core) (i : ℕ) (c : Core) → i < length items 
 behind_turn items i c below is before after whole whole_is after_is =
     ap (behind_values (values_of (drop (i + 1) items))) after_is ∙ ap (λ those. behind_values (values_of those) before) (sym (left_of items i c below is)) ∙ whole_is
 
-pub can_turn : (items : List Core) (i : ℕ) (c : Core) → i < length items → c ≡ get_or items i c → (before after : Standing) →
-    after ≡ behind (view_core c) before → can_word_values after (values_of (drop (i + 1) items)) ≡ false → can_word_values before (values_of (drop i items)) ≡ false
-can_turn items i c below is before after after_is cannot =
-    ap (λ those. can_word_values before (values_of those)) (left_of items i c below is)
-    ∙ and_right _ _ (ap (λ s. can_word_values s (values_of (drop (i + 1) items))) (sym after_is) ∙ cannot)
+-- what was written could be: whether all can be is whether the rest can
+pub can_turn : (items : List Core) (i : ℕ) (c : Core) → i < length items → c ≡ get_or items i c → (before after : Standing) {whole : Bool} →
+    can_word_values before (values_of (drop i items)) ≡ whole → can_word before (view_core c) ≡ true → after ≡ behind (view_core c) before → can_word_values after (values_of (drop (i + 1) items)) ≡ whole
+can_turn items i c below is before after whole_is can after_is =
+    let rest = values_of (drop (i + 1) items) in
+    ap (λ s. can_word_values s rest) after_is
+    ∙ ap (λ first. first && can_word_values (behind (view_core c) before) rest) (sym can)
+    ∙ ap (λ those. can_word_values before (values_of those)) (sym (left_of items i c below is))
+    ∙ whole_is
 
 pub can_here : (items : List Core) (i : ℕ) (c : Core) → i < length items → c ≡ get_or items i c → (before : Standing) →
     can_word before (view_core c) ≡ false → can_word_values before (values_of (drop i items)) ≡ false
@@ -110,6 +114,9 @@ each_turn items i c below is before after ws after_ws whole w whole_is w_is afte
     ∙ ap (λ those. ws ++ worded_each before (values_of those)) (sym (left_of items i c below is))
     ∙ whole_is
 
+pub each_end : (items : List Core) (i : ℕ) → length items ≤ i → (s : Standing) (ws : List Wording) {whole : List Wording} → ws ++ worded_each s (values_of (drop i items)) ≡ whole → ws ≡ whole
+each_end items i done s ws is = sym (none_left (λ those. ws ++ worded_each s (values_of those)) items i done (append-nil ws)) ∙ is
+
 -- ---- keys
 
 pub keys_turn : (items : List Operand) (i : ℕ) (key : Operand) → i < length items → key ≡ get_or items i key → (before after : Standing) (on w whole : Wording) →
@@ -127,11 +134,14 @@ pub behind_keys_turn : (items : List Operand) (i : ℕ) (key : Operand) → i < 
 behind_keys_turn items i key below is before after whole whole_is after_is =
     ap (behind_operands (operands_of (drop (i + 1) items))) after_is ∙ ap (λ those. behind_operands (operands_of those) before) (sym (left_of items i key below is)) ∙ whole_is
 
-pub can_keys_turn : (items : List Operand) (i : ℕ) (key : Operand) → i < length items → key ≡ get_or items i key → (before after : Standing) →
-    after ≡ behind_operand (view_operand key) before → can_word_operands after (operands_of (drop (i + 1) items)) ≡ false → can_word_operands before (operands_of (drop i items)) ≡ false
-can_keys_turn items i key below is before after after_is cannot =
-    ap (λ those. can_word_operands before (operands_of those)) (left_of items i key below is)
-    ∙ and_right _ _ (ap (λ s. can_word_operands s (operands_of (drop (i + 1) items))) (sym after_is) ∙ cannot)
+pub can_keys_turn : (items : List Operand) (i : ℕ) (key : Operand) → i < length items → key ≡ get_or items i key → (before after : Standing) {whole : Bool} →
+    can_word_operands before (operands_of (drop i items)) ≡ whole → can_word_operand before (view_operand key) ≡ true → after ≡ behind_operand (view_operand key) before → can_word_operands after (operands_of (drop (i + 1) items)) ≡ whole
+can_keys_turn items i key below is before after whole_is can after_is =
+    let rest = operands_of (drop (i + 1) items) in
+    ap (λ s. can_word_operands s rest) after_is
+    ∙ ap (λ first. first && can_word_operands (behind_operand (view_operand key) before) rest) (sym can)
+    ∙ ap (λ those. can_word_operands before (operands_of those)) (sym (left_of items i key below is))
+    ∙ whole_is
 
 pub can_keys_here : (items : List Operand) (i : ℕ) (key : Operand) → i < length items → key ≡ get_or items i key → (before : Standing) →
     can_word_operand before (view_operand key) ≡ false → can_word_operands before (operands_of (drop i items)) ≡ false
@@ -233,12 +243,15 @@ behind_items_turn items i item below is before after whole whole_is after_is =
     ∙ ap (λ those. behind_items (items_of those) before) (sym (left_of items i item below is))
     ∙ whole_is
 
-pub can_items_turn : (items : List CoreItem) (i : ℕ) (item : CoreItem) → i < length items → item ≡ get_or items i item → (before after : Standing) →
-    after ≡ behind_item item before → can_word_items after (items_of (drop (i + 1) items)) ≡ false → can_word_items before (items_of (drop i items)) ≡ false
-can_items_turn items i item below is before after after_is cannot =
+pub can_items_turn : (items : List CoreItem) (i : ℕ) (item : CoreItem) → i < length items → item ≡ get_or items i item → (before after : Standing) {whole : Bool} →
+    can_word_items before (items_of (drop i items)) ≡ whole → can_word_item before item ≡ true → after ≡ behind_item item before → can_word_items after (items_of (drop (i + 1) items)) ≡ whole
+can_items_turn items i item below is before after whole_is can after_is =
     let rest = items_of (drop (i + 1) items) in
-    ap (λ those. can_word_items before (items_of those)) (left_of items i item below is)
-    ∙ can_first item rest before ∙ and_right _ _ (ap (λ s. can_word_items s rest) (sym after_is) ∙ cannot)
+    ap (λ s. can_word_items s rest) after_is
+    ∙ ap (λ first. first && can_word_items (behind_item item before) rest) (sym can)
+    ∙ sym (can_first item rest before)
+    ∙ ap (λ those. can_word_items before (items_of those)) (sym (left_of items i item below is))
+    ∙ whole_is
 
 pub can_items_here : (items : List CoreItem) (i : ℕ) (item : CoreItem) → i < length items → item ≡ get_or items i item → (before : Standing) →
     can_word_item before item ≡ false → can_word_items before (items_of (drop i items)) ≡ false

@@ -1,15 +1,16 @@
 -- What is written of a value whose parts are written one behind the other.
-use Rattle.std.proofs.Common.{◌≡◌, refl, sym, ap, ◌∙◌, ℕ, suc, ◌<◌, Bool, true, false, List, [], ◌∷◌, length, get_or, Option, Some, None, arith}
+use Rattle.std.proofs.Common.{◌≡◌, refl, sym, ap, ◌∙◌, ℕ, suc, ◌<◌, ◌≤◌, Bool, true, false, List, [], ◌∷◌, length, get_or, map, Option, Some, None, arith}
 use Rattle.std.specs.Prelude.{◌&&◌, not, is_some, nat_le, if◌then◌else◌}
-use Rattle.std.proofs.lemmas.Bool.{and_left, and_right}
+use Rattle.std.proofs.lemmas.Bool.{and_from, and_left, and_right}
 use Rattle.std.proofs.lemmas.Bool.Decides.{nat_tests}
 use Rattle.lua_num.specs.Bytes.{Text}
 use Rattle.lua_tree.specs.declared.tree.BinaryOp.{BinaryOp}
 use Rattle.lua_tree.specs.declared.tree.UnaryOp.{UnaryOp}
 use Rattle.lua_tree.specs.declared.tree.Separator.{Separator}
-use Rattle.core_expr.specs.Places.{Place, field_name, field_number, constant_name}
+use Rattle.core_expr.specs.Places.{Place, constant_at, name_of_number, field_name, field_number, constant_name}
 use Rattle.core_expr.specs.Standing.{Standing, with_taken, behind, behind_values, behind_operand, behind_short, behind_arguments, worded, worded_values, worded_each, worded_operand, worded_only, worded_short, worded_arguments, worded_keyed, no_field_wording, can_word, can_word_values, can_word_operand}
 use Rattle.core_expr.specs.Targets.{can_write_target}
+use Rattle.core_expr.specs.declared.scope.Written.{Written}
 use Rattle.core_expr.specs.declared.writing.Target.{Target}
 use Rattle.core_expr.specs.Values.{Value, Inner, Values, no_values, and_value, OperandValue, constant_operand, value_operand, constant_value, binary_value, unary_value, concat_value, call_value, method_value, view_core, view_operand, values_of, operands_of, view_operand_list}
 use Rattle.core_expr.specs.declared.cores.Core.{Core, Constant, Table, Table', out-Core, roll-Core, roll-out-Core}
@@ -17,7 +18,8 @@ use Rattle.core_expr.specs.declared.cores.Core.TheBlock.{shown-the_row-CoreItem-
 use Rattle.core_expr.specs.declared.cores.CoreItems.{CoreItems}
 use Rattle.core_expr.specs.declared.cores.Operand.{Operand}
 use Rattle.core_expr.specs.declared.cores.Operands.{Operands, out-Operands}
-use Rattle.core_expr.specs.Writing.{Wording, Wordings, ArgumentWording, unless, in_parentheses, as_prefix, with_key, with_field, with_index, joined, applied, with_arguments, with_method, text_or_empty, word_short, as_arguments, as_list, and_keyed_item, and_named, and_key, operand_count}
+use Rattle.core_expr.specs.Writing.{Wording, Wordings, ArgumentWording, unless, in_parentheses, as_prefix, with_key, with_field, with_index, joined, applied, with_arguments, with_method, text_or_empty, word_short, as_arguments, as_list, and_keyed_item, and_named, and_key, operand_count, ends_values, view_written}
+use Rattle.core_expr.proofs.OwnParts.{name_there}
 
 -- ---- parentheses
 
@@ -43,6 +45,10 @@ pub single_is : (only_one multiple : Bool) (w : Wording) → multiple ≡ false 
 single_is true true w is = cc
 single_is true false w is = refl
 single_is false multiple w is = refl
+
+-- what is written behind something: it can be, where both can
+pub both_can : (first : Bool) (can : Standing → Bool) {next last : Standing} → first ≡ true → next ≡ last → can next ≡ true → (first && can last) ≡ true
+both_can first can first_can then_is next_can = and_from first _ first_can (ap can (sym then_is) ∙ next_can)
 
 -- ---- operators
 
@@ -106,6 +112,12 @@ pub method_args : (on : Value) (name : ℕ) (args : Values) (all : Bool) (s next
 method_args on name args all s next named_then then_is named_is cannot =
     and_right _ _ (and_right _ _ (ap (λ x. can_word_values x args) (sym (named_is ∙ ap (with_taken name) then_is)) ∙ cannot))
 
+pub method_can : (on : Value) (name : ℕ) (args : Values) (all : Bool) (s next named_then : Standing) (text : Text) → can_word s on ≡ true → next ≡ behind on s → Some text ≡ constant_name next.at name → named_then ≡ with_taken name next →
+    can_word_values named_then args ≡ true → can_word s (method_value on name args all 0) ≡ true
+method_can on name args all s next named_then text on_can then_is text_is named_is args_can =
+    both_can (can_word s on) (λ x. is_some (constant_name x.at name) && can_word_values x args) on_can then_is
+    (and_from _ _ (ap is_some (sym text_is)) (ap (λ x. can_word_values x args) (sym named_is) ∙ args_can))
+
 -- ---- keys
 
 counted : (operands : List Operand) → operand_count (operands_of operands) ≡ length operands
@@ -118,6 +130,12 @@ past_limit n above = grind (arith, nat_tests)
 pub too_many_keys : (operands : Operands) (items : List Operand) → items ≡ (out-Operands operands).operands.items → 200 < length items → nat_le (operand_count (view_operand_list operands)) 200 ≡ false
 too_many_keys operands items is above = ap (λ those. nat_le (operand_count (operands_of those)) 200) (sym is) ∙ ap (λ n. nat_le n 200) (counted items) ∙ past_limit (length items) above
 
+within_limit : (n : ℕ) → n ≤ 200 → nat_le n 200 ≡ true
+within_limit n within = grind (arith, nat_tests)
+
+pub few_keys : (operands : Operands) (items : List Operand) → items ≡ (out-Operands operands).operands.items → length items ≤ 200 → nat_le (operand_count (view_operand_list operands)) 200 ≡ true
+few_keys operands items is within = ap (λ those. nat_le (operand_count (operands_of those)) 200) (sym is) ∙ ap (λ n. nat_le n 200) (counted items) ∙ within_limit (length items) within
+
 numbered : (is_small : Bool) (n k : ℕ) → (let found : Option ℕ = if is_small then None else Some n in found ≡ Some k) → n ≡ k
 numbered true n k is = cc
 numbered false n k is = cc
@@ -127,6 +145,16 @@ pub behind_field : (key : OperandValue) (k : ℕ) (s : Standing) → field_numbe
 behind_field (constant_operand n) k s is = let e : n ≡ k = cc in ap (λ x. with_taken x s) (sym e)
 behind_field (value_operand (constant_value n)) k s is = ap (λ x. with_taken x s) (sym (numbered (nat_le n 255) n k is))
 behind_field (value_operand v) k s is = cc
+
+number_named : (at : Place) (is_small : Bool) (k : ℕ) (name : Text) → (let found : Option ℕ = if is_small then None else Some k in Some name ≡ name_of_number at found) → Some name ≡ constant_name at k
+number_named at true k name is = cc
+number_named at false k name is = is
+
+-- a key that is a name can be written
+pub field_can : (key : OperandValue) (s : Standing) (name : Text) → Some name ≡ field_name s.at key → can_word_operand s key ≡ true
+field_can (constant_operand k) s name is = name_there (constant_at s.at k) is
+field_can (value_operand (constant_value k)) s name is = name_there (constant_at s.at k) (number_named s.at (nat_le k 255) k name is)
+field_can (value_operand v) s name is = cc
 
 pub field_made : (key : OperandValue) (s : Standing) (on w : Wording) (name : Text) → Some name ≡ field_name s.at key → w ≡ with_field on name → w ≡ with_key (field_name s.at key) on (worded_operand s key)
 field_made key s on w name name_is w_is = w_is ∙ ap (λ x. with_key x on (worded_operand s key)) name_is
@@ -241,9 +269,22 @@ only_one [] only count is = cc
 only_one (c ∷ []) only count is = ap (λ x. and_value (view_core x) no_values) (sym is)
 only_one (c ∷ d ∷ rest) only count is = absurd (omega arith)
 
+and_true : (b : Bool) → b ≡ (b && true)
+and_true true = refl
+and_true false = refl
+
+pub can_only : (cores : List Core) (only : Core) (s : Standing) → length cores ≡ 1 → only ≡ get_or cores 0 only → can_word s (view_core only) ≡ can_word_values s (values_of cores)
+can_only cores only s count is = and_true (can_word s (view_core only)) ∙ ap (can_word_values s) (sym (only_one cores only count is))
+
 -- ---- joined values
 
 -- where none is written there is none
 pub none_each : (operands : Values) (s : Standing) → [] ≡ worded_each s operands → can_word s (concat_value operands 0) ≡ false
 none_each no_values s is = refl
 none_each (and_value v rest) s is = cc
+
+-- where some is written there is one
+pub some_each : (operands : Values) (s : Standing) (ws : List Written) → map view_written ws ≡ worded_each s operands → (ws ≡ [] → ⊥) → not (ends_values operands) ≡ true
+some_each no_values s [] is some = absurd (some refl)
+some_each no_values s (w ∷ ws) is some = cc
+some_each (and_value v rest) s ws is some = refl

@@ -1,5 +1,5 @@
 // Calls, and their arguments.
-ghost use Rattle.std.specs.Prelude.{◌≡◌, false, option_map, IfOk, OnOk, Err};
+ghost use Rattle.std.specs.Prelude.{◌≡◌, true, false, option_map, IfOk, OnSome, OnOk, Err};
 ghost use Rattle.core_expr.specs.Held.{view_written_args};
 ghost use Rattle.core_expr.specs.Standing.{view_writer, behind, behind_values, behind_short, behind_arguments, worded, worded_arguments, worded_short, worded_only, can_word, can_word_values};
 ghost use Rattle.core_expr.specs.Values.{view_core, view_core_list, values_of, constant_value, call_value, method_value};
@@ -20,6 +20,7 @@ impl Writer<'_> {
         ensures made { IfOk result (λ written. view_written written ≡ worded (view_writer self.old) (call_value (view_core on.now) (view_core_list args.now) «open» 0)) }
         ensures behind { OnOk result (view_writer self.new ≡ behind (call_value (view_core on.now) (view_core_list args.now) «open» 0) (view_writer self.old)) }
         ensures refused { result ≡ Err NotScheme → can_word (view_writer self.old) (call_value (view_core on.now) (view_core_list args.now) «open» 0) ≡ false }
+        ensures able { OnOk result (can_word (view_writer self.old) (call_value (view_core on.now) (view_core_list args.now) «open» 0) ≡ true) }
     {
         let on = self.prefix(on)?;
         let args = self.arguments(args, open)?;
@@ -38,6 +39,7 @@ impl Writer<'_> {
         ensures made { IfOk result (λ written. view_written written ≡ worded (view_writer self.old) (method_value (view_core on.now) name (view_core_list args.now) «open» 0)) }
         ensures behind { OnOk result (view_writer self.new ≡ behind (method_value (view_core on.now) name (view_core_list args.now) «open» 0) (view_writer self.old)) }
         ensures refused { result ≡ Err NotScheme → can_word (view_writer self.old) (method_value (view_core on.now) name (view_core_list args.now) «open» 0) ≡ false }
+        ensures able { OnOk result (can_word (view_writer self.old) (method_value (view_core on.now) name (view_core_list args.now) «open» 0) ≡ true) }
     {
         let on = self.prefix(on)?;
         let Some(text) = self.scope.constant_name(name) else {
@@ -54,6 +56,7 @@ impl Writer<'_> {
         ensures made { IfOk result (λ written. view_written_args written ≡ worded_arguments (view_writer self.old) (view_core_list args.now) «open») }
         ensures behind { OnOk result (view_writer self.new ≡ behind_values (view_core_list args.now) (view_writer self.old)) }
         ensures refused { result ≡ Err NotScheme → can_word_values (view_writer self.old) (view_core_list args.now) ≡ false }
+        ensures able { OnOk result (can_word_values (view_writer self.old) (view_core_list args.now) ≡ true) }
     {
         let items = args.items();
         if let Some(short) = self.short_arguments(items, open)? {
@@ -73,6 +76,7 @@ impl Writer<'_> {
         ensures made { IfOk result (λ written. option_map view_written_args written ≡ worded_short (view_writer self.old) (values_of args.now) «open») }
         ensures behind { OnOk result (view_writer self.new ≡ behind_arguments (worded_short (view_writer self.old) (values_of args.now) «open») (values_of args.now) (view_writer self.old)) }
         ensures refused { result ≡ Err NotScheme → can_word_values (view_writer self.old) (values_of args.now) ≡ false }
+        ensures able { IfOk result (λ written. OnSome written (can_word_values (view_writer self.old) (values_of args.now) ≡ true)) }
     {
         if open {
             return Ok(None);
@@ -92,6 +96,7 @@ impl Writer<'_> {
         ensures made { IfOk result (λ written. option_map view_written_args written ≡ worded_only (view_writer self.old) (view_core only.now)) }
         ensures behind { OnOk result (view_writer self.new ≡ behind_short (worded_only (view_writer self.old) (view_core only.now)) (view_core only.now) (view_writer self.old)) }
         ensures refused { result ≡ Err NotScheme → can_word (view_writer self.old) (view_core only.now) ≡ false }
+        ensures able { IfOk result (λ written. OnSome written (can_word (view_writer self.old) (view_core only.now) ≡ true)) }
     {
         match only {
             Core::Constant(number) => self.short_text(*number),
@@ -109,6 +114,7 @@ impl Writer<'_> {
         ensures made { IfOk result (λ written. option_map view_written_args written ≡ worded_only (view_writer self.old) (constant_value number)) }
         ensures behind { OnOk result (view_writer self.new ≡ behind_short (worded_only (view_writer self.old) (constant_value number)) (constant_value number) (view_writer self.old)) }
         ensures refused { result ≡ Err NotScheme → can_word (view_writer self.old) (constant_value number) ≡ false }
+        ensures able { IfOk result (λ written. OnSome written (can_word (view_writer self.old) (constant_value number) ≡ true)) }
     {
         let Some(text) = self.scope.text(number) else {
             return Ok(None);

@@ -1,5 +1,5 @@
 // The expressions of values and operands.
-ghost use Rattle.std.specs.Prelude.{◌≡◌, ◌&&◌, not, false, IfOk, OnOk, Err};
+ghost use Rattle.std.specs.Prelude.{◌≡◌, ◌&&◌, not, true, false, IfOk, OnOk, Err};
 ghost use Rattle.lua_tree.specs.View.{view_exp};
 ghost use Rattle.lua_tree.specs.WellFormed.{is_prefix};
 ghost use Rattle.core_expr.specs.Places.{field_name};
@@ -26,6 +26,7 @@ impl Writer<'_> {
         ensures made { IfOk result (λ written. view_written written ≡ worded (view_writer self.old) (view_core core.now)) }
         ensures behind { OnOk result (view_writer self.new ≡ behind (view_core core.now) (view_writer self.old)) }
         ensures refused { result ≡ Err NotScheme → can_word (view_writer self.old) (view_core core.now) ≡ false }
+        ensures able { OnOk result (can_word (view_writer self.old) (view_core core.now) ≡ true) }
     {
         match core {
             Core::Nil => Ok(nil(self.alloc)?),
@@ -66,6 +67,7 @@ impl Writer<'_> {
         ensures made { IfOk result (λ written. view_written written ≡ as_value only_one (view_core core.now) (worded (view_writer self.old) (view_core core.now))) }
         ensures behind { OnOk result (view_writer self.new ≡ behind (view_core core.now) (view_writer self.old)) }
         ensures refused { result ≡ Err NotScheme → can_word (view_writer self.old) (view_core core.now) ≡ false }
+        ensures able { OnOk result (can_word (view_writer self.old) (view_core core.now) ≡ true) }
     {
         let written = self.expression(core)?;
         if only_one && core.is_multiple() {
@@ -81,6 +83,7 @@ impl Writer<'_> {
         ensures made { IfOk result (λ written. view_written_list written ≡ worded_values (view_writer self.old) (values_of cores.now) «open») }
         ensures behind { OnOk result (view_writer self.new ≡ behind_values (values_of cores.now) (view_writer self.old)) }
         ensures refused { result ≡ Err NotScheme → can_word_values (view_writer self.old) (values_of cores.now) ≡ false }
+        ensures able { OnOk result (can_word_values (view_writer self.old) (values_of cores.now) ≡ true) }
     {
         let mut list = WrittenList::new(self.alloc);
         for (i, core) in cores.iter().enumerate() {
@@ -97,6 +100,7 @@ impl Writer<'_> {
         ensures made { IfOk result (λ written. view_written written ≡ as_prefix (worded (view_writer self.old) (view_core core.now))) }
         ensures behind { OnOk result (view_writer self.new ≡ behind (view_core core.now) (view_writer self.old)) }
         ensures refused { result ≡ Err NotScheme → can_word (view_writer self.old) (view_core core.now) ≡ false }
+        ensures able { OnOk result (can_word (view_writer self.old) (view_core core.now) ≡ true) }
     {
         let written = self.expression(core)?;
         if is_prefix(&written.exp) {
@@ -112,6 +116,7 @@ impl Writer<'_> {
         ensures made { IfOk result (λ written. view_written written ≡ worded (view_writer self.old) (index_value (view_core on.now) (view_operand_list keys.now) 0)) }
         ensures behind { OnOk result (view_writer self.new ≡ behind (index_value (view_core on.now) (view_operand_list keys.now) 0) (view_writer self.old)) }
         ensures refused { result ≡ Err NotScheme → can_word (view_writer self.old) (index_value (view_core on.now) (view_operand_list keys.now) 0) ≡ false }
+        ensures able { OnOk result (can_word (view_writer self.old) (index_value (view_core on.now) (view_operand_list keys.now) 0) ≡ true) }
     {
         if keys.items().len() > MOST_KEYS {
             return Err(CoreFault::NotScheme);
@@ -129,6 +134,7 @@ impl Writer<'_> {
         ensures made { IfOk result (λ written. view_written written ≡ with_key (field_name (view_writer self.old).at (view_operand key.now)) (view_written on) (worded_operand (view_writer self.old) (view_operand key.now))) }
         ensures behind { OnOk result (view_writer self.new ≡ behind_operand (view_operand key.now) (view_writer self.old)) }
         ensures refused { result ≡ Err NotScheme → can_word_operand (view_writer self.old) (view_operand key.now) ≡ false }
+        ensures able { OnOk result (can_word_operand (view_writer self.old) (view_operand key.now) ≡ true) }
     {
         if let Some((number, name)) = self.scope.field_name(key) {
             self.take_constant(number);
@@ -144,6 +150,7 @@ impl Writer<'_> {
         ensures made { IfOk result (λ written. view_written written ≡ worded_operand (view_writer self.old) (view_operand operand.now)) }
         ensures behind { OnOk result (view_writer self.new ≡ behind_operand (view_operand operand.now) (view_writer self.old)) }
         ensures refused { result ≡ Err NotScheme → can_word_operand (view_writer self.old) (view_operand operand.now) ≡ false }
+        ensures able { OnOk result (can_word_operand (view_writer self.old) (view_operand operand.now) ≡ true) }
     {
         match operand {
             Operand::Constant(number) => self.constant(*number),
@@ -170,6 +177,7 @@ impl Writer<'_> {
         ensures made { IfOk result (λ written. view_written written ≡ worded (view_writer self.old) (binary_value op (view_operand left.now) (view_operand right.now) 0)) }
         ensures behind { OnOk result (view_writer self.new ≡ behind (binary_value op (view_operand left.now) (view_operand right.now) 0) (view_writer self.old)) }
         ensures refused { result ≡ Err NotScheme → can_word (view_writer self.old) (binary_value op (view_operand left.now) (view_operand right.now) 0) ≡ false }
+        ensures able { OnOk result (can_word (view_writer self.old) (binary_value op (view_operand left.now) (view_operand right.now) 0) ≡ true) }
     {
         let left = self.operand(left)?;
         let right = self.operand(right)?;
@@ -182,6 +190,7 @@ impl Writer<'_> {
         ensures made { IfOk result (λ written. view_written written ≡ worded (view_writer self.old) (unary_value op (view_core of.now) 0)) }
         ensures behind { OnOk result (view_writer self.new ≡ behind (unary_value op (view_core of.now) 0) (view_writer self.old)) }
         ensures refused { result ≡ Err NotScheme → can_word (view_writer self.old) (unary_value op (view_core of.now) 0) ≡ false }
+        ensures able { OnOk result (can_word (view_writer self.old) (unary_value op (view_core of.now) 0) ≡ true) }
     {
         let of = self.expression(of)?;
         Ok(applied(self.alloc, op, of)?)
@@ -193,6 +202,7 @@ impl Writer<'_> {
         ensures made { IfOk result (λ written. view_written written ≡ worded (view_writer self.old) (concat_value (view_core_list operands.now) 0)) }
         ensures behind { OnOk result (view_writer self.new ≡ behind (concat_value (view_core_list operands.now) 0) (view_writer self.old)) }
         ensures refused { result ≡ Err NotScheme → can_word (view_writer self.old) (concat_value (view_core_list operands.now) 0) ≡ false }
+        ensures able { OnOk result (can_word (view_writer self.old) (concat_value (view_core_list operands.now) 0) ≡ true) }
     {
         let mut written = Vec::new(self.alloc);
         for operand in operands.items() {

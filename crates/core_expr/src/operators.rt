@@ -1,5 +1,5 @@
 // Operators, with their operands in parentheses where they bind too loosely.
-ghost use Rattle.std.specs.Prelude.{◌≡◌, false, true, not, [], map, IfOk, Err};
+ghost use Rattle.std.specs.Prelude.{◌≡◌, false, true, not, [], map, IfOk, OnOk, Err};
 ghost use Rattle.lua_tree.specs.Precedence.{level_of_op, level_of, is_unary, is_right_associative, left_binds};
 ghost use Rattle.lua_tree.specs.View.{view_exp};
 ghost use Rattle.core_expr.specs.Held.{stands_bare};
@@ -136,6 +136,7 @@ pub fn joined(
 pub fn chained(alloc: Global, operands: Vec<Written>) -> Result<Written, CoreFault>
     ensures made { IfOk result (λ written. view_written written ≡ chain (map view_written operands.items)) }
     ensures refused { result ≡ Err NotScheme → operands.items ≡ [] }
+    ensures able { OnOk result (operands.items ≡ [] → ⊥) }
 {
     let mut operands = operands;
     let Some(last) = operands.pop() else {

@@ -22,6 +22,7 @@ pub fn variable_path(
 ) -> Result<Names, CoreFault>
     ensures path { IfOk result (λ path. path ≡ text_or_empty (name_of (place_of scope.now) variable) ∷ []) }
     ensures refused { result ≡ Err NotScheme → is_some (name_of (place_of scope.now) variable) ≡ false }
+    ensures able { OnOk result (is_some (name_of (place_of scope.now) variable) ≡ true) }
 {
     let name = scope.name(variable).ok_or(CoreFault::NotScheme)?;
     let mut names = Names::new(alloc);
@@ -38,6 +39,7 @@ pub fn field_path(
 ) -> Result<Option<Names>, CoreFault>
     ensures path { IfOk result (λ path. path ≡ field_path (place_of scope.now) (view_core on.now) (view_operand key.now)) }
     ensures refused { result ≡ Err NotScheme → has_field_path (place_of scope.now) (view_core on.now) (view_operand key.now) ≡ false }
+    ensures able { OnOk result (has_field_path (place_of scope.now) (view_core on.now) (view_operand key.now) ≡ true) }
 {
     match on {
         Core::Index { on, keys, .. } => long_path(alloc, scope, on, keys.items(), key),
@@ -55,6 +57,7 @@ fn long_path(
 ) -> Result<Option<Names>, CoreFault>
     ensures path { IfOk result (λ path. path ≡ long_path (place_of scope.now) (view_core on.now) (operands_of keys.now) (view_operand key.now)) }
     ensures refused { result ≡ Err NotScheme → has_long_path (place_of scope.now) (view_core on.now) (operands_of keys.now) (view_operand key.now) ≡ false }
+    ensures able { OnOk result (has_long_path (place_of scope.now) (view_core on.now) (operands_of keys.now) (view_operand key.now) ≡ true) }
 {
     let Some(variable) = variable_of(on) else {
         return Ok(None);

@@ -1,5 +1,5 @@
 // Constructors.
-ghost use Rattle.std.specs.Prelude.{◌≡◌, false, IfOk, OnOk, Err};
+ghost use Rattle.std.specs.Prelude.{◌≡◌, true, false, IfOk, OnOk, Err};
 ghost use Rattle.lua_tree.specs.declared.tree.Separator.{Separator};
 ghost use Rattle.core_expr.specs.Held.{view_written_items, view_written_item};
 ghost use Rattle.core_expr.specs.Standing.{view_writer, behind, behind_operand, behind_item, behind_items, worded, worded_keyed, worded_item, worded_items, can_word, can_word_keyed, can_word_item, can_word_items};
@@ -23,6 +23,7 @@ impl Writer<'_> {
         ensures made { IfOk result (λ written. view_written written ≡ worded (view_writer self.old) (table_value (view_item_list items.now) «open» 0)) }
         ensures behind { OnOk result (view_writer self.new ≡ behind (table_value (view_item_list items.now) «open» 0) (view_writer self.old)) }
         ensures refused { result ≡ Err NotScheme → can_word (view_writer self.old) (table_value (view_item_list items.now) «open» 0) ≡ false }
+        ensures able { OnOk result (can_word (view_writer self.old) (table_value (view_item_list items.now) «open» 0) ≡ true) }
     {
         let items = self.items(items, open)?;
         Ok(constructor(self.alloc, items)?)
@@ -34,6 +35,7 @@ impl Writer<'_> {
         ensures made { IfOk result (λ written. view_written_items written ≡ worded_items (view_writer self.old) (view_item_list items.now) «open») }
         ensures behind { OnOk result (view_writer self.new ≡ behind_items (view_item_list items.now) (view_writer self.old)) }
         ensures refused { result ≡ Err NotScheme → can_word_items (view_writer self.old) (view_item_list items.now) ≡ false }
+        ensures able { OnOk result (can_word_items (view_writer self.old) (view_item_list items.now) ≡ true) }
     {
         let mut written = WrittenItems::new(self.alloc);
         let all = items.items();
@@ -51,6 +53,7 @@ impl Writer<'_> {
         ensures made { IfOk result (λ written. (separator : Separator) → view_written_item written separator ≡ worded_item (view_writer self.old) only_one item.now separator) }
         ensures behind { OnOk result (view_writer self.new ≡ behind_item item.now (view_writer self.old)) }
         ensures refused { result ≡ Err NotScheme → can_word_item (view_writer self.old) item.now ≡ false }
+        ensures able { OnOk result (can_word_item (view_writer self.old) item.now ≡ true) }
     {
         match item {
             CoreItem::Positional(core) => {
@@ -67,6 +70,7 @@ impl Writer<'_> {
         ensures made { IfOk result (λ written. (separator : Separator) → view_written_item written separator ≡ worded_keyed (view_writer self.old) (view_operand key.now) (view_operand value.now) separator) }
         ensures behind { OnOk result (view_writer self.new ≡ behind_operand (view_operand value.now) (behind_operand (view_operand key.now) (view_writer self.old))) }
         ensures refused { result ≡ Err NotScheme → can_word_keyed (view_writer self.old) (view_operand key.now) (view_operand value.now) ≡ false }
+        ensures able { OnOk result (can_word_keyed (view_writer self.old) (view_operand key.now) (view_operand value.now) ≡ true) }
     {
         if let Some((number, name)) = self.scope.field_name(key) {
             self.take_constant(number);

@@ -1,5 +1,5 @@
 // What writes an expression: where it stands, and what it has used so far.
-ghost use Rattle.std.specs.Prelude.{◌≡◌, false, IfOk, OnOk, Err, is_some};
+ghost use Rattle.std.specs.Prelude.{◌≡◌, true, false, IfOk, OnOk, Err, is_some};
 ghost use Rattle.core_expr.specs.Held.{place_of, name_of};
 ghost use Rattle.core_expr.specs.Standing.{view_writer, with_taken, behind, worded, can_word};
 ghost use Rattle.core_expr.specs.Values.{constant_value, global_value, function_value, view_bodies, view_core};
@@ -65,6 +65,7 @@ impl<'a> Writer<'a> {
     pub fn variable(&self, variable: Variable) -> Result<Written, CoreFault>
         ensures made { IfOk result (λ written. view_written written ≡ name_word (name_of (view_writer self.now).at variable)) }
         ensures refused { result ≡ Err NotScheme → is_some (name_of (view_writer self.now).at variable) ≡ false }
+        ensures able { OnOk result (is_some (name_of (view_writer self.now).at variable) ≡ true) }
     {
         let name = self.scope.name(variable).ok_or(CoreFault::NotScheme)?;
         let written = named(self.alloc, name)?;
@@ -77,6 +78,7 @@ impl<'a> Writer<'a> {
         ensures made { IfOk result (λ written. view_written written ≡ worded (view_writer self.old) (global_value number)) }
         ensures behind { OnOk result (view_writer self.new ≡ behind (global_value number) (view_writer self.old)) }
         ensures refused { result ≡ Err NotScheme → can_word (view_writer self.old) (global_value number) ≡ false }
+        ensures able { OnOk result (can_word (view_writer self.old) (global_value number) ≡ true) }
     {
         self.take_constant(number);
         self.variable(Variable::Global(number))
@@ -88,6 +90,7 @@ impl<'a> Writer<'a> {
         ensures made { IfOk result (λ written. view_written written ≡ worded (view_writer self.old) (constant_value number)) }
         ensures behind { OnOk result (view_writer self.new ≡ behind (constant_value number) (view_writer self.old)) }
         ensures refused { result ≡ Err NotScheme → can_word (view_writer self.old) (constant_value number) ≡ false }
+        ensures able { OnOk result (can_word (view_writer self.old) (constant_value number) ≡ true) }
     {
         self.take_constant(number);
         let constant = self.scope.constant(number).ok_or(CoreFault::NotScheme)?;
@@ -101,6 +104,7 @@ impl<'a> Writer<'a> {
         ensures made { IfOk result (λ written. view_written written ≡ worded (view_writer self.old) (function_value number captures_itself)) }
         ensures behind { OnOk result (view_writer self.new ≡ behind (function_value number captures_itself) (view_writer self.old)) }
         ensures refused { result ≡ Err NotScheme → can_word (view_writer self.old) (function_value number captures_itself) ≡ false }
+        ensures able { OnOk result (can_word (view_writer self.old) (function_value number captures_itself) ≡ true) }
     {
         if captures_itself {
             return Err(CoreFault::NotScheme);

@@ -1,5 +1,5 @@
 // From values to expressions.
-ghost use Rattle.std.specs.Prelude.{◌≡◌, IfOk, OnOk, Err, false};
+ghost use Rattle.std.specs.Prelude.{◌≡◌, IfOk, OnOk, Err, true, false};
 ghost use Rattle.proto.specs.Chunk.{own};
 ghost use Rattle.proto.specs.View.{view_proto};
 ghost use Rattle.core_expr.specs.Counting.{taken_behind, taken_behind_values, taken_behind_operand, left_by, left_by_values, left_by_operand};
@@ -54,6 +54,7 @@ pub fn write_expression(
     ensures taken { OnOk result (taken.new ≡ taken_behind (view_core core) taken.old) }
     ensures left { OnOk result (view_bodies bodies.new ≡ left_by (view_core core) (view_bodies bodies.old)) }
     ensures refused { result ≡ Err NotScheme → can_write (place (own (view_proto scope.now.proto.now)) scope.now.entries.now scope.now.short) (view_bodies bodies.old) (view_core core) ≡ false }
+    ensures able { OnOk result (can_write (place (own (view_proto scope.now.proto.now)) scope.now.entries.now scope.now.short) (view_bodies bodies.old) (view_core core) ≡ true) }
 {
     let mut writer = Writer::new(alloc, scope, replace(bodies, Bodies::new(alloc)), *taken);
     let written = writer.expression(&core)?;
@@ -73,6 +74,7 @@ pub fn write_operand(
     ensures taken { OnOk result (taken.new ≡ taken_behind_operand (view_operand operand) taken.old) }
     ensures left { OnOk result (view_bodies bodies.new ≡ left_by_operand (view_operand operand) (view_bodies bodies.old)) }
     ensures refused { result ≡ Err NotScheme → can_write_operand (place (own (view_proto scope.now.proto.now)) scope.now.entries.now scope.now.short) (view_bodies bodies.old) (view_operand operand) ≡ false }
+    ensures able { OnOk result (can_write_operand (place (own (view_proto scope.now.proto.now)) scope.now.entries.now scope.now.short) (view_bodies bodies.old) (view_operand operand) ≡ true) }
 {
     let mut writer = Writer::new(alloc, scope, replace(bodies, Bodies::new(alloc)), *taken);
     let written = writer.operand(&operand)?;
@@ -93,6 +95,7 @@ pub fn write_list(
     ensures taken { OnOk result (taken.new ≡ taken_behind_values (view_core_list cores) taken.old) }
     ensures left { OnOk result (view_bodies bodies.new ≡ left_by_values (view_core_list cores) (view_bodies bodies.old)) }
     ensures refused { result ≡ Err NotScheme → can_write_values (place (own (view_proto scope.now.proto.now)) scope.now.entries.now scope.now.short) (view_bodies bodies.old) (view_core_list cores) ≡ false }
+    ensures able { OnOk result (can_write_values (place (own (view_proto scope.now.proto.now)) scope.now.entries.now scope.now.short) (view_bodies bodies.old) (view_core_list cores) ≡ true) }
 {
     let mut writer = Writer::new(alloc, scope, replace(bodies, Bodies::new(alloc)), *taken);
     let list = writer.list(cores.items(), open)?;
@@ -112,6 +115,7 @@ pub fn write_target(
     ensures taken { OnOk result (taken.new ≡ taken_behind_target target taken.old) }
     ensures left { OnOk result (view_bodies bodies.new ≡ left_by_target target (view_bodies bodies.old)) }
     ensures refused { result ≡ Err NotScheme → can_write_target (place (own (view_proto scope.now.proto.now)) scope.now.entries.now scope.now.short) (view_bodies bodies.old) target ≡ false }
+    ensures able { OnOk result (can_write_target (place (own (view_proto scope.now.proto.now)) scope.now.entries.now scope.now.short) (view_bodies bodies.old) target ≡ true) }
 {
     let mut writer = Writer::new(alloc, scope, replace(bodies, Bodies::new(alloc)), *taken);
     let written = match target {
@@ -139,6 +143,7 @@ pub fn write_comparison(
     ensures made { IfOk result (λ written. view_written written ≡ word_comparison (place (own (view_proto scope.now.proto.now)) scope.now.entries.now scope.now.short) taken (view_bodies bodies.old) comparison) }
     ensures left { OnOk result (view_bodies bodies.new ≡ left_by_comparison (place (own (view_proto scope.now.proto.now)) scope.now.entries.now scope.now.short) taken (view_bodies bodies.old) comparison) }
     ensures refused { result ≡ Err NotScheme → can_write_comparison (place (own (view_proto scope.now.proto.now)) scope.now.entries.now scope.now.short) taken (view_bodies bodies.old) comparison ≡ false }
+    ensures able { OnOk result (can_write_comparison (place (own (view_proto scope.now.proto.now)) scope.now.entries.now scope.now.short) taken (view_bodies bodies.old) comparison ≡ true) }
 {
     let is_swapped = is_swapped(&comparison, scope.entries.len(), taken);
     let Comparison {
@@ -166,6 +171,7 @@ pub fn function_path(
 ) -> Result<Option<Names>, CoreFault>
     ensures path { IfOk result (λ path. path ≡ path_of (place (own (view_proto scope.now.proto.now)) scope.now.entries.now scope.now.short) target.now) }
     ensures refused { result ≡ Err NotScheme → can_have_path (place (own (view_proto scope.now.proto.now)) scope.now.entries.now scope.now.short) target.now ≡ false }
+    ensures able { OnOk result (can_have_path (place (own (view_proto scope.now.proto.now)) scope.now.entries.now scope.now.short) target.now ≡ true) }
 {
     let variable = match target {
         Target::Local(register) => Variable::Local(*register),

@@ -10,3 +10,7 @@ returns-in-Index-clause-path c =
 pub returns-in-Index-clause-refused : goal.returns-in-Index-clause-refused
 returns-in-Index-clause-refused c refusal =
     rw (ap view_core c.in-Index.is) (rw (view_operands_list c.in-Index.keys) (rw (sym (ap operands_of c.items.ensures.items)) (rw (sym (ap view_core c.deref.ensures)) (c.long_path.ensures.refused refusal))))
+
+pub returns-in-Index-clause-able : goal.returns-in-Index-clause-able
+returns-in-Index-clause-able c =
+    rw (ap view_core c.in-Index.is) (rw (view_operands_list c.in-Index.keys) (rw (sym (ap operands_of c.items.ensures.items)) (rw (sym (ap view_core c.deref.ensures)) c.long_path.ensures.able)))

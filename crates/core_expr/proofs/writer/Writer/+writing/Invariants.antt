@@ -1,5 +1,5 @@
 -- What decreases along the calls that write an expression: the size of what is written, and where that stays the rank of the function.
-use Rattle.std.proofs.Common.{◌≡◌, ◌+◌, ◌*◌, ◌++◌, max, drop, false, map}
+use Rattle.std.proofs.Common.{◌≡◌, ◌+◌, ◌*◌, ◌++◌, max, drop, map}
 use Rattle.core_expr.specs.declared.cores.Core.{size-Core}
 use Rattle.core_expr.specs.declared.cores.Cores.{size-Cores}
 use Rattle.core_expr.specs.declared.cores.Operand.{size-Operand}
@@ -74,26 +74,26 @@ abbrev pub invariant-list-loop-i : goal.invariant-list-loop-i
 invariant-list-loop-i l = record {
   made : join_lists (view_written_list l.list) (worded_values (view_writer l.self) (values_of (drop l.i l.cores)) l.«open») ≡ worded_values (view_writer l.fn.self) (values_of l.cores) l.«open»;
   behind : behind_values (values_of (drop l.i l.cores)) (view_writer l.self) ≡ behind_values (values_of l.cores) (view_writer l.fn.self);
-  refused : can_word_values (view_writer l.self) (values_of (drop l.i l.cores)) ≡ false → can_word_values (view_writer l.fn.self) (values_of l.cores) ≡ false;
+  can : can_word_values (view_writer l.self) (values_of (drop l.i l.cores)) ≡ can_word_values (view_writer l.fn.self) (values_of l.cores);
 }
 
 abbrev pub invariant-indexed-loop-key : goal.invariant-indexed-loop-key
 invariant-indexed-loop-key l = record {
   made : worded_keys (view_writer l.self) (view_written l.written) (operands_of (drop l.key-index l.key-items)) ≡ worded_keys (view_writer l.initial.self) (view_written l.initial.written) (operands_of l.key-items);
   behind : behind_operands (operands_of (drop l.key-index l.key-items)) (view_writer l.self) ≡ behind_operands (operands_of l.key-items) (view_writer l.initial.self);
-  refused : can_word_operands (view_writer l.self) (operands_of (drop l.key-index l.key-items)) ≡ false → can_word_operands (view_writer l.initial.self) (operands_of l.key-items) ≡ false;
+  can : can_word_operands (view_writer l.self) (operands_of (drop l.key-index l.key-items)) ≡ can_word_operands (view_writer l.initial.self) (operands_of l.key-items);
 }
 
 abbrev pub invariant-concat-loop-operand : goal.invariant-concat-loop-operand
 invariant-concat-loop-operand l = record {
   made : map view_written l.written.items ++ worded_each (view_writer l.self) (values_of (drop l.operand-index l.operand-items)) ≡ worded_each (view_writer l.fn.self) (values_of l.operand-items);
   behind : behind_values (values_of (drop l.operand-index l.operand-items)) (view_writer l.self) ≡ behind_values (values_of l.operand-items) (view_writer l.fn.self);
-  refused : can_word_values (view_writer l.self) (values_of (drop l.operand-index l.operand-items)) ≡ false → can_word_values (view_writer l.fn.self) (values_of l.operand-items) ≡ false;
+  can : can_word_values (view_writer l.self) (values_of (drop l.operand-index l.operand-items)) ≡ can_word_values (view_writer l.fn.self) (values_of l.operand-items);
 }
 
 abbrev pub invariant-items-loop-i : goal.invariant-items-loop-i
 invariant-items-loop-i l = record {
   made : join_wordings (view_written_items l.written) (worded_items (view_writer l.self) (items_of (drop l.i l.all)) l.«open») ≡ worded_items (view_writer l.fn.self) (items_of l.all) l.«open»;
   behind : behind_items (items_of (drop l.i l.all)) (view_writer l.self) ≡ behind_items (items_of l.all) (view_writer l.fn.self);
-  refused : can_word_items (view_writer l.self) (items_of (drop l.i l.all)) ≡ false → can_word_items (view_writer l.fn.self) (items_of l.all) ≡ false;
+  can : can_word_items (view_writer l.self) (items_of (drop l.i l.all)) ≡ can_word_items (view_writer l.fn.self) (items_of l.all);
 }
