@@ -1,7 +1,5 @@
 // The expressions of values and operands.
 ghost use Rattle.std.specs.Prelude.{◌≡◌, ◌&&◌, not, true, false, IfOk, OnOk, Err};
-ghost use Rattle.lua_tree.specs.View.{view_exp};
-ghost use Rattle.lua_tree.specs.WellFormed.{is_prefix};
 ghost use Rattle.core_expr.specs.Places.{field_name};
 ghost use Rattle.core_expr.specs.Standing.{view_writer, behind, behind_values, behind_operand, worded, worded_values, worded_operand, can_word, can_word_values, can_word_operand};
 ghost use Rattle.core_expr.specs.Values.{view_core, view_operand, view_core_list, view_operand_list, values_of, index_value, binary_value, unary_value, concat_value};
@@ -14,7 +12,8 @@ use crate::nodes::{field, index, nil, parenthesized, truth, vararg};
 use crate::operators::{applied, chained, joined};
 use crate::scope::{Variable, Written, WrittenList};
 use crate::writer::Writer;
-use lua_tree::{BinaryOp, Exp, ExpKind, UnaryOp};
+use lua_tree::{BinaryOp, UnaryOp};
+use well_formed::is_prefix;
 
 // How many keys a tree can have one behind the other.
 const MOST_KEYS: usize = 200;
@@ -218,19 +217,4 @@ pub fn wants_one(is_last: bool, open: bool) -> bool
     ensures { result ≡ (is_last && not «open») }
 {
     is_last && !open
-}
-
-// Whether an expression can be indexed or called without parentheses.
-fn is_prefix(exp: &Exp) -> bool
-    ensures { result ≡ is_prefix (view_exp exp.now) }
-{
-    matches!(
-        exp.kind,
-        ExpKind::Name(_)
-            | ExpKind::Index { .. }
-            | ExpKind::Field { .. }
-            | ExpKind::Call { .. }
-            | ExpKind::Method { .. }
-            | ExpKind::Paren(_)
-    )
 }

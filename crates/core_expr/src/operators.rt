@@ -9,44 +9,9 @@ ghost use Rattle.core_expr.specs.declared.fault.CoreFault.TheVariants.{NotScheme
 use crate::fault::CoreFault;
 use crate::nodes::{binary, parenthesized, unary};
 use crate::scope::Written;
-use lua_tree::{BinaryOp, Exp, ExpKind, UnaryOp};
+use lua_tree::{BinaryOp, Exp, UnaryOp};
 use std::alloc::{AllocError, Global};
-
-// How strongly an operator before an operand binds.
-const UNARY_LEVEL: u32 = 7;
-
-// How strongly an operator between two operands binds.
-fn level_of_op(op: BinaryOp) -> u32
-    ensures { result ≡ level_of_op op }
-{
-    match op {
-        BinaryOp::Eq | BinaryOp::Ne | BinaryOp::Lt | BinaryOp::Le | BinaryOp::Gt | BinaryOp::Ge =>
-            3,
-        BinaryOp::Concat => 4,
-        BinaryOp::Add | BinaryOp::Sub => 5,
-        BinaryOp::Mul | BinaryOp::Div | BinaryOp::Rem => 6,
-        BinaryOp::Pow => 8,
-    }
-}
-
-// How strongly an expression binds: from 1, an `or`, to 9, what stands for itself.
-fn level_of(exp: &Exp) -> u32
-    ensures { result ≡ level_of (view_exp exp.now) }
-{
-    match &exp.kind {
-        ExpKind::Or(_, _) => 1,
-        ExpKind::And(_, _) => 2,
-        ExpKind::Binary { op, .. } => level_of_op(*op),
-        ExpKind::Unary { .. } => UNARY_LEVEL,
-        _ => 9,
-    }
-}
-
-fn is_unary(exp: &Exp) -> bool
-    ensures { result ≡ is_unary (view_exp exp.now) }
-{
-    matches!(&exp.kind, ExpKind::Unary { .. })
-}
+use well_formed::{UNARY_LEVEL, is_right_associative, is_unary, level_of, level_of_op};
 
 // A place beside an operator.
 #[derive(Clone, Copy)]
@@ -93,12 +58,6 @@ impl Place {
             self.level < level
         }
     }
-}
-
-fn is_right_associative(op: BinaryOp) -> bool
-    ensures { result ≡ is_right_associative op }
-{
-    matches!(op, BinaryOp::Concat | BinaryOp::Pow)
 }
 
 fn is_power(op: BinaryOp) -> bool

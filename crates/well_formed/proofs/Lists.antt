@@ -3,7 +3,6 @@ use Rattle.std.proofs.Common.{◌≡◌, refl, sym, ap, ◌∙◌, ℕ, suc, ◌
 use Rattle.std.proofs.Math.Seq.{drop-cons}
 use Rattle.std.proofs.lemmas.List.{take_rest}
 use Rattle.std.proofs.lemmas.Bool.Decides.{nat_tests}
-use Rattle.lua_tree.specs.Syntax.{expression}
 use Rattle.lua_tree.specs.TreeLists.{branches_of, expressions_of, fields_of}
 use Rattle.lua_tree.specs.Names.{is_name}
 use Rattle.lua_tree.specs.View.{view_exp, view_item, view_kind}

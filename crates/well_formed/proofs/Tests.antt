@@ -1,5 +1,5 @@
 -- Tests on the way down a tree, and what they say of it.
-use Rattle.std.proofs.Common.{◌≡◌, refl, sym, ap, subst, ◌∙◌, ℕ, suc, ◌+◌, ◌-◌, max, Bool, true, false, ◌&&◌, nat_le, nat_lt, arith}
+use Rattle.std.proofs.Common.{◌≡◌, refl, sym, ap, subst, ◌∙◌, ℕ, ◌+◌, ◌-◌, max, Bool, true, false, ◌&&◌, nat_le, arith}
 use Rattle.std.proofs.lemmas.Bool.Decides.{nat_tests}
 use Rattle.well_formed.specs.Within.{below}
 

@@ -24,7 +24,7 @@ pub fn is_call(exp: &Exp) -> bool
     matches!(&exp.kind, ExpKind::Call { .. } | ExpKind::Method { .. })
 }
 
-/// What may be indexed or called.
+/// Whether an expression may be indexed or called.
 pub fn is_prefix(exp: &Exp) -> bool
     ensures { result ≡ is_prefix (view_exp exp.now) }
 {
