@@ -1,1 +1,3 @@
+pub mod Active
 pub mod Blames
+pub mod Listed

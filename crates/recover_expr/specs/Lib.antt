@@ -1,2 +1,4 @@
+pub mod Entries
 pub mod Faults
+pub mod Locals
 pub mod Reasons

@@ -19,7 +19,8 @@ fn code_of(proto: &Proto) -> &[u32]
     proto.code.items()
 }
 
-fn locals_of(proto: &Proto) -> &[LocVar]
+/// The listed locals.
+pub fn locals_of(proto: &Proto) -> &[LocVar]
     ensures { result.now ≡ (own (view_proto proto.now)).locals }
 {
     proto.locals.items()

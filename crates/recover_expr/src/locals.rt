@@ -1,10 +1,12 @@
 // The listed locals of a function: which are declared, and which are active.
 #![tactic(auto, using(crate::proofs::Blames::free_fits))]
 
-ghost use Rattle.std.specs.Prelude.{IfErr};
+ghost use Rattle.std.specs.Prelude.{◌≡◌, ◌+◌, ◌<◌, ◌≤◌, ◌^◌, [], length, not, slice_get, is_some, Some, None, IfOk, IfErr, OnOk};
 ghost use Rattle.recover_expr.specs.Faults.{IsFaultOf};
+ghost use Rattle.recover_expr.specs.Entries.{IsLostOnlyWhere};
+ghost use Rattle.recover_expr.specs.Locals.{view_locals, listed, IsFaultOnlyWhere, name_of, names_from, is_hidden, starting, innermost_end, ends_within, is_over, nests, entered, declare_next, declare, leave, capture_entry, capture, is_named, declaring_step, any_captured, up_to, highest_captured};
 
-use crate::blame::{bad_local, not_scheme};
+use crate::blame::{bad_local, locals_of, not_scheme};
 use crate::fault::Fault;
 use crate::lost::{Lost, number_at};
 use lua_num::{ByteText, Names};
@@ -37,9 +39,11 @@ pub struct Locals {
 
 /// The name of an entry of the list that starts at a pc.
 pub fn own_name(alloc: Global, proto: &Proto, entry: usize, pc: u32) -> Result<ByteText, Fault>
-    ensures { IfErr result (IsFaultOf proto.now) }
+    ensures fault { IfErr result (IsFaultOf proto.now) }
+    ensures name { IfOk result (λ name. Some name ≡ name_of (listed proto.now) entry) }
+    ensures refused { IfErr result (IsFaultOnlyWhere (name_of (listed proto.now) entry ≡ None)) }
 {
-    match proto.locals.items().get(entry) {
+    match locals_of(proto).get(entry) {
         Some(local) if is_name(local.name.bytes()) => {
             Ok(ByteText::from_slice(alloc, local.name.bytes())?)
         }
@@ -55,7 +59,9 @@ pub fn own_names(
     count: usize,
     pc: u32,
 ) -> Result<Names, Fault>
-    ensures { IfErr result (IsFaultOf proto.now) }
+    ensures fault { IfErr result (IsFaultOf proto.now) }
+    ensures names { first + count < 2 ^ 64 → IfOk result (λ names. Some names ≡ names_from (listed proto.now) first count) }
+    ensures refused { first + count < 2 ^ 64 → IfErr result (IsFaultOnlyWhere (names_from (listed proto.now) first count ≡ None)) }
 {
     let mut names = Names::new(alloc);
     for entry in first..first.saturating_add(count) {
@@ -65,8 +71,10 @@ pub fn own_names(
 }
 
 /// Whether an entry of the list has a name that only hidden locals of loops have.
-pub fn is_hidden(proto: &Proto, entry: usize) -> bool {
-    match proto.locals.items().get(entry) {
+pub fn is_hidden(proto: &Proto, entry: usize) -> bool
+    ensures { result ≡ is_hidden (listed proto.now) entry }
+{
+    match locals_of(proto).get(entry) {
         Some(local) => local.name.bytes().first() == Some(&b'('),
         None => false,
     }
@@ -74,7 +82,9 @@ pub fn is_hidden(proto: &Proto, entry: usize) -> bool {
 
 /// No local may start at a pc, where a step begins.
 pub fn no_local_starts(locals: &Locals, proto: &Proto, pc: u32) -> Result<(), Fault>
-    ensures { IfErr result (IsFaultOf proto.now) }
+    ensures fault { IfErr result (IsFaultOf proto.now) }
+    ensures none { OnOk result (starting (listed proto.now) pc (view_locals locals.now) ≡ 0) }
+    ensures refused { IfErr result (IsFaultOnlyWhere (0 < starting (listed proto.now) pc (view_locals locals.now))) }
 {
     if locals.starting(proto, pc) > 0 {
         return Err(bad_local(proto, pc));
@@ -84,7 +94,9 @@ pub fn no_local_starts(locals: &Locals, proto: &Proto, pc: u32) -> Result<(), Fa
 
 impl Locals {
     /// None is declared yet.
-    pub fn new(alloc: Global) -> Self {
+    pub fn new(alloc: Global) -> Self
+        ensures { view_locals result ≡ record { declared = []; active = [] } }
+    {
         Self {
             declared: Vec::new(alloc),
             active: Vec::new(alloc),
@@ -92,25 +104,25 @@ impl Locals {
     }
 
     /// Those that are active, by their registers.
-    pub fn active(&self) -> &[usize] {
+    pub fn active(&self) -> &[usize]
+        ensures { result.now ≡ (view_locals self.now).active }
+    {
         self.active.as_slice()
     }
 
     /// The first of the list that is not declared.
-    pub fn next(&self) -> usize {
+    pub fn next(&self) -> usize
+        ensures { result ≡ length (view_locals self.now).declared }
+    {
         self.declared.len()
     }
 
     /// How many of those that are to be declared next start at a pc.
-    pub fn starting(&self, proto: &Proto, pc: u32) -> usize {
-        let locals = proto.locals.items();
-        let next = self.next();
-        for entry in next..locals.len() {
-            if locals[entry].start != pc {
-                return entry - next;
-            }
-        }
-        locals.len().saturating_sub(next)
+    pub fn starting(&self, proto: &Proto, pc: u32) -> usize
+        ensures { result ≡ starting (listed proto.now) pc (view_locals self.now) }
+    {
+        let behind = locals_of(proto).iter().skip(self.next());
+        behind.take_while(|local| local.start == pc).count()
     }
 
     /// The next so many are declared at a pc, by a step.
@@ -121,7 +133,9 @@ impl Locals {
         pc: u32,
         step: Option<usize>,
     ) -> Result<(), Fault>
-        ensures { IfErr result (IsFaultOf proto.now) }
+        ensures fault { IfErr result (IsFaultOf proto.now) }
+        ensures declared { OnOk result (Some (view_locals self.new) ≡ declare (listed proto.now) count pc step (view_locals self.old)) }
+        ensures refused { IfErr result (IsFaultOnlyWhere (declare (listed proto.now) count pc step (view_locals self.old) ≡ None)) }
     {
         for _ in 0..count {
             self.declare_next(proto, pc, step)?;
@@ -130,21 +144,45 @@ impl Locals {
     }
 
     fn declare_next(&mut self, proto: &Proto, pc: u32, step: Option<usize>) -> Result<(), Fault>
-        ensures { IfErr result (IsFaultOf proto.now) }
+        ensures fault { IfErr result (IsFaultOf proto.now) }
+        ensures declared { OnOk result (Some (view_locals self.new) ≡ declare_next (listed proto.now) pc step (view_locals self.old)) }
+        ensures refused { IfErr result (IsFaultOnlyWhere (declare_next (listed proto.now) pc step (view_locals self.old) ≡ None)) }
     {
-        match proto.locals.items().get(self.next()) {
-            Some(local) if local.start == pc => {
-                if local.end < pc || self.outlives(proto, local.end) {
-                    return Err(bad_local(proto, pc));
-                }
-            }
-            _ => return Err(not_scheme(pc)),
+        if !self.nests(proto, pc) {
+            return Err(self.misplaced(proto, pc));
         }
-        Ok(self.enter(pc, step)?)
+        match self.enter(pc, step) {
+            Ok(()) => Ok(()),
+            Err(lost) => Err(lost.fault()),
+        }
+    }
+
+    // Whether the next one starts at a pc, and ends behind it and not behind the innermost one that is active.
+    fn nests(&self, proto: &Proto, pc: u32) -> bool
+        ensures { result ≡ nests (listed proto.now) pc (view_locals self.now) (slice_get (listed proto.now) (length (view_locals self.now).declared)) }
+    {
+        match locals_of(proto).get(self.next()) {
+            Some(local) => {
+                local.start == pc && pc <= local.end && !self.outlives(proto, local.end)
+            }
+            None => false,
+        }
+    }
+
+    // Why the next one is not declared at a pc.
+    fn misplaced(&self, proto: &Proto, pc: u32) -> Fault
+        ensures { IsFaultOf proto.now result }
+    {
+        match locals_of(proto).get(self.next()) {
+            Some(local) if local.start == pc => bad_local(proto, pc),
+            _ => not_scheme(pc),
+        }
     }
 
     // Whether a local that ends at a pc would outlive the innermost one that is active.
-    fn outlives(&self, proto: &Proto, end: u32) -> bool {
+    fn outlives(&self, proto: &Proto, end: u32) -> bool
+        ensures { result ≡ not (ends_within (innermost_end (listed proto.now) (view_locals self.now)) end) }
+    {
         match self.innermost_end(proto) {
             Some(outer_end) => outer_end < end,
             None => false,
@@ -152,13 +190,19 @@ impl Locals {
     }
 
     // Where the innermost one that is active ends.
-    fn innermost_end(&self, proto: &Proto) -> Option<u32> {
+    fn innermost_end(&self, proto: &Proto) -> Option<u32>
+        ensures { result ≡ innermost_end (listed proto.now) (view_locals self.now) }
+    {
         let entry = self.active.last()?;
-        Some(proto.locals.items().get(*entry)?.end)
+        Some(locals_of(proto).get(*entry)?.end)
     }
 
     // The next one becomes active.
-    fn enter(&mut self, pc: u32, step: Option<usize>) -> Result<(), Lost> {
+    fn enter(&mut self, pc: u32, step: Option<usize>) -> Result<(), Lost>
+        ensures entered { OnOk result (view_locals self.new ≡ entered step (view_locals self.old)) }
+        ensures fits { OnOk result (length (view_locals self.old).active < 2 ^ 32) }
+        ensures lost { IfErr result (IsLostOnlyWhere (2 ^ 32 ≤ length (view_locals self.old).active)) }
+    {
         let entry = self.next();
         let outer = self.active.last().copied();
         let register = number_at(pc, self.active.len())?;
@@ -173,26 +217,38 @@ impl Locals {
     }
 
     /// Those end that are over at a pc.
-    pub fn leave(&mut self, proto: &Proto, pc: u32) {
-        for _ in 0..self.active.len() {
-            match self.innermost_end(proto) {
-                Some(end) if end <= pc => {
-                    let _ = self.active.pop();
-                }
-                _ => break,
-            }
+    pub fn leave(&mut self, proto: &Proto, pc: u32)
+        ensures { view_locals self.new ≡ leave (listed proto.now) pc (view_locals self.old) }
+    {
+        while self.is_over(proto, pc) {
+            let _ = self.active.pop();
+        }
+    }
+
+    // Whether the innermost one that is active is over at a pc.
+    fn is_over(&self, proto: &Proto, pc: u32) -> bool
+        ensures { result ≡ is_over pc (innermost_end (listed proto.now) (view_locals self.now)) }
+    {
+        match self.innermost_end(proto) {
+            Some(end) => end <= pc,
+            None => false,
         }
     }
 
     /// The local of this place in the list is captured.
-    pub fn capture_entry(&mut self, entry: usize) {
+    pub fn capture_entry(&mut self, entry: usize)
+        ensures { view_locals self.new ≡ capture_entry entry (view_locals self.old) }
+    {
         if let Some(local) = self.declared.get_mut(entry) {
             local.captured = true;
         }
     }
 
     /// The local in a register is captured. Answers whether there is one.
-    pub fn capture(&mut self, register: u32) -> bool {
+    pub fn capture(&mut self, register: u32) -> bool
+        ensures locals { view_locals self.new ≡ capture register (view_locals self.old) }
+        ensures there { result ≡ is_some (slice_get (view_locals self.old).active register) }
+    {
         match self.active.get(register as usize).copied() {
             Some(entry) => {
                 self.capture_entry(entry);
@@ -203,9 +259,11 @@ impl Locals {
     }
 
     /// Whether the local in a register has a name that a source can write.
-    pub fn is_named(&self, proto: &Proto, register: u32) -> bool {
+    pub fn is_named(&self, proto: &Proto, register: u32) -> bool
+        ensures { result ≡ is_named (listed proto.now) register (view_locals self.now) }
+    {
         match self.active.get(register as usize) {
-            Some(entry) => match proto.locals.items().get(*entry) {
+            Some(entry) => match locals_of(proto).get(*entry) {
                 Some(local) => is_name(local.name.bytes()),
                 None => false,
             },
@@ -214,23 +272,25 @@ impl Locals {
     }
 
     /// The step that declares the local in a register, if one does.
-    pub fn declaring_step(&self, register: u32) -> Option<usize> {
+    pub fn declaring_step(&self, register: u32) -> Option<usize>
+        ensures { result ≡ declaring_step register (view_locals self.now) }
+    {
         let entry = self.active.get(register as usize)?;
         self.declared.get(*entry)?.step
     }
 
     /// Whether one of so many from one on is captured.
-    pub fn any_captured(&self, first: usize, count: usize) -> bool {
-        for entry in first..first.saturating_add(count) {
-            if let Some(Declared { captured: true, .. }) = self.declared.get(entry) {
-                return true;
-            }
-        }
-        false
+    pub fn any_captured(&self, first: usize, count: usize) -> bool
+        ensures { result ≡ any_captured first count (view_locals self.now) }
+    {
+        let mut some = self.declared.iter().skip(first).take(count);
+        some.any(|local| local.captured)
     }
 
     /// For each that is declared, one more than the highest register of a captured local among it and those that are active where it is innermost; 0 where none is.
-    pub fn highest_captured(&self, alloc: Global) -> Result<Vec<u32>, AllocError> {
+    pub fn highest_captured(&self, alloc: Global) -> Result<Vec<u32>, AllocError>
+        ensures { IfOk result (λ highest. highest.items ≡ highest_captured (view_locals self.now)) }
+    {
         let mut highest = Vec::with_capacity(alloc, self.declared.len())?;
         for local in self.declared.as_slice() {
             let one = if local.captured {
@@ -245,7 +305,9 @@ impl Locals {
 }
 
 /// Where this local is innermost, one more than the highest register of a captured one that is active; 0 where none is.
-pub fn up_to(highest: &[u32], innermost: Option<usize>) -> u32 {
+pub fn up_to(highest: &[u32], innermost: Option<usize>) -> u32
+    ensures { result ≡ up_to highest.now innermost }
+{
     match innermost {
         Some(entry) => highest.get(entry).copied().unwrap_or(0),
         None => 0,

@@ -1,6 +1,7 @@
 // Why words are no step, where nothing more is to be told than a pc.
-ghost use Rattle.std.specs.Prelude.{◌≡◌};
-ghost use Rattle.recover_expr.specs.Faults.{IsFree};
+ghost use Rattle.std.specs.Prelude.{◌≡◌, ◌≤◌, ◌^◌, IfOk, IfErr};
+ghost use Rattle.recover_expr.specs.Entries.{IsLostOnlyWhere};
+ghost use Rattle.recover_expr.specs.Faults.{IsFree, IsSameFault};
 ghost use Rattle.recover_expr.specs.declared.lost.Lost.TheVariants.{OutOfMemory};
 
 use crate::fault::{Fault, Reason};
@@ -12,6 +13,22 @@ use std::alloc::{AllocError, AllocFailed};
 pub enum Lost {
     NotScheme { pc: u32 },
     OutOfMemory,
+}
+
+impl Lost {
+    /// The fault that it is.
+    pub fn fault(self) -> Fault
+        ensures free { IsFree result }
+        ensures same { IsSameFault self result }
+    {
+        match self {
+            Lost::NotScheme { pc } => Fault::At {
+                pc,
+                reason: Reason::NotScheme,
+            },
+            Lost::OutOfMemory => Fault::OutOfMemory,
+        }
+    }
 }
 
 /// What was made or written of the words at a pc.
@@ -33,8 +50,14 @@ pub fn check(holds: bool, pc: u32) -> Result<(), Lost> {
 }
 
 /// A number that a step holds.
-pub fn number_at(pc: u32, number: usize) -> Result<u32, Lost> {
-    u32::try_from(number).map_err(|_| Lost::NotScheme { pc })
+pub fn number_at(pc: u32, number: usize) -> Result<u32, Lost>
+    ensures ok { IfOk result (λ n. n ≡ number) }
+    ensures lost { IfErr result (IsLostOnlyWhere (2 ^ 32 ≤ number)) }
+{
+    match u32::try_from(number) {
+        Ok(number) => Ok(number),
+        Err(_) => Err(Lost::NotScheme { pc }),
+    }
 }
 
 impl From<AllocError> for Lost {
@@ -57,12 +80,6 @@ impl From<Lost> for Fault {
     ghost from_gives = { λ _ fault. IsFree fault };
 
     fn from(lost: Lost) -> Self {
-        match lost {
-            Lost::NotScheme { pc } => Fault::At {
-                pc,
-                reason: Reason::NotScheme,
-            },
-            Lost::OutOfMemory => Fault::OutOfMemory,
-        }
+        lost.fault()
     }
 }
