@@ -1,7 +1,8 @@
 // What is wrong with a word or a local, where more is told than that it is of no source. It is told only where it is so.
 #![tactic(auto, using(crate::proofs::Blames::free_fits))]
 
-ghost use Rattle.std.specs.Prelude.{◌≡◌, IfSome, IsTrue};
+ghost use Rattle.std.specs.Prelude.{◌≡◌, IfSome, IsTrue, slice_get, option_and_then};
+ghost use Rattle.opcode.specs.Reading.{instr_of};
 ghost use Rattle.proto.specs.Chunk.{own};
 ghost use Rattle.proto.specs.View.{view_proto};
 ghost use Rattle.recover_expr.specs.Faults.{IsFree, IsFaultOf};
@@ -13,7 +14,7 @@ use lua_tree::is_name;
 use opcode::{Instr, Op, decode};
 use proto::{Constant, LocVar, Proto};
 
-fn code_of(proto: &Proto) -> &[u32]
+pub fn code_of(proto: &Proto) -> &[u32]
     ensures { result.now ≡ (own (view_proto proto.now)).code }
 {
     proto.code.items()
@@ -26,13 +27,13 @@ pub fn locals_of(proto: &Proto) -> &[LocVar]
     proto.locals.items()
 }
 
-fn constants_of(proto: &Proto) -> &[Constant]
+pub fn constants_of(proto: &Proto) -> &[Constant]
     ensures { result.now ≡ (own (view_proto proto.now)).constants }
 {
     proto.constants.items()
 }
 
-fn upvalue_names_of(proto: &Proto) -> &[ByteText]
+pub fn upvalue_names_of(proto: &Proto) -> &[ByteText]
     ensures { result.now ≡ (own (view_proto proto.now)).upvalue_names }
 {
     proto.upvalue_names.items()
@@ -40,7 +41,8 @@ fn upvalue_names_of(proto: &Proto) -> &[ByteText]
 
 /// The instruction at a pc.
 pub fn instr_at(proto: &Proto, pc: u32) -> Option<Instr>
-    ensures { IfSome result (λ instr. WordIs (own (view_proto proto.now)) pc (λ i. i ≡ instr)) }
+    ensures word { IfSome result (λ instr. WordIs (own (view_proto proto.now)) pc (λ i. i ≡ instr)) }
+    ensures instr { result ≡ option_and_then instr_of (slice_get (own (view_proto proto.now)).code pc) }
 {
     match code_of(proto).get(pc as usize) {
         Some(word) => decode(*word),

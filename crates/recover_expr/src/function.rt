@@ -1,10 +1,13 @@
 // A function whose words are read, and its words, constants and upvalues.
 #![tactic(auto, using(crate::proofs::Blames::free_fits))]
 
-ghost use Rattle.std.specs.Prelude.{IfErr};
+ghost use Rattle.std.specs.Prelude.{◌≡◌, true, false, Some, None, IfOk, IfErr, OnOk, OnErr};
+ghost use Rattle.recover_expr.specs.Entries.{IsLostOnlyWhere};
 ghost use Rattle.recover_expr.specs.Faults.{IsFaultOf};
+ghost use Rattle.recover_expr.specs.Locals.{IsFaultOnlyWhere};
+ghost use Rattle.recover_expr.specs.Situation.{view_function, instr_at, is_return, word_at, jump_behind, constant_in, global_in, upvalue_in, target};
 
-use crate::blame::{bad_name, instr_at, not_scheme};
+use crate::blame::{bad_name, constants_of, instr_at, not_scheme, upvalue_names_of};
 use crate::fault::Fault;
 use crate::lost::{Lost, check};
 use lua_tree::is_name;
@@ -35,12 +38,17 @@ pub struct Word {
 
 impl Word {
     /// The word is of no source.
-    pub fn lost(self) -> Lost {
+    pub fn lost(self) -> Lost
+        ensures { result ≡ Lost.NotScheme self.pc }
+    {
         Lost::NotScheme { pc: self.pc }
     }
 
     /// The word is of a source only where this holds.
-    pub fn check(self, holds: bool) -> Result<(), Lost> {
+    pub fn check(self, holds: bool) -> Result<(), Lost>
+        ensures ok { OnOk result (holds ≡ true) }
+        ensures lost { IfErr result (IsLostOnlyWhere (holds ≡ false)) }
+    {
         check(holds, self.pc)
     }
 }
@@ -58,18 +66,25 @@ pub fn last_pc(proto: &Proto) -> Result<u32, Lost> {
 }
 
 /// A RETURN with these fields.
-pub fn is_return(instr: Instr, a: u32, b: u32) -> bool {
+pub fn is_return(instr: Instr, a: u32, b: u32) -> bool
+    ensures { result ≡ is_return a b instr }
+{
     instr.op == Op::Return && instr.a == a && instr.b == b && instr.c == 0
 }
 
 impl<'a> Function<'a> {
     /// The instruction at a pc.
-    pub fn instr(&self, pc: u32) -> Option<Instr> {
+    pub fn instr(&self, pc: u32) -> Option<Instr>
+        ensures { result ≡ instr_at (view_function self.now) pc }
+    {
         instr_at(self.proto, pc)
     }
 
     /// The word at a pc.
-    pub fn word(&self, pc: u32) -> Result<Word, Lost> {
+    pub fn word(&self, pc: u32) -> Result<Word, Lost>
+        ensures word { IfOk result (λ word. Some word ≡ word_at (view_function self.now) pc) }
+        ensures lost { OnErr result (word_at (view_function self.now) pc ≡ None) }
+    {
         match (self.instr(pc), pc.checked_add(1)) {
             (Some(instr), Some(next)) => Ok(Word { pc, next, instr }),
             _ => Err(Lost::NotScheme { pc }),
@@ -77,24 +92,39 @@ impl<'a> Function<'a> {
     }
 
     /// The JMP behind a word, where that is not the last.
-    pub fn jump_behind(&self, word: Word) -> Result<Word, Lost> {
-        match self.word(word.next) {
-            Ok(jump) if word.next < self.last && jump.instr.op == Op::Jmp => Ok(jump),
-            _ => Err(word.lost()),
+    pub fn jump_behind(&self, word: Word) -> Result<Word, Lost>
+        ensures jump { IfOk result (λ jump. Some jump ≡ jump_behind (view_function self.now) word) }
+        ensures lost { OnErr result (jump_behind (view_function self.now) word ≡ None) }
+    {
+        let Ok(jump) = self.word(word.next) else {
+            return Err(word.lost());
+        };
+        if jump.pc < self.last && jump.instr.op == Op::Jmp {
+            Ok(jump)
+        } else {
+            Err(word.lost())
         }
     }
 
     /// The number of a constant that the word at a pc names.
-    pub fn constant(&self, number: u32, pc: u32) -> Result<u32, Lost> {
-        check((number as usize) < self.proto.constants.items().len(), pc)?;
-        Ok(number)
+    pub fn constant(&self, number: u32, pc: u32) -> Result<u32, Lost>
+        ensures constant { IfOk result (λ constant. Some constant ≡ constant_in (view_function self.now) number) }
+        ensures lost { OnErr result (constant_in (view_function self.now) number ≡ None) }
+    {
+        if (number as usize) < constants_of(self.proto).len() {
+            Ok(number)
+        } else {
+            Err(Lost::NotScheme { pc })
+        }
     }
 
     /// The number of the name of the global that a word reads or writes.
     pub fn global(&self, word: Word) -> Result<u32, Fault>
-        ensures { IfErr result (IsFaultOf self.now.proto.now) }
+        ensures fault { IfErr result (IsFaultOf self.now.proto.now) }
+        ensures global { IfOk result (λ global. Some global ≡ global_in (view_function self.now) word.instr) }
+        ensures refused { IfErr result (IsFaultOnlyWhere (global_in (view_function self.now) word.instr ≡ None)) }
     {
-        match self.proto.constants.items().get(word.instr.bx as usize) {
+        match constants_of(self.proto).get(word.instr.bx as usize) {
             Some(Constant::Text(name)) if is_name(name.bytes()) => Ok(word.instr.bx),
             Some(Constant::Text(_)) => Err(bad_name(self.proto, word.pc)),
             _ => Err(not_scheme(word.pc)),
@@ -103,9 +133,11 @@ impl<'a> Function<'a> {
 
     /// The upvalue that a word reads or writes.
     pub fn upvalue(&self, word: Word) -> Result<u32, Fault>
-        ensures { IfErr result (IsFaultOf self.now.proto.now) }
+        ensures fault { IfErr result (IsFaultOf self.now.proto.now) }
+        ensures upvalue { IfOk result (λ upvalue. Some upvalue ≡ upvalue_in (view_function self.now) word.instr) }
+        ensures refused { IfErr result (IsFaultOnlyWhere (upvalue_in (view_function self.now) word.instr ≡ None)) }
     {
-        match self.proto.upvalue_names.items().get(word.instr.b as usize) {
+        match upvalue_names_of(self.proto).get(word.instr.b as usize) {
             Some(name) if is_name(name.bytes()) => Ok(word.instr.b),
             Some(_) => Err(bad_name(self.proto, word.pc)),
             None => Err(not_scheme(word.pc)),
@@ -121,11 +153,14 @@ impl<'a> Function<'a> {
     }
 
     /// Where a word jumps to, in the code.
-    pub fn target(&self, word: Word) -> Result<u32, Lost> {
+    pub fn target(&self, word: Word) -> Result<u32, Lost>
+        ensures target { IfOk result (λ to. Some to ≡ target (view_function self.now) word) }
+        ensures lost { OnErr result (target (view_function self.now) word ≡ None) }
+    {
         let target = i64::from(word.next) + i64::from(word.instr.sbx);
-        match u32::try_from(target) {
-            Ok(target) if target <= self.last => Ok(target),
-            _ => Err(word.lost()),
+        if target < 0 || target > i64::from(self.last) {
+            return Err(word.lost());
         }
+        Ok(target as u32)
     }
 }

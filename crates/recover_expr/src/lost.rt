@@ -1,5 +1,5 @@
 // Why words are no step, where nothing more is to be told than a pc.
-ghost use Rattle.std.specs.Prelude.{◌≡◌, ◌≤◌, ◌^◌, IfOk, IfErr};
+ghost use Rattle.std.specs.Prelude.{◌≡◌, ◌≤◌, ◌^◌, true, false, IfOk, IfErr, OnOk};
 ghost use Rattle.recover_expr.specs.Entries.{IsLostOnlyWhere};
 ghost use Rattle.recover_expr.specs.Faults.{IsFree, IsSameFault};
 ghost use Rattle.recover_expr.specs.declared.lost.Lost.TheVariants.{OutOfMemory};
@@ -41,7 +41,10 @@ pub fn made_at<T>(pc: u32, made: Result<T, CoreFault>) -> Result<T, Lost> {
 }
 
 /// The words at a pc are those of a source only where this holds.
-pub fn check(holds: bool, pc: u32) -> Result<(), Lost> {
+pub fn check(holds: bool, pc: u32) -> Result<(), Lost>
+    ensures ok { OnOk result (holds ≡ true) }
+    ensures lost { IfErr result (IsLostOnlyWhere (holds ≡ false)) }
+{
     if holds {
         Ok(())
     } else {
