@@ -1,3 +1,5 @@
 pub mod Active
 pub mod Blames
+pub mod EntriesAt
+pub mod EntriesTaken
 pub mod Listed

@@ -1,5 +1,6 @@
 // Why words are no step, where nothing more is to be told than a pc.
-ghost use Rattle.std.specs.Prelude.{◌≡◌, ◌≤◌, ◌^◌, true, false, IfOk, IfErr, OnOk};
+ghost use Rattle.std.specs.Prelude.{◌≡◌, ◌≤◌, ◌^◌, true, false, Ok, Err, IfOk, IfErr, OnOk};
+ghost use Rattle.core_expr.specs.declared.fault.CoreFault.{CoreFault};
 ghost use Rattle.recover_expr.specs.Entries.{IsLostOnlyWhere};
 ghost use Rattle.recover_expr.specs.Faults.{IsFree, IsSameFault};
 ghost use Rattle.recover_expr.specs.declared.lost.Lost.TheVariants.{OutOfMemory};
@@ -32,7 +33,10 @@ impl Lost {
 }
 
 /// What was made or written of the words at a pc.
-pub fn made_at<T>(pc: u32, made: Result<T, CoreFault>) -> Result<T, Lost> {
+pub fn made_at<T>(pc: u32, made: Result<T, CoreFault>) -> Result<T, Lost>
+    ensures ok { IfOk result (λ value. made ≡ Ok value) }
+    ensures lost { IfErr result (IsLostOnlyWhere (made ≡ Err CoreFault.NotScheme)) }
+{
     match made {
         Ok(value) => Ok(value),
         Err(CoreFault::NotScheme) => Err(Lost::NotScheme { pc }),
