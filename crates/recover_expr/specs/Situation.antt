@@ -10,7 +10,7 @@ use Rattle.proto.specs.View.{view_proto}
 use Rattle.proto.specs.declared.parts.Constant.{Constant}
 use Rattle.core_expr.specs.Values.{Value, local_value, OperandValue, constant_operand, value_operand, Inner, view_bodies}
 use Rattle.recover_expr.specs.Entries.{Entries, entries_of, place_in, take_at}
-use Rattle.recover_expr.specs.Locals.{Scope, view_locals, innermost, is_named}
+use Rattle.recover_expr.specs.Locals.{Scope, view_locals, innermost, is_named, one_more}
 use Rattle.recover_expr.specs.declared.function.Function as declared
 use Rattle.recover_expr.specs.declared.function.Word as word
 use Rattle.recover_expr.specs.declared.state.State.{State}
@@ -50,6 +50,20 @@ view_state s = record {
   seen = s.seen;
 }
 
+-- before the first word
+abbrev pub at_first : List (Option Inner) → Situation
+at_first left = record {
+  left = left;
+  scope = record { declared = []; active = [] };
+  step = 0;
+  pc = 0;
+  inside = None;
+  base = 0;
+  entries = [];
+  taken = 0;
+  seen = 0;
+}
+
 -- the step of this number begins at a pc
 abbrev pub begun : (step pc : ℕ) → Situation → Situation
 begun step pc s = record s {
@@ -78,7 +92,7 @@ is_return a b i = is_op_return i.op && ((i.a == a) && ((i.b == b) && (i.c == 0))
 
 -- a constant of this number is taken, and so all before it
 abbrev pub see_constant : (number : ℕ) → Situation → Situation
-see_constant k s = record s { seen = max s.seen (suc k) }
+see_constant k s = record s { seen = max s.seen (one_more k) }
 
 abbrev pub see_operand : (operand : ℕ) → Situation → Situation
 see_operand o s = if nat_le 256 o then see_constant (o - 256) s else s

@@ -1,4 +1,6 @@
 // The registers that instructions read and write.
+ghost use Rattle.std.specs.Prelude.{◌≡◌};
+ghost use Rattle.recover_expr.specs.Situation.{has_operands};
 
 use crate::function::FIRST_CONSTANT;
 use opcode::{Instr, Op};
@@ -9,7 +11,9 @@ fn is_from(operand: u32, base: u32) -> bool {
 }
 
 /// Whether the fields B and C of instructions of this opcode are operands: registers or constants.
-pub fn has_operands(op: Op) -> bool {
+pub fn has_operands(op: Op) -> bool
+    ensures { result ≡ has_operands op }
+{
     match op {
         Op::SetTable | Op::Eq | Op::Lt | Op::Le => true,
         Op::Add | Op::Sub | Op::Mul | Op::Div | Op::Mod | Op::Pow => true,
