@@ -18,9 +18,9 @@ use Rattle.parser.specs.Fields.{depth_of_field, field_of, cond_of, inside_of}
 use Rattle.parser.specs.Program.{Program, give, stop, skip, want, choose, call, reads, one_name, more_names_by, method_name, body, values, expressions_at, generic_of, first_parameter, whole, more_expressions_at, fields, one_field, separator, fields_after, add_field, block, one_statement, semicolon, branches, prefix, targets}
 use Rattle.parser.specs.Runs.{kind_of, line_of}
 use Rattle.parser.specs.Loops.{names_with, parameters_with, expressions_with, fields_with, block_with, targets_with, if_with}
-use Rattle.parser.specs.Finds.{Takes, Tests, Outcome, found, halted, Leads, Finds, FindsArm, FindsNames}
+use Rattle.parser.specs.Finds.{Accepts, Takes, Tests, Outcome, found, halted, Leads, Finds, FindsArm, FindsNames}
 use Rattle.parser.proofs.SoundLists.{add_depth}
-use Rattle.parser.proofs.Steps.{finds, refuses, lead_look, lead_give, lead_stop, lead_skip, lead_yes, lead_no, lead_call, lead_call_not, lead_more, lead_through, lead_then, lead_else}
+use Rattle.parser.proofs.Steps.{finds, refuses, lead_look, lead_give, lead_stop, lead_skip, lead_yes, lead_no, lead_accept, lead_leave, lead_call, lead_call_not, lead_more, lead_through, lead_then, lead_else}
 
 -- lists that grow at their end
 
@@ -86,22 +86,22 @@ after_name : {mark : TokenKind} {line : ℕ} {rest : List Token} {outcome : Outc
 after_name read name l = simp append_assoc at l
 
 pub name_turn : {mark : TokenKind} {next : Bool} {before middle line : ℕ} {tokens between rest : List Token} {name : Text} {outcome : Outcome _} (read : List Text) →
-    Tests mark tokens next → next ≡ true → Takes 0 tokens middle between → Finds one_name middle between name line rest →
+    Accepts mark before tokens middle between next → next ≡ true → Finds one_name middle between name line rest →
     Leads (names_with mark (read ++ name ∷ [])) line rest outcome → Leads (names_with mark read) before tokens outcome
-name_turn {name} read t n k f l = lead_more (λ more. name ∷ more) (λ all m. lead_yes t n (lead_skip k refl (lead_call f m))) (after_name read name l)
+name_turn {name} read t n f l = lead_more (λ more. name ∷ more) (λ all m. lead_accept t n (lead_call f m)) (after_name read name l)
 
 pub parameters_from : {line : ℕ} {rest : List Token} {outcome : Outcome _} (read : List Text) (name : Text) →
     Leads (parameters_with (read ++ name ∷ [])) line rest outcome → Leads (call first_parameter (λ more. give (record { names = read ++ name ∷ more.names; vararg = more.vararg }))) line rest outcome
 parameters_from read name l = simp append_assoc at l
 
 -- a name and a comma before another parameter
-pub parameter_turn : {dots comma : Bool} {before between line : ℕ} {tokens after rest : List Token} {name : Text} {outcome : Outcome _} (read : List Text) →
-    Tests TokenKind.DotDotDot tokens dots → dots ≡ false → Finds one_name before tokens name between after →
-    Tests TokenKind.Comma after comma → comma ≡ true → Takes 0 after line rest →
+pub parameter_turn : {dots comma : Bool} {before first between line : ℕ} {tokens here after rest : List Token} {name : Text} {outcome : Outcome _} (read : List Text) →
+    Accepts TokenKind.DotDotDot before tokens first here dots → dots ≡ false → Finds one_name first here name between after →
+    Accepts TokenKind.Comma between after line rest comma → comma ≡ true →
     Leads (parameters_with (read ++ name ∷ [])) line rest outcome → Leads (parameters_with read) before tokens outcome
-parameter_turn {name} read d dn f t n k l =
+parameter_turn {name} read d dn f t n l =
     lead_more (λ more. record { names = name ∷ more.names; vararg = more.vararg })
-    (λ all m. lead_no d dn (lead_call f (lead_more (λ more. more) (λ every e. lead_yes t n (lead_skip k refl e)) m))) (parameters_from read name l)
+    (λ all m. lead_leave d dn (lead_call f (lead_more (λ more. more) (λ every e. lead_accept t n e) m))) (parameters_from read name l)
 
 after_expression : {depth line : ℕ} {rest : List Token} {outcome : Outcome _} (read : Expressions) (e : Expression) →
     Leads (expressions_with depth (join_expressions read (expression e no_expressions))) line rest outcome → Leads (call (more_expressions_at depth) (λ more. give (join_expressions read (expression e more)))) line rest outcome

@@ -1,5 +1,5 @@
 -- A fault that a call hands on.
-use Rattle.std.proofs.Common.{◌≡◌, refl, ℕ, Bool, Option, Some, None, is_some, Bor, Result, Ok, Err, sym, subst, IfOk, IfErr}
+use Rattle.std.proofs.Common.{◌≡◌, refl, ℕ, Bool, Option, Some, None, is_some, Bor, Result, Ok, Err, sym, subst, ap, ◌∙◌, IfOk, IfErr}
 use Rattle.std.specs.Option.{option_copied}
 use Rattle.std.specs.Result.{IsErrAnd}
 use Rattle.lua_num.specs.declared.names.Names.{Names}
@@ -37,6 +37,10 @@ cond_made cond body = refl
 pub inside_made : (cond : Exp) (body : Block) → inside_of (roll-Arm (record { cond = cond; body = body })) ≡ view_block body
 unfolding roll-Arm denote.Hole.Carrier.roll
 inside_made cond body = refl
+
+-- what a test says of the value that a box holds
+pub tested : {A : Type 0} (test : A → Bool) {held shown : A} {answer truth : Bool} → shown ≡ held → answer ≡ test shown → answer ≡ truth → test held ≡ truth
+tested test s a t = ap test (sym s) ∙ sym a ∙ t
 
 -- whether there is a value behind a reference
 pub copied_some : {A : Type 0} (o : Option (Bor A)) → is_some (option_copied o) ≡ is_some o

@@ -1,5 +1,5 @@
 -- Steps of a run, from what the parser's functions answer.
-use Rattle.std.proofs.Common.{cond, ◌≡◌, ℕ, ◌≤◌, Bool, true, false, List, [], ◌∷◌, Option, refl, sym, subst}
+use Rattle.std.proofs.Common.{cond, ◌≡◌, ℕ, ◌≤◌, Bool, true, false, List, [], ◌∷◌, Option, Some, refl, sym, subst, ap, arith}
 use Rattle.lua_num.specs.Bytes.{Text}
 use Rattle.lua_tree.specs.Spelled.{Phrase, names_phrase, more_names_phrase, Meant}
 use Rattle.lua_tree.specs.declared.token.Token.{Token}
@@ -9,7 +9,7 @@ use Rattle.parser.specs.Program.{Goal, Program, give, stop, look, skip, want, ch
 use Rattle.parser.specs.Runs.{Why, unexpected, too_deep, kind_of, line_of, End, done, fault, Runs, gives, stops, looks, skips, deep, ends, wants, misses, chooses, passes, calls, fails}
 use Rattle.parser.proofs.Ends.{one_end}
 use Rattle.parser.proofs.RunSteps.{tail}
-use Rattle.parser.specs.Finds.{Takes, Tests, TakesNot, IsNoNext, Wants, WantsNot, Outcome, found, halted, Means, Leads, Finds, Refuses, FindsNames, RefusesNames}
+use Rattle.parser.specs.Finds.{Accepts, Takes, Tests, TakesNot, IsNoNext, Wants, WantsNot, Outcome, found, halted, Means, Leads, Finds, Refuses, FindsNames, RefusesNames}
 use Rattle.parser.specs.Loops.{names_with}
 
 pub finds : {answer : Phrase} {goal : Goal answer} {before last : ℕ} {tokens rest : List Token} {meant : Meant answer} →
@@ -93,6 +93,20 @@ pub lead_no : {answer : Phrase} {next : Bool} {kind : TokenKind} {yes no : Progr
     Tests kind tokens next → next ≡ false → Leads no before tokens outcome → Leads (choose kind yes no) before tokens outcome
 lead_no t n l = record { run = λ end m. passes (t.no n) (l.run end m) }
 
+-- a mark that is taken where it is next
+pub lead_accept : {answer : Phrase} {next : Bool} {kind : TokenKind} {yes no : Program answer} {before line : ℕ} {tokens rest : List Token} {outcome : Outcome answer} →
+    Accepts kind before tokens line rest next → next ≡ true → Leads yes line rest outcome → Leads (choose kind (skip 0 yes) no) before tokens outcome
+lead_accept {answer} {kind} {yes} {no} {before} {rest} {outcome} a n l =
+    let w = a.yes n in
+    let low : 0 ≤ 200 = omega arith in
+    record { run = λ end m. subst (λ x. Runs 200 answer (choose kind (skip 0 yes) no) before x end) (sym w.first) (chooses (ap (λ x. Some x) w.is) (skips low (subst (λ x. Runs 200 answer yes x rest end) w.on (l.run end m)))) }
+
+pub lead_leave : {answer : Phrase} {next : Bool} {kind : TokenKind} {yes no : Program answer} {before line : ℕ} {tokens rest : List Token} {outcome : Outcome answer} →
+    Accepts kind before tokens line rest next → next ≡ false → Leads no line rest outcome → Leads (choose kind yes no) before tokens outcome
+lead_leave {answer} {no} {line} {tokens} a n l =
+    let w = a.no n in
+    record { run = λ end m. passes w.not (subst (λ x. Runs 200 answer no x tokens end) w.on (subst (λ x. Runs 200 answer no line x end) w.left (l.run end m))) }
+
 pub lead_call : {answer inner : Phrase} {goal : Goal inner} {then : Meant inner → Program answer} {before last : ℕ} {tokens rest : List Token} {meant : Meant inner} {outcome : Outcome answer} →
     Finds goal before tokens meant last rest → Leads (then meant) last rest outcome → Leads (call goal then) before tokens outcome
 lead_call f l = record { run = λ end m. calls (f.leads.run _ refl) (l.run end m) }
@@ -166,4 +180,4 @@ pub lead_names_not : {answer : Phrase} {mark : TokenKind} {then : Meant (more_na
     RefusesNames mark first before tokens rest halt → Leads (call (more_names_by mark) then) before tokens (halted halt rest)
 lead_names_not {halt} r = record { run = refused_names halt r }
 
-pub ruleset steps = (finds, refuses, finds_names, refuses_names, lead_give, lead_stop, lead_memory, lead_look, lead_skip, lead_skip_not, lead_want, lead_want_not, lead_yes, lead_no, lead_call, lead_call_not)
+pub ruleset steps = (finds, refuses, finds_names, refuses_names, lead_give, lead_stop, lead_memory, lead_look, lead_skip, lead_skip_not, lead_want, lead_want_not, lead_yes, lead_no, lead_accept, lead_leave, lead_call, lead_call_not)

@@ -2,6 +2,8 @@
 use Rattle.std.specs.Prelude.{ℕ, max, Option, Some, None}
 use Rattle.lua_tree.specs.Syntax.{Expression, Statements, ForStep, no_step, by_step}
 use Rattle.lua_tree.specs.View.{view_exp, view_block}
+use Rattle.std.specs.declared.alloc.Global.{Global}
+use Rattle.std.specs.declared.boxed.Box.{Box}
 use Rattle.lua_tree.specs.declared.tree.Exp.{Exp}
 use Rattle.lua_tree.specs.declared.tree.Arm.{Arm, Arm'}
 use Rattle.lua_tree.specs.View.{view_kind}
@@ -19,14 +21,14 @@ depth_of_field (positional_field e) = depth_of_expression e
 depth_of_field (named_field name e) = depth_of_expression e
 depth_of_field (keyed_field key e) = max (depth_of_expression key) (depth_of_expression e)
 
-abbrev pub step_of : Option Exp → ForStep
+abbrev pub step_of : Option (Box Exp Global) → ForStep
 step_of None = no_step
-step_of (Some e) = by_step (view_exp e)
+step_of (Some e) = by_step (view_exp e.value)
 
 -- a literal, where there is one
-abbrev pub literal_view : Option Exp → Option Expression
+abbrev pub literal_view : Option (Box Exp Global) → Option Expression
 literal_view None = None
-literal_view (Some e) = Some (view_exp e)
+literal_view (Some e) = Some (view_exp e.value)
 
 -- the condition and the block of an arm
 abbrev pub cond_of : Arm → Expression

@@ -39,6 +39,17 @@ pub record Wants (kind : TokenKind) (tokens : List Token) (line : ℕ) (rest : L
   pub is : token.kind ≡ kind
   pub on : line ≡ token.line
 
+-- nothing is taken, since the next token is not of this kind
+pub record Leaves (kind : TokenKind) (before : ℕ) (tokens : List Token) (line : ℕ) (rest : List Token) : Type 0 where
+  pub left : rest ≡ tokens
+  pub on : line ≡ before
+  pub not : kind_of tokens ≡ Some kind → ⊥
+
+-- the next token is taken where it is of this kind
+pub record Accepts (kind : TokenKind) (before : ℕ) (tokens : List Token) (line : ℕ) (rest : List Token) (answer : Bool) : Type 0 where
+  pub yes : answer ≡ true → Wants kind tokens line rest
+  pub no : answer ≡ false → Leaves kind before tokens line rest
+
 -- the next token is not of this kind
 pub record WantsNot (kind : TokenKind) (tokens rest : List Token) (halt : Halt) : Type 0 where
   pub left : rest ≡ tokens

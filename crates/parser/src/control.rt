@@ -38,8 +38,7 @@ impl Cursor<'_> {
             arms.height = arms.height.max(arm.height);
             arms.part.push(arm.part)?;
         }
-        if self.is(Mark::Else) {
-            self.take(0)?;
+        if self.accept(Mark::Else) {
             let last = self.block(alloc, depth)?;
             self.want(Mark::End)?;
             return Ok(Tall {
@@ -76,7 +75,7 @@ impl Cursor<'_> {
         Ok(Tall {
             height: cond.height.max(body.height),
             part: Arm {
-                cond: cond.part,
+                cond: Box::into_inner(cond.part),
                 body: body.part,
             },
         })
@@ -134,7 +133,7 @@ impl Cursor<'_> {
 
     /// The step of a numeric `for`, where there is one.
     #[cycle(parser)]
-    fn step(&mut self, alloc: Global, depth: usize) -> Result<Tall<Option<Exp>>, Halt>
+    fn step(&mut self, alloc: Global, depth: usize) -> Result<Tall<Option<Box<Exp>>>, Halt>
         requires { depth ≤ 200 }
         ensures found { IfOk result (λ x. Finds (step depth) self.old.line self.old.rest.now (step_of x.part) self.new.line self.new.rest.now) }
         ensures height { IfOk result (λ x. x.height ≡ depth_of_step (step_of x.part)) }
@@ -191,13 +190,23 @@ impl Cursor<'_> {
     }
 }
 
-fn numeric_for(name: ByteText, from: Exp, to: Exp, step: Option<Exp>, body: Block) -> StatKind
-    ensures { view_statement result ≡ a_numeric_for name (view_exp from) (view_exp to) (step_of step) (view_block body) }
+fn numeric_for(
+    name: ByteText,
+    from: Box<Exp>,
+    to: Box<Exp>,
+    step: Option<Box<Exp>>,
+    body: Block,
+) -> StatKind
+    ensures { view_statement result ≡ a_numeric_for name (view_exp from.value) (view_exp to.value) (step_of step) (view_block body) }
 {
+    let step = match step {
+        Some(step) => Some(Box::into_inner(step)),
+        None => None,
+    };
     StatKind::NumFor {
         name,
-        from,
-        to,
+        from: Box::into_inner(from),
+        to: Box::into_inner(to),
         step,
         body,
     }

@@ -1,16 +1,17 @@
 // A place among the tokens.
-ghost use Rattle.std.specs.Prelude.{◌≡◌, ◌<◌, ◌+◌, ◌==◌, length, IfOk, IfErr, option_copied, Some};
+ghost use Rattle.std.specs.Prelude.{◌≡◌, ◌≤◌, ◌<◌, ◌+◌, ◌==◌, length, IfOk, IfErr, option_copied, Some};
 ghost use Rattle.parser.specs.Program.{one_name};
 ghost use Rattle.parser.specs.Runs.{kind_of, line_of};
 ghost use Rattle.parser.specs.Fields.{literal_view};
 ghost use Rattle.parser.specs.Classes.{literal_of, name_of, text_of, start_of, suffix_of, is_block_end};
 ghost use Rattle.parser.specs.Operators.{infix_of, unary_of};
 ghost use Rattle.parser.specs.Marks.{kind_of_mark};
-ghost use Rattle.parser.specs.Finds.{Takes, Tests, TakesNot, Wants, WantsNot, Finds, Refuses};
+ghost use Rattle.parser.specs.Finds.{Accepts, Takes, Tests, TakesNot, Wants, WantsNot, Finds, Refuses};
 ghost use Rattle.parser.specs.declared.cursor.Halt.TheVariants.{OutOfMemory, Unexpected};
 
 use crate::classes::{self, Start, Suffix};
 use crate::mark::{Mark, mark_of};
+use crate::nodes::boxed;
 use crate::operator::Infix;
 use lua_num::ByteText;
 use lua_tree::{Exp, ExpKind, Token, TokenKind, UnaryOp};
@@ -109,6 +110,21 @@ impl<'a> Cursor<'a> {
         self.take(0)
     }
 
+    /// Whether the next token is this mark, which is taken then.
+    pub fn accept(&mut self, mark: Mark) -> bool
+        ensures accepted { Accepts (kind_of_mark mark) self.old.line self.old.rest.now self.new.line self.new.rest.now result }
+        ensures shorter { length self.new.rest.now ≤ length self.old.rest.now }
+    {
+        match self.rest {
+            [token, rest @ ..] if mark_of(Some(&token.kind)) == Some(mark) => {
+                self.rest = rest;
+                self.line = token.line;
+                true
+            }
+            _ => false,
+        }
+    }
+
     /// The name that is next, where one is.
     pub fn next_name(&self) -> Option<&'a ByteText>
         ensures { option_copied result ≡ name_of (kind_of self.now.rest.now) }
@@ -173,7 +189,7 @@ impl<'a> Cursor<'a> {
     }
 
     /// The literal that is next, where one is.
-    pub fn literal(&self, alloc: Global) -> Result<Option<Exp>, AllocError>
+    pub fn literal(&self, alloc: Global) -> Result<Option<Box<Exp>>, AllocError>
         ensures { IfOk result (λ e. literal_view e ≡ literal_of (line_of self.now.rest.now) (kind_of self.now.rest.now)) }
     {
         let line = self.next_line();
@@ -186,7 +202,8 @@ impl<'a> Cursor<'a> {
             Some(TokenKind::Text(text)) => ExpKind::Text(copy_of(alloc, text)?),
             _ => return Ok(None),
         };
-        Ok(Some(Exp { line, kind }))
+        let literal = boxed(alloc, line, kind)?;
+        Ok(Some(literal))
     }
 }
 

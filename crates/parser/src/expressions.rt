@@ -3,25 +3,23 @@ ghost use Rattle.std.specs.Prelude.{◌≡◌, ◌+◌, ◌≤◌, ◌<◌, leng
 ghost use Rattle.lua_tree.specs.View.{view_exp};
 ghost use Rattle.lua_tree.specs.WellFormed.{depth_of_expression};
 ghost use Rattle.parser.specs.Program.{whole, climb, simple, function_value, table_of};
-ghost use Rattle.lua_tree.specs.Syntax.{unary_expression};
-ghost use Rattle.parser.specs.Operators.{infix_expression};
 ghost use Rattle.parser.specs.Finds.{Finds, Refuses};
 
 use crate::classes::Role;
 use crate::cursor::{Cursor, Halt};
 use crate::mark::Mark;
-use crate::operator::Infix;
+use crate::nodes::{constructor, function, operation, unary};
 use crate::tall::Tall;
-use lua_tree::{Exp, ExpKind, UnaryOp};
-use std::alloc::{AllocError, Global};
+use lua_tree::Exp;
+use std::alloc::Global;
 
 impl Cursor<'_> {
     /// An expression of operators that bind more strongly than a limit.
     #[cycle(parser)]
-    pub fn whole(&mut self, alloc: Global, depth: usize, limit: u8) -> Result<Tall<Exp>, Halt>
+    pub fn whole(&mut self, alloc: Global, depth: usize, limit: u8) -> Result<Tall<Box<Exp>>, Halt>
         requires { depth ≤ 200 }
-        ensures found { IfOk result (λ x. Finds (whole depth limit) self.old.line self.old.rest.now (view_exp x.part) self.new.line self.new.rest.now) }
-        ensures height { IfOk result (λ x. x.height ≡ depth_of_expression (view_exp x.part)) }
+        ensures found { IfOk result (λ x. Finds (whole depth limit) self.old.line self.old.rest.now (view_exp x.part.value) self.new.line self.new.rest.now) }
+        ensures height { IfOk result (λ x. x.height ≡ depth_of_expression (view_exp x.part.value)) }
         ensures low { IfOk result (λ x. depth + x.height ≤ 200) }
         ensures refused { IfErr result (Refuses (whole depth limit) self.old.line self.old.rest.now self.new.rest.now) }
         ensures shorter { IfOk result (λ _. length self.new.rest.now < length self.old.rest.now) }
@@ -54,14 +52,14 @@ impl Cursor<'_> {
         depth: usize,
         limit: u8,
         start: u32,
-        first: Tall<Exp>,
-    ) -> Result<Tall<Exp>, Halt>
+        first: Tall<Box<Exp>>,
+    ) -> Result<Tall<Box<Exp>>, Halt>
         requires low { depth + first.height ≤ 200 }
-        requires height { first.height ≡ depth_of_expression (view_exp first.part) }
-        ensures found { IfOk result (λ x. Finds (climb depth limit start (view_exp first.part)) self.old.line self.old.rest.now (view_exp x.part) self.new.line self.new.rest.now) }
-        ensures height { IfOk result (λ x. x.height ≡ depth_of_expression (view_exp x.part)) }
+        requires height { first.height ≡ depth_of_expression (view_exp first.part.value) }
+        ensures found { IfOk result (λ x. Finds (climb depth limit start (view_exp first.part.value)) self.old.line self.old.rest.now (view_exp x.part.value) self.new.line self.new.rest.now) }
+        ensures height { IfOk result (λ x. x.height ≡ depth_of_expression (view_exp x.part.value)) }
         ensures low { IfOk result (λ x. depth + x.height ≤ 200) }
-        ensures refused { IfErr result (Refuses (climb depth limit start (view_exp first.part)) self.old.line self.old.rest.now self.new.rest.now) }
+        ensures refused { IfErr result (Refuses (climb depth limit start (view_exp first.part.value)) self.old.line self.old.rest.now self.new.rest.now) }
         ensures shorter { IfOk result (λ _. length self.new.rest.now ≤ length self.old.rest.now) }
     {
         let mut left = first;
@@ -82,10 +80,10 @@ impl Cursor<'_> {
 
     /// A literal, a function, a constructor or a prefix expression.
     #[cycle(parser)]
-    fn simple(&mut self, alloc: Global, depth: usize) -> Result<Tall<Exp>, Halt>
+    fn simple(&mut self, alloc: Global, depth: usize) -> Result<Tall<Box<Exp>>, Halt>
         requires { depth ≤ 200 }
-        ensures found { IfOk result (λ x. Finds (simple depth) self.old.line self.old.rest.now (view_exp x.part) self.new.line self.new.rest.now) }
-        ensures height { IfOk result (λ x. x.height ≡ depth_of_expression (view_exp x.part)) }
+        ensures found { IfOk result (λ x. Finds (simple depth) self.old.line self.old.rest.now (view_exp x.part.value) self.new.line self.new.rest.now) }
+        ensures height { IfOk result (λ x. x.height ≡ depth_of_expression (view_exp x.part.value)) }
         ensures low { IfOk result (λ x. depth + x.height ≤ 200) }
         ensures refused { IfErr result (Refuses (simple depth) self.old.line self.old.rest.now self.new.rest.now) }
         ensures shorter { IfOk result (λ _. length self.new.rest.now < length self.old.rest.now) }
@@ -108,10 +106,10 @@ impl Cursor<'_> {
 
     /// A function expression.
     #[cycle(parser)]
-    fn function_value(&mut self, alloc: Global, depth: usize) -> Result<Tall<Exp>, Halt>
+    fn function_value(&mut self, alloc: Global, depth: usize) -> Result<Tall<Box<Exp>>, Halt>
         requires { depth ≤ 200 }
-        ensures found { IfOk result (λ x. Finds (function_value depth) self.old.line self.old.rest.now (view_exp x.part) self.new.line self.new.rest.now) }
-        ensures height { IfOk result (λ x. x.height ≡ depth_of_expression (view_exp x.part)) }
+        ensures found { IfOk result (λ x. Finds (function_value depth) self.old.line self.old.rest.now (view_exp x.part.value) self.new.line self.new.rest.now) }
+        ensures height { IfOk result (λ x. x.height ≡ depth_of_expression (view_exp x.part.value)) }
         ensures low { IfOk result (λ x. depth + x.height ≤ 200) }
         ensures refused { IfErr result (Refuses (function_value depth) self.old.line self.old.rest.now self.new.rest.now) }
         ensures shorter { IfOk result (λ _. length self.new.rest.now < length self.old.rest.now) }
@@ -120,20 +118,17 @@ impl Cursor<'_> {
         self.take(depth + 1)?;
         let body = self.body(alloc, depth + 1, line)?;
         Ok(Tall {
-            part: Exp {
-                line,
-                kind: ExpKind::Function(body.part),
-            },
             height: body.height + 1,
+            part: function(alloc, line, body.part)?,
         })
     }
 
     /// A constructor.
     #[cycle(parser)]
-    fn table(&mut self, alloc: Global, depth: usize) -> Result<Tall<Exp>, Halt>
+    fn table(&mut self, alloc: Global, depth: usize) -> Result<Tall<Box<Exp>>, Halt>
         requires { depth ≤ 200 }
-        ensures found { IfOk result (λ x. Finds (table_of depth) self.old.line self.old.rest.now (view_exp x.part) self.new.line self.new.rest.now) }
-        ensures height { IfOk result (λ x. x.height ≡ depth_of_expression (view_exp x.part)) }
+        ensures found { IfOk result (λ x. Finds (table_of depth) self.old.line self.old.rest.now (view_exp x.part.value) self.new.line self.new.rest.now) }
+        ensures height { IfOk result (λ x. x.height ≡ depth_of_expression (view_exp x.part.value)) }
         ensures low { IfOk result (λ x. depth + x.height ≤ 200) }
         ensures refused { IfErr result (Refuses (table_of depth) self.old.line self.old.rest.now self.new.rest.now) }
         ensures shorter { IfOk result (λ _. length self.new.rest.now < length self.old.rest.now) }
@@ -143,51 +138,8 @@ impl Cursor<'_> {
         let items = self.fields(alloc, depth + 1)?;
         self.want(Mark::CloseBrace)?;
         Ok(Tall {
-            part: Exp {
-                line,
-                kind: ExpKind::Table(items.part),
-            },
             height: items.height + 1,
+            part: constructor(alloc, line, items.part)?,
         })
     }
-}
-
-/// A unary operator with its operand.
-fn unary(alloc: Global, line: u32, op: UnaryOp, of: Exp) -> Result<Exp, AllocError>
-    ensures { IfOk result (λ e. view_exp e ≡ unary_expression line op (view_exp of)) }
-{
-    let of = Box::new(alloc, of)?;
-    Ok(Exp {
-        line,
-        kind: ExpKind::Unary { op, of },
-    })
-}
-
-/// An operator between its operands: `and` and `or` have the line of the first token.
-fn operation(
-    alloc: Global,
-    start: u32,
-    line: u32,
-    op: Infix,
-    left: Exp,
-    right: Exp,
-) -> Result<Exp, AllocError>
-    ensures { IfOk result (λ e. view_exp e ≡ infix_expression start line op (view_exp left) (view_exp right)) }
-{
-    let left = Box::new(alloc, left)?;
-    let right = Box::new(alloc, right)?;
-    Ok(match op {
-        Infix::And => Exp {
-            line: start,
-            kind: ExpKind::And(left, right),
-        },
-        Infix::Or => Exp {
-            line: start,
-            kind: ExpKind::Or(left, right),
-        },
-        Infix::Binary(op) => Exp {
-            line,
-            kind: ExpKind::Binary { op, left, right },
-        },
-    })
 }

@@ -9,7 +9,7 @@ ghost use Rattle.parser.specs.Finds.{Finds, Refuses};
 use crate::classes::Role;
 use crate::cursor::{Cursor, Halt, copy_of};
 use crate::mark::Mark;
-use crate::prefixes::named_exp;
+use crate::nodes::named;
 use crate::tall::Tall;
 use lua_num::ByteText;
 use lua_tree::{Item, ItemKind, Items, Separator};
@@ -32,7 +32,7 @@ impl Cursor<'_> {
         };
         while !self.is(Mark::CloseBrace) {
             let item = self.field(alloc, depth)?;
-            let sep = self.separator()?;
+            let sep = self.separator();
             items.height = items.height.max(item.height);
             items.part.push(Item {
                 kind: item.part,
@@ -68,7 +68,7 @@ impl Cursor<'_> {
         }
         let value = self.whole(alloc, depth, 0)?;
         Ok(Tall {
-            part: ItemKind::Positional(value.part),
+            part: ItemKind::Positional(Box::into_inner(value.part)),
             height: value.height,
         })
     }
@@ -90,7 +90,7 @@ impl Cursor<'_> {
         let value = self.whole(alloc, depth, 0)?;
         Ok(Tall {
             height: key.height.max(value.height),
-            part: ItemKind::Keyed(key.part, value.part),
+            part: ItemKind::Keyed(Box::into_inner(key.part), Box::into_inner(value.part)),
         })
     }
 
@@ -115,33 +115,30 @@ impl Cursor<'_> {
             let value = self.whole(alloc, depth, 0)?;
             return Ok(Tall {
                 height: value.height,
-                part: ItemKind::Named(name, value.part),
+                part: ItemKind::Named(name, Box::into_inner(value.part)),
             });
         }
-        let part = named_exp(start, name);
+        let part = named(alloc, start, name)?;
         let first = Tall { part, height: 1 };
         let operand = self.suffix(alloc, depth, Role::Operand, first)?;
         let value = self.climb(alloc, depth, 0, start, operand)?;
         Ok(Tall {
             height: value.height,
-            part: ItemKind::Positional(value.part),
+            part: ItemKind::Positional(Box::into_inner(value.part)),
         })
     }
 
     /// What stands behind an item.
-    fn separator(&mut self) -> Result<Separator, Halt>
-        ensures found { IfOk result (λ x. Finds (separator) self.old.line self.old.rest.now x self.new.line self.new.rest.now) }
-        ensures refused { IfErr result (Refuses (separator) self.old.line self.old.rest.now self.new.rest.now) }
-        ensures shorter { IfOk result (λ _. length self.new.rest.now ≤ length self.old.rest.now) }
+    fn separator(&mut self) -> Separator
+        ensures found { Finds separator self.old.line self.old.rest.now result self.new.line self.new.rest.now }
+        ensures shorter { length self.new.rest.now ≤ length self.old.rest.now }
     {
-        if self.is(Mark::Comma) {
-            self.take(0)?;
-            return Ok(Separator::Comma);
+        if self.accept(Mark::Comma) {
+            return Separator::Comma;
         }
-        if self.is(Mark::Semicolon) {
-            self.take(0)?;
-            return Ok(Separator::Semicolon);
+        if self.accept(Mark::Semicolon) {
+            return Separator::Semicolon;
         }
-        Ok(Separator::Missing)
+        Separator::Missing
     }
 }

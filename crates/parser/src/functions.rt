@@ -62,8 +62,7 @@ impl Cursor<'_> {
             });
         }
         loop {
-            if self.is(Mark::DotDotDot) {
-                self.take(0)?;
+            if self.accept(Mark::DotDotDot) {
                 return Ok(Parameters {
                     names,
                     vararg: true,
@@ -71,13 +70,12 @@ impl Cursor<'_> {
             }
             let name = self.name(alloc)?;
             names.push(name)?;
-            if !self.is(Mark::Comma) {
+            if !self.accept(Mark::Comma) {
                 return Ok(Parameters {
                     names,
                     vararg: false,
                 });
             }
-            self.take(0)?;
         }
     }
 
@@ -89,8 +87,7 @@ impl Cursor<'_> {
     {
         let mut names = Names::new(alloc);
         names.push(first)?;
-        while self.is(mark) {
-            self.take(0)?;
+        while self.accept(mark) {
             let name = self.name(alloc)?;
             names.push(name)?;
         }
@@ -103,10 +100,9 @@ impl Cursor<'_> {
         ensures refused { IfErr result (Refuses (method_name) self.old.line self.old.rest.now self.new.rest.now) }
         ensures shorter { IfOk result (λ _. length self.new.rest.now ≤ length self.old.rest.now) }
     {
-        if !self.is(Mark::Colon) {
+        if !self.accept(Mark::Colon) {
             return Ok(None);
         }
-        self.take(0)?;
         Ok(Some(self.name(alloc)?))
     }
 

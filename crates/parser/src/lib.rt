@@ -11,6 +11,7 @@ mod functions;
 mod laws;
 mod lists;
 mod mark;
+mod nodes;
 mod operator;
 mod parsing;
 mod prefixes;

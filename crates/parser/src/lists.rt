@@ -95,12 +95,12 @@ impl Cursor<'_> {
             part: Exps::new(alloc),
             height: first.height,
         };
-        list.part.push(first.part)?;
+        list.part.push(Box::into_inner(first.part))?;
         while self.is(Mark::Comma) {
             self.take(depth + 1)?;
             let next = self.whole(alloc, depth, 0)?;
             list.height = list.height.max(next.height);
-            list.part.push(next.part)?;
+            list.part.push(Box::into_inner(next.part))?;
         }
         Ok(list)
     }

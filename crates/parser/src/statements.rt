@@ -30,7 +30,7 @@ impl Cursor<'_> {
         while !self.is_block_end() {
             let line = self.next_line();
             let statement = self.statement(alloc, depth + 1)?;
-            let semi = self.semicolon()?;
+            let semi = self.semicolon();
             let last = ends_block(&statement.part);
             block.height = block.height.max(statement.height + 1);
             block.part.push(Stat {
@@ -46,16 +46,11 @@ impl Cursor<'_> {
     }
 
     /// Whether a semicolon follows, which is taken.
-    fn semicolon(&mut self) -> Result<bool, Halt>
-        ensures found { IfOk result (λ x. Finds (semicolon) self.old.line self.old.rest.now x self.new.line self.new.rest.now) }
-        ensures refused { IfErr result (Refuses (semicolon) self.old.line self.old.rest.now self.new.rest.now) }
-        ensures shorter { IfOk result (λ _. length self.new.rest.now ≤ length self.old.rest.now) }
+    fn semicolon(&mut self) -> bool
+        ensures found { Finds semicolon self.old.line self.old.rest.now result self.new.line self.new.rest.now }
+        ensures shorter { length self.new.rest.now ≤ length self.old.rest.now }
     {
-        if !self.is(Mark::Semicolon) {
-            return Ok(false);
-        }
-        self.take(0)?;
-        Ok(true)
+        self.accept(Mark::Semicolon)
     }
 
     /// A statement at a depth.
@@ -100,7 +95,7 @@ impl Cursor<'_> {
         Ok(Tall {
             height: cond.height.max(body.height),
             part: StatKind::While {
-                cond: cond.part,
+                cond: Box::into_inner(cond.part),
                 body: body.part,
             },
         })
@@ -143,7 +138,7 @@ impl Cursor<'_> {
             height: body.height.max(cond.height),
             part: StatKind::Repeat {
                 body: body.part,
-                cond: cond.part,
+                cond: Box::into_inner(cond.part),
             },
         })
     }
@@ -221,7 +216,7 @@ impl Cursor<'_> {
         if is_call(&first.part) {
             return Ok(Tall {
                 height: first.height,
-                part: StatKind::Call(first.part),
+                part: StatKind::Call(Box::into_inner(first.part)),
             });
         }
         let targets = self.targets(alloc, depth, first)?;
@@ -238,13 +233,18 @@ impl Cursor<'_> {
 
     /// The targets of an assignment up to its `=`.
     #[cycle(parser)]
-    fn targets(&mut self, alloc: Global, depth: usize, first: Tall<Exp>) -> Result<Tall<Exps>, Halt>
+    fn targets(
+        &mut self,
+        alloc: Global,
+        depth: usize,
+        first: Tall<Box<Exp>>,
+    ) -> Result<Tall<Exps>, Halt>
         requires low { depth + first.height ≤ 200 }
-        requires height { first.height ≡ depth_of_expression (view_exp first.part) }
-        ensures found { IfOk result (λ x. Finds (targets depth (view_exp first.part)) self.old.line self.old.rest.now (view_exps x.part) self.new.line self.new.rest.now) }
+        requires height { first.height ≡ depth_of_expression (view_exp first.part.value) }
+        ensures found { IfOk result (λ x. Finds (targets depth (view_exp first.part.value)) self.old.line self.old.rest.now (view_exps x.part) self.new.line self.new.rest.now) }
         ensures height { IfOk result (λ x. x.height ≡ depth_of_expressions (view_exps x.part)) }
         ensures low { IfOk result (λ x. depth + x.height ≤ 200) }
-        ensures refused { IfErr result (Refuses (targets depth (view_exp first.part)) self.old.line self.old.rest.now self.new.rest.now) }
+        ensures refused { IfErr result (Refuses (targets depth (view_exp first.part.value)) self.old.line self.old.rest.now self.new.rest.now) }
         ensures shorter { IfOk result (λ _. length self.new.rest.now ≤ length self.old.rest.now) }
     {
         let mut list = Tall {
@@ -257,7 +257,7 @@ impl Cursor<'_> {
                 return Err(Halt::Unexpected);
             }
             list.height = list.height.max(next.height);
-            list.part.push(next.part)?;
+            list.part.push(Box::into_inner(next.part))?;
             if !self.is(Mark::Comma) {
                 if !self.is(Mark::Equal) {
                     return Err(Halt::Unexpected);

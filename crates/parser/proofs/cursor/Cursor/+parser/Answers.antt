@@ -2,13 +2,14 @@ use Rattle.std.proofs.Common.{rules, refl, sym, subst, ◌∙◌, arith, Some, N
 use Rattle.lua_tree.specs.View.{view_exp, view_exps, view_items}
 use Rattle.parser.specs.Classes.{Start, Suffix}
 use Rattle.lua_tree.specs.Syntax.{branch, no_branches}
+use Rattle.lua_tree.specs.WellFormed.{is_call, is_target}
 use Rattle.parser.specs.Program.{call, give, branches}
 use Rattle.parser.specs.Loops.{expressions_with, fields_with, if_with}
 use Rattle.parser.specs.Finds.{Leads, found}
-use Rattle.parser.proofs.Steps.{finds, refuses, lead_give, lead_answer, lead_stop, lead_look, lead_skip, lead_skip_not, lead_want, lead_want_not, lead_yes, lead_no, lead_call, lead_call_not, lead_then, lead_else, lead_become, lead_open, lead_names_not}
+use Rattle.parser.proofs.Steps.{finds, refuses, lead_give, lead_answer, lead_stop, lead_look, lead_skip, lead_skip_not, lead_want, lead_want_not, lead_yes, lead_no, lead_accept, lead_leave, lead_call, lead_call_not, lead_then, lead_else, lead_become, lead_open, lead_names_not}
 use Rattle.parser.proofs.Looks.{lead_statement, lead_whole, lead_climb, lead_simple, lead_prefix, lead_suffix, lead_field, lead_text, power_above, power_below}
 use Rattle.parser.proofs.LoopSteps.{expression_turn, expressions_end, expressions_depth, statement_turn, statement_last, block_done, statements_depth, field_turn, field_last, fields_end, fields_depth, view_add, target_turn, target_last, target_halts, no_target, branch_turn, lead_path, lead_locals, lead_generic, infix_height, arm_view, branches_end, branches_depth}
-use Rattle.parser.proofs.Passing.{handed_on, body_made, cond_made, inside_made}
+use Rattle.parser.proofs.Passing.{handed_on, body_made, cond_made, inside_made, tested}
 use Rattle.parser.proofs.cursor.Cursor.+parser.Goals as goal
 
 pub arguments-returns-then-not-is_on_line-clause-refused : goal.arguments-returns-then-not-is_on_line-clause-refused
@@ -57,7 +58,7 @@ pub arm-returns-in_err-body-clause-refused : goal.arm-returns-in_err-body-clause
 arm-returns-in_err-body-clause-refused t c = handed_on _ _ _ c.from_residual-in_err-body.ensures.1 (record { leads = λ answer then. lead_call c.in_ok-cond.ensures.found (lead_want c.in_ok-want.ensures.taken (lead_call_not c.in_err-body.ensures.refused)) })
 
 pub arm-returns-clause-found : goal.arm-returns-clause-found
-arm-returns-clause-found t c = record { leads = λ answer then outcome l. lead_call c.in_ok-cond.ensures.found (lead_want c.in_ok-want.ensures.taken (lead_call c.in_ok-body.ensures.found (rw (cond_made, inside_made) at l))) }
+arm-returns-clause-found t c = record { leads = λ answer then outcome l. lead_call c.in_ok-cond.ensures.found (lead_want c.in_ok-want.ensures.taken (lead_call c.in_ok-body.ensures.found (rw (cond_made, inside_made, c.into_inner.ensures) at l))) }
 
 pub block-loop-alloc-init : goal.block-loop-alloc-init
 block-loop-alloc-init t c = record { leads = λ outcome l. lead_open (rw c.new.ensures.view at l); height = rw c.new.ensures.view refl; low = search rules; shorter = search rules }
@@ -65,11 +66,8 @@ block-loop-alloc-init t c = record { leads = λ outcome l. lead_open (rw c.new.e
 pub block-returns-in_err-statement-clause-refused : goal.block-returns-in_err-statement-clause-refused
 block-returns-in_err-statement-clause-refused t c = handed_on _ _ _ c.from_residual.ensures.1 (refuses (c.loop-alloc.invariant.leads _ (lead_call_not (refuses (lead_look (lead_else _ _ _ (sym c.is_block_end.ensures ∙ c.loop-alloc-test.true) (lead_call_not c.in_err-statement.ensures.refused)))))))
 
-pub block-returns-in_err-semi-clause-refused : goal.block-returns-in_err-semi-clause-refused
-block-returns-in_err-semi-clause-refused t c = handed_on _ _ _ c.from_residual-in_err-semi.ensures.1 (refuses (c.loop-alloc.invariant.leads _ (lead_call_not (refuses (lead_look (lead_else _ _ _ (sym c.is_block_end.ensures ∙ c.loop-alloc-test.true) (lead_call c.in_ok-statement.ensures.found (lead_call_not c.in_err-semi.ensures.refused))))))))
-
 pub block-loop-alloc-preserved : goal.block-loop-alloc-preserved
-block-loop-alloc-preserved t c = record { leads = λ outcome l. c.loop-alloc.invariant.leads outcome (statement_turn _ c.is_block_end.ensures c.loop-alloc-test.true c.in_ok-statement.ensures.found c.in_ok-semi.ensures.found (sym c.ends_block-last.ensures ∙ c.if-last.false) (rw (c.in_ok-push.ensures.view, c.next_line-line.ensures) at l)); height = rw (c.in_ok-push.ensures.view, statements_depth, ← c.in_ok-statement.ensures.height, ← c.loop-alloc.invariant.height) c.max.ensures; low = search rules; shorter = search rules }
+block-loop-alloc-preserved t c = record { leads = λ outcome l. c.loop-alloc.invariant.leads outcome (statement_turn _ c.is_block_end.ensures c.loop-alloc-test.true c.in_ok-statement.ensures.found c.semicolon-semi.ensures.found (sym c.ends_block-last.ensures ∙ c.if-last.false) (rw (c.in_ok-push.ensures.view, c.next_line-line.ensures) at l)); height = rw (c.in_ok-push.ensures.view, statements_depth, ← c.in_ok-statement.ensures.height, ← c.loop-alloc.invariant.height) c.max.ensures; low = search rules; shorter = search rules }
 
 pub block-returns-clause-found : goal.block-returns-clause-found
 block-returns-clause-found t c = finds (c.loop-alloc.invariant.leads _ (block_done _ c.is_block_end.ensures c.loop-alloc-test.false))
@@ -126,31 +124,31 @@ pub expression_statement-returns-in_err-first-clause-refused : goal.expression_s
 expression_statement-returns-in_err-first-clause-refused t c = handed_on _ _ _ c.from_residual.ensures.1 (refuses (lead_call_not c.in_err-first.ensures.refused))
 
 pub expression_statement-returns-then-is_call-clause-found : goal.expression_statement-returns-then-is_call-clause-found
-expression_statement-returns-then-is_call-clause-found t c = finds (lead_call c.in_ok-first.ensures.found (lead_then _ _ _ (sym c.is_call.ensures ∙ c.if-is_call.true) lead_give))
+expression_statement-returns-then-is_call-clause-found t c = rw c.into_inner.ensures (finds (lead_call c.in_ok-first.ensures.found (lead_then _ _ _ (tested (λ exp. is_call (view_exp exp)) c.deref.ensures c.is_call.ensures c.if-is_call.true) lead_give)))
 
 pub expression_statement-returns-in_err-targets-clause-refused : goal.expression_statement-returns-in_err-targets-clause-refused
-expression_statement-returns-in_err-targets-clause-refused t c = handed_on _ _ _ c.from_residual-in_err-targets.ensures.1 (refuses (lead_call c.in_ok-first.ensures.found (lead_else _ _ _ (sym c.is_call.ensures ∙ c.if-is_call.false) (lead_call_not c.in_err-targets.ensures.refused))))
+expression_statement-returns-in_err-targets-clause-refused t c = handed_on _ _ _ c.from_residual-in_err-targets.ensures.1 (refuses (lead_call c.in_ok-first.ensures.found (lead_else _ _ _ (tested (λ exp. is_call (view_exp exp)) c.deref.ensures c.is_call.ensures c.if-is_call.false) (lead_call_not c.in_err-targets.ensures.refused))))
 
 pub expression_statement-returns-in_err-want-clause-refused : goal.expression_statement-returns-in_err-want-clause-refused
-expression_statement-returns-in_err-want-clause-refused t c = handed_on _ _ _ c.from_residual-in_err-want.ensures.1 (refuses (lead_call c.in_ok-first.ensures.found (lead_else _ _ _ (sym c.is_call.ensures ∙ c.if-is_call.false) (lead_call c.in_ok-targets.ensures.found (lead_want_not c.in_err-want.ensures.not_taken)))))
+expression_statement-returns-in_err-want-clause-refused t c = handed_on _ _ _ c.from_residual-in_err-want.ensures.1 (refuses (lead_call c.in_ok-first.ensures.found (lead_else _ _ _ (tested (λ exp. is_call (view_exp exp)) c.deref.ensures c.is_call.ensures c.if-is_call.false) (lead_call c.in_ok-targets.ensures.found (lead_want_not c.in_err-want.ensures.not_taken)))))
 
 pub expression_statement-returns-in_err-exps-clause-refused : goal.expression_statement-returns-in_err-exps-clause-refused
-expression_statement-returns-in_err-exps-clause-refused t c = handed_on _ _ _ c.from_residual-in_err-exps.ensures.1 (refuses (lead_call c.in_ok-first.ensures.found (lead_else _ _ _ (sym c.is_call.ensures ∙ c.if-is_call.false) (lead_call c.in_ok-targets.ensures.found (lead_want c.in_ok-want.ensures.taken (lead_call_not c.in_err-exps.ensures.refused))))))
+expression_statement-returns-in_err-exps-clause-refused t c = handed_on _ _ _ c.from_residual-in_err-exps.ensures.1 (refuses (lead_call c.in_ok-first.ensures.found (lead_else _ _ _ (tested (λ exp. is_call (view_exp exp)) c.deref.ensures c.is_call.ensures c.if-is_call.false) (lead_call c.in_ok-targets.ensures.found (lead_want c.in_ok-want.ensures.taken (lead_call_not c.in_err-exps.ensures.refused))))))
 
 pub expression_statement-returns-clause-found : goal.expression_statement-returns-clause-found
-expression_statement-returns-clause-found t c = finds (lead_call c.in_ok-first.ensures.found (lead_else _ _ _ (sym c.is_call.ensures ∙ c.if-is_call.false) (lead_call c.in_ok-targets.ensures.found (lead_want c.in_ok-want.ensures.taken (lead_call c.in_ok-exps.ensures.found lead_give)))))
+expression_statement-returns-clause-found t c = finds (lead_call c.in_ok-first.ensures.found (lead_else _ _ _ (tested (λ exp. is_call (view_exp exp)) c.deref.ensures c.is_call.ensures c.if-is_call.false) (lead_call c.in_ok-targets.ensures.found (lead_want c.in_ok-want.ensures.taken (lead_call c.in_ok-exps.ensures.found lead_give)))))
 
 pub expressions-returns-in_err-first-clause-refused : goal.expressions-returns-in_err-first-clause-refused
 expressions-returns-in_err-first-clause-refused t c = handed_on _ _ _ c.from_residual.ensures.1 (refuses (lead_call_not c.in_err-first.ensures.refused))
 
 pub expressions-loop-alloc-init : goal.expressions-loop-alloc-init
-expressions-loop-alloc-init t c = record { leads = λ outcome l. lead_call c.in_ok-first.ensures.found (rw (c.in_ok-push.ensures.view, c.new.ensures.view) at l); height = rw (c.in_ok-push.ensures.view, c.new.ensures.view) (let h = c.in_ok-first.ensures.height in omega arith); low = search rules; shorter = search rules }
+expressions-loop-alloc-init t c = record { leads = λ outcome l. lead_call c.in_ok-first.ensures.found (rw (c.in_ok-push.ensures.view, c.new.ensures.view, c.into_inner.ensures) at l); height = rw (c.in_ok-push.ensures.view, c.new.ensures.view, c.into_inner.ensures) (let h = c.in_ok-first.ensures.height in omega arith); low = search rules; shorter = search rules }
 
 pub expressions-returns-in_err-next-clause-refused : goal.expressions-returns-in_err-next-clause-refused
 expressions-returns-in_err-next-clause-refused t c = handed_on _ _ _ c.from_residual-in_err-next.ensures.1 (refuses (c.loop-alloc.invariant.leads _ (lead_call_not (refuses (lead_yes c.is.ensures c.loop-alloc-test.true (lead_skip c.in_ok-take.ensures.taken refl (lead_call_not c.in_err-next.ensures.refused)))))))
 
 pub expressions-loop-alloc-preserved : goal.expressions-loop-alloc-preserved
-expressions-loop-alloc-preserved t c = record { leads = λ outcome l. c.loop-alloc.invariant.leads outcome (expression_turn _ c.is.ensures c.loop-alloc-test.true c.in_ok-take.ensures.taken refl c.in_ok-next.ensures.found (rw c.in_ok-push-2.ensures.view at l)); height = rw (c.in_ok-push-2.ensures.view, expressions_depth, ← c.in_ok-next.ensures.height, ← c.loop-alloc.invariant.height) c.max.ensures; low = search rules; shorter = search rules }
+expressions-loop-alloc-preserved t c = record { leads = λ outcome l. c.loop-alloc.invariant.leads outcome (expression_turn _ c.is.ensures c.loop-alloc-test.true c.in_ok-take.ensures.taken refl c.in_ok-next.ensures.found (rw (c.in_ok-push-2.ensures.view, c.into_inner-in-loop-alloc.ensures) at l)); height = rw (c.in_ok-push-2.ensures.view, c.into_inner-in-loop-alloc.ensures, expressions_depth, ← c.in_ok-next.ensures.height, ← c.loop-alloc.invariant.height) c.max.ensures; low = search rules; shorter = search rules }
 
 pub expressions-returns-clause-found : goal.expressions-returns-clause-found
 expressions-returns-clause-found t c = finds (c.loop-alloc.invariant.leads _ (subst (λ x. Leads (expressions_with c.args.depth (view_exps c.loop-alloc.list.part)) c.loop-alloc.self.line c.loop-alloc.self.rest.now (found x c.loop-alloc.self.line c.loop-alloc.self.rest.now)) (expressions_end _) (lead_call (finds (lead_no c.is.ensures c.loop-alloc-test.false lead_give)) lead_give)))
@@ -168,7 +166,7 @@ pub field-returns-in_err-value-clause-refused : goal.field-returns-in_err-value-
 field-returns-in_err-value-clause-refused t c = handed_on _ _ _ c.from_residual-in_err-value.ensures.1 (refuses (lead_field None c.in_default.ensures (lead_no c.is.ensures c.if-is.false (lead_call_not c.in_err-value.ensures.refused))))
 
 pub field-returns-clause-found : goal.field-returns-clause-found
-field-returns-clause-found t c = finds (lead_field None c.in_default.ensures (lead_no c.is.ensures c.if-is.false (lead_call c.in_ok-value.ensures.found lead_give)))
+field-returns-clause-found t c = rw c.into_inner.ensures (finds (lead_field None c.in_default.ensures (lead_no c.is.ensures c.if-is.false (lead_call c.in_ok-value.ensures.found lead_give))))
 
 pub fields-loop-alloc-init : goal.fields-loop-alloc-init
 fields-loop-alloc-init t c = record { leads = λ outcome l. lead_open (rw c.new.ensures.view at l); height = rw c.new.ensures.view refl; low = search rules; shorter = search rules }
@@ -176,11 +174,8 @@ fields-loop-alloc-init t c = record { leads = λ outcome l. lead_open (rw c.new.
 pub fields-returns-in_err-item-clause-refused : goal.fields-returns-in_err-item-clause-refused
 fields-returns-in_err-item-clause-refused t c = handed_on _ _ _ c.from_residual.ensures.1 (refuses (c.loop-alloc.invariant.leads _ (lead_call_not (refuses (lead_no c.is.ensures c.loop-alloc-test.true (lead_call_not c.in_err-item.ensures.refused))))))
 
-pub fields-returns-in_err-sep-clause-refused : goal.fields-returns-in_err-sep-clause-refused
-fields-returns-in_err-sep-clause-refused t c = handed_on _ _ _ c.from_residual-in_err-sep.ensures.1 (refuses (c.loop-alloc.invariant.leads _ (lead_call_not (refuses (lead_no c.is.ensures c.loop-alloc-test.true (lead_call c.in_ok-item.ensures.found (lead_call_not c.in_err-sep.ensures.refused)))))))
-
 pub fields-loop-alloc-preserved : goal.fields-loop-alloc-preserved
-fields-loop-alloc-preserved t c = record { leads = λ outcome l. c.loop-alloc.invariant.leads outcome (field_turn _ c.is.ensures c.loop-alloc-test.true c.in_ok-item.ensures.found c.in_ok-sep.ensures.found c.in_default.not-Missing (rw (c.in_ok-push.ensures.view, view_add) at l)); height = rw (c.in_ok-push.ensures.view, view_add, fields_depth, ← c.in_ok-item.ensures.height, ← c.loop-alloc.invariant.height) c.max.ensures; low = search rules; shorter = search rules }
+fields-loop-alloc-preserved t c = record { leads = λ outcome l. c.loop-alloc.invariant.leads outcome (field_turn _ c.is.ensures c.loop-alloc-test.true c.in_ok-item.ensures.found c.separator-sep.ensures.found c.in_default.not-Missing (rw (c.in_ok-push.ensures.view, view_add) at l)); height = rw (c.in_ok-push.ensures.view, view_add, fields_depth, ← c.in_ok-item.ensures.height, ← c.loop-alloc.invariant.height) c.max.ensures; low = search rules; shorter = search rules }
 
 pub fields-returns-clause-found : goal.fields-returns-clause-found
 fields-returns-clause-found t c = finds (c.loop-alloc.invariant.leads _ (subst (λ x. Leads (fields_with c.args.depth (view_items c.loop-alloc.items.part)) c.loop-alloc.self.line c.loop-alloc.self.rest.now (found x c.loop-alloc.self.line c.loop-alloc.self.rest.now)) (fields_end _) (lead_call (finds (lead_yes c.is.ensures c.loop-alloc-test.false lead_give)) lead_give)))
@@ -216,7 +211,7 @@ pub function_value-returns-in_err-body-clause-refused : goal.function_value-retu
 function_value-returns-in_err-body-clause-refused t c = handed_on _ _ _ c.from_residual-in_err-body.ensures.1 (refuses (lead_look (lead_skip c.in_ok-take.ensures.taken refl (lead_call_not (rw c.next_line-line.ensures at c.in_err-body.ensures.refused)))))
 
 pub function_value-returns-clause-found : goal.function_value-returns-clause-found
-function_value-returns-clause-found t c = rw c.next_line-line.ensures (finds (lead_look (lead_skip c.in_ok-take.ensures.taken refl (lead_call (rw c.next_line-line.ensures at c.in_ok-body.ensures.found) lead_give))))
+function_value-returns-clause-found t c = rw (c.in_ok-function.ensures, c.next_line-line.ensures) (finds (lead_look (lead_skip c.in_ok-take.ensures.taken refl (lead_call (rw c.next_line-line.ensures at c.in_ok-body.ensures.found) lead_give))))
 
 pub generic_for-returns-in_err-names-clause-refused : goal.generic_for-returns-in_err-names-clause-refused
 generic_for-returns-in_err-names-clause-refused t c = handed_on _ _ _ c.from_residual.ensures.1 (refuses (lead_names_not c.in_err-names.ensures.refused))
@@ -270,7 +265,7 @@ pub keyed-returns-in_err-value-clause-refused : goal.keyed-returns-in_err-value-
 keyed-returns-in_err-value-clause-refused t c = handed_on _ _ _ c.from_residual-in_err-value.ensures.1 (refuses (lead_skip c.in_ok-take.ensures.taken refl (lead_call c.in_ok-key.ensures.found (lead_want c.in_ok-want.ensures.taken (lead_want c.in_ok-want-2.ensures.taken (lead_call_not c.in_err-value.ensures.refused))))))
 
 pub keyed-returns-clause-found : goal.keyed-returns-clause-found
-keyed-returns-clause-found t c = finds (lead_skip c.in_ok-take.ensures.taken refl (lead_call c.in_ok-key.ensures.found (lead_want c.in_ok-want.ensures.taken (lead_want c.in_ok-want-2.ensures.taken (lead_call c.in_ok-value.ensures.found lead_give)))))
+keyed-returns-clause-found t c = rw (c.into_inner.ensures, c.into_inner-2.ensures) (finds (lead_skip c.in_ok-take.ensures.taken refl (lead_call c.in_ok-key.ensures.found (lead_want c.in_ok-want.ensures.taken (lead_want c.in_ok-want-2.ensures.taken (lead_call c.in_ok-value.ensures.found lead_give))))))
 
 pub listed-returns-then-is-clause-found : goal.listed-returns-then-is-clause-found
 listed-returns-then-is-clause-found t c = finds (lead_yes c.is.ensures c.if-is.true (lead_answer c.new.ensures.view))
@@ -321,16 +316,16 @@ pub named-returns-in_err-value-clause-refused : goal.named-returns-in_err-value-
 named-returns-in_err-value-clause-refused t c = handed_on _ _ _ c.from_residual-in_err-value.ensures.1 (refuses (lead_yes c.is.ensures c.if-is.true (lead_skip c.in_ok-take.ensures.taken refl (lead_call_not c.in_err-value.ensures.refused))))
 
 pub named-returns-then-is-clause-found : goal.named-returns-then-is-clause-found
-named-returns-then-is-clause-found t c = finds (lead_yes c.is.ensures c.if-is.true (lead_skip c.in_ok-take.ensures.taken refl (lead_call c.in_ok-value.ensures.found lead_give)))
+named-returns-then-is-clause-found t c = rw c.into_inner.ensures (finds (lead_yes c.is.ensures c.if-is.true (lead_skip c.in_ok-take.ensures.taken refl (lead_call c.in_ok-value.ensures.found lead_give))))
 
 pub named-returns-in_err-operand-clause-refused : goal.named-returns-in_err-operand-clause-refused
-named-returns-in_err-operand-clause-refused t c = handed_on _ _ _ c.from_residual-in_err-operand.ensures.1 (refuses (lead_no c.is.ensures c.if-is.false (lead_call_not (rw c.named_exp-part.ensures at c.in_err-operand.ensures.refused))))
+named-returns-in_err-operand-clause-refused t c = handed_on _ _ _ c.from_residual-in_err-operand.ensures.1 (refuses (lead_no c.is.ensures c.if-is.false (lead_call_not (rw c.in_ok-part.ensures at c.in_err-operand.ensures.refused))))
 
 pub named-returns-in_err-value-2-clause-refused : goal.named-returns-in_err-value-2-clause-refused
-named-returns-in_err-value-2-clause-refused t c = handed_on _ _ _ c.from_residual-in_err-value-2.ensures.1 (refuses (lead_no c.is.ensures c.if-is.false (lead_call (rw c.named_exp-part.ensures at c.in_ok-operand.ensures.found) (lead_call_not c.in_err-value-2.ensures.refused))))
+named-returns-in_err-value-2-clause-refused t c = handed_on _ _ _ c.from_residual-in_err-value-2.ensures.1 (refuses (lead_no c.is.ensures c.if-is.false (lead_call (rw c.in_ok-part.ensures at c.in_ok-operand.ensures.found) (lead_call_not c.in_err-value-2.ensures.refused))))
 
 pub named-returns-clause-found : goal.named-returns-clause-found
-named-returns-clause-found t c = finds (lead_no c.is.ensures c.if-is.false (lead_call (rw c.named_exp-part.ensures at c.in_ok-operand.ensures.found) (lead_call c.in_ok-value-2.ensures.found lead_give)))
+named-returns-clause-found t c = rw c.into_inner-2.ensures (finds (lead_no c.is.ensures c.if-is.false (lead_call (rw c.in_ok-part.ensures at c.in_ok-operand.ensures.found) (lead_call c.in_ok-value-2.ensures.found lead_give))))
 
 pub numeric_for-returns-in_err-take-clause-refused : goal.numeric_for-returns-in_err-take-clause-refused
 numeric_for-returns-in_err-take-clause-refused t c = handed_on _ _ _ c.from_residual.ensures.1 (refuses (lead_skip_not c.in_err-take.ensures.not_taken refl))
@@ -375,7 +370,7 @@ pub prefix-returns-in_err-take-clause-refused : goal.prefix-returns-in_err-take-
 prefix-returns-in_err-take-clause-refused t c = handed_on _ _ _ c.from_residual.ensures.1 (refuses (lead_prefix (Some c.in-Some.name.now) c.in-Some.ensures (lead_skip_not c.in_err-take.ensures.not_taken refl)))
 
 pub prefix-returns-in-Some-clause-found : goal.prefix-returns-in-Some-clause-found
-prefix-returns-in-Some-clause-found t c = finds (lead_prefix (Some c.in-Some.name.now) c.in-Some.ensures (lead_skip c.in_ok-take.ensures.taken refl (lead_call (rw (c.named_exp-part.ensures, c.in_ok-name.ensures, c.next_line-line.ensures) at c.in_ok-whole.ensures.found) lead_give)))
+prefix-returns-in-Some-clause-found t c = finds (lead_prefix (Some c.in-Some.name.now) c.in-Some.ensures (lead_skip c.in_ok-take.ensures.taken refl (lead_call (rw (c.in_ok-part.ensures, c.in_ok-name.ensures, c.next_line-line.ensures) at c.in_ok-whole.ensures.found) lead_give)))
 
 pub prefix-returns-then-not-is-clause-refused : goal.prefix-returns-then-not-is-clause-refused
 prefix-returns-then-not-is-clause-refused t c = refuses (lead_prefix None c.in_default.ensures (lead_no c.is.ensures c.if-not-is.true lead_stop))
@@ -399,7 +394,7 @@ pub repeat_statement-returns-in_err-cond-clause-refused : goal.repeat_statement-
 repeat_statement-returns-in_err-cond-clause-refused t c = handed_on _ _ _ c.from_residual-in_err-cond.ensures.1 (refuses (lead_skip c.in_ok-take.ensures.taken refl (lead_call c.in_ok-body.ensures.found (lead_want c.in_ok-want.ensures.taken (lead_call_not c.in_err-cond.ensures.refused)))))
 
 pub repeat_statement-returns-clause-found : goal.repeat_statement-returns-clause-found
-repeat_statement-returns-clause-found t c = finds (lead_skip c.in_ok-take.ensures.taken refl (lead_call c.in_ok-body.ensures.found (lead_want c.in_ok-want.ensures.taken (lead_call c.in_ok-cond.ensures.found lead_give))))
+repeat_statement-returns-clause-found t c = rw c.into_inner.ensures (finds (lead_skip c.in_ok-take.ensures.taken refl (lead_call c.in_ok-body.ensures.found (lead_want c.in_ok-want.ensures.taken (lead_call c.in_ok-cond.ensures.found lead_give)))))
 
 pub results-returns-then-is-clause-found : goal.results-returns-then-is-clause-found
 results-returns-then-is-clause-found t c = finds (lead_yes c.is.ensures c.if-is.true (lead_answer c.new.ensures.view))
@@ -417,10 +412,10 @@ pub return_statement-returns-clause-found : goal.return_statement-returns-clause
 return_statement-returns-clause-found t c = finds (lead_skip c.in_ok-take.ensures.taken refl (lead_call c.in_ok-list.ensures.found lead_give))
 
 pub simple-returns-in_err-take-clause-refused : goal.simple-returns-in_err-take-clause-refused
-simple-returns-in_err-take-clause-refused t c = handed_on _ _ _ c.from_residual-in_err-take.ensures.1 (refuses (lead_simple (Some (view_exp c.in-Some.part)) (rw c.in-Some.is at c.in_ok-part.ensures) (lead_skip_not c.in_err-take.ensures.not_taken refl)))
+simple-returns-in_err-take-clause-refused t c = handed_on _ _ _ c.from_residual-in_err-take.ensures.1 (refuses (lead_simple (Some (view_exp c.in-Some.part.value)) (rw c.in-Some.is at c.in_ok-part.ensures) (lead_skip_not c.in_err-take.ensures.not_taken refl)))
 
 pub simple-returns-in-Some-clause-found : goal.simple-returns-in-Some-clause-found
-simple-returns-in-Some-clause-found t c = finds (lead_simple (Some (view_exp c.in-Some.part)) (rw c.in-Some.is at c.in_ok-part.ensures) (lead_skip c.in_ok-take.ensures.taken refl lead_give))
+simple-returns-in-Some-clause-found t c = finds (lead_simple (Some (view_exp c.in-Some.part.value)) (rw c.in-Some.is at c.in_ok-part.ensures) (lead_skip c.in_ok-take.ensures.taken refl lead_give))
 
 pub simple-returns-then-is-clause-found : goal.simple-returns-then-is-clause-found
 simple-returns-then-is-clause-found t c = finds (lead_simple None (rw c.in_default.is at c.in_ok-part.ensures) (lead_yes c.is.ensures c.if-is.true (lead_call c.in_ok-function.ensures.found lead_give)))
@@ -477,28 +472,28 @@ pub table-returns-in_err-want-clause-refused : goal.table-returns-in_err-want-cl
 table-returns-in_err-want-clause-refused t c = handed_on _ _ _ c.from_residual-in_err-want.ensures.1 (refuses (lead_look (lead_skip c.in_ok-take.ensures.taken refl (lead_call c.in_ok-items.ensures.found (lead_want_not c.in_err-want.ensures.not_taken)))))
 
 pub table-returns-clause-found : goal.table-returns-clause-found
-table-returns-clause-found t c = rw c.next_line-line.ensures (finds (lead_look (lead_skip c.in_ok-take.ensures.taken refl (lead_call c.in_ok-items.ensures.found (lead_want c.in_ok-want.ensures.taken lead_give)))))
+table-returns-clause-found t c = rw (c.in_ok-constructor.ensures, c.next_line-line.ensures) (finds (lead_look (lead_skip c.in_ok-take.ensures.taken refl (lead_call c.in_ok-items.ensures.found (lead_want c.in_ok-want.ensures.taken lead_give)))))
 
 pub targets-loop-alloc-init : goal.targets-loop-alloc-init
 targets-loop-alloc-init t c = record { leads = λ outcome l. lead_open (rw c.new.ensures.view at l); height = rw c.new.ensures.view refl; next_height = c.requires.height; low = search rules; next_low = c.requires.low; shorter = search rules }
 
 pub targets-returns-then-not-is_target-clause-refused : goal.targets-returns-then-not-is_target-clause-refused
-targets-returns-then-not-is_target-clause-refused t c = refuses (c.loop-alloc.invariant.leads _ (no_target _ _ (sym c.is_target.ensures ∙ c.if-not-is_target.true)))
+targets-returns-then-not-is_target-clause-refused t c = refuses (c.loop-alloc.invariant.leads _ (no_target _ _ (tested (λ exp. is_target (view_exp exp)) c.deref.ensures c.is_target.ensures c.if-not-is_target.true)))
 
 pub targets-returns-then-not-is-2-clause-refused : goal.targets-returns-then-not-is-2-clause-refused
-targets-returns-then-not-is-2-clause-refused t c = refuses (c.loop-alloc.invariant.leads _ (target_halts _ _ (sym c.is_target.ensures ∙ c.if-not-is_target.false) (lead_no c.is.ensures c.if-not-is.true (lead_no c.is-then-not-is.ensures c.if-not-is-2.true lead_stop))))
+targets-returns-then-not-is-2-clause-refused t c = refuses (c.loop-alloc.invariant.leads _ (target_halts _ _ (tested (λ exp. is_target (view_exp exp)) c.deref.ensures c.is_target.ensures c.if-not-is_target.false) (lead_no c.is.ensures c.if-not-is.true (lead_no c.is-then-not-is.ensures c.if-not-is-2.true lead_stop))))
 
 pub targets-returns-then-not-is-clause-found : goal.targets-returns-then-not-is-clause-found
-targets-returns-then-not-is-clause-found t c = finds (c.loop-alloc.invariant.leads _ (rw c.in_ok-push.ensures.view (target_last _ _ (sym c.is_target.ensures ∙ c.if-not-is_target.false) c.is.ensures c.if-not-is.true c.is-then-not-is.ensures c.if-not-is-2.false)))
+targets-returns-then-not-is-clause-found t c = finds (c.loop-alloc.invariant.leads _ (rw (c.in_ok-push.ensures.view, c.into_inner.ensures) (target_last _ _ (tested (λ exp. is_target (view_exp exp)) c.deref.ensures c.is_target.ensures c.if-not-is_target.false) c.is.ensures c.if-not-is.true c.is-then-not-is.ensures c.if-not-is-2.false)))
 
 pub targets-returns-then-not-is-clause-height : goal.targets-returns-then-not-is-clause-height
-targets-returns-then-not-is-clause-height t c = rw (c.in_ok-push.ensures.view, expressions_depth, ← c.loop-alloc.invariant.next_height, ← c.loop-alloc.invariant.height) c.max.ensures
+targets-returns-then-not-is-clause-height t c = rw (c.in_ok-push.ensures.view, c.into_inner.ensures, expressions_depth, ← c.loop-alloc.invariant.next_height, ← c.loop-alloc.invariant.height) c.max.ensures
 
 pub targets-returns-in_err-next-clause-refused : goal.targets-returns-in_err-next-clause-refused
-targets-returns-in_err-next-clause-refused t c = handed_on _ _ _ c.from_residual-in_err-next.ensures.1 (refuses (c.loop-alloc.invariant.leads _ (target_halts _ _ (sym c.is_target.ensures ∙ c.if-not-is_target.false) (lead_yes c.is.ensures c.if-not-is.false (lead_skip c.in_ok-take.ensures.taken refl (lead_call_not c.in_err-next.ensures.refused))))))
+targets-returns-in_err-next-clause-refused t c = handed_on _ _ _ c.from_residual-in_err-next.ensures.1 (refuses (c.loop-alloc.invariant.leads _ (target_halts _ _ (tested (λ exp. is_target (view_exp exp)) c.deref.ensures c.is_target.ensures c.if-not-is_target.false) (lead_yes c.is.ensures c.if-not-is.false (lead_skip c.in_ok-take.ensures.taken refl (lead_call_not c.in_err-next.ensures.refused))))))
 
 pub targets-loop-alloc-preserved : goal.targets-loop-alloc-preserved
-targets-loop-alloc-preserved t c = record { leads = λ outcome l. c.loop-alloc.invariant.leads outcome (target_turn _ _ (sym c.is_target.ensures ∙ c.if-not-is_target.false) c.is.ensures c.if-not-is.false c.in_ok-take.ensures.taken refl c.in_ok-next.ensures.found (rw c.in_ok-push.ensures.view at l)); height = rw (c.in_ok-push.ensures.view, expressions_depth, ← c.loop-alloc.invariant.next_height, ← c.loop-alloc.invariant.height) c.max.ensures; next_height = c.in_ok-next.ensures.height; low = search rules; next_low = c.in_ok-next.ensures.low; shorter = search rules }
+targets-loop-alloc-preserved t c = record { leads = λ outcome l. c.loop-alloc.invariant.leads outcome (target_turn _ _ (tested (λ exp. is_target (view_exp exp)) c.deref.ensures c.is_target.ensures c.if-not-is_target.false) c.is.ensures c.if-not-is.false c.in_ok-take.ensures.taken refl c.in_ok-next.ensures.found (rw (c.in_ok-push.ensures.view, c.into_inner.ensures) at l)); height = rw (c.in_ok-push.ensures.view, c.into_inner.ensures, expressions_depth, ← c.loop-alloc.invariant.next_height, ← c.loop-alloc.invariant.height) c.max.ensures; next_height = c.in_ok-next.ensures.height; low = search rules; next_low = c.in_ok-next.ensures.low; shorter = search rules }
 
 pub values-returns-then-not-is-clause-found : goal.values-returns-then-not-is-clause-found
 values-returns-then-not-is-clause-found t c = finds (lead_no c.is.ensures c.if-not-is.true (lead_answer c.new.ensures.view))
@@ -525,7 +520,7 @@ pub while_statement-returns-in_err-want-2-clause-refused : goal.while_statement-
 while_statement-returns-in_err-want-2-clause-refused t c = handed_on _ _ _ c.from_residual-in_err-want-2.ensures.1 (refuses (lead_skip c.in_ok-take.ensures.taken refl (lead_call c.in_ok-cond.ensures.found (lead_want c.in_ok-want.ensures.taken (lead_call c.in_ok-body.ensures.found (lead_want_not c.in_err-want-2.ensures.not_taken))))))
 
 pub while_statement-returns-clause-found : goal.while_statement-returns-clause-found
-while_statement-returns-clause-found t c = finds (lead_skip c.in_ok-take.ensures.taken refl (lead_call c.in_ok-cond.ensures.found (lead_want c.in_ok-want.ensures.taken (lead_call c.in_ok-body.ensures.found (lead_want c.in_ok-want-2.ensures.taken lead_give)))))
+while_statement-returns-clause-found t c = rw c.into_inner.ensures (finds (lead_skip c.in_ok-take.ensures.taken refl (lead_call c.in_ok-cond.ensures.found (lead_want c.in_ok-want.ensures.taken (lead_call c.in_ok-body.ensures.found (lead_want c.in_ok-want-2.ensures.taken lead_give))))))
 
 pub whole-returns-in_err-take-in-Some-clause-refused : goal.whole-returns-in_err-take-in-Some-clause-refused
 whole-returns-in_err-take-in-Some-clause-refused t c = handed_on _ _ _ c.from_residual.ensures.1 (refuses (lead_whole (Some c.in-Some.op) c.in-Some.ensures (lead_skip_not c.in_err-take-in-Some.ensures.not_taken refl)))
@@ -642,7 +637,7 @@ pub field-returns-in_err-item-2-clause-refused : goal.field-returns-in_err-item-
 field-returns-in_err-item-2-clause-refused t c = handed_on _ _ _ c.from_residual-in_err-item-2.ensures.1 (refuses (lead_field None c.in_default.ensures (lead_yes c.is.ensures c.if-is.true (lead_call_not c.in_err-item-2.ensures.refused))))
 
 pub prefix-returns-in_err-whole-clause-refused : goal.prefix-returns-in_err-whole-clause-refused
-prefix-returns-in_err-whole-clause-refused t c = handed_on _ _ _ c.from_residual-in_err-whole.ensures.1 (refuses (lead_prefix (Some c.in-Some.name.now) c.in-Some.ensures (lead_skip c.in_ok-take.ensures.taken refl (lead_call_not (rw (c.named_exp-part.ensures, c.in_ok-name.ensures, c.next_line-line.ensures) at c.in_err-whole.ensures.refused)))))
+prefix-returns-in_err-whole-clause-refused t c = handed_on _ _ _ c.from_residual-in_err-whole.ensures.1 (refuses (lead_prefix (Some c.in-Some.name.now) c.in-Some.ensures (lead_skip c.in_ok-take.ensures.taken refl (lead_call_not (rw (c.in_ok-part.ensures, c.in_ok-name.ensures, c.next_line-line.ensures) at c.in_err-whole.ensures.refused)))))
 
 pub prefix-returns-in_err-whole-2-clause-refused : goal.prefix-returns-in_err-whole-2-clause-refused
 prefix-returns-in_err-whole-2-clause-refused t c = handed_on _ _ _ c.from_residual-in_err-whole-2.ensures.1 (refuses (lead_prefix None c.in_default.ensures (lead_yes c.is.ensures c.if-not-is.false (lead_call c.in_ok-first.ensures.found (lead_call_not c.in_err-whole-2.ensures.refused)))))
@@ -672,13 +667,13 @@ pub climb-returns-then-left_power-limit-clause-found : goal.climb-returns-then-l
 climb-returns-then-left_power-limit-clause-found t c = finds (c.loop-op.invariant.leads _ (lead_climb c.args.depth c.args.limit c.args.start _ (Some c.in-Some.op) c.in-Some.ensures (lead_else _ _ _ (power_below c.if-left_power-limit.true c.left_power.ensures) lead_give)))
 
 pub block-returns-then-last-clause-found : goal.block-returns-then-last-clause-found
-block-returns-then-last-clause-found t c = finds (c.loop-alloc.invariant.leads _ (rw (c.in_ok-push.ensures.view, c.next_line-line.ensures) (statement_last _ c.is_block_end.ensures c.loop-alloc-test.true c.in_ok-statement.ensures.found c.in_ok-semi.ensures.found (sym c.ends_block-last.ensures ∙ c.if-last.true))))
+block-returns-then-last-clause-found t c = finds (c.loop-alloc.invariant.leads _ (rw (c.in_ok-push.ensures.view, c.next_line-line.ensures) (statement_last _ c.is_block_end.ensures c.loop-alloc-test.true c.in_ok-statement.ensures.found c.semicolon-semi.ensures.found (sym c.ends_block-last.ensures ∙ c.if-last.true))))
 
 pub block-returns-then-last-clause-height : goal.block-returns-then-last-clause-height
 block-returns-then-last-clause-height t c = rw (c.in_ok-push.ensures.view, statements_depth, ← c.in_ok-statement.ensures.height, ← c.loop-alloc.invariant.height) c.max.ensures
 
 pub fields-returns-in-Missing-clause-found : goal.fields-returns-in-Missing-clause-found
-fields-returns-in-Missing-clause-found t c = finds (c.loop-alloc.invariant.leads _ (rw (c.in_ok-push.ensures.view, view_add) (field_last _ c.is.ensures c.loop-alloc-test.true c.in_ok-item.ensures.found c.in_ok-sep.ensures.found c.in-Missing.is)))
+fields-returns-in-Missing-clause-found t c = finds (c.loop-alloc.invariant.leads _ (rw (c.in_ok-push.ensures.view, view_add) (field_last _ c.is.ensures c.loop-alloc-test.true c.in_ok-item.ensures.found c.separator-sep.ensures.found c.in-Missing.is)))
 
 pub fields-returns-in-Missing-clause-height : goal.fields-returns-in-Missing-clause-height
 fields-returns-in-Missing-clause-height t c = rw (c.in_ok-push.ensures.view, view_add, fields_depth, ← c.in_ok-item.ensures.height, ← c.loop-alloc.invariant.height) c.max.ensures
@@ -699,16 +694,16 @@ pub if_statement-loop-self-preserved : goal.if_statement-loop-self-preserved
 if_statement-loop-self-preserved t c = record { leads = λ outcome l. c.loop-self.invariant.leads outcome (branch_turn _ c.is.ensures c.loop-self-test.true c.in_ok-take-2.ensures.taken refl c.in_ok-arm.ensures.found (rw (c.in_ok-push-2.ensures.view, arm_view) at l)); height = rw (c.in_ok-push-2.ensures.view, arm_view, branches_depth, ← c.in_ok-arm.ensures.height, ← c.loop-self.invariant.height) c.max.ensures; low = search rules; inside = search rules; shorter = search rules }
 
 pub if_statement-returns-in_err-last-clause-refused : goal.if_statement-returns-in_err-last-clause-refused
-if_statement-returns-in_err-last-clause-refused t c = handed_on _ _ _ c.from_residual-in_err-last.ensures.1 (refuses (c.loop-self.invariant.leads _ (lead_call_not (refuses (lead_no c.is.ensures c.loop-self-test.false (lead_yes c.is-2.ensures c.if-is.true (lead_skip c.in_ok-take-3.ensures.taken refl (lead_call_not c.in_err-last.ensures.refused))))))))
+if_statement-returns-in_err-last-clause-refused t c = handed_on _ _ _ c.from_residual-in_err-last.ensures.1 (refuses (c.loop-self.invariant.leads _ (lead_call_not (refuses (lead_no c.is.ensures c.loop-self-test.false (lead_accept c.accept.ensures.accepted c.if-accept.true (lead_call_not c.in_err-last.ensures.refused)))))))
 
 pub if_statement-returns-in_err-want-clause-refused : goal.if_statement-returns-in_err-want-clause-refused
-if_statement-returns-in_err-want-clause-refused t c = handed_on _ _ _ c.from_residual-in_err-want.ensures.1 (refuses (c.loop-self.invariant.leads _ (lead_call (finds (lead_no c.is.ensures c.loop-self-test.false (lead_yes c.is-2.ensures c.if-is.true (lead_skip c.in_ok-take-3.ensures.taken refl (lead_call c.in_ok-last.ensures.found lead_give))))) (lead_want_not c.in_err-want.ensures.not_taken))))
+if_statement-returns-in_err-want-clause-refused t c = handed_on _ _ _ c.from_residual-in_err-want.ensures.1 (refuses (c.loop-self.invariant.leads _ (lead_call (finds (lead_no c.is.ensures c.loop-self-test.false (lead_accept c.accept.ensures.accepted c.if-accept.true (lead_call c.in_ok-last.ensures.found lead_give)))) (lead_want_not c.in_err-want.ensures.not_taken))))
 
-pub if_statement-returns-then-is-clause-found : goal.if_statement-returns-then-is-clause-found
-if_statement-returns-then-is-clause-found t c = finds (c.loop-self.invariant.leads _ (lead_call (finds (lead_no c.is.ensures c.loop-self-test.false (lead_yes c.is-2.ensures c.if-is.true (lead_skip c.in_ok-take-3.ensures.taken refl (lead_call c.in_ok-last.ensures.found lead_give))))) (lead_want c.in_ok-want.ensures.taken (rw branches_end lead_give))))
+pub if_statement-returns-then-accept-clause-found : goal.if_statement-returns-then-accept-clause-found
+if_statement-returns-then-accept-clause-found t c = finds (c.loop-self.invariant.leads _ (lead_call (finds (lead_no c.is.ensures c.loop-self-test.false (lead_accept c.accept.ensures.accepted c.if-accept.true (lead_call c.in_ok-last.ensures.found lead_give)))) (lead_want c.in_ok-want.ensures.taken (rw branches_end lead_give))))
 
 pub if_statement-returns-in_err-want-2-clause-refused : goal.if_statement-returns-in_err-want-2-clause-refused
-if_statement-returns-in_err-want-2-clause-refused t c = handed_on _ _ _ c.from_residual-in_err-want-2.ensures.1 (refuses (c.loop-self.invariant.leads _ (lead_call (finds (lead_no c.is.ensures c.loop-self-test.false (lead_no c.is-2.ensures c.if-is.false lead_give))) (lead_want_not c.in_err-want-2.ensures.not_taken))))
+if_statement-returns-in_err-want-2-clause-refused t c = handed_on _ _ _ c.from_residual-in_err-want-2.ensures.1 (refuses (c.loop-self.invariant.leads _ (lead_call (finds (lead_no c.is.ensures c.loop-self-test.false (lead_leave c.accept.ensures.accepted c.if-accept.false lead_give))) (lead_want_not c.in_err-want-2.ensures.not_taken))))
 
 pub if_statement-returns-clause-found : goal.if_statement-returns-clause-found
-if_statement-returns-clause-found t c = finds (c.loop-self.invariant.leads _ (lead_call (finds (lead_no c.is.ensures c.loop-self-test.false (lead_no c.is-2.ensures c.if-is.false lead_give))) (lead_want c.in_ok-want-2.ensures.taken (rw branches_end lead_give))))
+if_statement-returns-clause-found t c = finds (c.loop-self.invariant.leads _ (lead_call (finds (lead_no c.is.ensures c.loop-self-test.false (lead_leave c.accept.ensures.accepted c.if-accept.false lead_give))) (lead_want c.in_ok-want-2.ensures.taken (rw branches_end lead_give))))

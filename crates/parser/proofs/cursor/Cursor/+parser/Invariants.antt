@@ -130,9 +130,9 @@ decreases-whole l = 16 * length l.self.now.rest.now + 4
 
 abbrev pub invariant-climb-loop-op : goal.invariant-climb-loop-op
 invariant-climb-loop-op l = record {
-  leads : (outcome : Outcome expression_phrase) → Leads (reads (climb l.fn.depth l.fn.limit l.fn.start (view_exp l.left.part))) l.self.line l.self.rest.now outcome →
-      Leads (reads (climb l.fn.depth l.fn.limit l.fn.start (view_exp l.fn.first.part))) l.fn.self.line l.fn.self.rest.now outcome;
-  height : l.left.height ≡ depth_of_expression (view_exp l.left.part);
+  leads : (outcome : Outcome expression_phrase) → Leads (reads (climb l.fn.depth l.fn.limit l.fn.start (view_exp l.left.part.value))) l.self.line l.self.rest.now outcome →
+      Leads (reads (climb l.fn.depth l.fn.limit l.fn.start (view_exp l.fn.first.part.value))) l.fn.self.line l.fn.self.rest.now outcome;
+  height : l.left.height ≡ depth_of_expression (view_exp l.left.part.value);
   low : l.fn.depth + l.left.height ≤ 200;
   shorter : length l.self.rest.now ≤ length l.fn.self.rest.now;
 }
@@ -142,9 +142,9 @@ decreases-climb-loop-op l = length l.self.rest.now
 
 abbrev pub invariant-suffix-loop-self : goal.invariant-suffix-loop-self
 invariant-suffix-loop-self l = record {
-  leads : (outcome : Outcome expression_phrase) → Leads (reads (suffix l.fn.depth l.fn.role (view_exp l.on.part))) l.self.line l.self.rest.now outcome →
-      Leads (reads (suffix l.fn.depth l.fn.role (view_exp l.fn.first.part))) l.fn.self.line l.fn.self.rest.now outcome;
-  height : l.on.height ≡ depth_of_expression (view_exp l.on.part);
+  leads : (outcome : Outcome expression_phrase) → Leads (reads (suffix l.fn.depth l.fn.role (view_exp l.on.part.value))) l.self.line l.self.rest.now outcome →
+      Leads (reads (suffix l.fn.depth l.fn.role (view_exp l.fn.first.part.value))) l.fn.self.line l.fn.self.rest.now outcome;
+  height : l.on.height ≡ depth_of_expression (view_exp l.on.part.value);
   low : l.fn.depth + l.on.height ≤ 200;
   shorter : length l.self.rest.now ≤ length l.fn.self.rest.now;
 }
@@ -190,10 +190,10 @@ decreases-block-loop-alloc l = length l.self.rest.now
 
 abbrev pub invariant-targets-loop-alloc : goal.invariant-targets-loop-alloc
 invariant-targets-loop-alloc l = record {
-  leads : (outcome : Outcome expressions_phrase) → Leads (targets_with l.fn.depth (view_exps l.list.part) (view_exp l.next.part)) l.self.line l.self.rest.now outcome →
-      Leads (reads (targets l.fn.depth (view_exp l.fn.first.part))) l.fn.self.line l.fn.self.rest.now outcome;
+  leads : (outcome : Outcome expressions_phrase) → Leads (targets_with l.fn.depth (view_exps l.list.part) (view_exp l.next.part.value)) l.self.line l.self.rest.now outcome →
+      Leads (reads (targets l.fn.depth (view_exp l.fn.first.part.value))) l.fn.self.line l.fn.self.rest.now outcome;
   height : l.list.height ≡ depth_of_expressions (view_exps l.list.part);
-  next_height : l.next.height ≡ depth_of_expression (view_exp l.next.part);
+  next_height : l.next.height ≡ depth_of_expression (view_exp l.next.part.value);
   low : l.fn.depth + l.list.height ≤ 200;
   next_low : l.fn.depth + l.next.height ≤ 200;
   shorter : length l.self.rest.now ≤ length l.fn.self.rest.now;

@@ -1,5 +1,5 @@
-use Rattle.std.proofs.Common.{rules, append-nil, refl}
-use Rattle.parser.proofs.Steps.{steps, lead_call, lead_yes, lead_skip, finds, lead_no, lead_give}
+use Rattle.std.proofs.Common.{rules, append-nil}
+use Rattle.parser.proofs.Steps.{steps, lead_call, lead_accept, lead_leave, finds, lead_no, lead_give}
 use Rattle.parser.proofs.LoopSteps.{parameter_turn}
 use Rattle.parser.proofs.cursor.Cursor.parameters.Goals as goal
 
@@ -12,20 +12,20 @@ loop-alloc-init c = record {
   shorter = search rules;
 }
 
-pub returns-then-is-2-clause-found : goal.returns-then-is-2-clause-found
-returns-then-is-2-clause-found c = finds (c.loop-alloc.invariant.leads _
-    (lead_call (finds (lead_yes c.is-in-loop-alloc.ensures c.if-is-2.true (lead_skip c.in_ok-take.ensures.taken refl lead_give))) (rw append-nil lead_give)))
+pub returns-then-accept-clause-found : goal.returns-then-accept-clause-found
+returns-then-accept-clause-found c = finds (c.loop-alloc.invariant.leads _
+    (lead_call (finds (lead_accept c.accept.ensures.accepted c.if-accept.true lead_give)) (rw append-nil lead_give)))
 
 pub returns-in_err-name-clause-refused : goal.returns-in_err-name-clause-refused
 returns-in_err-name-clause-refused c = search (rules, steps, c.loop-alloc.invariant.leads) depth 14
 
-pub returns-then-not-is-clause-found : goal.returns-then-not-is-clause-found
-returns-then-not-is-clause-found c = finds (c.loop-alloc.invariant.leads _ (rw c.in_ok-push.ensures.ok
-    (lead_call (finds (lead_no c.is-in-loop-alloc.ensures c.if-is-2.false (lead_call c.in_ok-name.ensures.found (lead_call (finds (lead_no c.is-in-loop-alloc-2.ensures c.if-not-is.true lead_give)) lead_give)))) lead_give)))
+pub returns-then-not-accept-clause-found : goal.returns-then-not-accept-clause-found
+returns-then-not-accept-clause-found c = finds (c.loop-alloc.invariant.leads _ (rw c.in_ok-push.ensures.ok
+    (lead_call (finds (lead_leave c.accept.ensures.accepted c.if-accept.false (lead_call c.in_ok-name.ensures.found (lead_call (finds (lead_leave c.accept-in-loop-alloc.ensures.accepted c.if-not-accept.true lead_give)) lead_give)))) lead_give)))
 
 pub loop-alloc-preserved : goal.loop-alloc-preserved
 loop-alloc-preserved c = record {
   leads = λ outcome l. c.loop-alloc.invariant.leads outcome
-      (parameter_turn c.loop-alloc.names c.is-in-loop-alloc.ensures c.if-is-2.false c.in_ok-name.ensures.found c.is-in-loop-alloc-2.ensures c.if-not-is.false c.in_ok-take-2.ensures.taken (rw (← c.in_ok-push.ensures.ok) l));
+      (parameter_turn c.loop-alloc.names c.accept.ensures.accepted c.if-accept.false c.in_ok-name.ensures.found c.accept-in-loop-alloc.ensures.accepted c.if-not-accept.false (rw (← c.in_ok-push.ensures.ok) l));
   shorter = search rules;
 }
