@@ -60,13 +60,8 @@ opened_next entries place items all is =
     map-set view_entry entries place (Entry.Maker items true) ∙ ap (opened_at place (map view_entry entries)) (sym (at_place entries place (Some (Entry.Maker items all)) is))
 
 opened_other : (place : ℕ) (entries : Entries) (entry : Entry) → ((items : CoreItems) (all : Bool) → entry ≡ Entry.Maker items all → ⊥) → opened_at place entries (Some (view_entry entry)) ≡ entries
-opened_other place entries (Entry.Value core) not = refl
 opened_other place entries (Entry.Maker items all) not = absurd (not items all refl)
-opened_other place entries Entry.More not = refl
-opened_other place entries Entry.Missing not = refl
-opened_other place entries Entry.Held not = refl
-opened_other place entries (Entry.Open core) not = refl
-opened_other place entries (Entry.Method on name) not = refl
+opened_other place entries entry not = refl
 
 pub opened_same : (entries : List Entry) (place : ℕ) (entry : Entry) → slice_get entries place ≡ Some entry → ((items : CoreItems) (all : Bool) → entry ≡ Entry.Maker items all → ⊥) →
     map view_entry (slice_set entries place entry) ≡ opened place (map view_entry entries)

@@ -9,7 +9,7 @@ use Rattle.std.proofs.lemmas.List.{map-append, take-map, drop-map, length-map, s
 use Rattle.std.proofs.lemmas.Option.{slice_get-map, slice_get_read, same_Some}
 use Rattle.core_expr.specs.Values.{Value, Values, no_values, and_value, view_core, values_of}
 use Rattle.core_expr.specs.declared.cores.Core.{Core}
-use Rattle.recover_expr.specs.Entries.{EntryValue, value_entry, maker_entry, more_entry, missing_entry, held_entry, open_entry, method_entry, Entries, view_entry, IsLostOnlyWhere, single_of, before_values, singles_of, and_last_value, take_from, single_alone, take_at, method_alone, take_method, take_singles, take_open, Listed, listed_to, take_list}
+use Rattle.recover_expr.specs.Entries.{EntryValue, more_entry, method_entry, Entries, view_entry, IsLostOnlyWhere, single_of, before_values, singles_of, and_last_value, take_from, single_alone, take_at, method_alone, take_method, take_singles, take_open, Listed, listed_to, take_list}
 use Rattle.recover_expr.specs.declared.lost.Lost.{Lost}
 use Rattle.recover_expr.specs.declared.stack.Entry.{Entry}
 
@@ -99,43 +99,21 @@ no_single (entry ∷ other ∷ entries) not = refl
 pub none_at : (place : ℕ) (entries : Entries) → (length entries ≡ place + 1 → ⊥) → take_at place entries ≡ None
 none_at place entries not = ap (option_map (λ v. (v, take place entries))) (no_single (drop place entries) (λ one. not (omega (arith, one, length-drop place entries))))
 
-one_is_none : (entry : EntryValue) → method_alone (entry ∷ []) ≡ None
-one_is_none (value_entry v) = refl
-one_is_none (maker_entry items all) = refl
-one_is_none more_entry = refl
-one_is_none missing_entry = refl
-one_is_none held_entry = refl
-one_is_none (open_entry v) = refl
-one_is_none (method_entry on name) = refl
-
-more_are_none : (entry other third : EntryValue) (entries : Entries) → method_alone (entry ∷ other ∷ third ∷ entries) ≡ None
-more_are_none (value_entry v) other third entries = refl
-more_are_none (maker_entry items all) other third entries = refl
-more_are_none more_entry other third entries = refl
-more_are_none missing_entry other third entries = refl
-more_are_none held_entry other third entries = refl
-more_are_none (open_entry v) other third entries = refl
-more_are_none (method_entry on name) other third entries = refl
-
--- a method by itself is no method, since it takes two registers
 no_method : (entries : Entries) → (length entries ≡ 2 → ⊥) → method_alone entries ≡ None
 no_method [] not = refl
-no_method (entry ∷ []) not = one_is_none entry
+no_method (method_entry on name ∷ []) not = refl
+no_method (entry ∷ []) not = refl
 no_method (entry ∷ other ∷ []) not = absurd (not refl)
-no_method (entry ∷ other ∷ third ∷ entries) not = more_are_none entry other third entries
+no_method (method_entry on name ∷ other ∷ third ∷ entries) not = refl
+no_method (entry ∷ other ∷ third ∷ entries) not = refl
 
 pub none_of_method : (place : ℕ) (entries : Entries) → (length entries ≡ place + 2 → ⊥) → take_method place entries ≡ None
 none_of_method place entries not = ap (option_map (λ m. (m, take place entries))) (no_method (drop place entries) (λ two. not (omega (arith, two, length-drop place entries))))
 
 -- a method is one whatever stands in its second register
 second_alone : (entry second : EntryValue) → method_alone (entry ∷ second ∷ []) ≡ method_alone (entry ∷ more_entry ∷ [])
-second_alone (value_entry v) second = refl
-second_alone (maker_entry items all) second = refl
-second_alone more_entry second = refl
-second_alone missing_entry second = refl
-second_alone held_entry second = refl
-second_alone (open_entry v) second = refl
 second_alone (method_entry on name) second = refl
+second_alone entry second = refl
 
 method_in : (entries : Entries) (place : ℕ) (entry : EntryValue) → length entries ≡ place + 2 → slice_get entries place ≡ Some entry → method_alone (drop place entries) ≡ method_alone (entry ∷ more_entry ∷ [])
 method_in [] place entry two is = absurd cc
@@ -168,13 +146,8 @@ method_taken entries firsts rest place on name two firsts_are is =
     ∙ ap (option_map (λ m. (m, take place all))) (sym (method_at entries place (Entry.Method on name) length_is top.1))
 
 not_a_method : (entry : Entry) → ((on : Core) (name : ℕ) → entry ≡ Entry.Method on name → ⊥) → method_alone (view_entry entry ∷ more_entry ∷ []) ≡ None
-not_a_method (Entry.Value core) not = refl
-not_a_method (Entry.Maker items all) not = refl
-not_a_method Entry.More not = refl
-not_a_method Entry.Missing not = refl
-not_a_method Entry.Held not = refl
-not_a_method (Entry.Open core) not = refl
 not_a_method (Entry.Method on name) not = absurd (not on name refl)
+not_a_method entry not = refl
 
 pub no_method_taken : (entries firsts rest : List Entry) (place : ℕ) (entry : Entry) → length (map view_entry entries) ≡ place + 2 → firsts ≡ take (place + 1) entries → firsts ≡ rest ++ entry ∷ [] →
     ((on : Core) (name : ℕ) → entry ≡ Entry.Method on name → ⊥) → take_method place (map view_entry entries) ≡ None

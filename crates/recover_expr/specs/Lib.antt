@@ -1,5 +1,9 @@
+pub mod Constructors
+pub mod Drafts
+pub mod Effects
 pub mod Entries
 pub mod Faults
 pub mod Locals
 pub mod Reasons
 pub mod Situation
+pub mod Words

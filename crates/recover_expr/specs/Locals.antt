@@ -1,12 +1,13 @@
 -- Serves a body. The listed locals of a function while its words are read: which are declared, and which are active.
 use Rattle.std.specs.List.{list_any, prefix_len}
-use Rattle.std.specs.Prelude.{◌==◌, ◌&&◌, ◌+◌, ◌-◌, ◌^◌, ℕ, zero, suc, min, Bool, true, false, nat_le, nat_lt, List, [], ◌∷◌, ◌++◌, length, take, drop, slice_get, slice_set, Option, None, Some, option_map, option_and_then, if◌then◌else◌}
+use Rattle.std.specs.Prelude.{◌==◌, ◌&&◌, ◌-◌, ◌^◌, ℕ, zero, suc, Bool, true, false, nat_le, nat_lt, List, [], ◌∷◌, ◌++◌, length, take, drop, slice_get, slice_set, Option, None, Some, option_map, option_and_then, if◌then◌else◌}
 use Rattle.lua_num.specs.Bytes.{Text}
-use Rattle.lua_tree.specs.Names.{is_name}
 use Rattle.proto.specs.Chunk.{own}
 use Rattle.proto.specs.View.{view_proto}
 use Rattle.proto.specs.declared.parts.LocVar.{LocVar}
 use Rattle.proto.specs.declared.proto.Proto.{Proto}
+use Rattle.core_expr.specs.Counting.{one_more}
+use Rattle.core_expr.specs.Places.{name_of_local}
 use Rattle.recover_expr.specs.declared.fault.Fault.{Fault}
 use Rattle.recover_expr.specs.declared.locals.Declared.{Declared}
 use Rattle.recover_expr.specs.declared.locals.Locals.{Locals}
@@ -29,12 +30,9 @@ IsFaultOnlyWhere holds Fault.OutOfMemory = Unit {0}
 
 -- ---- names
 
-abbrev pub good_name : Text → Option Text
-good_name name = if is_name name then Some name else None
-
 -- the name of an entry of the list, where it is one that a source can write
 abbrev pub name_of : List LocVar → (entry : ℕ) → Option Text
-name_of locals entry = option_and_then (λ (local : LocVar). good_name local.name) (slice_get locals entry)
+name_of locals entry = name_of_local (slice_get locals entry)
 
 abbrev pub before_names : Option Text → Option (List Text) → Option (List Text)
 before_names (Some name) (Some names) = Some (name ∷ names)
@@ -155,10 +153,6 @@ or_zero (Some n) = n
 -- where this local is innermost, one more than the highest register of a captured one that is active; 0 where none is
 abbrev pub up_to : List ℕ → Option ℕ → ℕ
 up_to highest innermost = or_zero (option_and_then (slice_get highest) innermost)
-
--- one more, or the greatest number of 32 bits
-abbrev pub one_more : ℕ → ℕ
-one_more n = min (n + 1) (2 ^ 32 - 1)
 
 abbrev pub highest_at : List ℕ → Declared → ℕ
 highest_at before one = if one.captured then one_more one.register else up_to before one.outer

@@ -1,5 +1,5 @@
 -- Serves a body. What is known behind the words of a function that are read, as plain data.
-use Rattle.std.specs.Prelude.{◌==◌, ◌&&◌, ◌-◌, ◌^◌, ℕ, suc, ℤ, pos, negsuc, ◌+ℤ◌, Bool, true, false, max, nat_le, nat_lt, List, [], length, slice_get, slice_set, Option, None, Some, option_map, option_and_then, if◌then◌else◌}
+use Rattle.std.specs.Prelude.{◌==◌, ◌&&◌, ◌-◌, ◌^◌, ℕ, suc, ℤ, pos, negsuc, ◌+ℤ◌, Bool, true, false, nat_le, nat_lt, List, [], length, slice_get, slice_set, Option, None, Some, option_map, option_and_then, if◌then◌else◌}
 use Rattle.lua_num.specs.Bytes.{Text}
 use Rattle.lua_tree.specs.Names.{is_name}
 use Rattle.opcode.specs.declared.op.Op.{Op}
@@ -8,9 +8,11 @@ use Rattle.opcode.specs.Reading.{instr_of}
 use Rattle.proto.specs.Chunk.{Own, own}
 use Rattle.proto.specs.View.{view_proto}
 use Rattle.proto.specs.declared.parts.Constant.{Constant}
+use Rattle.core_expr.specs.Counting.{with_constant}
+use Rattle.core_expr.specs.Places.{Place, place}
 use Rattle.core_expr.specs.Values.{Value, local_value, OperandValue, constant_operand, value_operand, Inner, view_bodies}
 use Rattle.recover_expr.specs.Entries.{Entries, entries_of, place_in, take_at}
-use Rattle.recover_expr.specs.Locals.{Scope, view_locals, innermost, is_named, one_more}
+use Rattle.recover_expr.specs.Locals.{Scope, view_locals, innermost, is_named}
 use Rattle.recover_expr.specs.declared.function.Function as declared
 use Rattle.recover_expr.specs.declared.function.Word as word
 use Rattle.recover_expr.specs.declared.state.State.{State}
@@ -75,6 +77,13 @@ begun step pc s = record s {
   taken = s.seen;
 }
 
+-- where a value of the step is written
+abbrev pub place_in_step : Function → Situation → Place
+place_in_step f s = place f.of s.scope.active f.short
+
+abbrev pub with_left : List (Option Inner) → Situation → Situation
+with_left left s = record s { left = left }
+
 -- ---- words
 
 abbrev pub instr_at : Function → (pc : ℕ) → Option Instr
@@ -92,7 +101,7 @@ is_return a b i = is_op_return i.op && ((i.a == a) && ((i.b == b) && (i.c == 0))
 
 -- a constant of this number is taken, and so all before it
 abbrev pub see_constant : (number : ℕ) → Situation → Situation
-see_constant k s = record s { seen = max s.seen (one_more k) }
+see_constant k s = record s { seen = with_constant s.seen k }
 
 abbrev pub see_operand : (operand : ℕ) → Situation → Situation
 see_operand o s = if nat_le 256 o then see_constant (o - 256) s else s

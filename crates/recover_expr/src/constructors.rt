@@ -1,4 +1,9 @@
 // Constructors, and their items.
+ghost use Rattle.std.specs.Prelude.{◌≡◌, Some, None, IfOk, IfErr};
+ghost use Rattle.recover_expr.specs.Constructors.{new_table, maker_place};
+ghost use Rattle.recover_expr.specs.Drafts.{view_read};
+ghost use Rattle.recover_expr.specs.Entries.{IsLostOnlyWhere, entries_of};
+ghost use Rattle.recover_expr.specs.Situation.{view_state};
 
 use crate::function::{Function, Word};
 use crate::lost::Lost;
@@ -8,7 +13,10 @@ use crate::words::Read;
 use core_expr::{CoreItem, CoreItems};
 
 /// NEWTABLE.
-pub fn new_table(function: &Function, state: &mut State, word: Word) -> Result<Read, Lost> {
+pub fn new_table(function: &Function, state: &mut State, word: Word) -> Result<Read, Lost>
+    ensures read { IfOk result (λ read. Some (view_read read, view_state state.new) ≡ new_table word (view_state state.old)) }
+    ensures lost { IfErr result (IsLostOnlyWhere (new_table word (view_state state.old) ≡ None)) }
+{
     let maker = Entry::Maker {
         items: CoreItems::new(function.alloc),
         open: false,
@@ -18,7 +26,9 @@ pub fn new_table(function: &Function, state: &mut State, word: Word) -> Result<R
 }
 
 /// The place of the constructor in the register A.
-pub fn maker_place(stack: &Stack, word: Word) -> Option<usize> {
+pub fn maker_place(stack: &Stack, word: Word) -> Option<usize>
+    ensures { result ≡ maker_place word stack.now.base (entries_of stack.now) }
+{
     let place = stack.place(word.instr.a)?;
     stack.is_maker(place).then_some(place)
 }

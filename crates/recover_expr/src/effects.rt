@@ -1,12 +1,15 @@
 // The registers that instructions read and write.
 ghost use Rattle.std.specs.Prelude.{◌≡◌};
+ghost use Rattle.recover_expr.specs.Effects.{is_from, reads_from, makes_value};
 ghost use Rattle.recover_expr.specs.Situation.{has_operands};
 
 use crate::function::FIRST_CONSTANT;
 use opcode::{Instr, Op};
 
 // Whether an operand is a register from a base on.
-fn is_from(operand: u32, base: u32) -> bool {
+fn is_from(operand: u32, base: u32) -> bool
+    ensures { result ≡ is_from operand base }
+{
     base <= operand && operand < FIRST_CONSTANT
 }
 
@@ -22,7 +25,9 @@ pub fn has_operands(op: Op) -> bool
 }
 
 /// Whether an instruction reads a register from a base on.
-pub fn reads_from(instr: Instr, base: u32) -> bool {
+pub fn reads_from(instr: Instr, base: u32) -> bool
+    ensures { result ≡ reads_from instr base }
+{
     let Instr { op, a, b, c, .. } = instr;
     match op {
         Op::Move | Op::Unm | Op::Not | Op::Len | Op::TestSet => b >= base,
@@ -38,7 +43,9 @@ pub fn reads_from(instr: Instr, base: u32) -> bool {
 }
 
 /// Whether instructions of this opcode make a value for the register A, and do nothing else.
-pub fn makes_value(op: Op) -> bool {
+pub fn makes_value(op: Op) -> bool
+    ensures { result ≡ makes_value op }
+{
     match op {
         Op::SetGlobal | Op::SetUpval | Op::SetTable | Op::SetList => false,
         Op::Jmp | Op::Eq | Op::Lt | Op::Le | Op::Test | Op::Close => false,

@@ -1,6 +1,7 @@
 // What is known behind the words of a function that are read.
 ghost use Rattle.std.specs.Prelude.{◌≡◌, ◌≤◌, ◌^◌, length, Some, None, IfOk, IfErr, OnOk, OnErr};
 ghost use Rattle.core_expr.specs.Values.{view_core, view_operand, view_bodies, view_recovered};
+ghost use Rattle.recover_expr.specs.Drafts.{view_draft, view_part, drafted};
 ghost use Rattle.recover_expr.specs.Entries.{IsLostOnlyWhere};
 ghost use Rattle.recover_expr.specs.Situation.{view_function, view_state, at_first, begun, see_constant, see_operand, see, take_body, local_in, pop, pop_operand};
 
@@ -64,7 +65,9 @@ impl State {
     }
 
     /// The step, which goes up to a pc.
-    pub fn draft(&self, kind: DraftKind, next: u32, levels: u32, part: StepPart) -> Draft {
+    pub fn draft(&self, kind: DraftKind, next: u32, levels: u32, part: StepPart) -> Draft
+        ensures { view_draft result ≡ drafted kind next levels (view_part part) (view_state self.now) }
+    {
         Draft {
             kind,
             pc: self.pc,

@@ -1,7 +1,9 @@
 // Words, one by one.
 #![tactic(auto, using(crate::proofs::Blames::free_fits))]
 
-ghost use Rattle.std.specs.Prelude.{IfErr};
+ghost use Rattle.std.specs.Prelude.{◌≡◌, IfErr};
+ghost use Rattle.core_expr.specs.Values.{view_core};
+ghost use Rattle.recover_expr.specs.Drafts.{view_read, makes};
 ghost use Rattle.recover_expr.specs.Faults.{IsFaultOf};
 
 use crate::assigning::{assignment, value_assignment};
@@ -36,7 +38,9 @@ pub enum Read {
 }
 
 /// A value that one word makes.
-pub fn value(word: Word, core: Core) -> Read {
+pub fn value(word: Word, core: Core) -> Read
+    ensures { view_read result ≡ makes (view_core core) word.next }
+{
     Read::Value {
         core,
         next: word.next,
