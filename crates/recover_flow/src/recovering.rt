@@ -1,5 +1,7 @@
 // From a chunk to a tree.
 ghost use Rattle.std.specs.Prelude.{◌≡◌, ◌∷◌, ◌<◌, ◌^◌, OnOk, IfOk, IfErr, Some, length, map};
+ghost use Rattle.lua_tree.specs.View.{view_tree};
+ghost use Rattle.lua_tree.specs.WellFormed.{WellFormed};
 ghost use Rattle.proto.specs.Chunk.{Chunk, Functions, functions_of, function_at};
 ghost use Rattle.proto.specs.Short.{IsShort, AreShort};
 ghost use Rattle.proto.specs.View.{view_proto};
@@ -15,11 +17,13 @@ use lua_tree::{Body, Tree};
 use proto::{Path, Proto};
 use recover_expr::Reason;
 use std::alloc::{AllocError, Global};
+use well_formed::is_well_formed;
 
-/// The tree of a source of a chunk, or why none is recovered.
+/// The well-formed tree of a source of a chunk, or why none is recovered.
 pub fn recover(alloc: Global, proto: &Proto) -> Result<Tree, Lost>
     requires short { IsShort (view_proto proto.now) }
     ensures told { OnOk result (HasDebug (view_proto proto.now)) }
+    ensures formed { IfOk result (λ tree. WellFormed (view_tree tree)) }
     ensures lost { IfErr result (IsLostBy (view_proto proto.now)) }
 {
     if let Some(path) = untold(alloc, proto)? {
@@ -69,9 +73,10 @@ impl From<Failure> for Lost {
     }
 }
 
-// The tree of a chunk that tells what its source is recovered by: in natural forms, or in those of fewest levels where these are too deep.
+// The tree of a chunk that tells what its source is recovered by: in natural forms, or in those of fewest levels where these are too deep. It is refused where it is not well formed.
 fn recovered(alloc: Global, proto: &Proto) -> Result<Tree, Lost>
     requires short { IsShort (view_proto proto.now) }
+    ensures formed { IfOk result (λ tree. WellFormed (view_tree tree)) }
     ensures lost { IfErr result (IsUnfound (view_proto proto.now)) }
 {
     let found = match inner_function(alloc, proto, 0, false) {
@@ -85,19 +90,20 @@ fn recovered(alloc: Global, proto: &Proto) -> Result<Tree, Lost>
         ) => inner_function(alloc, proto, 0, true)?,
         Err(failure) => return Err(Lost::from(failure)),
     };
-    let Recovered { body, levels } = found;
-    if levels > LIMIT {
+    let Recovered { body, .. } = found;
+    let Body { block, .. } = body;
+    let tree = Tree {
+        body: block,
+        last_line: 1,
+    };
+    if !is_well_formed(&tree) {
         return Err(Lost::At {
             path: Path::new(alloc),
             pc: 0,
             reason: Reason::NotScheme,
         });
     }
-    let Body { block, .. } = body;
-    Ok(Tree {
-        body: block,
-        last_line: 1,
-    })
+    Ok(tree)
 }
 
 // A function that stands so deep in others, behind those in it.
