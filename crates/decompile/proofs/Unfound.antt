@@ -3,7 +3,7 @@ use Rattle.std.proofs.Common.{◌≡◌, ℕ, List, [], sym, subst}
 use Rattle.proto.specs.Chunk.{Chunk}
 use Rattle.recover_expr.specs.declared.fault.Reason.{Reason}
 use Rattle.recover_flow.specs.Debug.{HasDebug}
-use Rattle.recover_flow.specs.Lost.{HasReasonAt, here}
+use Rattle.recover_flow.specs.Lost.{here}
 use Rattle.decompile.specs.declared.refused.Refused.{Refused}
 use Rattle.decompile.specs.Sources.{IsRefusedBy}
 

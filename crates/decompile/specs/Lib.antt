@@ -1,3 +1,4 @@
+pub mod Given
 pub mod Sources
 pub mod Texts
 pub mod Refusals

@@ -4,12 +4,16 @@ ghost use Rattle.proto.specs.Short.{IsShort};
 ghost use Rattle.proto.specs.View.{view_proto};
 ghost use Rattle.proto.specs.Chunk.{Chunk};
 ghost use Rattle.recover_flow.specs.Debug.{HasDebug};
+ghost use Rattle.lua_tree.specs.View.{view_tree};
+ghost use Rattle.lua_tree.specs.WellFormed.{WellFormed};
 ghost use Rattle.decompile.specs.Sources.{IsSourceOf, IsRefusedBy};
+ghost use Rattle.decompile.specs.Given.{IsTreeFor, IsGiven};
 
 use crate::refused::Refused;
 use chunk_difference::first_difference;
 use front::{SourceFault, source_chunk};
 use lua_num::ByteText;
+use lua_tree::Tree;
 use printer::print_tree;
 use proto::{Path, Proto};
 use recover_expr::Reason;
@@ -25,16 +29,31 @@ pub fn decompile(alloc: Global, proto: &Proto) -> Result<ByteText, Refused>
     ensures refused { IfErr result (IsRefusedBy (view_proto proto.now)) }
 {
     let tree = recover(alloc, proto)?;
-    let text = print_tree(alloc, &tree)?;
+    printed(alloc, proto, &tree)
+}
+
+// The text of a tree, where that is one of a source of the chunk; so it is given for each tree that is one.
+fn printed(alloc: Global, proto: &Proto, tree: &Tree) -> Result<ByteText, Refused>
+    requires told { HasDebug (view_proto proto.now) }
+    requires formed { WellFormed (view_tree tree.now) }
+    ensures text { IfOk result (IsSourceOf (view_proto proto.now)) }
+    ensures refused { IfErr result (IsRefusedBy (view_proto proto.now)) }
+    ensures given { IsTreeFor (view_proto proto.now) (view_tree tree.now) → IsGiven result }
+{
+    scheme_lines::lines_do_not_matter();
+    let text = print_tree(alloc, tree)?;
     compared(alloc, proto, text)
 }
 
 // The text, where its chunk under the source name of this one is the same but for lines.
 fn compared(alloc: Global, proto: &Proto, text: ByteText) -> Result<ByteText, Refused>
     requires told { HasDebug (view_proto proto.now) }
-    ensures text { IfOk result (IsSourceOf (view_proto proto.now)) }
+    ensures source { IfOk result (IsSourceOf (view_proto proto.now)) }
     ensures refused { IfErr result (IsRefusedBy (view_proto proto.now)) }
+    ensures given { IsSourceOf (view_proto proto.now) text → IsGiven result }
 {
+    front::chunks_are_one();
+    front::never_both();
     let Some(name) = &proto.source else {
         return Err(no_scheme(alloc));
     };
