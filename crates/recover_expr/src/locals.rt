@@ -1,7 +1,7 @@
 // The listed locals of a function: which are declared, and which are active.
 #![tactic(auto, using(crate::proofs::Blames::free_fits))]
 
-ghost use Rattle.std.specs.Prelude.{◌≡◌, ◌+◌, ◌<◌, ◌≤◌, ◌^◌, [], length, not, slice_get, is_some, Some, None, IfOk, IfErr, OnOk};
+ghost use Rattle.std.specs.Prelude.{◌≡◌, ◌+◌, ◌<◌, ◌≤◌, ◌^◌, [], length, drop, not, slice_get, is_some, Some, None, IfOk, IfErr, OnOk};
 ghost use Rattle.recover_expr.specs.Faults.{IsFaultOf};
 ghost use Rattle.recover_expr.specs.Entries.{IsLostOnlyWhere};
 ghost use Rattle.recover_expr.specs.Locals.{view_locals, listed, IsFaultOnlyWhere, name_of, names_from, is_hidden, starting, innermost_end, ends_within, is_over, nests, entered, declare_next, declare, leave, capture_entry, capture, is_named, declaring_step, any_captured, up_to, highest_captured};
@@ -70,6 +70,14 @@ pub fn own_names(
     Ok(names)
 }
 
+// What stands from a place on. An iterator that skips would go over what stands before it.
+fn from_place<T>(items: &[T], first: usize) -> &[T]
+    ensures { result.now ≡ drop first items.now }
+{
+    let first = first.min(items.len());
+    &items[first..]
+}
+
 /// Whether an entry of the list has a name that only hidden locals of loops have.
 pub fn is_hidden(proto: &Proto, entry: usize) -> bool
     ensures { result ≡ is_hidden (listed proto.now) entry }
@@ -121,8 +129,8 @@ impl Locals {
     pub fn starting(&self, proto: &Proto, pc: u32) -> usize
         ensures { result ≡ starting (listed proto.now) pc (view_locals self.now) }
     {
-        let behind = locals_of(proto).iter().skip(self.next());
-        behind.take_while(|local| local.start == pc).count()
+        let behind = from_place(locals_of(proto), self.next());
+        behind.iter().take_while(|local| local.start == pc).count()
     }
 
     /// The next so many are declared at a pc, by a step.
@@ -283,8 +291,8 @@ impl Locals {
     pub fn any_captured(&self, first: usize, count: usize) -> bool
         ensures { result ≡ any_captured first count (view_locals self.now) }
     {
-        let mut some = self.declared.iter().skip(first).take(count);
-        some.any(|local| local.captured)
+        let behind = from_place(self.declared.as_slice(), first);
+        behind.iter().take(count).any(|local| local.captured)
     }
 
     /// For each that is declared, one more than the highest register of a captured local among it and those that are active where it is innermost; 0 where none is.
