@@ -9,9 +9,8 @@ use Rattle.lua_tree.specs.declared.tree.UnaryOp.{UnaryOp}
 use Rattle.lua_tree.specs.declared.tree.Separator.{Separator}
 use Rattle.core_expr.specs.Places.{Place, constant_at, name_of_number, field_name, field_number, constant_name}
 use Rattle.core_expr.specs.Standing.{Standing, with_taken, behind, behind_values, behind_operand, behind_short, behind_arguments, worded, worded_values, worded_each, worded_operand, worded_only, worded_short, worded_arguments, worded_keyed, no_field_wording, can_word, can_word_values, can_word_operand}
-use Rattle.core_expr.specs.Targets.{can_write_target}
+use Rattle.core_expr.specs.Targets.{index_target, can_write_target}
 use Rattle.core_expr.specs.declared.scope.Written.{Written}
-use Rattle.core_expr.specs.declared.writing.Target.{Target}
 use Rattle.core_expr.specs.Values.{Value, Inner, Values, no_values, and_value, OperandValue, constant_operand, value_operand, constant_value, binary_value, unary_value, concat_value, call_value, method_value, view_core, view_operand, values_of, operands_of, view_operand_list}
 use Rattle.core_expr.specs.declared.cores.Core.{Core, Constant, Table, Table', out-Core, roll-Core, roll-out-Core}
 use Rattle.core_expr.specs.declared.cores.Core.TheBlock.{shown-the_row-CoreItem-2}
@@ -164,7 +163,7 @@ index_made key s on k w none k_is w_is = w_is ∙ ap (with_index on) k_is ∙ ap
 
 -- the key of a target cannot be written behind what it is a key of
 pub target_key : (on : Core) (key : Operand) (at : Place) (n : ℕ) (fs : List (Option Inner)) (s next : Standing) → s ≡ record { at = at; taken = n; left = fs } → next ≡ behind (view_core on) s →
-    can_word_operand next (view_operand key) ≡ false → can_write_target at fs (Target.Index on key) ≡ false
+    can_word_operand next (view_operand key) ≡ false → can_write_target at fs (index_target (view_core on) (view_operand key)) ≡ false
 target_key on key at n fs s next s_is then_is cannot = and_right _ _ (ap (λ x. can_word_operand x (view_operand key)) (sym (then_is ∙ ap (behind (view_core on)) s_is)) ∙ cannot)
 
 -- ---- items

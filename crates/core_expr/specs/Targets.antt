@@ -3,7 +3,7 @@ use Rattle.std.specs.Prelude.{◌&&◌, ◌||◌, not, ℕ, ◌-◌, Bool, true,
 use Rattle.lua_num.specs.Bytes.{Text}
 use Rattle.lua_tree.specs.declared.tree.BinaryOp.{BinaryOp}
 use Rattle.core_expr.specs.declared.writing.Target.{Target}
-use Rattle.core_expr.specs.declared.writing.Comparison.{Comparison}
+use Rattle.core_expr.specs.declared.writing.Comparison as declared
 use Rattle.core_expr.specs.Values.{Value, index_value, OperandValue, OperandList, no_operands, and_operand, Inner, view_core, view_operand}
 use Rattle.core_expr.specs.Places.{Place, local_name, upvalue_name, constant_name, field_name, is_variable, variable_name}
 use Rattle.core_expr.specs.Counting.{taken_behind, taken_behind_operand, left_by, left_by_operand}
@@ -11,29 +11,48 @@ use Rattle.core_expr.specs.Writing.{Wording, word, word_operand, name_word, as_p
 
 -- ---- what is assigned to; the name of a global is taken by its store, behind the values
 
-abbrev pub word_target : Place → ℕ → List (Option Inner) → Target → Wording
-word_target at n fs (Target.Local r) = name_word (local_name at r)
-word_target at n fs (Target.Upvalue u) = name_word (upvalue_name at u)
-word_target at n fs (Target.Global k) = name_word (constant_name at k)
-word_target at n fs (Target.Index on key) =
-    let o = view_core on in
-    with_key (field_name at (view_operand key)) (as_prefix (word at n fs o)) (word_operand at (taken_behind o n) (left_by o fs) (view_operand key))
+pub data TargetValue : Type 0 where
+  local_target upvalue_target global_target : ℕ → TargetValue
+  index_target : (on : Value) → (key : OperandValue) → TargetValue
 
-abbrev pub taken_behind_target : Target → ℕ → ℕ
-taken_behind_target (Target.Index on key) n = taken_behind_operand (view_operand key) (taken_behind (view_core on) n)
+abbrev pub view_target : Target → TargetValue
+view_target (Target.Local r) = local_target r
+view_target (Target.Upvalue u) = upvalue_target u
+view_target (Target.Global k) = global_target k
+view_target (Target.Index on key) = index_target (view_core on) (view_operand key)
+
+abbrev pub word_target : Place → ℕ → List (Option Inner) → TargetValue → Wording
+word_target at n fs (local_target r) = name_word (local_name at r)
+word_target at n fs (upvalue_target u) = name_word (upvalue_name at u)
+word_target at n fs (global_target k) = name_word (constant_name at k)
+word_target at n fs (index_target on key) = with_key (field_name at key) (as_prefix (word at n fs on)) (word_operand at (taken_behind on n) (left_by on fs) key)
+
+abbrev pub taken_behind_target : TargetValue → ℕ → ℕ
+taken_behind_target (index_target on key) n = taken_behind_operand key (taken_behind on n)
 taken_behind_target target n = n
 
-abbrev pub left_by_target : Target → List (Option Inner) → List (Option Inner)
-left_by_target (Target.Index on key) fs = left_by_operand (view_operand key) (left_by (view_core on) fs)
+abbrev pub left_by_target : TargetValue → List (Option Inner) → List (Option Inner)
+left_by_target (index_target on key) fs = left_by_operand key (left_by on fs)
 left_by_target target fs = fs
 
-abbrev pub can_write_target : Place → List (Option Inner) → Target → Bool
-can_write_target at fs (Target.Local r) = is_some (local_name at r)
-can_write_target at fs (Target.Upvalue u) = is_some (upvalue_name at u)
-can_write_target at fs (Target.Global k) = is_some (constant_name at k)
-can_write_target at fs (Target.Index on key) = can_write at fs (view_core on) && can_write_operand at (left_by (view_core on) fs) (view_operand key)
+abbrev pub can_write_target : Place → List (Option Inner) → TargetValue → Bool
+can_write_target at fs (local_target r) = is_some (local_name at r)
+can_write_target at fs (upvalue_target u) = is_some (upvalue_name at u)
+can_write_target at fs (global_target k) = is_some (constant_name at k)
+can_write_target at fs (index_target on key) = can_write at fs on && can_write_operand at (left_by on fs) key
 
 -- ---- comparisons: a word has them in the order of `<`, so which operand was written first shows only in the registers and constants that they took
+
+-- its operator, its two fields, and the operands in them
+pub record Comparison : Type 0 where
+  pub op : BinaryOp
+  pub b : ℕ
+  pub c : ℕ
+  pub left : OperandValue
+  pub right : OperandValue
+
+abbrev pub view_comparison : declared.Comparison → Comparison
+view_comparison c = record { op = c.op; b = c.b; c = c.c; left = view_operand c.left; right = view_operand c.right }
 
 abbrev pub has_mirror : BinaryOp → Bool
 has_mirror BinaryOp.Lt = true
@@ -58,7 +77,7 @@ swapped_fields base n b c left right false false = not (nat_lt b base) && (not (
 
 -- whether it was written as `>` or `>=`, with its operands the other way round
 abbrev pub is_swapped : (base taken : ℕ) → Comparison → Bool
-is_swapped base n c = has_mirror c.op && swapped_fields base n c.b c.c (view_operand c.left) (view_operand c.right) (is_constant_field c.b) (is_constant_field c.c)
+is_swapped base n c = has_mirror c.op && swapped_fields base n c.b c.c c.left c.right (is_constant_field c.b) (is_constant_field c.c)
 
 abbrev pub word_both : Place → ℕ → List (Option Inner) → BinaryOp → (first second : OperandValue) → Wording
 word_both at n fs op first second = joined op (word_operand at n fs first) (word_operand at (taken_behind_operand first n) (left_by_operand first fs) second)
@@ -69,20 +88,20 @@ can_write_both at fs first second = can_write_operand at fs first && can_write_o
 abbrev pub word_comparison : Place → ℕ → List (Option Inner) → Comparison → Wording
 word_comparison at n fs c =
     if is_swapped (length at.entries) n c
-    then word_both at n fs (mirrored c.op) (view_operand c.right) (view_operand c.left)
-    else word_both at n fs c.op (view_operand c.left) (view_operand c.right)
+    then word_both at n fs (mirrored c.op) c.right c.left
+    else word_both at n fs c.op c.left c.right
 
 abbrev pub left_by_comparison : Place → ℕ → List (Option Inner) → Comparison → List (Option Inner)
 left_by_comparison at n fs c =
     if is_swapped (length at.entries) n c
-    then left_by_operand (view_operand c.left) (left_by_operand (view_operand c.right) fs)
-    else left_by_operand (view_operand c.right) (left_by_operand (view_operand c.left) fs)
+    then left_by_operand c.left (left_by_operand c.right fs)
+    else left_by_operand c.right (left_by_operand c.left fs)
 
 abbrev pub can_write_comparison : Place → ℕ → List (Option Inner) → Comparison → Bool
 can_write_comparison at n fs c =
     if is_swapped (length at.entries) n c
-    then can_write_both at fs (view_operand c.right) (view_operand c.left)
-    else can_write_both at fs (view_operand c.left) (view_operand c.right)
+    then can_write_both at fs c.right c.left
+    else can_write_both at fs c.left c.right
 
 -- ---- the path of a function statement: a variable, with names alone behind it
 
@@ -116,15 +135,15 @@ has_field_path at (index_value on keys depth) key = has_long_path at on keys key
 has_field_path at on key = has_long_path at on no_operands key
 
 -- the path that says a target, if one does
-abbrev pub path_of : Place → Target → Option (List Text)
-path_of at (Target.Local r) = Some (text_or_empty (local_name at r) ∷ [])
-path_of at (Target.Upvalue u) = Some (text_or_empty (upvalue_name at u) ∷ [])
-path_of at (Target.Global k) = Some (text_or_empty (constant_name at k) ∷ [])
-path_of at (Target.Index on key) = field_path at (view_core on) (view_operand key)
+abbrev pub path_of : Place → TargetValue → Option (List Text)
+path_of at (local_target r) = Some (text_or_empty (local_name at r) ∷ [])
+path_of at (upvalue_target u) = Some (text_or_empty (upvalue_name at u) ∷ [])
+path_of at (global_target k) = Some (text_or_empty (constant_name at k) ∷ [])
+path_of at (index_target on key) = field_path at on key
 
 -- the variable in it has a name
-abbrev pub can_have_path : Place → Target → Bool
-can_have_path at (Target.Local r) = is_some (local_name at r)
-can_have_path at (Target.Upvalue u) = is_some (upvalue_name at u)
-can_have_path at (Target.Global k) = is_some (constant_name at k)
-can_have_path at (Target.Index on key) = has_field_path at (view_core on) (view_operand key)
+abbrev pub can_have_path : Place → TargetValue → Bool
+can_have_path at (local_target r) = is_some (local_name at r)
+can_have_path at (upvalue_target u) = is_some (upvalue_name at u)
+can_have_path at (global_target k) = is_some (constant_name at k)
+can_have_path at (index_target on key) = has_field_path at on key

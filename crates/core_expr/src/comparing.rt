@@ -1,7 +1,7 @@
 // Which operand of a comparison was written first: its word has them in the order of `<`, so that shows only in the registers and constants that they took.
 ghost use Rattle.std.specs.Prelude.{◌≡◌, ◌≤◌, ◌-◌, nat_lt};
 ghost use Rattle.std.specs.Option.{SomeIff};
-ghost use Rattle.core_expr.specs.Targets.{is_swapped, mirrored, has_mirror};
+ghost use Rattle.core_expr.specs.Targets.{view_comparison, is_swapped, mirrored, has_mirror};
 
 use crate::counting::taken_behind;
 use crate::writing::Comparison;
@@ -12,7 +12,7 @@ const FIRST_CONSTANT: u32 = 256;
 
 /// Whether a comparison was written as `>` or `>=`, with its operands the other way round. The registers below `base` are those of locals, and so many constants are taken before it.
 pub fn is_swapped(comparison: &Comparison, base: usize, taken: u32) -> bool
-    ensures { result ≡ is_swapped base taken comparison.now }
+    ensures { result ≡ is_swapped base taken (view_comparison comparison.now) }
 {
     let b = comparison.b;
     let c = comparison.c;

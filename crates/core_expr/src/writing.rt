@@ -4,7 +4,7 @@ ghost use Rattle.proto.specs.Chunk.{own};
 ghost use Rattle.proto.specs.View.{view_proto};
 ghost use Rattle.core_expr.specs.Counting.{taken_behind, taken_behind_values, taken_behind_operand, left_by, left_by_values, left_by_operand};
 ghost use Rattle.core_expr.specs.Places.{place};
-ghost use Rattle.core_expr.specs.Targets.{word_target, taken_behind_target, left_by_target, can_write_target, word_comparison, left_by_comparison, can_write_comparison, path_of, can_have_path};
+ghost use Rattle.core_expr.specs.Targets.{view_target, view_comparison, word_target, taken_behind_target, left_by_target, can_write_target, word_comparison, left_by_comparison, can_write_comparison, path_of, can_have_path};
 ghost use Rattle.core_expr.specs.Values.{view_core, view_core_list, view_operand, view_bodies};
 ghost use Rattle.core_expr.specs.Writing.{word, word_values, word_operand, can_write, can_write_values, can_write_operand, view_written, view_written_list};
 ghost use Rattle.core_expr.specs.declared.fault.CoreFault.TheVariants.{NotScheme};
@@ -111,11 +111,11 @@ pub fn write_target(
     target: Target,
     taken: &mut u32,
 ) -> Result<Written, CoreFault>
-    ensures made { IfOk result (λ written. view_written written ≡ word_target (place (own (view_proto scope.now.proto.now)) scope.now.entries.now scope.now.short) taken.old (view_bodies bodies.old) target) }
-    ensures taken { OnOk result (taken.new ≡ taken_behind_target target taken.old) }
-    ensures left { OnOk result (view_bodies bodies.new ≡ left_by_target target (view_bodies bodies.old)) }
-    ensures refused { result ≡ Err NotScheme → can_write_target (place (own (view_proto scope.now.proto.now)) scope.now.entries.now scope.now.short) (view_bodies bodies.old) target ≡ false }
-    ensures able { OnOk result (can_write_target (place (own (view_proto scope.now.proto.now)) scope.now.entries.now scope.now.short) (view_bodies bodies.old) target ≡ true) }
+    ensures made { IfOk result (λ written. view_written written ≡ word_target (place (own (view_proto scope.now.proto.now)) scope.now.entries.now scope.now.short) taken.old (view_bodies bodies.old) (view_target target)) }
+    ensures taken { OnOk result (taken.new ≡ taken_behind_target (view_target target) taken.old) }
+    ensures left { OnOk result (view_bodies bodies.new ≡ left_by_target (view_target target) (view_bodies bodies.old)) }
+    ensures refused { result ≡ Err NotScheme → can_write_target (place (own (view_proto scope.now.proto.now)) scope.now.entries.now scope.now.short) (view_bodies bodies.old) (view_target target) ≡ false }
+    ensures able { OnOk result (can_write_target (place (own (view_proto scope.now.proto.now)) scope.now.entries.now scope.now.short) (view_bodies bodies.old) (view_target target) ≡ true) }
 {
     let mut writer = Writer::new(alloc, scope, replace(bodies, Bodies::new(alloc)), *taken);
     let written = match target {
@@ -140,10 +140,10 @@ pub fn write_comparison(
     comparison: Comparison,
     taken: u32,
 ) -> Result<Written, CoreFault>
-    ensures made { IfOk result (λ written. view_written written ≡ word_comparison (place (own (view_proto scope.now.proto.now)) scope.now.entries.now scope.now.short) taken (view_bodies bodies.old) comparison) }
-    ensures left { OnOk result (view_bodies bodies.new ≡ left_by_comparison (place (own (view_proto scope.now.proto.now)) scope.now.entries.now scope.now.short) taken (view_bodies bodies.old) comparison) }
-    ensures refused { result ≡ Err NotScheme → can_write_comparison (place (own (view_proto scope.now.proto.now)) scope.now.entries.now scope.now.short) taken (view_bodies bodies.old) comparison ≡ false }
-    ensures able { OnOk result (can_write_comparison (place (own (view_proto scope.now.proto.now)) scope.now.entries.now scope.now.short) taken (view_bodies bodies.old) comparison ≡ true) }
+    ensures made { IfOk result (λ written. view_written written ≡ word_comparison (place (own (view_proto scope.now.proto.now)) scope.now.entries.now scope.now.short) taken (view_bodies bodies.old) (view_comparison comparison)) }
+    ensures left { OnOk result (view_bodies bodies.new ≡ left_by_comparison (place (own (view_proto scope.now.proto.now)) scope.now.entries.now scope.now.short) taken (view_bodies bodies.old) (view_comparison comparison)) }
+    ensures refused { result ≡ Err NotScheme → can_write_comparison (place (own (view_proto scope.now.proto.now)) scope.now.entries.now scope.now.short) taken (view_bodies bodies.old) (view_comparison comparison) ≡ false }
+    ensures able { OnOk result (can_write_comparison (place (own (view_proto scope.now.proto.now)) scope.now.entries.now scope.now.short) taken (view_bodies bodies.old) (view_comparison comparison) ≡ true) }
 {
     let is_swapped = is_swapped(&comparison, scope.entries.len(), taken);
     let Comparison {
@@ -169,9 +169,9 @@ pub fn function_path(
     scope: &Scope<'_>,
     target: &Target,
 ) -> Result<Option<Names>, CoreFault>
-    ensures path { IfOk result (λ path. path ≡ path_of (place (own (view_proto scope.now.proto.now)) scope.now.entries.now scope.now.short) target.now) }
-    ensures refused { result ≡ Err NotScheme → can_have_path (place (own (view_proto scope.now.proto.now)) scope.now.entries.now scope.now.short) target.now ≡ false }
-    ensures able { OnOk result (can_have_path (place (own (view_proto scope.now.proto.now)) scope.now.entries.now scope.now.short) target.now ≡ true) }
+    ensures path { IfOk result (λ path. path ≡ path_of (place (own (view_proto scope.now.proto.now)) scope.now.entries.now scope.now.short) (view_target target.now)) }
+    ensures refused { result ≡ Err NotScheme → can_have_path (place (own (view_proto scope.now.proto.now)) scope.now.entries.now scope.now.short) (view_target target.now) ≡ false }
+    ensures able { OnOk result (can_have_path (place (own (view_proto scope.now.proto.now)) scope.now.entries.now scope.now.short) (view_target target.now) ≡ true) }
 {
     let variable = match target {
         Target::Local(register) => Variable::Local(*register),
