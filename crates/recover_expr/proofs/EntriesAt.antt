@@ -8,7 +8,7 @@ use Rattle.core_expr.specs.Values.{Value, view_core, view_item, items_of, no_ite
 use Rattle.core_expr.specs.declared.cores.Core.{Core}
 use Rattle.core_expr.specs.declared.cores.CoreItem.{CoreItem, Positional, Keyed}
 use Rattle.core_expr.specs.declared.cores.CoreItems.{CoreItems, out-CoreItems}
-use Rattle.recover_expr.specs.Entries.{EntryValue, Entries, view_entry, single_of, is_at, is_held, held_at, hold, held_entry, maker_entry, any_held, up_to_held, behind_held, join_items, with_item_at, with_item, opened_at, opened, more}
+use Rattle.recover_expr.specs.Entries.{EntryValue, Entries, view_entry, single_of, is_at, is_held, held_at, hold, held_entry, maker_entry, any_held, up_to_held, behind_held, join_items, with_items_at, with_item, opened_at, opened, more}
 use Rattle.recover_expr.specs.declared.lost.Lost.{Lost}
 use Rattle.recover_expr.specs.declared.stack.Entry.{Entry}
 
@@ -52,7 +52,7 @@ item_next entries place items after all item is after_is =
     let there = map view_entry entries in
     ap Some (map-set view_entry entries place (Entry.Maker after all))
     ∙ ap (λ those. Some (slice_set there place (maker_entry those all))) (ap items_of after_is ∙ items_more (out-CoreItems items).items.items item)
-    ∙ ap (with_item_at place item there) (sym (at_place entries place (Some (Entry.Maker items all)) is))
+    ∙ ap (with_items_at place (view_item item no_items) there) (sym (at_place entries place (Some (Entry.Maker items all)) is))
 
 pub opened_next : (entries : List Entry) (place : ℕ) (items : CoreItems) (all : Bool) → slice_get entries place ≡ Some (Entry.Maker items all) →
     map view_entry (slice_set entries place (Entry.Maker items true)) ≡ opened place (map view_entry entries)

@@ -1,5 +1,10 @@
 pub mod Active
 pub mod Blames
+pub mod Declarations
 pub mod EntriesAt
 pub mod EntriesTaken
 pub mod Listed
+pub mod Listing
+pub mod Makers
+pub mod Storing
+pub mod Turns

@@ -195,13 +195,17 @@ join_items no_items last = last
 join_items (and_positional v rest) last = and_positional v (join_items rest last)
 join_items (and_keyed key item rest) last = and_keyed key item (join_items rest last)
 
-abbrev pub with_item_at : (place : ℕ) → CoreItem → Entries → Option EntryValue → Option Entries
-with_item_at place item entries (Some (maker_entry items all)) = Some (slice_set entries place (maker_entry (join_items items (view_item item no_items)) all))
-with_item_at place item entries entry = None
+abbrev pub with_items_at : (place : ℕ) → ItemList → Entries → Option EntryValue → Option Entries
+with_items_at place more entries (Some (maker_entry items all)) = Some (slice_set entries place (maker_entry (join_items items more) all))
+with_items_at place more entries entry = None
 
--- the constructor at a place has an item more
+-- the constructor at a place has these items more
+abbrev pub with_items : (place : ℕ) → ItemList → Entries → Option Entries
+with_items place more entries = with_items_at place more entries (slice_get entries place)
+
+-- and an item more
 abbrev pub with_item : (place : ℕ) → CoreItem → Entries → Option Entries
-with_item place item entries = with_item_at place item entries (slice_get entries place)
+with_item place item entries = with_items place (view_item item no_items) entries
 
 abbrev pub opened_at : (place : ℕ) → Entries → Option EntryValue → Entries
 opened_at place entries (Some (maker_entry items all)) = slice_set entries place (maker_entry items true)

@@ -1,5 +1,5 @@
 -- Serves a body. The listed locals of a function while its words are read: which are declared, and which are active.
-use Rattle.std.specs.List.{list_any, prefix_len}
+use Rattle.std.specs.List.{list_all, list_any, prefix_len}
 use Rattle.std.specs.Prelude.{◌==◌, ◌&&◌, ◌-◌, ◌^◌, ℕ, zero, suc, Bool, true, false, nat_le, nat_lt, List, [], ◌∷◌, ◌++◌, length, take, drop, slice_get, slice_set, Option, None, Some, option_map, option_and_then, if◌then◌else◌}
 use Rattle.lua_num.specs.Bytes.{Text}
 use Rattle.proto.specs.Chunk.{own}
@@ -66,6 +66,10 @@ end_of locals entry = option_map (λ (local : LocVar). local.end) (slice_get loc
 
 abbrev pub innermost : Scope → Option ℕ
 innermost s = slice_get s.active (length s.active - 1)
+
+-- the first so many end at a pc
+abbrev pub all_end : List LocVar → (count end : ℕ) → Bool
+all_end locals count end = list_all (λ (local : LocVar). local.end == end) (take count locals)
 
 -- where the innermost one that is active ends
 abbrev pub innermost_end : List LocVar → Scope → Option ℕ

@@ -5,7 +5,7 @@ use Rattle.lua_tree.specs.Names.{is_name}
 use Rattle.opcode.specs.declared.op.Op.{Op}
 use Rattle.opcode.specs.declared.word.Instr.{Instr}
 use Rattle.opcode.specs.Reading.{instr_of}
-use Rattle.proto.specs.Chunk.{Own, own}
+use Rattle.proto.specs.Chunk.{Own, own, Functions, functions, function_at}
 use Rattle.proto.specs.View.{view_proto}
 use Rattle.proto.specs.declared.parts.Constant.{Constant}
 use Rattle.core_expr.specs.Counting.{with_constant}
@@ -17,14 +17,15 @@ use Rattle.recover_expr.specs.declared.function.Function as declared
 use Rattle.recover_expr.specs.declared.function.Word as word
 use Rattle.recover_expr.specs.declared.state.State.{State}
 
--- a function, whether its forms of fewest levels are asked for, and the pc of its last word
+-- a function with those that stand directly in it, whether its forms of fewest levels are asked for, and the pc of its last word
 pub record Function : Type 0 where
   pub of : Own
+  pub inner : Functions
   pub short : Bool
   pub last : ℕ
 
 abbrev pub view_function : declared.Function → Function
-view_function f = record { of = own (view_proto f.proto.now); short = f.short; last = f.last }
+view_function f = record { of = own (view_proto f.proto.now); inner = functions (view_proto f.proto.now); short = f.short; last = f.last }
 
 -- the functions that are left, the locals, the number of the step with the pc of its first word and the innermost local before it; how many locals are below the entries; how many constants the words
 -- before the step have taken, and how many with the words of the step
@@ -163,6 +164,10 @@ global_in f i = if is_good_name (slice_get f.of.constants i.bx) then Some i.bx e
 
 abbrev pub upvalue_in : Function → Instr → Option ℕ
 upvalue_in f i = if is_good_text (slice_get f.of.upvalue_names i.b) then Some i.b else None
+
+-- how many upvalues a function in this one has
+abbrev pub upvalues_in : Function → (number : ℕ) → Option ℕ
+upvalues_in f number = option_map (λ inner. (own inner).upvalues) (function_at f.inner number)
 
 -- ---- words with their pcs
 

@@ -1,16 +1,16 @@
 -- Serves a body. What each word of a statement does to what is known: those that make values, and calls and returns.
-use Rattle.std.specs.Prelude.{◌==◌, ◌&&◌, ◌+◌, ◌-◌, ℕ, suc, Bool, true, false, nat_le, nat_lt, List, [], ◌∷◌, ◌++◌, length, slice_get, Option, None, Some, option_map, option_and_then, if◌then◌else◌}
+use Rattle.std.specs.Prelude.{◌==◌, ◌&&◌, ◌+◌, ◌-◌, ℕ, suc, Bool, true, false, nat_le, nat_lt, [], ◌∷◌, ◌++◌, length, slice_get, Option, None, Some, option_map, option_and_then, if◌then◌else◌}
 use Rattle.lua_tree.specs.declared.tree.BinaryOp.{BinaryOp}
 use Rattle.lua_tree.specs.declared.tree.UnaryOp.{UnaryOp}
 use Rattle.opcode.specs.declared.op.Op.{Op}
 use Rattle.lua_tree.specs.Syntax.{call_statement}
-use Rattle.core_expr.specs.Counting.{one_more, left_by, left_by_values}
-use Rattle.core_expr.specs.Values.{Value, nil_value, vararg_value, constant_value, Values, no_values, and_value, OperandValue, Inner}
-use Rattle.core_expr.specs.Writing.{word, word_values, can_write, can_write_values}
+use Rattle.core_expr.specs.Values.{Value, nil_value, vararg_value, constant_value, Values, no_values, and_value, OperandValue}
+use Rattle.core_expr.specs.Writing.{Wording, Wordings}
 use Rattle.core_expr.specs.Making.{made_index, made_binary, made_unary, made_concat, made_call, made_method}
 use Rattle.recover_expr.specs.Entries.{EntryValue, value_entry, more_entry, missing_entry, open_entry, method_entry, Entries, Listed, is_at, is_method, place_in, set_next, more, take_singles, take_at, take_method, take_list}
-use Rattle.recover_expr.specs.Situation.{Function, Situation, constant_in, is_return, place_in_step, pop, pop_operand, word_at}
-use Rattle.recover_expr.specs.Drafts.{Did, makes, goes, ends, Drafted, drafted, Part, statement_part, values_part}
+use Rattle.recover_expr.specs.Situation.{Function, Situation, constant_in, is_return, pop, pop_operand, word_at}
+use Rattle.recover_expr.specs.Drafts.{Did, makes, goes, ends, Drafted, statement_part, values_part}
+use Rattle.recover_expr.specs.Writing.{value_written, list_written, ended}
 use Rattle.recover_expr.specs.declared.draft.DraftKind.{DraftKind}
 use Rattle.recover_expr.specs.declared.function.Word.{Word}
 
@@ -155,16 +155,11 @@ made_call_of w s = made_call_at w s (place_in s.base w.instr.a)
 
 -- ---- calls and returns that end a step
 
--- what is written of the step that is read; it needs one level more than what it holds
-abbrev pub ended : DraftKind → (next levels : ℕ) → Part → Situation → List (Option Inner) → Drafted × Situation
-ended kind next levels part s left = (drafted kind next (one_more levels) part s, record s { left = left })
+abbrev pub call_ended : Word → (Wording × ℕ × Situation) → Drafted × Situation
+call_ended w call = ended DraftKind.Act w.next call.0.levels (statement_part (call_statement call.0.words)) call.2
 
 abbrev pub call_written : Function → Word → (Value × Situation) → Option (Drafted × Situation)
-call_written f w p =
-    let at = place_in_step f p.1 in
-    if (length p.1.entries == 0) && can_write at p.1.left p.0
-    then (let call = word at p.1.taken p.1.left p.0 in Some (ended DraftKind.Act w.next call.levels (statement_part (call_statement call.words)) p.1 (left_by p.0 p.1.left)))
-    else None
+call_written f w p = if length p.1.entries == 0 then option_map (call_ended w) (value_written f p.1.taken p.0 p.1) else None
 
 abbrev pub as_end : (Drafted × Situation) → Did × Situation
 as_end p = (ends p.0, p.1)
@@ -179,12 +174,11 @@ call_made f w p =
 abbrev pub call : Function → Word → Situation → Done
 call f w s = option_and_then (call_made f w) (made_call_of w s)
 
+abbrev pub return_ended : (next : ℕ) → (Wordings × ℕ × Situation) → Drafted × Situation
+return_ended next values = ended DraftKind.Return next values.0.levels (values_part values.0.words) values.2
+
 abbrev pub returned_values : Function → (next : ℕ) → Listed → Situation → Option (Drafted × Situation)
-returned_values f next list s =
-    let at = place_in_step f s in
-    if can_write_values at s.left list.values
-    then (let values = word_values at s.taken s.left list.values list.all in Some (ended DraftKind.Return next values.levels (values_part values.words) s (left_by_values list.values s.left)))
-    else None
+returned_values f next list s = option_map (return_ended next) (list_written f s.taken list s)
 
 abbrev pub tail_written : Function → Word → (Value × Situation) → Word → Option (Drafted × Situation)
 tail_written f w p behind =

@@ -1,8 +1,18 @@
 // Assignments.
 #![tactic(auto, using(crate::proofs::Blames::free_fits))]
 
-ghost use Rattle.std.specs.Prelude.{IfErr};
+ghost use Rattle.std.specs.Prelude.{◌≡◌, Some, None, map, option_map, length, IfOk, IfErr};
+ghost use Rattle.core_expr.specs.Targets.{view_target};
+ghost use Rattle.core_expr.specs.Values.{view_core, view_operand};
+ghost use Rattle.core_expr.specs.Writing.{view_written_list};
+ghost use Rattle.recover_expr.specs.Assigning.{assignment_from, value_assignment, assigned_from, further_store, further_stores, assigned, as_statement, held, held_operand, target_of, targets, targets_written, no_targets};
+ghost use Rattle.recover_expr.specs.Drafts.{view_draft};
+ghost use Rattle.recover_expr.specs.Entries.{view_entry, IsLostOnlyWhere};
 ghost use Rattle.recover_expr.specs.Faults.{IsFaultOf};
+ghost use Rattle.recover_expr.specs.Lists.{view_straight};
+ghost use Rattle.recover_expr.specs.Locals.{IsFaultOnlyWhere};
+ghost use Rattle.recover_expr.specs.Situation.{view_function, view_state};
+ghost use Rattle.recover_expr.specs.Stores.{view_stores};
 
 use crate::draft::{Draft, DraftKind};
 use crate::fault::Fault;
@@ -10,6 +20,7 @@ use crate::function::{FIRST_CONSTANT, Function, Word};
 use crate::functions::{Named, function_statement, named_function};
 use crate::lists::{Straight, assigned_values};
 use crate::lost::{Lost, check};
+use crate::stack::Entry;
 use crate::state::State;
 use crate::steps::StepPart;
 use crate::stores::{Place, Store, Stored, Stores, store_of};
@@ -19,17 +30,20 @@ use lua_tree::{Exps, StatKind};
 
 /// An assignment whose first store is a word.
 pub fn assignment(function: &Function, state: &mut State, word: Word) -> Result<Draft, Fault>
-    ensures { IfErr result (IsFaultOf function.now.proto.now) }
+    ensures fault { IfErr result (IsFaultOf function.now.proto.now) }
+    ensures draft { IfOk result (λ draft. Some (view_draft draft, view_state state.new) ≡ assignment_from (view_function function.now) word (view_state state.old)) }
+    ensures refused { IfErr result (IsFaultOnlyWhere (assignment_from (view_function function.now) word (view_state state.old) ≡ None)) }
 {
     let (first, stored) = store_of(function, state, word)?;
+    let (alloc, stack) = (function.alloc, &state.stack);
     match stored {
         Stored::Operand(operand) => {
-            let stores = Stores::straight(function.alloc, &state.stack, first)?;
+            let stores = Stores::straight(alloc, stack, first).map_err(Lost::fault)?;
             let straight = Some(Straight::Operand(operand));
             further_stores(function, state, stores, straight, word.next)
         }
         Stored::Register(register) => {
-            let stores = Stores::from_register(function.alloc, &state.stack, first, register)?;
+            let stores = Stores::from_register(alloc, stack, first, register).map_err(Lost::fault)?;
             further_stores(function, state, stores, None, word.next)
         }
     }
@@ -43,16 +57,20 @@ pub fn value_assignment(
     core: Core,
     next: u32,
 ) -> Result<Draft, Fault>
-    ensures { IfErr result (IsFaultOf function.now.proto.now) }
+    ensures fault { IfErr result (IsFaultOf function.now.proto.now) }
+    ensures draft { IfOk result (λ draft. Some (view_draft draft, view_state state.new) ≡ value_assignment (view_function function.now) word (view_core core) next (view_state state.old)) }
+    ensures refused { IfErr result (IsFaultOnlyWhere (value_assignment (view_function function.now) word (view_core core) next (view_state state.old) ≡ None)) }
 {
-    let _ = state.local(function, word.instr.a, word.pc)?;
+    let _ = state
+        .local(function, word.instr.a, word.pc)
+        .map_err(Lost::fault)?;
     let place = Place::Local(word.instr.a);
     let first = Store { pc: word.pc, place };
-    let stores = Stores::straight(function.alloc, &state.stack, first)?;
+    let stores = Stores::straight(function.alloc, &state.stack, first).map_err(Lost::fault)?;
     further_stores(function, state, stores, Some(Straight::Value(core)), next)
 }
 
-// Reads the further stores, until every register of the statement is used.
+// The statement of stores that are not all read.
 fn further_stores(
     function: &Function,
     state: &mut State,
@@ -60,16 +78,34 @@ fn further_stores(
     straight: Option<Straight>,
     next: u32,
 ) -> Result<Draft, Fault>
-    ensures { IfErr result (IsFaultOf function.now.proto.now) }
+    ensures fault { IfErr result (IsFaultOf function.now.proto.now) }
+    ensures draft { IfOk result (λ draft. Some (view_draft draft, view_state state.new) ≡ assigned_from (view_function function.now) (option_map view_straight straight) next (view_state state.old) (view_stores stores)) }
+    ensures refused { IfErr result (IsFaultOnlyWhere (assigned_from (view_function function.now) (option_map view_straight straight) next (view_state state.old) (view_stores stores) ≡ None)) }
 {
-    let mut at = next;
-    for _ in 0..state.stack.len() {
+    let at = read_further(function, state, &mut stores, next)?;
+    assigned(function, state, stores, straight, at).map_err(Lost::fault)
+}
+
+// Reads the further stores from a pc on, until every register of the statement is used. Answers the pc of the next word.
+fn read_further(
+    function: &Function,
+    state: &mut State,
+    stores: &mut Stores,
+    pc: u32,
+) -> Result<u32, Fault>
+    ensures fault { IfErr result (IsFaultOf function.now.proto.now) }
+    ensures next { IfOk result (λ next. Some (view_stores stores.new, next, view_state state.new) ≡ further_stores (view_function function.now) (length (view_state state.old).entries) (view_stores stores.old, pc, view_state state.old)) }
+    ensures refused { IfErr result (IsFaultOnlyWhere (further_stores (view_function function.now) (length (view_state state.old).entries) (view_stores stores.old, pc, view_state state.old) ≡ None)) }
+{
+    let count = state.stack.len();
+    let mut at = pc;
+    for _ in 0..count {
         if stores.are_all() {
-            break;
+            return Ok(at);
         }
-        at = further_store(function, state, &mut stores, at)?;
+        at = further_store(function, state, stores, at)?;
     }
-    Ok(assigned(function, state, stores, straight, at)?)
+    Ok(at)
 }
 
 // Reads a further store at a pc. Answers the pc of the next word.
@@ -79,13 +115,17 @@ fn further_store(
     stores: &mut Stores,
     pc: u32,
 ) -> Result<u32, Fault>
-    ensures { IfErr result (IsFaultOf function.now.proto.now) }
+    ensures fault { IfErr result (IsFaultOf function.now.proto.now) }
+    ensures next { IfOk result (λ next. Some (view_stores stores.new, next, view_state state.new) ≡ further_store (view_function function.now) (view_stores stores.old) pc (view_state state.old)) }
+    ensures refused { IfErr result (IsFaultOnlyWhere (further_store (view_function function.now) (view_stores stores.old) pc (view_state state.old) ≡ None)) }
 {
-    check(pc < function.last, pc)?;
-    let word = function.word(pc)?;
+    check(pc < function.last, pc).map_err(Lost::fault)?;
+    let word = function.word(pc).map_err(Lost::fault)?;
     state.see(word.instr);
     let (further, stored) = store_of(function, state, word)?;
-    stores.add_further(&state.stack, further, stored)?;
+    stores
+        .add_further(&state.stack, further, stored)
+        .map_err(Lost::fault)?;
     Ok(word.next)
 }
 
@@ -96,7 +136,10 @@ fn assigned(
     stores: Stores,
     straight: Option<Straight>,
     next: u32,
-) -> Result<Draft, Lost> {
+) -> Result<Draft, Lost>
+    ensures draft { IfOk result (λ draft. Some (view_draft draft, view_state state.new) ≡ assigned (view_function function.now) (view_stores stores) (option_map view_straight straight) next (view_state state.old)) }
+    ensures lost { IfErr result (IsLostOnlyWhere (assigned (view_function function.now) (view_stores stores) (option_map view_straight straight) next (view_state state.old) ≡ None)) }
+{
     let Stores { stores, low, .. } = stores;
     let targets = targets(function, state, stores.as_slice(), low)?;
     let values = state.stack.take_from(low, state.pc)?;
@@ -107,20 +150,36 @@ fn assigned(
         values.as_slice(),
         &straight,
     )?;
-    if let Some(Named { path, number }) = named {
-        return function_statement(state, path, number, next);
+    match named {
+        Some(Named { path, number }) => function_statement(state, path, number, next),
+        None => assignment_statement(
+            function,
+            state,
+            targets,
+            values,
+            straight,
+            stores.as_slice(),
+            next,
+        ),
     }
+}
+
+// The assignment of values to targets, with these stores.
+fn assignment_statement(
+    function: &Function,
+    state: &mut State,
+    targets: Vec<Target>,
+    values: Vec<Entry>,
+    straight: Option<Straight>,
+    stores: &[Store],
+    next: u32,
+) -> Result<Draft, Lost>
+    ensures draft { IfOk result (λ draft. Some (view_draft draft, view_state state.new) ≡ as_statement (view_function function.now) stores.now (option_map view_straight straight) next (map view_target targets.items) (map view_entry values.items) (view_state state.old) None) }
+    ensures lost { IfErr result (IsLostOnlyWhere (as_statement (view_function function.now) stores.now (option_map view_straight straight) next (map view_target targets.items) (map view_entry values.items) (view_state state.old) None ≡ None)) }
+{
     let mut taken = state.taken;
     let targets = written_targets(function, state, targets, &mut taken)?;
-    let values = assigned_values(
-        function,
-        state,
-        values,
-        straight,
-        stores.as_slice(),
-        next,
-        &mut taken,
-    )?;
+    let values = assigned_values(function, state, values, straight, stores, next, &mut taken)?;
     let levels = targets.levels.max(values.levels).saturating_add(1);
     let part = StepPart::Statement(StatKind::Assign {
         targets: targets.exps,
@@ -136,7 +195,10 @@ fn held(
     register: u32,
     low: usize,
     pc: u32,
-) -> Result<Core, Lost> {
+) -> Result<Core, Lost>
+    ensures held { IfOk result (λ core. Some (view_core core, view_state state.new) ≡ held (view_function function.now) register low (view_state state.old)) }
+    ensures lost { IfErr result (IsLostOnlyWhere (held (view_function function.now) register low (view_state state.old) ≡ None)) }
+{
     match state.stack.place(register) {
         None => state.local(function, register, pc),
         Some(place) => {
@@ -152,19 +214,20 @@ fn held_operand(
     operand: u32,
     low: usize,
     pc: u32,
-) -> Result<Operand, Lost> {
+) -> Result<Operand, Lost>
+    ensures held { IfOk result (λ held. Some (view_operand held, view_state state.new) ≡ held_operand (view_function function.now) operand low (view_state state.old)) }
+    ensures lost { IfErr result (IsLostOnlyWhere (held_operand (view_function function.now) operand low (view_state state.old) ≡ None)) }
+{
     match operand.checked_sub(FIRST_CONSTANT) {
         Some(number) => Ok(Operand::Constant(function.constant(number, pc)?)),
         None => Ok(Operand::Value(held(function, state, operand, low, pc)?)),
     }
 }
 
-fn target(
-    function: &Function,
-    state: &mut State,
-    store: Store,
-    low: usize,
-) -> Result<Target, Lost> {
+fn target(function: &Function, state: &mut State, store: Store, low: usize) -> Result<Target, Lost>
+    ensures target { IfOk result (λ target. Some (view_target target, view_state state.new) ≡ target_of (view_function function.now) low store.place (view_state state.old)) }
+    ensures lost { IfErr result (IsLostOnlyWhere (target_of (view_function function.now) low store.place (view_state state.old) ≡ None)) }
+{
     match store.place {
         Place::Local(register) => Ok(Target::Local(register)),
         Place::Upvalue(number) => Ok(Target::Upvalue(number)),
@@ -183,7 +246,10 @@ fn targets(
     state: &mut State,
     stores: &[Store],
     low: usize,
-) -> Result<Vec<Target>, Lost> {
+) -> Result<Vec<Target>, Lost>
+    ensures targets { IfOk result (λ found. Some (map view_target found.items, view_state state.new) ≡ targets (view_function function.now) low stores.now (view_state state.old)) }
+    ensures lost { IfErr result (IsLostOnlyWhere (targets (view_function function.now) low stores.now (view_state state.old) ≡ None)) }
+{
     let mut targets = Vec::new(function.alloc);
     for store in stores.iter().rev() {
         targets.push(target(function, state, *store, low)?)?;
@@ -197,12 +263,15 @@ fn written_targets(
     state: &mut State,
     targets: Vec<Target>,
     taken: &mut u32,
-) -> Result<WrittenList, Lost> {
+) -> Result<WrittenList, Lost>
+    ensures wrote { IfOk result (λ list. Some (view_written_list list, taken.new, view_state state.new) ≡ targets_written (view_function function.now) (map view_target targets.items) (no_targets, taken.old, view_state state.old)) }
+    ensures lost { IfErr result (IsLostOnlyWhere (targets_written (view_function function.now) (map view_target targets.items) (no_targets, taken.old, view_state state.old) ≡ None)) }
+{
     let mut exps = Exps::new(function.alloc);
     let mut levels = 1;
     for target in targets {
         let written = written_target(function, state, target, taken)?;
-        levels = written.levels.max(levels);
+        levels = levels.max(written.levels);
         exps.push(Box::into_inner(written.exp))?;
     }
     Ok(WrittenList { exps, levels })

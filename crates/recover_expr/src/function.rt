@@ -1,15 +1,20 @@
 // A function whose words are read, and its words, constants and upvalues.
 #![tactic(auto, using(crate::proofs::Blames::free_fits))]
 
-ghost use Rattle.std.specs.Prelude.{◌≡◌, true, false, Some, None, IfOk, IfErr, OnOk, OnErr};
+ghost use Rattle.std.specs.Prelude.{◌≡◌, ◌-◌, ◌^◌, ◌<◌, length, true, false, Some, None, IfOk, IfErr, OnOk, OnErr, slice_get, option_and_then};
+ghost use Rattle.opcode.specs.Reading.{instr_of};
+ghost use Rattle.proto.specs.Chunk.{own};
+ghost use Rattle.proto.specs.View.{view_proto};
 ghost use Rattle.recover_expr.specs.Entries.{IsLostOnlyWhere};
 ghost use Rattle.recover_expr.specs.Faults.{IsFaultOf};
+ghost use Rattle.recover_expr.specs.Items.{is_so};
 ghost use Rattle.recover_expr.specs.Locals.{IsFaultOnlyWhere};
-ghost use Rattle.recover_expr.specs.Situation.{view_function, instr_at, is_return, word_at, jump_behind, constant_in, global_in, upvalue_in, target};
+ghost use Rattle.recover_expr.specs.Reading.{ends_code};
+ghost use Rattle.recover_expr.specs.Situation.{view_function, instr_at, is_return, word_at, jump_behind, constant_in, global_in, upvalue_in, upvalues_in, target};
 
-use crate::blame::{bad_name, constants_of, instr_at, not_scheme, upvalue_names_of};
+use crate::blame::{bad_name, code_of, constants_of, instr_at, not_scheme, upvalue_names_of};
 use crate::fault::Fault;
-use crate::lost::{Lost, check};
+use crate::lost::{Lost, check, number_at};
 use lua_tree::is_name;
 use opcode::{Instr, Op};
 use proto::{Constant, Proto};
@@ -54,14 +59,23 @@ impl Word {
 }
 
 /// The pc of the last word, which is a RETURN of no values.
-pub fn last_pc(proto: &Proto) -> Result<u32, Lost> {
-    let last = proto.code.items().len().saturating_sub(1);
-    let Ok(last) = u32::try_from(last) else {
-        return Err(Lost::NotScheme { pc: 0 });
-    };
-    match instr_at(proto, last) {
-        Some(instr) if is_return(instr, 0, 1) => Ok(last),
-        _ => Err(Lost::NotScheme { pc: last }),
+pub fn last_pc(proto: &Proto) -> Result<u32, Lost>
+    ensures last { IfOk result (λ last. last ≡ length (own (view_proto proto.now)).code - 1) }
+    ensures ends { OnOk result (ends_code (own (view_proto proto.now)) ≡ true) }
+    ensures lost { length (own (view_proto proto.now)).code < 2 ^ 32 → IfErr result (IsLostOnlyWhere (ends_code (own (view_proto proto.now)) ≡ false)) }
+{
+    let last = number_at(0, code_of(proto).len().saturating_sub(1))?;
+    check(ends_at(proto, last), last)?;
+    Ok(last)
+}
+
+// Whether a RETURN of no values stands at a pc.
+fn ends_at(proto: &Proto, pc: u32) -> bool
+    ensures { result ≡ is_so (is_return 0 1) (option_and_then instr_of (slice_get (own (view_proto proto.now)).code pc)) }
+{
+    match instr_at(proto, pc) {
+        Some(instr) => is_return(instr, 0, 1),
+        None => false,
     }
 }
 
@@ -145,7 +159,9 @@ impl<'a> Function<'a> {
     }
 
     /// How many upvalues a function in this one has.
-    pub fn upvalues_of(&self, number: u32) -> Option<u8> {
+    pub fn upvalues_of(&self, number: u32) -> Option<u8>
+        ensures { result ≡ upvalues_in (view_function self.now) number }
+    {
         match self.proto.functions.items().get(number as usize) {
             Some(inner) => Some(inner.upvalues),
             None => None,

@@ -1,17 +1,17 @@
 // The listed locals of a function: which are declared, and which are active.
 #![tactic(auto, using(crate::proofs::Blames::free_fits))]
 
-ghost use Rattle.std.specs.Prelude.{◌≡◌, ◌+◌, ◌<◌, ◌≤◌, ◌^◌, [], length, drop, not, slice_get, is_some, Some, None, IfOk, IfErr, OnOk};
+ghost use Rattle.std.specs.Prelude.{◌≡◌, ◌<◌, ◌≤◌, ◌^◌, [], length, drop, not, slice_get, is_some, Some, None, IfOk, IfErr, OnOk};
 ghost use Rattle.recover_expr.specs.Faults.{IsFaultOf};
 ghost use Rattle.recover_expr.specs.Entries.{IsLostOnlyWhere};
-ghost use Rattle.recover_expr.specs.Locals.{view_locals, listed, IsFaultOnlyWhere, name_of, names_from, is_hidden, starting, innermost_end, ends_within, is_over, nests, entered, declare_next, declare, leave, capture_entry, capture, is_named, declaring_step, any_captured, up_to, highest_captured};
+ghost use Rattle.recover_expr.specs.Locals.{view_locals, listed, IsFaultOnlyWhere, all_end, name_of, names_from, is_hidden, starting, innermost_end, ends_within, is_over, nests, entered, declare_next, declare, leave, capture_entry, capture, is_named, declaring_step, any_captured, up_to, highest_captured};
 
 use crate::blame::{bad_local, locals_of, not_scheme};
 use crate::fault::Fault;
 use crate::lost::{Lost, number_at};
 use lua_num::{ByteText, Names};
 use lua_tree::is_name;
-use proto::Proto;
+use proto::{LocVar, Proto};
 use std::alloc::{AllocError, Global};
 
 /// How many hidden locals a loop has.
@@ -52,6 +52,7 @@ pub fn own_name(alloc: Global, proto: &Proto, entry: usize, pc: u32) -> Result<B
 }
 
 /// The names of so many entries of the list from one on, which start at a pc.
+#[tactic(auto, using(crate::proofs::Blames::free_fits, crate::proofs::Declarations::names_few))]
 pub fn own_names(
     alloc: Global,
     proto: &Proto,
@@ -60,22 +61,34 @@ pub fn own_names(
     pc: u32,
 ) -> Result<Names, Fault>
     ensures fault { IfErr result (IsFaultOf proto.now) }
-    ensures names { first + count < 2 ^ 64 → IfOk result (λ names. Some names ≡ names_from (listed proto.now) first count) }
-    ensures refused { first + count < 2 ^ 64 → IfErr result (IsFaultOnlyWhere (names_from (listed proto.now) first count ≡ None)) }
+    ensures names { IfOk result (λ names. Some names ≡ names_from (listed proto.now) first count) }
+    ensures refused { IfErr result (IsFaultOnlyWhere (names_from (listed proto.now) first count ≡ None)) }
 {
+    let behind = locals_of(proto).len().saturating_sub(first);
+    if count > behind {
+        return Err(bad_local(proto, pc));
+    }
+    let end = first + count;
     let mut names = Names::new(alloc);
-    for entry in first..first.saturating_add(count) {
+    for entry in first..end {
         names.push(own_name(alloc, proto, entry, pc)?)?;
     }
     Ok(names)
 }
 
-// What stands from a place on. An iterator that skips would go over what stands before it.
-fn from_place<T>(items: &[T], first: usize) -> &[T]
+/// What stands from a place on. An iterator that skips would go over what stands before it.
+pub fn from_place<T>(items: &[T], first: usize) -> &[T]
     ensures { result.now ≡ drop first items.now }
 {
     let first = first.min(items.len());
     &items[first..]
+}
+
+/// Whether the first so many of these end at a pc.
+pub fn all_end(locals: &[LocVar], count: usize, end: u32) -> bool
+    ensures { result ≡ all_end locals.now count end }
+{
+    locals.iter().take(count).all(|local| local.end == end)
 }
 
 /// Whether an entry of the list has a name that only hidden locals of loops have.

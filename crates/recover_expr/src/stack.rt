@@ -1,5 +1,5 @@
 // The values that the words of a statement have made so far, in the registers above the locals.
-ghost use Rattle.std.specs.Prelude.{ℕ, ◌≡◌, ◌==◌, ◌<◌, [], ◌∷◌, ◌++◌, length, map, take, slice_get, Some, None, IfSome, IfNone, IfOk, IfErr, OnOk};
+ghost use Rattle.std.specs.Prelude.{ℕ, ◌≡◌, ◌==◌, ◌^◌, ◌<◌, [], ◌∷◌, ◌++◌, length, map, take, slice_get, Some, None, IfSome, IfNone, IfOk, IfErr, OnOk};
 ghost use Rattle.core_expr.specs.Values.{local_value, view_core, view_core_list};
 ghost use Rattle.recover_expr.specs.Entries.{Entries, value_entry, view_entry, entries_of, IsLostOnlyWhere, is_single, single_of, singles_of, is_at, is_maker, is_method, is_held, place_in, is_temporary, set_next, more, more_entry, missing_entry, take_from, take_singles, take_at, take_open, take_method, take_list, view_listed, part, part_at, hold, held_at, behind_held, with_item, opened};
 
@@ -322,7 +322,7 @@ impl Stack {
 
     /// The place behind the highest one above this one that is held, or behind this one where none is.
     pub fn behind_held(&self, place: usize) -> usize
-        ensures { place < length (entries_of self.now) → result ≡ behind_held place (entries_of self.now) }
+        ensures { place < 2 ^ 32 → result ≡ behind_held place (entries_of self.now) }
     {
         let first = place.saturating_add(1);
         for above in (first..self.len()).rev() {

@@ -1,5 +1,5 @@
 // What is known behind the words of a function that are read.
-ghost use Rattle.std.specs.Prelude.{◌≡◌, ◌≤◌, ◌^◌, length, Some, None, IfOk, IfErr, OnOk, OnErr};
+ghost use Rattle.std.specs.Prelude.{◌≡◌, ◌<◌, ◌≤◌, ◌^◌, length, Some, None, IfOk, IfErr, OnOk, OnErr};
 ghost use Rattle.core_expr.specs.Values.{view_core, view_operand, view_bodies, view_recovered};
 ghost use Rattle.recover_expr.specs.Drafts.{view_draft, view_part, drafted};
 ghost use Rattle.recover_expr.specs.Entries.{IsLostOnlyWhere};
@@ -54,6 +54,7 @@ impl State {
     /// The step of this number begins at a pc.
     pub fn begin(&mut self, step: usize, pc: u32) -> Result<(), Lost>
         ensures begun { OnOk result (view_state self.new ≡ begun step pc (view_state self.old)) }
+        ensures fits { OnOk result (length (view_state self.old).scope.active < 2 ^ 32) }
         ensures lost { IfErr result (IsLostOnlyWhere (2 ^ 32 ≤ length (view_state self.old).scope.active)) }
     {
         self.step = step;

@@ -1,8 +1,15 @@
 // Tests.
 #![tactic(auto, using(crate::proofs::Blames::free_fits))]
 
-ghost use Rattle.std.specs.Prelude.{IfErr};
+ghost use Rattle.std.specs.Prelude.{◌≡◌, Some, None, IfOk, IfErr};
+ghost use Rattle.lua_tree.specs.View.{view_exp};
+ghost use Rattle.core_expr.specs.Writing.{view_written};
+ghost use Rattle.recover_expr.specs.Drafts.{view_draft};
+ghost use Rattle.recover_expr.specs.Entries.{IsLostOnlyWhere};
 ghost use Rattle.recover_expr.specs.Faults.{IsFaultOf};
+ghost use Rattle.recover_expr.specs.Locals.{IsFaultOnlyWhere};
+ghost use Rattle.recover_expr.specs.Situation.{view_function, view_state};
+ghost use Rattle.recover_expr.specs.Testing.{view_tested, comparison, tested_by, condition, negated_levels, test_step, test};
 
 use crate::blame::value_logic;
 use crate::draft::{Draft, DraftKind};
@@ -29,7 +36,10 @@ fn comparison(
     state: &mut State,
     word: Word,
     op: BinaryOp,
-) -> Result<Tested, Lost> {
+) -> Result<Tested, Lost>
+    ensures tested { IfOk result (λ tested. Some (view_tested tested, view_state state.new) ≡ comparison (view_function function.now) word op (view_state state.old)) }
+    ensures lost { IfErr result (IsLostOnlyWhere (comparison (view_function function.now) word op (view_state state.old) ≡ None)) }
+{
     let Word { pc, instr, .. } = word;
     let Instr { b, c, .. } = instr;
     let (left, right) = if state.stack.is_temporary(c) && state.stack.is_temporary(b) && c < b {
@@ -49,7 +59,10 @@ fn comparison(
     Ok(Tested::Comparison(comparison))
 }
 
-fn tested_by(function: &Function, state: &mut State, word: Word) -> Result<Tested, Lost> {
+fn tested_by(function: &Function, state: &mut State, word: Word) -> Result<Tested, Lost>
+    ensures tested { IfOk result (λ tested. Some (view_tested tested, view_state state.new) ≡ tested_by (view_function function.now) word (view_state state.old)) }
+    ensures lost { IfErr result (IsLostOnlyWhere (tested_by (view_function function.now) word (view_state state.old) ≡ None)) }
+{
     match word.instr.op {
         Op::Eq => comparison(function, state, word, BinaryOp::Eq),
         Op::Lt => comparison(function, state, word, BinaryOp::Lt),
@@ -61,7 +74,10 @@ fn tested_by(function: &Function, state: &mut State, word: Word) -> Result<Teste
     }
 }
 
-fn condition(function: &Function, state: &mut State, tested: Tested) -> Result<Written, Lost> {
+fn condition(function: &Function, state: &mut State, tested: Tested) -> Result<Written, Lost>
+    ensures wrote { IfOk result (λ written. Some (view_written written, view_state state.new) ≡ condition (view_function function.now) (view_tested tested) (view_state state.old)) }
+    ensures lost { IfErr result (IsLostOnlyWhere (condition (view_function function.now) (view_tested tested) (view_state state.old) ≡ None)) }
+{
     match tested {
         Tested::Value(core) => {
             let mut taken = state.taken;
@@ -72,7 +88,9 @@ fn condition(function: &Function, state: &mut State, tested: Tested) -> Result<W
 }
 
 // How many levels a condition of so many has where it is negated: `~=` for `==`, and else `not`, with parentheses around a binary operator.
-fn negated_levels(exp: &Exp, levels: u32) -> u32 {
+fn negated_levels(exp: &Exp, levels: u32) -> u32
+    ensures { result ≡ negated_levels (view_exp exp.now) levels }
+{
     let more = match &exp.kind {
         ExpKind::Binary { op, .. } if *op == BinaryOp::Eq => 0,
         ExpKind::Binary { .. } => 2,
@@ -88,7 +106,10 @@ fn test_step(
     word: Word,
     jump: Word,
     tested: Tested,
-) -> Result<Draft, Lost> {
+) -> Result<Draft, Lost>
+    ensures draft { IfOk result (λ draft. Some (view_draft draft, view_state state.new) ≡ test_step (view_function function.now) word jump (view_tested tested, view_state state.old)) }
+    ensures lost { IfErr result (IsLostOnlyWhere (test_step (view_function function.now) word jump (view_tested tested, view_state state.old) ≡ None)) }
+{
     let when = match word.instr.op {
         Op::Test => word.instr.c == 1,
         _ => word.instr.a == 1,
@@ -109,12 +130,14 @@ fn test_step(
 
 /// A test.
 pub fn test(function: &Function, state: &mut State, word: Word) -> Result<Draft, Fault>
-    ensures { IfErr result (IsFaultOf function.now.proto.now) }
+    ensures fault { IfErr result (IsFaultOf function.now.proto.now) }
+    ensures draft { IfOk result (λ draft. Some (view_draft draft, view_state state.new) ≡ test (view_function function.now) word (view_state state.old)) }
+    ensures refused { IfErr result (IsFaultOnlyWhere (test (view_function function.now) word (view_state state.old) ≡ None)) }
 {
     let jump = function.jump_behind(word)?;
-    let tested = tested_by(function, state, word)?;
+    let tested = tested_by(function, state, word).map_err(Lost::fault)?;
     if !state.stack.is_empty() {
         return Err(value_logic(function.proto, word.pc));
     }
-    Ok(test_step(function, state, word, jump, tested)?)
+    test_step(function, state, word, jump, tested).map_err(Lost::fault)
 }

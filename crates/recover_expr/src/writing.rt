@@ -1,13 +1,13 @@
 // What the step that is read is written as. `taken` is how many constants are taken before what is written, and then with it.
 
-ghost use Rattle.std.specs.Prelude.{◌≡◌, true, false, IfOk, IfErr, OnOk};
-ghost use Rattle.core_expr.specs.Counting.{taken_behind, taken_behind_operand, taken_behind_values, left_by, left_by_operand, left_by_values};
-ghost use Rattle.core_expr.specs.Targets.{word_target, taken_behind_target, left_by_target, can_write_target, word_comparison, left_by_comparison, can_write_comparison, path_of, can_have_path};
+ghost use Rattle.std.specs.Prelude.{◌≡◌, Some, None, IfOk, IfErr};
+ghost use Rattle.core_expr.specs.Targets.{view_target, view_comparison};
 ghost use Rattle.core_expr.specs.Values.{view_core, view_operand, view_core_list};
-ghost use Rattle.core_expr.specs.Writing.{word, word_operand, word_values, can_write, can_write_operand, can_write_values, view_written, view_written_list};
+ghost use Rattle.core_expr.specs.Writing.{view_written, view_written_list};
 ghost use Rattle.recover_expr.specs.Entries.{IsLostOnlyWhere};
 ghost use Rattle.recover_expr.specs.Locals.{view_locals};
-ghost use Rattle.recover_expr.specs.Situation.{view_function, view_state, place_in_step, with_left};
+ghost use Rattle.recover_expr.specs.Situation.{view_function, view_state};
+ghost use Rattle.recover_expr.specs.Writing.{value_written, operand_written, list_written, target_written, comparison_written, path_written};
 
 use crate::function::Function;
 use crate::locals::Locals;
@@ -38,11 +38,8 @@ pub fn written(
     core: Core,
     taken: &mut u32,
 ) -> Result<Written, Lost>
-    ensures made { IfOk result (λ written. view_written written ≡ word (place_in_step (view_function function.now) (view_state state.old)) taken.old (view_state state.old).left (view_core core)) }
-    ensures taken { OnOk result (taken.new ≡ taken_behind (view_core core) taken.old) }
-    ensures left { OnOk result (view_state state.new ≡ with_left (left_by (view_core core) (view_state state.old).left) (view_state state.old)) }
-    ensures able { OnOk result (can_write (place_in_step (view_function function.now) (view_state state.old)) (view_state state.old).left (view_core core) ≡ true) }
-    ensures lost { IfErr result (IsLostOnlyWhere (can_write (place_in_step (view_function function.now) (view_state state.old)) (view_state state.old).left (view_core core) ≡ false)) }
+    ensures wrote { IfOk result (λ written. Some (view_written written, taken.new, view_state state.new) ≡ value_written (view_function function.now) taken.old (view_core core) (view_state state.old)) }
+    ensures lost { IfErr result (IsLostOnlyWhere (value_written (view_function function.now) taken.old (view_core core) (view_state state.old) ≡ None)) }
 {
     let scope = scope(function, &state.locals);
     let written = write_expression(function.alloc, &scope, &mut state.bodies, core, taken);
@@ -57,11 +54,8 @@ pub fn written_operand(
     operand: Operand,
     taken: &mut u32,
 ) -> Result<Written, Lost>
-    ensures made { IfOk result (λ written. view_written written ≡ word_operand (place_in_step (view_function function.now) (view_state state.old)) taken.old (view_state state.old).left (view_operand operand)) }
-    ensures taken { OnOk result (taken.new ≡ taken_behind_operand (view_operand operand) taken.old) }
-    ensures left { OnOk result (view_state state.new ≡ with_left (left_by_operand (view_operand operand) (view_state state.old).left) (view_state state.old)) }
-    ensures able { OnOk result (can_write_operand (place_in_step (view_function function.now) (view_state state.old)) (view_state state.old).left (view_operand operand) ≡ true) }
-    ensures lost { IfErr result (IsLostOnlyWhere (can_write_operand (place_in_step (view_function function.now) (view_state state.old)) (view_state state.old).left (view_operand operand) ≡ false)) }
+    ensures wrote { IfOk result (λ written. Some (view_written written, taken.new, view_state state.new) ≡ operand_written (view_function function.now) taken.old (view_operand operand) (view_state state.old)) }
+    ensures lost { IfErr result (IsLostOnlyWhere (operand_written (view_function function.now) taken.old (view_operand operand) (view_state state.old) ≡ None)) }
 {
     let scope = scope(function, &state.locals);
     let written = write_operand(function.alloc, &scope, &mut state.bodies, operand, taken);
@@ -77,11 +71,8 @@ pub fn written_list(
     open: bool,
     taken: &mut u32,
 ) -> Result<WrittenList, Lost>
-    ensures made { IfOk result (λ written. view_written_list written ≡ word_values (place_in_step (view_function function.now) (view_state state.old)) taken.old (view_state state.old).left (view_core_list cores) «open») }
-    ensures taken { OnOk result (taken.new ≡ taken_behind_values (view_core_list cores) taken.old) }
-    ensures left { OnOk result (view_state state.new ≡ with_left (left_by_values (view_core_list cores) (view_state state.old).left) (view_state state.old)) }
-    ensures able { OnOk result (can_write_values (place_in_step (view_function function.now) (view_state state.old)) (view_state state.old).left (view_core_list cores) ≡ true) }
-    ensures lost { IfErr result (IsLostOnlyWhere (can_write_values (place_in_step (view_function function.now) (view_state state.old)) (view_state state.old).left (view_core_list cores) ≡ false)) }
+    ensures wrote { IfOk result (λ written. Some (view_written_list written, taken.new, view_state state.new) ≡ list_written (view_function function.now) taken.old (record { values = view_core_list cores; all = «open» }) (view_state state.old)) }
+    ensures lost { IfErr result (IsLostOnlyWhere (list_written (view_function function.now) taken.old (record { values = view_core_list cores; all = «open» }) (view_state state.old) ≡ None)) }
 {
     let scope = scope(function, &state.locals);
     let written = write_list(
@@ -103,11 +94,8 @@ pub fn written_target(
     target: Target,
     taken: &mut u32,
 ) -> Result<Written, Lost>
-    ensures made { IfOk result (λ written. view_written written ≡ word_target (place_in_step (view_function function.now) (view_state state.old)) taken.old (view_state state.old).left target) }
-    ensures taken { OnOk result (taken.new ≡ taken_behind_target target taken.old) }
-    ensures left { OnOk result (view_state state.new ≡ with_left (left_by_target target (view_state state.old).left) (view_state state.old)) }
-    ensures able { OnOk result (can_write_target (place_in_step (view_function function.now) (view_state state.old)) (view_state state.old).left target ≡ true) }
-    ensures lost { IfErr result (IsLostOnlyWhere (can_write_target (place_in_step (view_function function.now) (view_state state.old)) (view_state state.old).left target ≡ false)) }
+    ensures wrote { IfOk result (λ written. Some (view_written written, taken.new, view_state state.new) ≡ target_written (view_function function.now) taken.old (view_target target) (view_state state.old)) }
+    ensures lost { IfErr result (IsLostOnlyWhere (target_written (view_function function.now) taken.old (view_target target) (view_state state.old) ≡ None)) }
 {
     let scope = scope(function, &state.locals);
     let written = write_target(function.alloc, &scope, &mut state.bodies, target, taken);
@@ -121,10 +109,8 @@ pub fn written_comparison(
     state: &mut State,
     comparison: Comparison,
 ) -> Result<Written, Lost>
-    ensures made { IfOk result (λ written. view_written written ≡ word_comparison (place_in_step (view_function function.now) (view_state state.old)) (view_state state.old).taken (view_state state.old).left comparison) }
-    ensures left { OnOk result (view_state state.new ≡ with_left (left_by_comparison (place_in_step (view_function function.now) (view_state state.old)) (view_state state.old).taken (view_state state.old).left comparison) (view_state state.old)) }
-    ensures able { OnOk result (can_write_comparison (place_in_step (view_function function.now) (view_state state.old)) (view_state state.old).taken (view_state state.old).left comparison ≡ true) }
-    ensures lost { IfErr result (IsLostOnlyWhere (can_write_comparison (place_in_step (view_function function.now) (view_state state.old)) (view_state state.old).taken (view_state state.old).left comparison ≡ false)) }
+    ensures wrote { IfOk result (λ written. Some (view_written written, view_state state.new) ≡ comparison_written (view_function function.now) (view_comparison comparison) (view_state state.old)) }
+    ensures lost { IfErr result (IsLostOnlyWhere (comparison_written (view_function function.now) (view_comparison comparison) (view_state state.old) ≡ None)) }
 {
     let scope = scope(function, &state.locals);
     let written = write_comparison(
@@ -144,9 +130,8 @@ pub fn function_path_of(
     state: &State,
     target: &Target,
 ) -> Result<Option<Names>, Lost>
-    ensures path { IfOk result (λ path. path ≡ path_of (place_in_step (view_function function.now) (view_state state.now)) target.now) }
-    ensures able { OnOk result (can_have_path (place_in_step (view_function function.now) (view_state state.now)) target.now ≡ true) }
-    ensures lost { IfErr result (IsLostOnlyWhere (can_have_path (place_in_step (view_function function.now) (view_state state.now)) target.now ≡ false)) }
+    ensures path { IfOk result (λ path. Some path ≡ path_written (view_function function.now) (view_target target.now) (view_state state.now)) }
+    ensures lost { IfErr result (IsLostOnlyWhere (path_written (view_function function.now) (view_target target.now) (view_state state.now) ≡ None)) }
 {
     let scope = scope(function, &state.locals);
     let path = made_at(state.pc, function_path(function.alloc, &scope, target))?;

@@ -5,4 +5,4 @@ use Rattle.recover_expr.specs.Locals.{listed, names_from}
 use Rattle.recover_expr.proofs.locals.own_names.Given as goal
 
 abbrev pub invariant-loop-entry : goal.invariant-loop-entry
-invariant-loop-entry l = option_map (λ rest. l.names ++ rest) (names_from (listed l.proto) l.entry (l.entry-end - l.entry)) ≡ names_from (listed l.proto) l.first (l.entry-end - l.first)
+invariant-loop-entry l = option_map (λ rest. l.names ++ rest) (names_from (listed l.proto) l.entry (l.end - l.entry)) ≡ names_from (listed l.proto) l.first (l.end - l.first)
