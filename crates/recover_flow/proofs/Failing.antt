@@ -49,5 +49,5 @@ reason_below c path pc reason among = subst (λ p. HasReasonAt c p pc reason) (s
 
 -- and of one among the functions in it
 pub fails_below : (c : Chunk) (protos : List Proto) (failure : Failure) → functions c ≡ functions_of (map view_proto protos) → FailsAmong (functions_of (map view_proto protos)) failure → FailsBy c failure
-fails_below c protos (Failure.At path pc reason wants) e among = reason_below c path pc reason (subst (λ fs. FailsAmong fs (Failure.At path pc reason wants)) (sym e) among)
+fails_below c protos (Failure.At path pc reason) e among = reason_below c path pc reason (subst (λ fs. FailsAmong fs (Failure.At path pc reason)) (sym e) among)
 fails_below c protos Failure.OutOfMemory e among = tt

@@ -1,5 +1,5 @@
 -- Serves a body: what a function of a chunk is not recovered by, and one among the functions in it.
-use Rattle.std.specs.Prelude.{◌≡◌, ℕ, List, ◌∷◌, Some, false}
+use Rattle.std.specs.Prelude.{◌≡◌, ℕ, List, ◌∷◌, Some}
 use Rattle.proto.specs.Chunk.{Own, Chunk, Functions, function_at}
 use Rattle.recover_expr.specs.Reasons.{HasReason}
 use Rattle.recover_expr.specs.declared.fault.Fault.{Fault}
@@ -11,22 +11,22 @@ use Rattle.recover_flow.specs.Lost.{HasReasonAt}
 
 -- what is wrong with a word of a function
 abbrev pub StopsBy : Own → Stop → Type 0
-StopsBy f (Stop.At pc reason wants) = HasReason f pc reason
+StopsBy f (Stop.At pc reason) = HasReason f pc reason
 StopsBy f Stop.OutOfMemory = Unit {0}
 
 -- it tells of no word
 abbrev pub SaysNothing : Stop → Type 0
-SaysNothing (Stop.At pc reason wants) = reason ≡ Reason.NotScheme
+SaysNothing (Stop.At pc reason) = reason ≡ Reason.NotScheme
 SaysNothing Stop.OutOfMemory = Unit {0}
 
 -- it tells what a fault tells
 abbrev pub TellsFault : Fault → Stop → Type 0
-TellsFault (Fault.At pc reason) stop = stop ≡ Stop.At pc reason false
+TellsFault (Fault.At pc reason) stop = stop ≡ Stop.At pc reason
 TellsFault Fault.OutOfMemory stop = stop ≡ Stop.OutOfMemory
 
 -- what is wrong with a word of the function at the end of a path
 abbrev pub FailsBy : Chunk → Failure → Type 0
-FailsBy c (Failure.At path pc reason wants) = HasReasonAt c path pc reason
+FailsBy c (Failure.At path pc reason) = HasReasonAt c path pc reason
 FailsBy c Failure.OutOfMemory = Unit {0}
 
 -- and of one among functions, whose number is the first of the path
@@ -39,7 +39,7 @@ pub record IsAmong (inner : Functions) (path : List ℕ) (holds : Chunk → List
   pub fact : holds chunk rest
 
 abbrev pub FailsAmong : Functions → Failure → Type 0
-FailsAmong inner (Failure.At path pc reason wants) = IsAmong inner path (λ c rest. HasReasonAt c rest pc reason)
+FailsAmong inner (Failure.At path pc reason) = IsAmong inner path (λ c rest. HasReasonAt c rest pc reason)
 FailsAmong inner Failure.OutOfMemory = Unit {0}
 
 -- why a chunk that tells what its source is recovered by has none
@@ -50,5 +50,5 @@ IsUnfound c Lost.OutOfMemory = Unit {0}
 
 -- it tells what a failure tells
 abbrev pub TellsFailure : Failure → Lost → Type 0
-TellsFailure (Failure.At path pc reason wants) lost = lost ≡ Lost.At path pc reason
+TellsFailure (Failure.At path pc reason) lost = lost ≡ Lost.At path pc reason
 TellsFailure Failure.OutOfMemory lost = lost ≡ Lost.OutOfMemory

@@ -1,11 +1,8 @@
 // The arms of an `if`: where one may begin, and how.
 
-use crate::memory::EMPTY;
-use crate::plan::{Branches, Found, PlannedArm};
 use crate::regions::{BodyAt, BranchesAt};
 use crate::tables::Tables;
 use std::alloc::{AllocError, Global};
-use std::collections::HashMap;
 
 /// A condition of tests that may stand from the beginning of an arm: where it ends, and where it goes.
 #[derive(Clone, Copy, Debug, PartialEq, Eq)]
@@ -219,105 +216,5 @@ fn note_next(reached: &mut Vec<bool>, from: usize, ways: &[Way]) {
         if let Some(entry) = reached.get_mut(number) {
             *entry = true;
         }
-    }
-}
-
-/// The arms from a place on: one of them, where the next begins, or the `else`; and the levels that they need.
-#[derive(Clone, Copy, Debug, PartialEq, Eq)]
-pub struct Rest {
-    arm: Option<PlannedArm>,
-    next: Option<usize>,
-    last: Option<usize>,
-    levels: u32,
-}
-
-/// The arms that were found, by their places.
-#[derive(Drop)]
-pub struct Rests {
-    rests: HashMap<usize, Rest>,
-}
-
-impl Rest {
-    const NOTHING: Rest = Rest {
-        arm: None,
-        next: None,
-        last: None,
-        levels: 0,
-    };
-
-    /// A block behind an `else`.
-    pub fn last(body: Found) -> Self {
-        Self {
-            last: Some(body.number),
-            levels: body.levels,
-            ..Rest::NOTHING
-        }
-    }
-
-    /// An arm, with these behind it; its condition needs so many levels.
-    pub fn with_arm(self, condition: Option<usize>, levels: u32, body: Found) -> Self {
-        Self {
-            arm: Some(PlannedArm {
-                condition,
-                body: body.number,
-            }),
-            levels: levels.max(body.levels).max(self.levels),
-            ..self
-        }
-    }
-}
-
-impl Rests {
-    /// None.
-    pub fn new(alloc: Global) -> Self {
-        Self {
-            rests: HashMap::new(alloc),
-        }
-    }
-
-    /// The arms from a place on are these.
-    pub fn insert(&mut self, place: usize, rest: Rest) -> Result<(), AllocError> {
-        self.rests.insert(place, rest)?;
-        Ok(())
-    }
-
-    /// What stands behind an arm up to an end, if that was found.
-    pub fn behind(&self, next: Option<usize>, to: usize) -> Option<Rest> {
-        let Some(place) = next else {
-            return Some(Rest::NOTHING);
-        };
-        if place == to {
-            return Some(Rest::last(EMPTY));
-        }
-        let rest = self.rests.get(&place)?;
-        Some(Rest {
-            next,
-            levels: rest.levels,
-            ..Rest::NOTHING
-        })
-    }
-
-    /// The branches of an `if` that begins at a place, and the levels that they need.
-    pub fn branches(
-        &self,
-        alloc: Global,
-        from: usize,
-    ) -> Result<Option<(Branches, u32)>, AllocError> {
-        let Some(first) = self.rests.get(&from) else {
-            return Ok(None);
-        };
-        let mut rest = *first;
-        let mut arms = Vec::new(alloc);
-        for _ in 0..=self.rests.len() {
-            if let Some(arm) = rest.arm {
-                arms.push(arm)?;
-            }
-            match rest.next.and_then(|place| self.rests.get(&place)) {
-                Some(next) => rest = *next,
-                None => break,
-            }
-        }
-        let last = rest.last;
-        Ok(Some((Branches { arms, last }, first.levels)))
     }
 }

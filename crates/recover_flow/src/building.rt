@@ -3,7 +3,7 @@
 use crate::expressions::expression;
 use crate::memory::Memory;
 use crate::parts::{Parts, Unbuilt};
-use crate::plan::{Branches, End, Plan};
+use crate::plan::{End, Plan, Rest};
 use crate::separating::append;
 use lua_tree::{Arm, Arms, Block, Exp, ExpKind, Stat, StatKind};
 use std::alloc::Global;
@@ -76,7 +76,7 @@ impl<'m> Builder<'m> {
                 body: self.inner(body, levels)?,
                 cond: self.condition(condition)?,
             }),
-            Plan::If { branches } => self.branches(branches, levels),
+            Plan::If { rest } => self.branches(rest, levels),
         }
     }
 
@@ -140,27 +140,31 @@ impl<'m> Builder<'m> {
         expression(self.alloc, &mut self.parts, condition)
     }
 
+    // The arms of an `if`, and its `else`.
     #[cycle(building)]
-    fn branches(&mut self, branches: usize, levels: u32) -> Result<StatKind, Unbuilt> {
-        let memory = self.memory;
-        let branches = memory.branches(branches).ok_or(Unbuilt::Gone)?;
-        let arms = self.arms(branches, levels)?;
-        let last = match branches.last {
-            Some(body) => Some(self.inner(body, levels)?),
-            None => None,
-        };
-        Ok(StatKind::If { arms, last })
-    }
-
-    #[cycle(building)]
-    fn arms(&mut self, branches: &Branches, levels: u32) -> Result<Arms, Unbuilt> {
+    fn branches(&mut self, first: usize, levels: u32) -> Result<StatKind, Unbuilt> {
         let mut arms = Arms::new(self.alloc);
-        for arm in &branches.arms {
-            arms.push(Arm {
-                cond: self.condition(arm.condition)?,
-                body: self.inner(arm.body, levels)?,
-            })?;
+        let mut number = first;
+        for _ in 0..=first {
+            match self.memory.rest(number).ok_or(Unbuilt::Gone)? {
+                Rest::Nothing => return Ok(StatKind::If { arms, last: None }),
+                Rest::Last { body } => {
+                    let last = Some(self.inner(body, levels)?);
+                    return Ok(StatKind::If { arms, last });
+                }
+                Rest::Arm {
+                    condition,
+                    body,
+                    rest,
+                } => {
+                    arms.push(Arm {
+                        cond: self.condition(condition)?,
+                        body: self.inner(body, levels)?,
+                    })?;
+                    number = rest;
+                }
+            }
         }
-        Ok(arms)
+        Err(Unbuilt::Gone)
     }
 }

@@ -1,12 +1,11 @@
 // Statements around a block that is still to be found.
 
-use crate::memory::Memory;
 use crate::plan::{End, Plan, Planned};
 use crate::regions::{BlockAt, BodyAt, Exit, Piece};
 use crate::tables::Tables;
 use recover_expr::{Step, StepKind};
 
-/// A statement around a block: the levels that it needs itself, and where the block stands.
+/// A statement around a block: the levels that it needs itself, two at least, and where the block stands.
 #[derive(Clone, Copy, Debug, PartialEq, Eq)]
 pub struct Form {
     pub shape: Shape,
@@ -54,55 +53,39 @@ impl Shape {
 }
 
 /// What the statement of a piece of a body may be.
-pub fn choice_of(
-    tables: &Tables,
-    memory: &mut Memory,
-    at: BodyAt,
-    piece: Piece,
-    levels: u32,
-) -> Choice {
+pub fn choice_of(tables: &Tables, at: BodyAt, piece: Piece) -> Choice {
     let Some(step) = tables.step(piece.from) else {
         return Choice::Settled(None);
     };
-    let single = piece.to.checked_sub(1) == Some(piece.from);
-    if single && is_own(step, at) {
-        return Choice::Settled(own_statement(memory, at, step, piece.from, levels));
+    if piece.is_single() && is_own(step, at) {
+        return Choice::Settled(own_statement(at, step, piece.from));
     }
-    if let Some(last) = tables.last_back(piece.from, piece.to) {
-        return Choice::Loop { last };
-    }
-    match step.kind {
-        StepKind::Return if single => {
-            let end = End::Return { step: piece.from };
-            Choice::Settled(ending(memory, at, piece, end, step.levels, levels))
-        }
-        StepKind::Return => Choice::Settled(None),
-        StepKind::Head { .. } => Choice::For,
-        StepKind::Close { from, .. } => {
-            if leaves_closing(tables, at, piece, step, from) {
-                return Choice::Settled(ending(memory, at, piece, End::Break, 1, levels));
-            }
-            Choice::Settled(None)
-        }
-        StepKind::Jump { .. } if single && leaves_straight(tables, at, piece, step) => {
-            match ending(memory, at, piece, End::Break, 1, levels) {
-                Some(planned) => Choice::Settled(Some(planned)),
-                None => inner_choice(memory, step, levels),
-            }
-        }
-        _ => inner_choice(memory, step, levels),
+    match tables.last_back(piece.from, piece.to) {
+        Some(last) => Choice::Loop { last },
+        None => straight_choice(tables, at, piece, step),
     }
 }
 
-// What a statement with a block of its own may be.
-fn inner_choice(memory: &mut Memory, step: Step, levels: u32) -> Choice {
-    if !memory.fits(2, levels) {
-        return Choice::Settled(None);
-    }
+// The same, where no jump goes back to its first step, and it is not a statement by itself.
+fn straight_choice(tables: &Tables, at: BodyAt, piece: Piece, step: Step) -> Choice {
     match step.kind {
+        StepKind::Head { .. } => Choice::For,
         StepKind::Declaration { .. } => Choice::Locals,
-        StepKind::Test { .. } | StepKind::Jump { .. } => Choice::Jumps,
-        _ => Choice::Settled(None),
+        StepKind::Test { .. } => Choice::Jumps,
+        StepKind::Jump { .. } => {
+            if leaves_straight(tables, at, piece, step) {
+                return Choice::Settled(Some(ending(at, piece, End::Break, 1)));
+            }
+            Choice::Jumps
+        }
+        StepKind::Return => Choice::Settled(returning(at, piece, step)),
+        StepKind::Close { from, .. } => {
+            if leaves_closing(tables, at, piece, step, from) {
+                return Choice::Settled(Some(ending(at, piece, End::Break, 1)));
+            }
+            Choice::Settled(None)
+        }
+        StepKind::Act | StepKind::Foot { .. } => Choice::Settled(None),
     }
 }
 
@@ -115,40 +98,35 @@ fn is_own(step: Step, at: BodyAt) -> bool {
     }
 }
 
-fn own_statement(
-    memory: &mut Memory,
-    at: BodyAt,
-    step: Step,
-    place: usize,
-    levels: u32,
-) -> Option<Planned> {
+// Captured locals stand only in a body that may have some.
+fn own_statement(at: BodyAt, step: Step, place: usize) -> Option<Planned> {
     if let StepKind::Declaration { captured: true, .. } = step.kind {
         if !at.may_capture {
             return None;
         }
     }
-    let planned = Planned {
+    Some(Planned {
         plan: Plan::Step { step: place },
         levels: step.levels,
-    };
-    memory.fitting(planned, levels)
+    })
+}
+
+fn returning(at: BodyAt, piece: Piece, step: Step) -> Option<Planned> {
+    if !piece.is_single() {
+        return None;
+    }
+    let end = End::Return { step: piece.from };
+    Some(ending(at, piece, end, step.levels))
 }
 
 // A return or a break, in a `do` of its own where it is not last.
-fn ending(
-    memory: &mut Memory,
-    at: BodyAt,
-    piece: Piece,
-    end: End,
-    own: u32,
-    levels: u32,
-) -> Option<Planned> {
+fn ending(at: BodyAt, piece: Piece, end: End, own: u32) -> Planned {
     let enclosed = piece.to != at.to;
-    let planned = Planned {
+    let levels = if enclosed { own.saturating_add(1) } else { own };
+    Planned {
         plan: Plan::End { end, enclosed },
-        levels: own.saturating_add(u32::from(enclosed)),
-    };
-    memory.fitting(planned, levels)
+        levels,
+    }
 }
 
 // Whether a piece is a break that closes captured locals.
@@ -162,31 +140,23 @@ fn leaves_closing(tables: &Tables, at: BodyAt, piece: Piece, step: Step, from: u
         && tables.leaves(piece.from.saturating_add(1), exit)
 }
 
-// Whether a jump is a break, with no captured locals to close.
+// Whether a piece is a break with no captured locals to close.
 fn leaves_straight(tables: &Tables, at: BodyAt, piece: Piece, step: Step) -> bool {
     match at.exit {
-        Some(exit) => tables.leaves(piece.from, exit) && step.captured <= exit.locals,
+        Some(exit) => {
+            piece.is_single() && tables.leaves(piece.from, exit) && step.captured <= exit.locals
+        }
         None => false,
     }
 }
 
 /// A `do` from a declaration to the end of its locals.
-pub fn scope(
-    tables: &Tables,
-    memory: &mut Memory,
-    exit: Option<Exit>,
-    piece: Piece,
-    levels: u32,
-) -> Option<Form> {
+pub fn scope(tables: &Tables, exit: Option<Exit>, piece: Piece) -> Option<Form> {
     let step = tables.step(piece.from)?;
     let StepKind::Declaration { end, .. } = step.kind else {
         return None;
     };
-    let own = step.levels.saturating_add(1);
-    if end > piece.to || !memory.fits(own, levels) {
-        return None;
-    }
-    if !ends_scope(tables, piece, step, end) {
+    if end > piece.to || !ends_scope(tables, piece, step, end) {
         return None;
     }
     let inner = BodyAt {
@@ -198,7 +168,7 @@ pub fn scope(
     };
     Some(Form {
         shape: Shape::Do { step: piece.from },
-        levels: own,
+        levels: step.levels.saturating_add(1).max(2),
         inner: BlockAt {
             closed: None,
             whole: inner,
@@ -235,7 +205,7 @@ pub fn once(tables: &Tables, exit: Option<Exit>, piece: Piece) -> Option<Form> {
 }
 
 /// A `for`.
-pub fn counted(tables: &Tables, memory: &mut Memory, piece: Piece, levels: u32) -> Option<Form> {
+pub fn counted(tables: &Tables, piece: Piece) -> Option<Form> {
     let step = tables.step(piece.from)?;
     let StepKind::Head {
         numeric,
@@ -250,7 +220,6 @@ pub fn counted(tables: &Tables, memory: &mut Memory, piece: Piece, levels: u32) 
     if !(piece.from < variables_end && variables_end <= foot)
         || piece.to.checked_sub(1) != Some(foot)
         || end != piece.to
-        || !memory.fits(step.levels.max(2), levels)
     {
         return None;
     }
@@ -274,7 +243,7 @@ pub fn counted(tables: &Tables, memory: &mut Memory, piece: Piece, levels: u32) 
             step: piece.from,
             numeric,
         },
-        levels: step.levels,
+        levels: step.levels.max(2),
         inner: tables.block(from, variables_end, Some(exit)),
     })
 }

@@ -18,15 +18,10 @@ use std::alloc::{AllocError, Global};
 /// How deep a tree may be.
 pub const LIMIT: u32 = 200;
 
-/// Why a function is not recovered.
+/// Why a function is not recovered: of a word its pc and what is wrong with it.
 #[derive(Clone, Copy, Debug, PartialEq, Eq)]
 pub enum Stop {
-    /// What is wrong with a word; and whether levels were wanting, so that there may be a tree of fewer levels.
-    At {
-        pc: u32,
-        reason: Reason,
-        wants_levels: bool,
-    },
+    At { pc: u32, reason: Reason },
     OutOfMemory,
 }
 
@@ -51,7 +46,6 @@ impl From<Unbuilt> for Stop {
             Unbuilt::Gone => Stop::At {
                 pc: 0,
                 reason: Reason::NotScheme,
-                wants_levels: false,
             },
             Unbuilt::OutOfMemory => Stop::OutOfMemory,
         }
@@ -65,11 +59,7 @@ impl From<Fault> for Stop {
 
     fn from(error: Fault) -> Self {
         match error {
-            Fault::At { pc, reason } => Stop::At {
-                pc,
-                reason,
-                wants_levels: false,
-            },
+            Fault::At { pc, reason } => Stop::At { pc, reason },
             Fault::OutOfMemory => Stop::OutOfMemory,
         }
     }
@@ -95,7 +85,6 @@ pub fn recover_function(
         return Err(Stop::At {
             pc: search.furthest_pc(),
             reason: Reason::NotScheme,
-            wants_levels: search.memory.wants_levels,
         });
     };
     let found = if short {

@@ -31,35 +31,49 @@ pub struct LoopParts {
     pub inner: BlockAt,
 }
 
-/// What a loop from its first step to its end may be, in the order in which that is tried.
-pub fn loops_at(tables: &Tables, piece: Piece, last: usize) -> [Option<LoopAt>; 3] {
-    let Some(step) = tables.step(piece.from) else {
-        return [None, None, None];
-    };
-    let exit = Exit {
-        place: piece.to,
-        locals: step.base,
-    };
-    let open = LoopAt {
-        kind: LoopKind::Open { last },
+// A loop of a kind from its first step to its end.
+fn loop_at(piece: Piece, step: Step, kind: LoopKind) -> LoopAt {
+    LoopAt {
+        kind,
         piece,
-        exit,
-    };
-    if piece.to.checked_sub(1) != Some(last) || !tables.jumps_to(last, piece.from) {
-        return [None, None, Some(open)];
+        exit: Exit {
+            place: piece.to,
+            locals: step.base,
+        },
     }
-    let closed = closed_kind(tables, piece, step, last);
-    [
-        closed.map(|kind| LoopAt { kind, ..open }),
-        Some(LoopAt {
-            kind: LoopKind::While { back: last },
-            ..open
-        }),
-        Some(open),
-    ]
 }
 
-// A `repeat` that closes its locals, where a loop ends with two such CLOSEs, and the jump out of it between them.
+/// A `repeat` whose last jump back this is.
+pub fn open_loop(tables: &Tables, piece: Piece, last: usize) -> Option<LoopAt> {
+    let step = tables.step(piece.from)?;
+    Some(loop_at(piece, step, LoopKind::Open { last }))
+}
+
+/// A `while`, where a loop ends with its last jump back.
+pub fn while_loop(tables: &Tables, piece: Piece, last: usize) -> Option<LoopAt> {
+    let step = tables.step(piece.from)?;
+    if !ends_back(tables, piece, last) {
+        return None;
+    }
+    Some(loop_at(piece, step, LoopKind::While { back: last }))
+}
+
+/// A `repeat` that closes its locals, where a loop ends with its last jump back.
+pub fn closed_loop(tables: &Tables, piece: Piece, last: usize) -> Option<LoopAt> {
+    let step = tables.step(piece.from)?;
+    if !ends_back(tables, piece, last) {
+        return None;
+    }
+    let kind = closed_kind(tables, piece, step, last)?;
+    Some(loop_at(piece, step, kind))
+}
+
+// Whether a piece ends with a bare jump back to its first step.
+fn ends_back(tables: &Tables, piece: Piece, last: usize) -> bool {
+    piece.to.checked_sub(1) == Some(last) && tables.jumps_to(last, piece.from)
+}
+
+// Two CLOSEs of the locals stand at its end, and the jump out of it between them.
 fn closed_kind(tables: &Tables, piece: Piece, step: Step, last: usize) -> Option<LoopKind> {
     let close = last.checked_sub(1)?;
     let jump = last.checked_sub(2)?;

@@ -1,7 +1,7 @@
 // What the search has found, and what it has tried in vain.
 
 use crate::conditions::Condition;
-use crate::plan::{Branches, Found, Planned};
+use crate::plan::{Found, Planned, Rest};
 use crate::regions::{BodyAt, BranchesAt, ConditionAt};
 use std::alloc::{AllocError, Global};
 use std::collections::HashMap;
@@ -9,6 +9,18 @@ use std::collections::HashMap;
 /// The body without statements.
 pub const EMPTY: Found = Found {
     number: 0,
+    levels: 0,
+};
+
+/// No arm, and no `else`.
+pub const NO_REST: Found = Found {
+    number: 0,
+    levels: 0,
+};
+
+/// An `else` whose block has no statement.
+pub const EMPTY_LAST: Found = Found {
+    number: 1,
     levels: 0,
 };
 
@@ -63,48 +75,31 @@ impl Known {
 #[derive(Drop)]
 pub struct Memory {
     bodies: Vec<Vec<Planned>>,
-    branches: Vec<Branches>,
+    rests: Vec<Rest>,
     conditions: Vec<Condition>,
     known_bodies: HashMap<BodyAt, Known>,
     known_branches: HashMap<BranchesAt, Known>,
     known_conditions: HashMap<ConditionAt, Option<Found>>,
     /// The furthest step at which a statement began that was not found.
     pub furthest: usize,
-    /// Whether something was refused for want of levels.
-    pub wants_levels: bool,
 }
 
 impl Memory {
     pub fn new(alloc: Global) -> Result<Self, AllocError> {
         let mut bodies = Vec::new(alloc);
         bodies.push(Vec::new(alloc))?;
+        let mut rests = Vec::new(alloc);
+        rests.push(Rest::Nothing)?;
+        rests.push(Rest::Last { body: EMPTY.number })?;
         Ok(Self {
             bodies,
-            branches: Vec::new(alloc),
+            rests,
             conditions: Vec::new(alloc),
             known_bodies: HashMap::new(alloc),
             known_branches: HashMap::new(alloc),
             known_conditions: HashMap::new(alloc),
             furthest: 0,
-            wants_levels: false,
         })
-    }
-
-    /// Whether so many levels are there.
-    pub fn fits(&mut self, need: u32, levels: u32) -> bool {
-        if need > levels {
-            self.wants_levels = true;
-        }
-        need <= levels
-    }
-
-    /// A statement, where there are levels for it.
-    pub fn fitting(&mut self, planned: Planned, levels: u32) -> Option<Planned> {
-        if self.fits(planned.levels, levels) {
-            Some(planned)
-        } else {
-            None
-        }
     }
 
     /// No statement was found that begins there.
@@ -116,8 +111,8 @@ impl Memory {
         Some(self.bodies.get(number)?.as_slice())
     }
 
-    pub fn branches(&self, number: usize) -> Option<&Branches> {
-        self.branches.get(number)
+    pub fn rest(&self, number: usize) -> Option<Rest> {
+        self.rests.get(number).copied()
     }
 
     pub fn condition(&self, number: usize) -> Option<&Condition> {
@@ -169,31 +164,30 @@ impl Memory {
         Ok(found)
     }
 
+    /// A number for what stands in an `if`, and needs so many levels.
+    pub fn keep_rest(&mut self, rest: Rest, levels: u32) -> Result<Found, AllocError> {
+        let found = Found {
+            number: self.rests.len(),
+            levels,
+        };
+        self.rests.push(rest)?;
+        Ok(found)
+    }
+
     /// Remembers what was found with so many levels.
     pub fn keep_branches(
         &mut self,
         at: BranchesAt,
         levels: u32,
-        branches: Option<(Branches, u32)>,
-    ) -> Result<Option<Found>, AllocError> {
-        let found = match branches {
-            Some((branches, needed)) => {
-                let found = Found {
-                    number: self.branches.len(),
-                    levels: needed,
-                };
-                self.branches.push(branches)?;
-                Some(found)
-            }
-            None => None,
-        };
+        found: Option<Found>,
+    ) -> Result<(), AllocError> {
         let known = self
             .known_branches
             .get(&at)
             .copied()
             .unwrap_or(Known::NOTHING);
         self.known_branches.insert(at, known.with(levels, found))?;
-        Ok(found)
+        Ok(())
     }
 
     pub fn keep_condition(
@@ -217,9 +211,9 @@ impl Memory {
     }
 }
 
-// The levels of the highest statement.
+// The levels of the highest statement, one at least.
 fn highest(statements: &[Planned]) -> u32 {
-    let mut levels = 0;
+    let mut levels = 1;
     for planned in statements {
         levels = levels.max(planned.levels);
     }

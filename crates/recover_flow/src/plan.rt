@@ -46,7 +46,7 @@ pub enum Plan {
         condition: Option<usize>,
     },
     If {
-        branches: usize,
+        rest: usize,
     },
 }
 
@@ -57,16 +57,19 @@ pub enum End {
     Break,
 }
 
-/// An arm of an `if`; no condition is `true`.
+/// What stands in an `if` from a place on.
 #[derive(Clone, Copy, Debug, PartialEq, Eq)]
-pub struct PlannedArm {
-    pub condition: Option<usize>,
-    pub body: usize,
-}
-
-/// The arms of an `if`, and its `else`.
-#[derive(Drop)]
-pub struct Branches {
-    pub arms: Vec<PlannedArm>,
-    pub last: Option<usize>,
+pub enum Rest {
+    /// Nothing, and no `else` before it.
+    Nothing,
+    /// The block of an `else`.
+    Last {
+        body: usize,
+    },
+    /// An arm, no condition is `true`, and the number of what stands behind it, which is lower.
+    Arm {
+        condition: Option<usize>,
+        body: usize,
+        rest: usize,
+    },
 }

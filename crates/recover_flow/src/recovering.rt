@@ -32,15 +32,10 @@ pub fn recover(alloc: Global, proto: &Proto) -> Result<Tree, Lost>
     recovered(alloc, proto)
 }
 
-/// Why no function is recovered: the path of one, and of a word its pc and what is wrong with it; and whether levels were wanting.
+/// Why no function is recovered: the path of one, and of a word its pc and what is wrong with it.
 #[derive(Debug, Drop)]
 enum Failure {
-    At {
-        path: Path,
-        pc: u32,
-        reason: Reason,
-        wants_levels: bool,
-    },
+    At { path: Path, pc: u32, reason: Reason },
     OutOfMemory,
 }
 
@@ -62,18 +57,13 @@ impl From<Failure> for Lost {
 
     fn from(failure: Failure) -> Self {
         match failure {
-            Failure::At {
-                path,
-                pc,
-                reason,
-                ..
-            } => Lost::At { path, pc, reason },
+            Failure::At { path, pc, reason } => Lost::At { path, pc, reason },
             Failure::OutOfMemory => Lost::OutOfMemory,
         }
     }
 }
 
-// The tree of a chunk that tells what its source is recovered by: in natural forms, or in those of fewest levels where these are too deep. It is refused where it is not well formed.
+// The tree of a chunk that tells what its source is recovered by: in natural forms, or in those of fewest levels where none is found with these, which may be for want of levels. It is refused where it is not well formed.
 fn recovered(alloc: Global, proto: &Proto) -> Result<Tree, Lost>
     requires short { IsShort (view_proto proto.now) }
     ensures formed { IfOk result (λ tree. WellFormed (view_tree tree)) }
@@ -81,14 +71,8 @@ fn recovered(alloc: Global, proto: &Proto) -> Result<Tree, Lost>
 {
     let found = match inner_function(alloc, proto, 0, false) {
         Ok(found) if found.levels <= LIMIT => found,
-        Ok(_)
-        | Err(
-            Failure::At {
-                wants_levels: true,
-                ..
-            },
-        ) => inner_function(alloc, proto, 0, true)?,
-        Err(failure) => return Err(Lost::from(failure)),
+        Err(Failure::OutOfMemory) => return Err(Lost::OutOfMemory),
+        Ok(_) | Err(Failure::At { .. }) => inner_function(alloc, proto, 0, true)?,
     };
     let Recovered { body, .. } = found;
     let Body { block, .. } = body;
@@ -122,23 +106,15 @@ fn inner_function(
             path: Path::new(alloc),
             pc: 0,
             reason: Reason::NotScheme,
-            wants_levels: false,
         });
     }
     let bodies = inner_functions(alloc, proto.functions.items(), depth + 1, short)?;
     match recover_function(alloc, proto, bodies, short) {
         Ok(found) => Ok(found),
-        Err(
-            Stop::At {
-                pc,
-                reason,
-                wants_levels,
-            },
-        ) => Err(Failure::At {
+        Err(Stop::At { pc, reason }) => Err(Failure::At {
             path: Path::new(alloc),
             pc,
             reason,
-            wants_levels,
         }),
         Err(Stop::OutOfMemory) => Err(Failure::OutOfMemory),
     }
@@ -171,18 +147,8 @@ fn below(number: usize, failure: Failure) -> Failure
     ensures { (inner : Functions) (c : Chunk) → function_at inner number ≡ Some c → FailsBy c failure → FailsAmong inner result }
 {
     match failure {
-        Failure::At {
-            path,
-            pc,
-            reason,
-            wants_levels,
-        } => match longer(number, path) {
-            Ok(path) => Failure::At {
-                path,
-                pc,
-                reason,
-                wants_levels,
-            },
+        Failure::At { path, pc, reason } => match longer(number, path) {
+            Ok(path) => Failure::At { path, pc, reason },
             Err(_) => Failure::OutOfMemory,
         },
         Failure::OutOfMemory => Failure::OutOfMemory,

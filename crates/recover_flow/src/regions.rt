@@ -48,6 +48,13 @@ pub struct Piece {
     pub to: usize,
 }
 
+impl Piece {
+    /// Whether it is one step.
+    pub fn is_single(self) -> bool {
+        self.to.checked_sub(1) == Some(self.from)
+    }
+}
+
 impl BodyAt {
     /// A body to whose end its locals go, and none of them is captured.
     pub fn plain(from: usize, to: usize, exit: Option<Exit>) -> Self {

@@ -1,15 +1,16 @@
 // The search for the statements of a function.
 
-use crate::branches::{Rest, Rests, Start, Way};
+use crate::branches::{Start, Way};
 use crate::conditions::condition_at;
 use crate::forms::{Choice, Form, choice_of, counted, once, scope};
-use crate::loops::{LoopAt, loops_at};
-use crate::memory::{EMPTY, Memory, Recalled};
-use crate::plan::{Branches, Found, Plan, Planned};
+use crate::loops::{LoopAt, closed_loop, open_loop, while_loop};
+use crate::memory::{EMPTY, EMPTY_LAST, Memory, NO_REST, Recalled};
+use crate::plan::{Found, Plan, Planned, Rest};
 use crate::regions::{BlockAt, BodyAt, BranchesAt, ConditionAt, Piece};
 use crate::tables::Tables;
 use recover_expr::Step;
 use std::alloc::{AllocError, Global};
+use std::collections::HashMap;
 
 /// The search among the steps of a function. A part of `levels` levels is found if there is one; each is looked for once.
 #[derive(Drop)]
@@ -55,7 +56,7 @@ impl<'s> Search<'s> {
         if at.from == at.to {
             return Ok(Some(EMPTY));
         }
-        if !self.memory.fits(1, levels) {
+        if levels == 0 {
             return Ok(None);
         }
         let at = BodyAt {
@@ -145,15 +146,15 @@ impl<'s> Search<'s> {
         piece: Piece,
         levels: u32,
     ) -> Result<Option<Planned>, AllocError> {
-        match choice_of(&self.tables, &mut self.memory, at, piece, levels) {
-            Choice::Settled(planned) => Ok(planned),
+        match choice_of(&self.tables, at, piece) {
+            Choice::Settled(planned) => Ok(fitting(planned, levels)),
             Choice::Loop { last } => self.loop_of(piece, last, levels),
             Choice::For => {
-                let form = counted(&self.tables, &mut self.memory, piece, levels);
+                let form = counted(&self.tables, piece);
                 self.filled(form, levels)
             }
             Choice::Locals => {
-                let form = scope(&self.tables, &mut self.memory, at.exit, piece, levels);
+                let form = scope(&self.tables, at.exit, piece);
                 let planned = self.filled(form, levels)?;
                 if planned.is_some() {
                     return Ok(planned);
@@ -173,9 +174,10 @@ impl<'s> Search<'s> {
         piece: Piece,
         levels: u32,
     ) -> Result<Option<Planned>, AllocError> {
-        let Some(inner_levels) = levels.checked_sub(1) else {
+        if levels < 2 {
             return Ok(None);
-        };
+        }
+        let inner_levels = levels - 1;
         let tested = BranchesAt {
             from: piece.from,
             to: piece.to,
@@ -203,10 +205,13 @@ impl<'s> Search<'s> {
     // A statement around a block, where the block is found.
     #[cycle(search)]
     fn filled(&mut self, form: Option<Form>, levels: u32) -> Result<Option<Planned>, AllocError> {
-        let (Some(form), Some(inner_levels)) = (form, levels.checked_sub(1)) else {
+        let Some(form) = form else {
             return Ok(None);
         };
-        let Some(body) = self.block(form.inner, inner_levels)? else {
+        if levels < 2 || form.levels > levels {
+            return Ok(None);
+        }
+        let Some(body) = self.block(form.inner, levels - 1)? else {
             return Ok(None);
         };
         Ok(Some(Planned {
@@ -215,7 +220,7 @@ impl<'s> Search<'s> {
         }))
     }
 
-    // A loop, by the conditions that it may have.
+    // A loop, whose last jump back this is.
     #[cycle(search)]
     fn loop_of(
         &mut self,
@@ -223,43 +228,52 @@ impl<'s> Search<'s> {
         last: usize,
         levels: u32,
     ) -> Result<Option<Planned>, AllocError> {
-        if !self.memory.fits(2, levels) {
+        let planned = self.tested_loop(closed_loop(&self.tables, piece, last), levels)?;
+        if planned.is_some() {
+            return Ok(planned);
+        }
+        let planned = self.tested_loop(while_loop(&self.tables, piece, last), levels)?;
+        if planned.is_some() {
+            return Ok(planned);
+        }
+        self.tested_loop(open_loop(&self.tables, piece, last), levels)
+    }
+
+    // A loop, by the conditions that it may have.
+    #[cycle(search)]
+    fn tested_loop(
+        &mut self,
+        at: Option<LoopAt>,
+        levels: u32,
+    ) -> Result<Option<Planned>, AllocError> {
+        let Some(at) = at else {
+            return Ok(None);
+        };
+        if levels < 2 {
             return Ok(None);
         }
-        for at in loops_at(&self.tables, piece, last) {
-            let Some(at) = at else { continue };
-            let lengths = at.lengths(&self.tables);
-            for turn in 0..=lengths.tests.max(lengths.jumps) {
-                let form = self.loop_form(at, lengths.at(turn), levels)?;
-                let planned = self.filled(form, levels)?;
-                if planned.is_some() {
-                    return Ok(planned);
-                }
+        let lengths = at.lengths(&self.tables);
+        for turn in 0..=lengths.tests.max(lengths.jumps) {
+            let form = self.loop_form(at, lengths.at(turn))?;
+            let planned = self.filled(form, levels)?;
+            if planned.is_some() {
+                return Ok(planned);
             }
         }
         Ok(None)
     }
 
     // A loop whose condition has this length, where that is a condition.
-    fn loop_form(
-        &mut self,
-        at: LoopAt,
-        length: Option<usize>,
-        levels: u32,
-    ) -> Result<Option<Form>, AllocError> {
+    fn loop_form(&mut self, at: LoopAt, length: Option<usize>) -> Result<Option<Form>, AllocError> {
         let Some(parts) = length.and_then(|length| at.parts(&self.tables, length)) else {
             return Ok(None);
         };
         let Some(condition) = self.condition(parts.condition)? else {
             return Ok(None);
         };
-        let own = condition.levels.saturating_add(1);
-        if !self.memory.fits(own, levels) {
-            return Ok(None);
-        }
         Ok(Some(Form {
             shape: at.shape(condition.number),
-            levels: own,
+            levels: condition.levels.saturating_add(1).max(2),
             inner: parts.inner,
         }))
     }
@@ -291,55 +305,90 @@ impl<'s> Search<'s> {
             Recalled::Found(found) => Ok(Some(found)),
             Recalled::Failed => Ok(None),
             Recalled::Unknown => {
-                let branches = self.arms(at, levels)?;
-                self.memory.keep_branches(at, levels, branches)
+                let found = self.arms(at, levels)?;
+                self.memory.keep_branches(at, levels, found)?;
+                Ok(found)
             }
         }
     }
 
     // The arms of an `if`: the places at which one may begin are known from the left; here they are found from the right.
     #[cycle(search)]
-    fn arms(&mut self, at: BranchesAt, levels: u32) -> Result<Option<(Branches, u32)>, AllocError> {
+    fn arms(&mut self, at: BranchesAt, levels: u32) -> Result<Option<Found>, AllocError> {
         let starts = self.tables.arm_starts(self.alloc, at)?;
-        let mut rests = Rests::new(self.alloc);
+        let mut rests = HashMap::new(self.alloc);
         for start in starts.iter().rev() {
-            if let Some(rest) = self.arm(at, start, &rests, levels)? {
+            if let Some(rest) = self.rest(at, start, &rests, levels)? {
                 rests.insert(start.place, rest)?;
             }
         }
-        rests.branches(self.alloc, at.from)
+        Ok(rests.get(&at.from).copied())
     }
 
-    // The arms from a place on, with those that stand behind them; or the `else`, where that is not the first place.
+    // What stands from a place on, behind which these were found: an arm, or the `else` where that is not the first place.
     #[cycle(search)]
-    fn arm(
+    fn rest(
         &mut self,
         at: BranchesAt,
         start: &Start,
-        rests: &Rests,
+        rests: &HashMap<usize, Found>,
         levels: u32,
-    ) -> Result<Option<Rest>, AllocError> {
+    ) -> Result<Option<Found>, AllocError> {
         for way in &start.ways {
-            let Some(rest) = rests.behind(way.next, at.to) else {
-                continue;
-            };
-            let Some(test) = self.way_test(start.place, *way, levels)? else {
-                continue;
-            };
-            let begin = way.tests_end.unwrap_or(start.place);
-            let block = self.tables.block(begin, way.block_end, at.exit);
-            if let Some(body) = self.block(block, levels)? {
-                return Ok(Some(rest.with_arm(test.condition, test.levels, body)));
+            if let Some(behind) = rest_behind(rests, way.next, at.to) {
+                let found = self.arm(at, start.place, *way, behind, levels)?;
+                if found.is_some() {
+                    return Ok(found);
+                }
             }
         }
         if start.place == at.from {
             return Ok(None);
         }
-        let block = self.tables.block(start.place, at.to, at.exit);
-        match self.block(block, levels)? {
-            Some(body) => Ok(Some(Rest::last(body))),
-            None => Ok(None),
-        }
+        self.last(at, start.place, levels)
+    }
+
+    // The arm that stands in this way, with what was found behind it.
+    #[cycle(search)]
+    fn arm(
+        &mut self,
+        at: BranchesAt,
+        place: usize,
+        way: Way,
+        behind: Found,
+        levels: u32,
+    ) -> Result<Option<Found>, AllocError> {
+        let Some(test) = self.way_test(place, way, levels)? else {
+            return Ok(None);
+        };
+        let begin = way.tests_end.unwrap_or(place);
+        let block = self.tables.block(begin, way.block_end, at.exit);
+        let Some(body) = self.block(block, levels)? else {
+            return Ok(None);
+        };
+        let arm = Rest::Arm {
+            condition: test.condition,
+            body: body.number,
+            rest: behind.number,
+        };
+        let needed = test.levels.max(body.levels).max(behind.levels);
+        Ok(Some(self.memory.keep_rest(arm, needed)?))
+    }
+
+    // The `else` from a place on.
+    #[cycle(search)]
+    fn last(
+        &mut self,
+        at: BranchesAt,
+        place: usize,
+        levels: u32,
+    ) -> Result<Option<Found>, AllocError> {
+        let block = self.tables.block(place, at.to, at.exit);
+        let Some(body) = self.block(block, levels)? else {
+            return Ok(None);
+        };
+        let last = Rest::Last { body: body.number };
+        Ok(Some(self.memory.keep_rest(last, body.levels)?))
     }
 
     // The condition of an arm, where there are levels for it.
@@ -361,7 +410,7 @@ impl<'s> Search<'s> {
                 };
                 ArmTest {
                     condition: Some(found.number),
-                    levels: found.levels,
+                    levels: found.levels.max(1),
                 }
             }
             None => ArmTest {
@@ -369,7 +418,7 @@ impl<'s> Search<'s> {
                 levels: 1,
             },
         };
-        if self.memory.fits(test.levels, levels) {
+        if test.levels <= levels {
             Ok(Some(test))
         } else {
             Ok(None)
@@ -384,12 +433,27 @@ struct ArmTest {
     levels: u32,
 }
 
+// A statement, where there are levels for it.
+fn fitting(planned: Option<Planned>, levels: u32) -> Option<Planned> {
+    match planned {
+        Some(planned) if planned.levels <= levels => Some(planned),
+        _ => None,
+    }
+}
+
+// What stands behind an arm of an `if` that ends there, if that was found.
+fn rest_behind(rests: &HashMap<usize, Found>, next: Option<usize>, to: usize) -> Option<Found> {
+    match next {
+        None => Some(NO_REST),
+        Some(place) if place == to => Some(EMPTY_LAST),
+        Some(place) => rests.get(&place).copied(),
+    }
+}
+
 // An `if` of these branches.
 fn branches_planned(found: Found) -> Planned {
     Planned {
-        plan: Plan::If {
-            branches: found.number,
-        },
+        plan: Plan::If { rest: found.number },
         levels: found.levels.saturating_add(1),
     }
 }
