@@ -1,4 +1,12 @@
 // The search for the statements of a function.
+ghost use Rattle.std.specs.Prelude.{◌≡◌, ◌<◌, ◌≤◌, IfOk, Some, option_map};
+ghost use Rattle.recover_flow.specs.Arms.{arm_starts};
+ghost use Rattle.recover_flow.specs.Cutting.{pieces_of};
+ghost use Rattle.recover_flow.specs.Forms.{choice_at};
+ghost use Rattle.recover_flow.specs.Held.{ConditionFound};
+ghost use Rattle.recover_flow.specs.Searching.{Answers, AreRests, ArmAnswer, BehindFound, BlockAnswer, BodyAnswer, BranchesAnswer, FormAnswer, IfAnswer, IsReady, IsStartOf, IsStuck, LastAnswer, LastIfAnswer, LoopAnswer, LoopFormAnswer, PlanAnswer, RestAnswer, StatementsAnswer, TestAnswer, fitting_plan, found_behind, if_planned, rest_at, steps_of, store_of, whole_body};
+ghost use Rattle.recover_flow.specs.Standing.{IsStart, IsWay, branches_used, piece_branches, with_used};
+ghost use Rattle.recover_flow.specs.declared.forms.Choice.{Choice};
 
 use crate::branches::{Start, Way};
 use crate::conditions::condition_at;
@@ -21,7 +29,10 @@ pub struct Search<'s> {
 }
 
 impl<'s> Search<'s> {
-    pub fn new(alloc: Global, steps: &'s [Step]) -> Result<Self, AllocError> {
+    pub fn new(alloc: Global, steps: &'s [Step]) -> Result<Self, AllocError>
+        ensures ready { IfOk result IsReady }
+        ensures steps { IfOk result (λ search. steps_of search ≡ steps.now) }
+    {
         Ok(Self {
             alloc,
             tables: Tables::new(alloc, steps)?,
@@ -30,7 +41,9 @@ impl<'s> Search<'s> {
     }
 
     /// The pc of the furthest step at which a statement began that was not found.
-    pub fn furthest_pc(&self) -> u32 {
+    pub fn furthest_pc(&self) -> u32
+        requires tabled { IsReady self.now }
+    {
         match self.tables.step(self.memory.furthest) {
             Some(step) => step.pc,
             None => 0,
@@ -38,7 +51,10 @@ impl<'s> Search<'s> {
     }
 
     /// The body of the whole function.
-    pub fn whole(&mut self, levels: u32) -> Result<Option<Found>, AllocError> {
+    pub fn whole(&mut self, levels: u32) -> Result<Option<Found>, AllocError>
+        requires ready { IsReady self.old }
+        ensures { IfOk result (λ found. Answers self.old self.new (BodyAnswer (whole_body (steps_of self.old)) levels found)) }
+    {
         let to = self.tables.steps().len();
         let at = BodyAt {
             from: 0,
@@ -52,7 +68,10 @@ impl<'s> Search<'s> {
 
     /// A body, if there is one of at most so many levels.
     #[cycle(search)]
-    fn body(&mut self, at: BodyAt, levels: u32) -> Result<Option<Found>, AllocError> {
+    fn body(&mut self, at: BodyAt, levels: u32) -> Result<Option<Found>, AllocError>
+        requires ready { IsReady self.old }
+        ensures { IfOk result (λ found. Answers self.old self.new (BodyAnswer (with_used (steps_of self.old) at) levels found)) }
+    {
         if at.from == at.to {
             return Ok(Some(EMPTY));
         }
@@ -66,31 +85,52 @@ impl<'s> Search<'s> {
         match self.memory.recall_body(at, levels) {
             Recalled::Found(found) => Ok(Some(found)),
             Recalled::Failed => Ok(None),
-            Recalled::Unknown => {
-                let statements = self.statements(at, levels)?;
-                self.memory.keep_body(at, levels, statements)
-            }
+            Recalled::Unknown => self.new_body(at, levels),
         }
+    }
+
+    // A body that is not known.
+    #[cycle(search)]
+    fn new_body(&mut self, at: BodyAt, levels: u32) -> Result<Option<Found>, AllocError>
+        requires ready { IsReady self.old }
+        requires apart { at.from ≡ at.to → ⊥ }
+        requires some { 0 < levels }
+        ensures { IfOk result (λ found. Answers self.old self.new (BodyAnswer at levels found)) }
+    {
+        let statements = self.statements(at, levels)?;
+        self.memory.keep_body(at, levels, statements)
     }
 
     // A block, with its CLOSE where it has one.
     #[cycle(search)]
-    fn block(&mut self, at: BlockAt, levels: u32) -> Result<Option<Found>, AllocError> {
-        if let Some(closed) = at.closed {
-            let found = self.body(closed, levels)?;
-            if found.is_some() {
-                return Ok(found);
-            }
+    fn block(&mut self, at: BlockAt, levels: u32) -> Result<Option<Found>, AllocError>
+        requires ready { IsReady self.old }
+        ensures { IfOk result (λ found. Answers self.old self.new (BlockAnswer at levels found)) }
+    {
+        let Some(closed) = at.closed else {
+            return self.body(at.whole, levels);
+        };
+        let found = self.body(closed, levels)?;
+        if found.is_some() {
+            return Ok(found);
         }
         self.body(at.whole, levels)
     }
 
     // The statements of a body, piece by piece.
     #[cycle(search)]
-    fn statements(&mut self, at: BodyAt, levels: u32) -> Result<Option<Vec<Planned>>, AllocError> {
+    fn statements(&mut self, at: BodyAt, levels: u32) -> Result<Option<Vec<Planned>>, AllocError>
+        requires ready { IsReady self.old }
+        requires apart { at.from ≡ at.to → ⊥ }
+        requires some { 0 < levels }
+        ensures { IfOk result (λ statements. Answers self.old self.new (StatementsAnswer at levels (option_map (λ list. list.items) statements))) }
+    {
         let Some(pieces) = self.tables.pieces(self.alloc, at)? else {
             return Ok(None);
         };
+        if pieces.is_empty() {
+            return Ok(None);
+        }
         let mut statements = Vec::new(self.alloc);
         for piece in &pieces {
             let Some(statement) = self.statement(at, *piece, levels)? else {
@@ -110,32 +150,59 @@ impl<'s> Search<'s> {
         pieces: &[Piece],
         mut statements: Vec<Planned>,
         levels: u32,
-    ) -> Result<Option<Vec<Planned>>, AllocError> {
-        let Some(inner_levels) = levels.checked_sub(1) else {
-            return Ok(None);
-        };
-        for number in (0..=statements.len()).rev() {
-            let Some(piece) = pieces.get(number) else {
-                continue;
-            };
-            if !self.tables.begins_branches(at, *piece) {
-                continue;
+    ) -> Result<Option<Vec<Planned>>, AllocError>
+        requires ready { IsReady self.old }
+        requires apart { at.from ≡ at.to → ⊥ }
+        requires some { 0 < levels }
+        requires pieces { pieces_of (steps_of self.old) at ≡ Some pieces.now }
+        requires stuck { IsStuck (steps_of self.old) (store_of self.old) at levels pieces.now statements.items }
+        ensures { IfOk result (λ found. Answers self.old self.new (StatementsAnswer at levels (option_map (λ list. list.items) found))) }
+    {
+        let mut number = statements.len();
+        loop {
+            if let Some(last) = self.last_if(at, pieces[number], levels)? {
+                statements.truncate(number);
+                statements.push(last)?;
+                return Ok(Some(statements));
             }
-            for bare in [false, true] {
-                let branches = BranchesAt {
-                    from: piece.from,
-                    to: at.to,
-                    exit: at.exit,
-                    bare,
-                };
-                if let Some(found) = self.branches(branches, inner_levels)? {
-                    statements.truncate(number);
-                    statements.push(branches_planned(found))?;
-                    return Ok(Some(statements));
-                }
+            if number == 0 {
+                return Ok(None);
             }
+            number -= 1;
         }
-        Ok(None)
+    }
+
+    // The `if` that begins with a piece of a body and goes on to its end, which is the exit.
+    #[cycle(search)]
+    fn last_if(
+        &mut self,
+        at: BodyAt,
+        piece: Piece,
+        levels: u32,
+    ) -> Result<Option<Planned>, AllocError>
+        requires ready { IsReady self.old }
+        requires some { 0 < levels }
+        ensures { IfOk result (λ planned. Answers self.old self.new (LastIfAnswer at piece levels planned)) }
+    {
+        if levels < 2 || !self.tables.begins_branches(at, piece) {
+            return Ok(None);
+        }
+        let tested = BranchesAt {
+            from: piece.from,
+            to: at.to,
+            exit: at.exit,
+            bare: false,
+        };
+        let found = self.branches(tested, levels - 1)?;
+        if let Some(found) = found {
+            return Ok(Some(branches_planned(found)));
+        }
+        let bare = BranchesAt {
+            bare: true,
+            ..tested
+        };
+        let found = self.branches(bare, levels - 1)?;
+        Ok(found.map(branches_planned))
     }
 
     // The statement of a piece.
@@ -145,25 +212,54 @@ impl<'s> Search<'s> {
         at: BodyAt,
         piece: Piece,
         levels: u32,
-    ) -> Result<Option<Planned>, AllocError> {
+    ) -> Result<Option<Planned>, AllocError>
+        requires ready { IsReady self.old }
+        ensures { IfOk result (λ planned. Answers self.old self.new (PlanAnswer at piece levels planned)) }
+    {
         match choice_of(&self.tables, at, piece) {
             Choice::Settled(planned) => Ok(fitting(planned, levels)),
-            Choice::Loop { last } => self.loop_of(piece, last, levels),
-            Choice::For => {
-                let form = counted(&self.tables, piece);
-                self.filled(form, levels)
-            }
-            Choice::Locals => {
-                let form = scope(&self.tables, at.exit, piece);
-                let planned = self.filled(form, levels)?;
-                if planned.is_some() {
-                    return Ok(planned);
-                }
-                let form = once(&self.tables, at.exit, piece);
-                self.filled(form, levels)
-            }
+            Choice::Loop { last } => self.loop_of(at, piece, last, levels),
+            Choice::For => self.for_of(at, piece, levels),
+            Choice::Locals => self.locals(at, piece, levels),
             Choice::Jumps => self.jumps(at, piece, levels),
         }
+    }
+
+    // A `for`.
+    #[cycle(search)]
+    fn for_of(
+        &mut self,
+        at: BodyAt,
+        piece: Piece,
+        levels: u32,
+    ) -> Result<Option<Planned>, AllocError>
+        requires ready { IsReady self.old }
+        requires choice { choice_at (steps_of self.old) at piece ≡ Choice.For }
+        ensures { IfOk result (λ planned. Answers self.old self.new (PlanAnswer at piece levels planned)) }
+    {
+        let form = counted(&self.tables, piece);
+        self.filled(form, levels)
+    }
+
+    // A statement that begins with locals that end in it.
+    #[cycle(search)]
+    fn locals(
+        &mut self,
+        at: BodyAt,
+        piece: Piece,
+        levels: u32,
+    ) -> Result<Option<Planned>, AllocError>
+        requires ready { IsReady self.old }
+        requires choice { choice_at (steps_of self.old) at piece ≡ Choice.Locals }
+        ensures { IfOk result (λ planned. Answers self.old self.new (PlanAnswer at piece levels planned)) }
+    {
+        let form = scope(&self.tables, at.exit, piece);
+        let planned = self.filled(form, levels)?;
+        if planned.is_some() {
+            return Ok(planned);
+        }
+        let form = once(&self.tables, at.exit, piece);
+        self.filled(form, levels)
     }
 
     // A statement that begins with a test or a jump, but for a loop with a jump back.
@@ -173,42 +269,58 @@ impl<'s> Search<'s> {
         at: BodyAt,
         piece: Piece,
         levels: u32,
-    ) -> Result<Option<Planned>, AllocError> {
-        if levels < 2 {
-            return Ok(None);
-        }
-        let inner_levels = levels - 1;
-        let tested = BranchesAt {
-            from: piece.from,
-            to: piece.to,
-            exit: at.exit,
-            bare: false,
-        };
-        if let Some(found) = self.branches(tested, inner_levels)? {
-            return Ok(Some(branches_planned(found)));
+    ) -> Result<Option<Planned>, AllocError>
+        requires ready { IsReady self.old }
+        requires choice { choice_at (steps_of self.old) at piece ≡ Choice.Jumps }
+        ensures { IfOk result (λ planned. Answers self.old self.new (PlanAnswer at piece levels planned)) }
+    {
+        let planned = self.if_of(at, piece, false, levels)?;
+        if planned.is_some() {
+            return Ok(planned);
         }
         let form = once(&self.tables, at.exit, piece);
         let planned = self.filled(form, levels)?;
         if planned.is_some() {
             return Ok(planned);
         }
-        let bare = BranchesAt {
-            bare: true,
-            ..tested
-        };
-        match self.branches(bare, inner_levels)? {
-            Some(found) => Ok(Some(branches_planned(found))),
-            None => Ok(None),
+        self.if_of(at, piece, true, levels)
+    }
+
+    // An `if`; `bare` where there is a bare jump in its first condition.
+    #[cycle(search)]
+    fn if_of(
+        &mut self,
+        at: BodyAt,
+        piece: Piece,
+        bare: bool,
+        levels: u32,
+    ) -> Result<Option<Planned>, AllocError>
+        requires ready { IsReady self.old }
+        ensures { IfOk result (λ planned. Answers self.old self.new (IfAnswer (piece_branches at piece bare) levels planned)) }
+    {
+        if levels < 2 {
+            return Ok(None);
         }
+        let branches = BranchesAt {
+            from: piece.from,
+            to: piece.to,
+            exit: at.exit,
+            bare,
+        };
+        let found = self.branches(branches, levels - 1)?;
+        Ok(found.map(branches_planned))
     }
 
     // A statement around a block, where the block is found.
     #[cycle(search)]
-    fn filled(&mut self, form: Option<Form>, levels: u32) -> Result<Option<Planned>, AllocError> {
+    fn filled(&mut self, form: Option<Form>, levels: u32) -> Result<Option<Planned>, AllocError>
+        requires ready { IsReady self.old }
+        ensures { IfOk result (λ planned. Answers self.old self.new (FormAnswer form levels planned)) }
+    {
         let Some(form) = form else {
             return Ok(None);
         };
-        if levels < 2 || form.levels > levels {
+        if levels == 0 || form.levels > levels {
             return Ok(None);
         }
         let Some(body) = self.block(form.inner, levels - 1)? else {
@@ -224,19 +336,27 @@ impl<'s> Search<'s> {
     #[cycle(search)]
     fn loop_of(
         &mut self,
+        at: BodyAt,
         piece: Piece,
         last: usize,
         levels: u32,
-    ) -> Result<Option<Planned>, AllocError> {
-        let planned = self.tested_loop(closed_loop(&self.tables, piece, last), levels)?;
+    ) -> Result<Option<Planned>, AllocError>
+        requires ready { IsReady self.old }
+        requires choice { choice_at (steps_of self.old) at piece ≡ Choice.Loop last }
+        ensures { IfOk result (λ planned. Answers self.old self.new (PlanAnswer at piece levels planned)) }
+    {
+        let closed = closed_loop(&self.tables, piece, last);
+        let planned = self.tested_loop(closed, levels)?;
         if planned.is_some() {
             return Ok(planned);
         }
-        let planned = self.tested_loop(while_loop(&self.tables, piece, last), levels)?;
+        let tested_first = while_loop(&self.tables, piece, last);
+        let planned = self.tested_loop(tested_first, levels)?;
         if planned.is_some() {
             return Ok(planned);
         }
-        self.tested_loop(open_loop(&self.tables, piece, last), levels)
+        let open = open_loop(&self.tables, piece, last);
+        self.tested_loop(open, levels)
     }
 
     // A loop, by the conditions that it may have.
@@ -245,7 +365,10 @@ impl<'s> Search<'s> {
         &mut self,
         at: Option<LoopAt>,
         levels: u32,
-    ) -> Result<Option<Planned>, AllocError> {
+    ) -> Result<Option<Planned>, AllocError>
+        requires ready { IsReady self.old }
+        ensures { IfOk result (λ planned. Answers self.old self.new (LoopAnswer at levels planned)) }
+    {
         let Some(at) = at else {
             return Ok(None);
         };
@@ -253,19 +376,28 @@ impl<'s> Search<'s> {
             return Ok(None);
         }
         let lengths = at.lengths(&self.tables);
-        for turn in 0..=lengths.tests.max(lengths.jumps) {
+        let most = lengths.tests.max(lengths.jumps);
+        let mut turn = 0;
+        while turn <= most {
             let form = self.loop_form(at, lengths.at(turn))?;
             let planned = self.filled(form, levels)?;
             if planned.is_some() {
                 return Ok(planned);
             }
+            turn += 1;
         }
         Ok(None)
     }
 
     // A loop whose condition has this length, where that is a condition.
-    fn loop_form(&mut self, at: LoopAt, length: Option<usize>) -> Result<Option<Form>, AllocError> {
-        let Some(parts) = length.and_then(|length| at.parts(&self.tables, length)) else {
+    fn loop_form(&mut self, at: LoopAt, length: Option<usize>) -> Result<Option<Form>, AllocError>
+        requires ready { IsReady self.old }
+        ensures { IfOk result (λ form. Answers self.old self.new (LoopFormAnswer at length form)) }
+    {
+        let Some(length) = length else {
+            return Ok(None);
+        };
+        let Some(parts) = at.parts(&self.tables, length) else {
             return Ok(None);
         };
         let Some(condition) = self.condition(parts.condition)? else {
@@ -279,24 +411,25 @@ impl<'s> Search<'s> {
     }
 
     // The condition at a place, if one stands there.
-    fn condition(&mut self, at: ConditionAt) -> Result<Option<Found>, AllocError> {
+    fn condition(&mut self, at: ConditionAt) -> Result<Option<Found>, AllocError>
+        requires ready { IsReady self.old }
+        ensures { IfOk result (λ found. Answers self.old self.new (λ steps store. ConditionFound steps store at found)) }
+    {
         if let Some(found) = self.memory.recall_condition(at) {
             return Ok(found);
         }
         let steps = self.tables.steps();
-        let condition = match condition_at(self.alloc, steps, at)? {
-            Some(condition) => {
-                let levels = condition.levels(steps);
-                Some((condition, levels))
-            }
-            None => None,
-        };
-        self.memory.keep_condition(at, condition)
+        let condition = condition_at(self.alloc, steps, at)?;
+        self.memory.keep_condition(steps, at, condition)
     }
 
     // The branches of an `if`, if there are some of at most so many levels.
     #[cycle(search)]
-    fn branches(&mut self, at: BranchesAt, levels: u32) -> Result<Option<Found>, AllocError> {
+    fn branches(&mut self, at: BranchesAt, levels: u32) -> Result<Option<Found>, AllocError>
+        requires ready { IsReady self.old }
+        requires some { 0 < levels }
+        ensures { IfOk result (λ found. Answers self.old self.new (BranchesAnswer (branches_used (steps_of self.old) at) levels found)) }
+    {
         let at = BranchesAt {
             exit: self.tables.used(at.exit, at.from, at.to),
             ..at
@@ -304,21 +437,33 @@ impl<'s> Search<'s> {
         match self.memory.recall_branches(at, levels) {
             Recalled::Found(found) => Ok(Some(found)),
             Recalled::Failed => Ok(None),
-            Recalled::Unknown => {
-                let found = self.arms(at, levels)?;
-                self.memory.keep_branches(at, levels, found)?;
-                Ok(found)
-            }
+            Recalled::Unknown => self.new_branches(at, levels),
         }
+    }
+
+    // Branches that are not known.
+    #[cycle(search)]
+    fn new_branches(&mut self, at: BranchesAt, levels: u32) -> Result<Option<Found>, AllocError>
+        requires ready { IsReady self.old }
+        requires some { 0 < levels }
+        ensures { IfOk result (λ found. Answers self.old self.new (BranchesAnswer at levels found)) }
+    {
+        let found = self.arms(at, levels)?;
+        self.memory.keep_branches(at, levels, found)?;
+        Ok(found)
     }
 
     // The arms of an `if`: the places at which one may begin are known from the left; here they are found from the right.
     #[cycle(search)]
-    fn arms(&mut self, at: BranchesAt, levels: u32) -> Result<Option<Found>, AllocError> {
-        let starts = self.tables.arm_starts(self.alloc, at)?;
+    fn arms(&mut self, at: BranchesAt, levels: u32) -> Result<Option<Found>, AllocError>
+        requires ready { IsReady self.old }
+        requires some { 0 < levels }
+        ensures { IfOk result (λ found. Answers self.old self.new (BranchesAnswer at levels found)) }
+    {
+        let mut starts = self.tables.arm_starts(self.alloc, at)?;
         let mut rests = HashMap::new(self.alloc);
-        for start in starts.iter().rev() {
-            if let Some(rest) = self.rest(at, start, &rests, levels)? {
+        while let Some(start) = starts.pop() {
+            if let Some(rest) = self.rest(at, &start, &rests, levels)? {
                 rests.insert(start.place, rest)?;
             }
         }
@@ -333,7 +478,13 @@ impl<'s> Search<'s> {
         start: &Start,
         rests: &HashMap<usize, Found>,
         levels: u32,
-    ) -> Result<Option<Found>, AllocError> {
+    ) -> Result<Option<Found>, AllocError>
+        requires ready { IsReady self.old }
+        requires some { 0 < levels }
+        requires start { IsStartOf (steps_of self.old) at start.now.place start.now.ways.items }
+        requires rests { AreRests (steps_of self.old) (store_of self.old) at levels start.now.place (rest_at rests.now) }
+        ensures { IfOk result (λ found. Answers self.old self.new (RestAnswer at start.now.place levels found)) }
+    {
         for way in &start.ways {
             if let Some(behind) = rest_behind(rests, way.next, at.to) {
                 let found = self.arm(at, start.place, *way, behind, levels)?;
@@ -357,7 +508,14 @@ impl<'s> Search<'s> {
         way: Way,
         behind: Found,
         levels: u32,
-    ) -> Result<Option<Found>, AllocError> {
+    ) -> Result<Option<Found>, AllocError>
+        requires ready { IsReady self.old }
+        requires some { 0 < levels }
+        requires way { IsWay (arm_starts (steps_of self.old) at) place way }
+        requires behind { BehindFound (steps_of self.old) (store_of self.old) at place way.next behind }
+        requires fits { behind.levels ≤ levels }
+        ensures { IfOk result (λ found. Answers self.old self.new (ArmAnswer at place way levels found)) }
+    {
         let Some(test) = self.way_test(place, way, levels)? else {
             return Ok(None);
         };
@@ -382,7 +540,12 @@ impl<'s> Search<'s> {
         at: BranchesAt,
         place: usize,
         levels: u32,
-    ) -> Result<Option<Found>, AllocError> {
+    ) -> Result<Option<Found>, AllocError>
+        requires ready { IsReady self.old }
+        requires start { IsStart (arm_starts (steps_of self.old) at) place }
+        requires apart { place ≡ at.from → ⊥ }
+        ensures { IfOk result (λ found. Answers self.old self.new (LastAnswer at place levels found)) }
+    {
         let block = self.tables.block(place, at.to, at.exit);
         let Some(body) = self.block(block, levels)? else {
             return Ok(None);
@@ -397,32 +560,33 @@ impl<'s> Search<'s> {
         place: usize,
         way: Way,
         levels: u32,
-    ) -> Result<Option<ArmTest>, AllocError> {
-        let test = match way.tests_end {
-            Some(to) => {
-                let at = ConditionAt {
-                    from: place,
-                    to,
-                    target: way.next.unwrap_or(way.block_end),
-                };
-                let Some(found) = self.condition(at)? else {
-                    return Ok(None);
-                };
-                ArmTest {
-                    condition: Some(found.number),
-                    levels: found.levels.max(1),
-                }
-            }
-            None => ArmTest {
+    ) -> Result<Option<ArmTest>, AllocError>
+        requires ready { IsReady self.old }
+        requires some { 0 < levels }
+        ensures { IfOk result (λ test. Answers self.old self.new (TestAnswer place way levels test)) }
+    {
+        let Some(to) = way.tests_end else {
+            return Ok(Some(ArmTest {
                 condition: None,
                 levels: 1,
-            },
+            }));
         };
-        if test.levels <= levels {
-            Ok(Some(test))
-        } else {
-            Ok(None)
+        let at = ConditionAt {
+            from: place,
+            to,
+            target: way.next.unwrap_or(way.block_end),
+        };
+        let Some(found) = self.condition(at)? else {
+            return Ok(None);
+        };
+        let needed = found.levels.max(1);
+        if needed > levels {
+            return Ok(None);
         }
+        Ok(Some(ArmTest {
+            condition: Some(found.number),
+            levels: needed,
+        }))
     }
 }
 
@@ -434,7 +598,9 @@ struct ArmTest {
 }
 
 // A statement, where there are levels for it.
-fn fitting(planned: Option<Planned>, levels: u32) -> Option<Planned> {
+fn fitting(planned: Option<Planned>, levels: u32) -> Option<Planned>
+    ensures { result ≡ fitting_plan planned levels }
+{
     match planned {
         Some(planned) if planned.levels <= levels => Some(planned),
         _ => None,
@@ -442,7 +608,9 @@ fn fitting(planned: Option<Planned>, levels: u32) -> Option<Planned> {
 }
 
 // What stands behind an arm of an `if` that ends there, if that was found.
-fn rest_behind(rests: &HashMap<usize, Found>, next: Option<usize>, to: usize) -> Option<Found> {
+fn rest_behind(rests: &HashMap<usize, Found>, next: Option<usize>, to: usize) -> Option<Found>
+    ensures { result ≡ found_behind (rest_at rests.now) next to }
+{
     match next {
         None => Some(NO_REST),
         Some(place) if place == to => Some(EMPTY_LAST),
@@ -451,7 +619,9 @@ fn rest_behind(rests: &HashMap<usize, Found>, next: Option<usize>, to: usize) ->
 }
 
 // An `if` of these branches.
-fn branches_planned(found: Found) -> Planned {
+fn branches_planned(found: Found) -> Planned
+    ensures { result ≡ if_planned found }
+{
     Planned {
         plan: Plan::If { rest: found.number },
         levels: found.levels.saturating_add(1),
