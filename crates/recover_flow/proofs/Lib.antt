@@ -1,3 +1,6 @@
+pub mod ConditionJoins
+pub mod ConditionParts
+pub mod ConditionViews
 mod Failing
 pub mod Paths
 pub mod Telling

@@ -1,3 +1,5 @@
+pub mod Asked
+pub mod Conditions
 pub mod Debug
 pub mod Lost
 pub mod Stops
