@@ -1,5 +1,5 @@
 use Rattle.std.specs.Global.{Vec}
-use Rattle.std.proofs.Common.{◌≡◌, ◌+◌, ◌-◌, ◌<◌, ◌≤◌, length, sym, ap, ◌∙◌, arith, option_map}
+use Rattle.std.proofs.Common.{◌≡◌, ◌+◌, ◌-◌, ◌<◌, length, sym, ap, ◌∙◌, arith, option_map}
 use Rattle.recover_flow.specs.Conditions.{view_condition, of_parts, condition_within}
 use Rattle.recover_flow.specs.declared.conditions.Part.{Part}
 use Rattle.recover_flow.proofs.ConditionJoins.{last_is, next_is, lost_behind, within_is, stretch_one, stretch_more}

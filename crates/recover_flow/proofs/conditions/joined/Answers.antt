@@ -1,4 +1,4 @@
-use Rattle.std.proofs.Common.{◌≡◌, ap, ◌∙◌}
+use Rattle.std.proofs.Common.{ap, ◌∙◌}
 use Rattle.recover_flow.specs.Conditions.{joined_condition, conditions_of, and_condition, view_condition}
 use Rattle.recover_flow.proofs.ConditionViews.{view_joined}
 use Rattle.recover_flow.proofs.conditions.joined.Goals as goal
