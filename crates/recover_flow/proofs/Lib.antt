@@ -1,3 +1,4 @@
+mod ConditionExamples
 pub mod ConditionJoins
 pub mod ConditionParts
 pub mod ConditionViews
