@@ -1,7 +1,9 @@
+mod ConditionExamples
+pub mod ConditionJoins
+pub mod ConditionParts
+pub mod ConditionViews
 mod Failing
-mod Growing
-mod Levels
+pub mod Joinings
 pub mod Paths
-mod Pieces
-mod Remembered
+pub mod Separated
 pub mod Telling

@@ -43,6 +43,11 @@ abbrev pub literal_of : (truth : Bool) → ConditionTree
 literal_of true = true_condition
 literal_of false = false_condition
 
+abbrev pub is_junction : Junction → Junction → Bool
+is_junction Junction.And Junction.And = true
+is_junction Junction.Or Junction.Or = true
+is_junction junction other = false
+
 -- a condition as parts of one with this junction
 abbrev pub parts_in : Junction → ConditionTree → Conditions
 parts_in Junction.And (joined_condition Junction.And parts) = parts

@@ -1,15 +1,9 @@
-pub mod Arms
 pub mod Asked
 pub mod Conditions
-pub mod Cutting
 pub mod Debug
-pub mod Forms
-pub mod Held
-pub mod Loops
+pub mod Joining
 pub mod Lost
-pub mod Plans
-pub mod Searching
-pub mod Standing
+pub mod Parts
 pub mod Stops
 pub mod Tabled
 pub mod Untold

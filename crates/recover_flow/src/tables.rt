@@ -1,5 +1,8 @@
 // What is computed of the steps of a function once, for the search.
 
+ghost use Rattle.std.specs.Prelude.{◌≡◌};
+ghost use Rattle.recover_flow.specs.Asked.{target_of};
+
 use crate::regions::{BlockAt, BodyAt, Exit, Piece};
 use recover_expr::{Step, StepKind};
 use std::alloc::{AllocError, Global};
@@ -32,7 +35,9 @@ pub struct Tables<'s> {
 }
 
 /// Where a test or a jump goes.
-pub fn test_target(step: Step) -> Option<usize> {
+pub fn test_target(step: Step) -> Option<usize>
+    ensures { result ≡ target_of step.kind }
+{
     match step.kind {
         StepKind::Test { target, .. } | StepKind::Jump { target } => Some(target),
         _ => None,
