@@ -1,9 +1,18 @@
+mod Arming
+mod Bodies
+mod Chained
 mod ConditionExamples
-pub mod ConditionJoins
-pub mod ConditionParts
-pub mod ConditionViews
+mod ConditionJoins
+mod ConditionParts
+mod ConditionViews
 mod Failing
-pub mod Joinings
-pub mod Paths
-pub mod Separated
-pub mod Telling
+mod Forming
+mod Growing
+mod Joinings
+mod Levels
+mod Looping
+mod Paths
+mod Pieces
+mod Remembered
+mod Separated
+mod Telling

@@ -1,9 +1,17 @@
+pub mod Arms
 pub mod Asked
 pub mod Conditions
+pub mod Cutting
 pub mod Debug
+pub mod Forms
+pub mod Held
 pub mod Joining
+pub mod Loops
 pub mod Lost
 pub mod Parts
+pub mod Plans
+pub mod Searching
+pub mod Standing
 pub mod Stops
 pub mod Tabled
 pub mod Untold
