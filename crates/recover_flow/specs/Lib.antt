@@ -1,4 +1,10 @@
+pub mod Arms
+pub mod Asked
+pub mod Cutting
 pub mod Debug
+pub mod Forms
+pub mod Loops
 pub mod Lost
 pub mod Stops
+pub mod Tabled
 pub mod Untold
