@@ -1,3 +1,4 @@
+pub mod Arms
 mod Failing
 pub mod Paths
 pub mod Telling
