@@ -118,9 +118,9 @@ next_reached from before [] reached are = λ n below. are n below ∙ ap (λ tho
 next_reached from before (way ∷ ways) reached are =
     let now : List Bool = noted reached (option_and_then (number_behind from) way.next) in
     let first : AreReached from (before ++ way ∷ []) now = λ n below.
-        noted_one from reached way.next n (rw (sym (noted_length reached (option_and_then (number_behind from) way.next))) below)
-        ∙ ap (λ b. b || is_this way.next (from + n)) (are n (rw (sym (noted_length reached (option_and_then (number_behind from) way.next))) below))
-        ∙ sym (is_next_more before way (from + n)) in
+    noted_one from reached way.next n (rw (sym (noted_length reached (option_and_then (number_behind from) way.next))) below)
+    ∙ ap (λ b. b || is_this way.next (from + n)) (are n (rw (sym (noted_length reached (option_and_then (number_behind from) way.next))) below))
+    ∙ sym (is_next_more before way (from + n)) in
     λ n below. next_reached from (before ++ way ∷ []) ways now first n below ∙ ap (λ those. is_next those (from + n)) (append_assoc before (way ∷ []) ways)
 
 -- ---- the places at which an arm may begin

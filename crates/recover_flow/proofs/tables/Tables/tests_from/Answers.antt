@@ -7,4 +7,4 @@ returns-in_default c = tests_stop c.args.self.now.steps.now c.args.to c.args.bar
 pub loop-preserved : goal.loop-preserved
 loop-preserved c =
     tests_turn c.args.self.now.steps.now c.args.to c.args.bare c.loop.seen _ c.loop.place c.args.count c.loop.counter c.in-Some.target c.loop.tests.items _ c.tests_there.result
-        c.loop-test.true c.in-Some.ensures.target c.seen_with-seen.ensures c.tests_there.ensures c.in_ok-push_some.ensures c.loop.invariant
+    c.loop-test.true c.in-Some.ensures.target c.seen_with-seen.ensures c.tests_there.ensures c.in_ok-push_some.ensures c.loop.invariant
