@@ -1,13 +1,13 @@
 -- Conditions and ways one behind the other, and the places that are reached.
-use Rattle.std.proofs.Common.{◌≡◌, ◌∙◌, refl, sym, ap, subst, ℕ, zero, suc, ◌+◌, ◌-◌, ◌<◌, ◌≤◌, ◌≢◌, Bool, true, false, List, [], ◌∷◌, ◌++◌, length, map, drop, get_or, set, Option, Some, None, arith, append_assoc}
+use Rattle.std.proofs.Common.{◌≡◌, ◌∙◌, refl, sym, ap, subst, ℕ, suc, ◌+◌, ◌-◌, ◌<◌, ◌≢◌, Bool, true, false, List, [], ◌∷◌, ◌++◌, length, get_or, set, Option, Some, None, arith, append_assoc}
 use Rattle.std.specs.Prelude.{◌==◌, ◌||◌, nat_le, nat_lt, option_and_then, option_to_list, replicate, if◌then◌else◌}
 use Rattle.std.proofs.lemmas.Bool.Decides.{nat_tests}
-use Rattle.std.proofs.lemmas.List.{get_or-set_same, get_or-set_other, get_or-replicate, length-replicate, length-set}
+use Rattle.std.proofs.lemmas.List.{get_or-set_other, get_or-replicate, length-replicate, length-set}
 use Rattle.std.proofs.lemmas.Grind.{get_or-set_at}
 use Rattle.std.proofs.lemmas.List.Folds.{list_any-append}
 use Rattle.std.proofs.Math.Bool.{or-false, or-true}
 use Rattle.recover_expr.specs.declared.steps.Step.{Step}
-use Rattle.recover_flow.specs.Arms.{Starting, arm_starts, first_ways, for_target, is_next, noted, number_behind, seen_with, starts_behind, further_ways, target_ahead, tests_from, tests_there, way_before, way_last, ways_behind, with_next}
+use Rattle.recover_flow.specs.Arms.{Starting, arm_starts, first_ways, for_target, is_next, noted, number_behind, seen_with, starts_behind, further_ways, target_ahead, tests_from, tests_there, with_next}
 use Rattle.recover_flow.specs.Asked.{is_this}
 use Rattle.recover_flow.specs.declared.branches.Seen.{Seen}
 use Rattle.recover_flow.specs.declared.branches.Tests.{Tests}

@@ -39,12 +39,13 @@ own_statement at step place = if may_stand at step.kind then Some (record { plan
 
 -- ---- what ends a block
 
+-- it is not the last statement of the body
 abbrev pub is_enclosed : BodyAt → Piece → Bool
 is_enclosed at piece = not (piece.to == at.to)
 
--- a return or a break, in a `do` of its own where it is not last
-abbrev pub ending : BodyAt → Piece → End → (own : ℕ) → Planned
-ending at piece end own = record { plan = Plan.End end (is_enclosed at piece); levels = if is_enclosed at piece then one_more own else own }
+-- a return or a break of so many levels, in a `do` of its own where it is not last
+abbrev pub ending : BodyAt → Piece → End → (levels : ℕ) → Planned
+ending at piece end levels = record { plan = Plan.End end (is_enclosed at piece); levels = if is_enclosed at piece then one_more levels else levels }
 
 abbrev pub returning : BodyAt → Piece → Step → Option Planned
 returning at piece step = if is_single piece then Some (ending at piece (End.Return piece.from) step.levels) else None
@@ -57,7 +58,7 @@ leaves_straight_to steps piece step (Some exit) = is_single piece && (leaves ste
 abbrev pub leaves_straight : List Step → BodyAt → Piece → Step → Bool
 leaves_straight steps at piece step = leaves_straight_to steps piece step at.exit
 
--- one that closes captured locals, from this register on
+-- one behind a CLOSE of captured locals, which are those from this register on
 abbrev pub leaves_closing_to : List Step → Piece → Step → (from : ℕ) → Option Exit → Bool
 leaves_closing_to steps piece step from None = false
 leaves_closing_to steps piece step from (Some exit) =
@@ -66,7 +67,7 @@ leaves_closing_to steps piece step from (Some exit) =
 abbrev pub leaves_closing : List Step → BodyAt → Piece → Step → (from : ℕ) → Bool
 leaves_closing steps at piece step from = leaves_closing_to steps piece step from at.exit
 
--- ---- the choice
+-- ---- the choice, by the first step
 
 abbrev pub choice_of_kind : List Step → BodyAt → Piece → Step → StepKind → Choice
 choice_of_kind steps at piece step (StepKind.Head numeric foot end variables_end captured) = Choice.For
@@ -140,8 +141,9 @@ abbrev pub are_alike : Bool → Bool → Bool
 are_alike true other = other
 are_alike false other = not other
 
+-- the foot of this kind of `for` goes back there
 abbrev pub is_foot : (numeric : Bool) → (target : ℕ) → Option StepKind → Bool
-is_foot numeric target (Some (StepKind.Foot kind to)) = are_alike kind numeric && (to == target)
+is_foot numeric target (Some (StepKind.Foot other to)) = are_alike other numeric && (to == target)
 is_foot numeric target kind = false
 
 -- the register behind the hidden locals of a loop, where 32 bits count it

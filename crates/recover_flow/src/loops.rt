@@ -7,7 +7,7 @@ ghost use Rattle.recover_flow.specs.Tabled.{AreTables};
 use crate::forms::Shape;
 use crate::regions::{BlockAt, BodyAt, ConditionAt, Exit, Piece};
 use crate::tables::{Lengths, Tables};
-use recover_expr::{Step, StepKind};
+use recover_expr::Step;
 
 /// What a loop may be, and what stands behind its condition or its block.
 #[derive(Clone, Copy, Debug, PartialEq, Eq)]

@@ -1,4 +1,4 @@
-use Rattle.std.proofs.Common.{◌≡◌, ◌∙◌, sym, ap, ◌+◌, [], ◌∷◌, ◌++◌, List, false, get_or, map, rules}
+use Rattle.std.proofs.Common.{◌≡◌, ◌∙◌, sym, ap, ◌+◌, [], ◌∷◌, ◌++◌, false, get_or, map, rules}
 use Rattle.std.specs.Prelude.{replicate}
 use Rattle.recover_flow.specs.Arms.{Starting, view_start}
 use Rattle.recover_flow.proofs.Arms.{many_turn, none_many, reached_first, reached_turn, starts_first, starts_over, starts_turn}
