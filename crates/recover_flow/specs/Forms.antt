@@ -98,6 +98,10 @@ choice_at steps at piece = choice_of_step steps at piece (slice_get steps piece.
 
 -- ---- a `do` from a declaration to the end of its locals
 
+-- the number behind the step of a number
+abbrev pub step_behind : List Step → (place : ℕ) → Option ℕ
+step_behind steps place = option_map (λ (step : Step). place + 1) (slice_get steps place)
+
 -- a scope whose locals end there ends with a piece, and with a CLOSE where one of its locals is captured
 abbrev pub ends_scope : List Step → Piece → Step → (end : ℕ) → Bool
 ends_scope steps piece step end = if ends_captured steps end piece.from then is_this (number_before piece.to) end && closes steps end step.base else piece.to == end

@@ -4,6 +4,7 @@ ghost use Rattle.std.specs.Prelude.{◌≡◌, ◌<◌, ◌∷◌, ◌++◌, [],
 ghost use Rattle.recover_flow.specs.Arms.{arm_starts, first_true, first_ways, further_ways, last_begin, last_part, longest, noted, nothing_seen, number_behind, one_past, or_true, seen_with, target_ahead, tested_ways, tests_at, tests_from, tests_there, true_way, view_start, way_before, way_last, with_next, with_target};
 ghost use Rattle.recover_flow.specs.Tabled.{AreTables};
 
+use crate::forms::step_behind;
 use crate::regions::{BodyAt, BranchesAt, Piece};
 use crate::tables::{Lengths, Tables};
 use std::alloc::{AllocError, Global};
@@ -216,13 +217,14 @@ impl Tables<'_> {
         requires tabled { AreTables self.now }
         ensures { result ≡ true_way self.now.steps.now at jump }
     {
+        let next = step_behind(self.steps(), jump)?;
         if !self.jumps_to(jump, at.to) {
             return None;
         }
         Some(Way {
             tests_end: None,
             block_end: jump,
-            next: Some(jump.saturating_add(1)),
+            next: Some(next),
         })
     }
 

@@ -1,7 +1,7 @@
 // Statements around a block that is still to be found.
 
 ghost use Rattle.std.specs.Prelude.{◌≡◌};
-ghost use Rattle.recover_flow.specs.Forms.{choice_at, counted_form, ending, ends_scope, ends_variables, is_own, leaves_closing, leaves_straight, once_form, own_statement, plan_around, returning, scope_end, scope_form, straight_choice};
+ghost use Rattle.recover_flow.specs.Forms.{choice_at, counted_form, ending, ends_scope, ends_variables, is_own, leaves_closing, leaves_straight, once_form, own_statement, plan_around, returning, scope_end, scope_form, step_behind, straight_choice};
 ghost use Rattle.recover_flow.specs.Tabled.{AreTables};
 
 use crate::plan::{End, Plan, Planned};
@@ -176,15 +176,24 @@ fn leaves_straight(tables: &Tables, at: BodyAt, piece: Piece, step: Step) -> boo
     }
 }
 
+/// The number behind the step of a number, if there is one.
+pub fn step_behind(steps: &[Step], place: usize) -> Option<usize>
+    ensures { result ≡ step_behind steps.now place }
+{
+    steps.get(place)?;
+    Some(place + 1)
+}
+
 /// A `do` from a declaration to the end of its locals.
 pub fn scope(tables: &Tables, exit: Option<Exit>, piece: Piece) -> Option<Form>
     requires tabled { AreTables tables.now }
     ensures { result ≡ scope_form tables.now.steps.now exit piece }
 {
     let step = tables.step(piece.from)?;
+    let from = step_behind(tables.steps(), piece.from)?;
     let end = scope_end(tables, piece, step)?;
     let inner = BodyAt {
-        from: piece.from.saturating_add(1),
+        from,
         to: end,
         locals_end: end,
         may_capture: true,
