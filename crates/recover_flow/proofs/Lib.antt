@@ -1,18 +1,5 @@
-mod Arming
-mod Bodies
-mod Chained
-mod ConditionExamples
-mod ConditionJoins
-mod ConditionParts
-mod ConditionViews
+pub mod Arms
 mod Failing
-mod Forming
-mod Growing
-mod Joinings
-mod Levels
-mod Looping
-mod Paths
-mod Pieces
-mod Remembered
-mod Separated
-mod Telling
+pub mod Paths
+pub mod Starts
+pub mod Telling

@@ -1,5 +1,5 @@
 -- Serves a body. Which statement a piece of a body may be, and statements around a block that is still to be found.
-use Rattle.std.specs.Prelude.{◌==◌, ◌&&◌, ◌+◌, ◌-◌, ◌^◌, not, ℕ, max, min, Bool, true, false, nat_le, nat_lt, List, slice_get, Option, None, Some, option_and_then, if◌then◌else◌}
+use Rattle.std.specs.Prelude.{◌==◌, ◌&&◌, ◌+◌, ◌-◌, ◌^◌, not, ℕ, max, min, Bool, true, false, nat_le, nat_lt, List, slice_get, Option, None, Some, option_map, option_and_then, if◌then◌else◌}
 use Rattle.core_expr.specs.Counting.{one_more}
 use Rattle.recover_expr.specs.declared.steps.Step.{Step}
 use Rattle.recover_expr.specs.declared.steps.StepKind.{StepKind}
@@ -39,12 +39,13 @@ own_statement at step place = if may_stand at step.kind then Some (record { plan
 
 -- ---- what ends a block
 
+-- it is not the last statement of the body
 abbrev pub is_enclosed : BodyAt → Piece → Bool
 is_enclosed at piece = not (piece.to == at.to)
 
--- a return or a break, in a `do` of its own where it is not last
-abbrev pub ending : BodyAt → Piece → End → (own : ℕ) → Planned
-ending at piece end own = record { plan = Plan.End end (is_enclosed at piece); levels = if is_enclosed at piece then one_more own else own }
+-- a return or a break of so many levels, in a `do` of its own where it is not last
+abbrev pub ending : BodyAt → Piece → End → (levels : ℕ) → Planned
+ending at piece end levels = record { plan = Plan.End end (is_enclosed at piece); levels = if is_enclosed at piece then one_more levels else levels }
 
 abbrev pub returning : BodyAt → Piece → Step → Option Planned
 returning at piece step = if is_single piece then Some (ending at piece (End.Return piece.from) step.levels) else None
@@ -57,7 +58,7 @@ leaves_straight_to steps piece step (Some exit) = is_single piece && (leaves ste
 abbrev pub leaves_straight : List Step → BodyAt → Piece → Step → Bool
 leaves_straight steps at piece step = leaves_straight_to steps piece step at.exit
 
--- one that closes captured locals, from this register on
+-- one behind a CLOSE of captured locals, which are those from this register on
 abbrev pub leaves_closing_to : List Step → Piece → Step → (from : ℕ) → Option Exit → Bool
 leaves_closing_to steps piece step from None = false
 leaves_closing_to steps piece step from (Some exit) =
@@ -66,7 +67,7 @@ leaves_closing_to steps piece step from (Some exit) =
 abbrev pub leaves_closing : List Step → BodyAt → Piece → Step → (from : ℕ) → Bool
 leaves_closing steps at piece step from = leaves_closing_to steps piece step from at.exit
 
--- ---- the choice
+-- ---- the choice, by the first step
 
 abbrev pub choice_of_kind : List Step → BodyAt → Piece → Step → StepKind → Choice
 choice_of_kind steps at piece step (StepKind.Head numeric foot end variables_end captured) = Choice.For
@@ -97,22 +98,27 @@ choice_at steps at piece = choice_of_step steps at piece (slice_get steps piece.
 
 -- ---- a `do` from a declaration to the end of its locals
 
-abbrev pub locals_end_of : StepKind → Option ℕ
-locals_end_of (StepKind.Declaration end captured) = Some end
-locals_end_of kind = None
+-- the number behind the step of a number
+abbrev pub step_behind : List Step → (place : ℕ) → Option ℕ
+step_behind steps place = option_map (λ (step : Step). place + 1) (slice_get steps place)
 
 -- a scope whose locals end there ends with a piece, and with a CLOSE where one of its locals is captured
 abbrev pub ends_scope : List Step → Piece → Step → (end : ℕ) → Bool
 ends_scope steps piece step end = if ends_captured steps end piece.from then is_this (number_before piece.to) end && closes steps end step.base else piece.to == end
 
+-- where the locals of a declaration end, if the piece that begins with it is their scope
+abbrev pub scope_end_of : List Step → Piece → Step → StepKind → Option ℕ
+scope_end_of steps piece step (StepKind.Declaration end captured) = if nat_le end piece.to && ends_scope steps piece step end then Some end else None
+scope_end_of steps piece step kind = None
+
+abbrev pub scope_end : List Step → Piece → Step → Option ℕ
+scope_end steps piece step = scope_end_of steps piece step step.kind
+
 abbrev pub do_form : Option Exit → Piece → Step → (end : ℕ) → Form
 do_form exit piece step end = record { shape = Shape.Do piece.from; levels = max (one_more step.levels) 2; inner = record { closed = None; whole = closed_body (piece.from + 1) end exit } }
 
-abbrev pub scope_to : List Step → Option Exit → Piece → Step → (end : ℕ) → Option Form
-scope_to steps exit piece step end = if nat_le end piece.to && ends_scope steps piece step end then Some (do_form exit piece step end) else None
-
 abbrev pub scope_of_step : List Step → Option Exit → Piece → Step → Option Form
-scope_of_step steps exit piece step = option_and_then (scope_to steps exit piece step) (locals_end_of step.kind)
+scope_of_step steps exit piece step = option_map (do_form exit piece step) (scope_end steps piece step)
 
 abbrev pub scope_form : List Step → Option Exit → Piece → Option Form
 scope_form steps exit piece = option_and_then (scope_of_step steps exit piece) (slice_get steps piece.from)
@@ -139,8 +145,9 @@ abbrev pub are_alike : Bool → Bool → Bool
 are_alike true other = other
 are_alike false other = not other
 
+-- the foot of this kind of `for` goes back there
 abbrev pub is_foot : (numeric : Bool) → (target : ℕ) → Option StepKind → Bool
-is_foot numeric target (Some (StepKind.Foot kind to)) = are_alike kind numeric && (to == target)
+is_foot numeric target (Some (StepKind.Foot other to)) = are_alike other numeric && (to == target)
 is_foot numeric target kind = false
 
 -- the register behind the hidden locals of a loop, where 32 bits count it

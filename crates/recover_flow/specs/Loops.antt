@@ -75,14 +75,14 @@ open_parts at from = record {
   inner = record { closed = None; whole = record { from = at.piece.from; to = from; locals_end = at.piece.to; may_capture = false; exit = Some at.exit } };
 }
 
-abbrev pub parts_of_kind : List Step → LoopAt → (length : ℕ) → LoopKind → Option LoopParts
-parts_of_kind steps at length (LoopKind.Closed tests_end close) = if nat_le length tests_end then Some (closed_parts at (tests_end - length) tests_end close) else None
-parts_of_kind steps at length (LoopKind.While back) = if nat_le (at.piece.from + length) back then Some (while_parts steps at (at.piece.from + length) back) else None
-parts_of_kind steps at length (LoopKind.Open last) = if nat_le length at.piece.to && nat_le (at.piece.to - length) last then Some (open_parts at (at.piece.to - length)) else None
+abbrev pub parts_of_kind : List Step → LoopAt → (count : ℕ) → LoopKind → Option LoopParts
+parts_of_kind steps at count (LoopKind.Closed tests_end close) = if nat_le count tests_end then Some (closed_parts at (tests_end - count) tests_end close) else None
+parts_of_kind steps at count (LoopKind.While back) = if nat_le (at.piece.from + count) back then Some (while_parts steps at (at.piece.from + count) back) else None
+parts_of_kind steps at count (LoopKind.Open last) = if nat_le count at.piece.to && nat_le (at.piece.to - count) last then Some (open_parts at (at.piece.to - count)) else None
 
--- the parts of the loop where its condition has this length
-abbrev pub loop_parts : List Step → LoopAt → (length : ℕ) → Option LoopParts
-loop_parts steps at length = parts_of_kind steps at length at.kind
+-- the parts of the loop where its condition has so many steps
+abbrev pub loop_parts : List Step → LoopAt → (count : ℕ) → Option LoopParts
+loop_parts steps at count = parts_of_kind steps at count at.kind
 
 -- the loop with its condition, but for its block
 abbrev pub shape_of_kind : (condition : ℕ) → LoopKind → Shape

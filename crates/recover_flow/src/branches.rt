@@ -1,7 +1,12 @@
 // The arms of an `if`: where one may begin, and how.
 
-use crate::regions::{BodyAt, BranchesAt};
-use crate::tables::Tables;
+ghost use Rattle.std.specs.Prelude.{◌≡◌, ◌<◌, ◌∷◌, ◌++◌, [], map, false, option_and_then, option_to_list, slice_index_or, IfOk, IfSome, OnOk};
+ghost use Rattle.recover_flow.specs.Arms.{arm_starts, first_true, first_ways, further_ways, last_begin, last_part, longest, noted, nothing_seen, number_behind, one_past, or_true, seen_with, target_ahead, tested_ways, tests_at, tests_from, tests_there, true_way, view_start, way_before, way_last, with_next, with_target};
+ghost use Rattle.recover_flow.specs.Tabled.{AreTables};
+
+use crate::forms::step_behind;
+use crate::regions::{BodyAt, BranchesAt, Piece};
+use crate::tables::{Lengths, Tables};
 use std::alloc::{AllocError, Global};
 
 /// A condition of tests that may stand from the beginning of an arm: where it ends, and where it goes.
@@ -33,18 +38,36 @@ struct Targets {
     second: usize,
 }
 
+/// The tests so far: where they go, and whether one of them is a bare jump.
+#[derive(Clone, Copy, Debug, PartialEq, Eq)]
+struct Seen {
+    targets: Targets,
+    has_bare: bool,
+}
+
 impl Targets {
-    fn add(&mut self, target: usize) {
+    fn with(self, target: usize) -> Self
+        ensures { result ≡ with_target target self }
+    {
         if target > self.furthest {
-            self.second = self.furthest;
-            self.furthest = target;
-        } else if target < self.furthest {
-            self.second = self.second.max(target);
+            return Targets {
+                furthest: target,
+                second: self.furthest,
+            };
         }
+        if target < self.furthest {
+            return Targets {
+                furthest: self.furthest,
+                second: self.second.max(target),
+            };
+        }
+        self
     }
 
     // The one target past a place, or the place where there is none.
-    fn one_past(self, place: usize) -> Option<usize> {
+    fn one_past(self, place: usize) -> Option<usize>
+        ensures { result ≡ one_past self place }
+    {
         if self.second > place {
             return None;
         }
@@ -52,7 +75,89 @@ impl Targets {
     }
 }
 
+impl Seen {
+    fn nothing() -> Self
+        ensures { result ≡ nothing_seen }
+    {
+        Seen {
+            targets: Targets {
+                furthest: 0,
+                second: 0,
+            },
+            has_bare: false,
+        }
+    }
+
+    // The condition that ends at a place, if it is one of those that are wanted.
+    fn tests_there(self, bare: bool, end: usize) -> Option<Tests>
+        ensures { result ≡ tests_there bare end self }
+    {
+        if self.has_bare != bare {
+            return None;
+        }
+        let target = self.targets.one_past(end)?;
+        Some(Tests { end, target })
+    }
+}
+
+fn longest(bare: bool, lengths: Lengths) -> usize
+    ensures { result ≡ longest bare lengths }
+{
+    if bare { lengths.jumps } else { lengths.tests }
+}
+
 impl Tables<'_> {
+    // Where the test or the jump at a place goes, if it goes ahead and not past an end.
+    fn target_ahead(&self, to: usize, place: usize) -> Option<usize>
+        requires tabled { AreTables self.now }
+        ensures target { result ≡ target_ahead self.now.steps.now to place }
+        ensures ahead { IfSome result (λ target. place < target) }
+    {
+        let target = self.test_target(place)?;
+        if place < target && target <= to {
+            Some(target)
+        } else {
+            None
+        }
+    }
+
+    // With the test at a place, which goes to a target.
+    fn seen_with(&self, place: usize, target: usize, seen: Seen) -> Seen
+        requires tabled { AreTables self.now }
+        ensures { result ≡ seen_with self.now.steps.now place target seen }
+    {
+        Seen {
+            targets: seen.targets.with(target),
+            has_bare: seen.has_bare || self.jumps_to(place, target),
+        }
+    }
+
+    // The conditions that end behind one of so many places, none of which goes past an end; the shortest first.
+    fn tests_from(
+        &self,
+        alloc: Global,
+        from: usize,
+        to: usize,
+        bare: bool,
+        count: usize,
+    ) -> Result<Vec<Tests>, AllocError>
+        requires tabled { AreTables self.now }
+        ensures { IfOk result (λ tests. tests.items ≡ tests_from self.now.steps.now to bare nothing_seen from count) }
+    {
+        let mut tests = Vec::new(alloc);
+        let mut seen = Seen::nothing();
+        let mut place = from;
+        for _ in 0..count {
+            let Some(target) = self.target_ahead(to, place) else {
+                return Ok(tests);
+            };
+            seen = self.seen_with(place, target, seen);
+            place += 1;
+            push_some(&mut tests, seen.tests_there(bare, place))?;
+        }
+        Ok(tests)
+    }
+
     // The conditions that may stand from a place on, none of which goes past an end. Those of tests alone, the longest first; or, `bare`, those with a bare jump, the shortest first.
     fn tests(
         &self,
@@ -60,35 +165,32 @@ impl Tables<'_> {
         from: usize,
         to: usize,
         bare: bool,
-    ) -> Result<Vec<Tests>, AllocError> {
-        let lengths = self.lengths_after(from, to);
-        let longest = if bare { lengths.jumps } else { lengths.tests };
-        let mut tests = Vec::new(alloc);
-        let mut targets = Targets {
-            furthest: 0,
-            second: 0,
-        };
-        let mut has_bare = false;
-        for place in from..from.saturating_add(longest) {
-            let end = place + 1;
-            let Some(target) = self.test_target(place) else {
-                break;
-            };
-            if target < end || target > to {
-                break;
-            }
-            has_bare = has_bare || self.jumps_to(place, target);
-            targets.add(target);
-            if let Some(target) = targets.one_past(end) {
-                if has_bare == bare {
-                    tests.push(Tests { end, target })?;
-                }
-            }
-        }
+    ) -> Result<Vec<Tests>, AllocError>
+        requires tabled { AreTables self.now }
+        ensures { IfOk result (λ tests. tests.items ≡ tests_at self.now.steps.now from to bare) }
+    {
+        let count = longest(bare, self.lengths_after(from, to));
+        let mut tests = self.tests_from(alloc, from, to, bare, count)?;
         if !bare {
             tests.reverse();
         }
         Ok(tests)
+    }
+
+    // The way in which an arm may stand behind tests that go to the place of the next arm.
+    fn way_before(&self, at: BranchesAt, tests: Tests) -> Option<Way>
+        requires tabled { AreTables self.now }
+        ensures { result ≡ way_before self.now.steps.now at tests }
+    {
+        let target = tests.target;
+        if target > tests.end && self.jumps_to(target - 1, at.to) {
+            return Some(Way {
+                tests_end: Some(tests.end),
+                block_end: target - 1,
+                next: Some(target),
+            });
+        }
+        None
     }
 
     // The ways in which an arm may begin with tests.
@@ -99,70 +201,106 @@ impl Tables<'_> {
         from: usize,
         bare: bool,
         ways: &mut Vec<Way>,
-    ) -> Result<(), AllocError> {
+    ) -> Result<(), AllocError>
+        requires tabled { AreTables self.now }
+        ensures { OnOk result (ways.new.items ≡ ways.old.items ++ tested_ways self.now.steps.now at from bare) }
+    {
         for tests in &self.tests(alloc, from, at.to, bare)? {
-            let target = tests.target;
-            if target > tests.end && self.jumps_to(target - 1, at.to) {
-                ways.push(Way {
-                    tests_end: Some(tests.end),
-                    block_end: target - 1,
-                    next: Some(target),
-                })?;
-            }
-            if target == at.to {
-                ways.push(Way {
-                    tests_end: Some(tests.end),
-                    block_end: at.to,
-                    next: None,
-                })?;
-            }
+            push_some(ways, self.way_before(at, *tests))?;
+            push_some(ways, way_last(at, *tests))?;
         }
         Ok(())
     }
 
     // The way in which an arm may stand with the condition `true`, whose block ends with the jump at a place.
-    fn true_way(&self, at: BranchesAt, jump: usize) -> Option<Way> {
+    fn true_way(&self, at: BranchesAt, jump: usize) -> Option<Way>
+        requires tabled { AreTables self.now }
+        ensures { result ≡ true_way self.now.steps.now at jump }
+    {
+        let next = step_behind(self.steps(), jump)?;
         if !self.jumps_to(jump, at.to) {
             return None;
         }
         Some(Way {
             tests_end: None,
             block_end: jump,
-            next: Some(jump.checked_add(1)?),
+            next: Some(next),
         })
     }
 
-    // Where, in a block that goes on to the end of an `if`, the first statement begins that is a jump to that end, or else the last one.
+    // Where the first of these pieces begins that begins with a jump there, or else the last one.
+    fn last_begin(&self, to: usize, pieces: &[Piece]) -> Option<usize>
+        requires tabled { AreTables self.now }
+        ensures { result ≡ last_begin self.now.steps.now to None pieces.now }
+    {
+        let mut last = None;
+        for piece in pieces {
+            if self.jumps_to(piece.from, to) {
+                return Some(piece.from);
+            }
+            last = Some(piece.from);
+        }
+        last
+    }
+
+    // So in the block that goes on to the end of an `if`.
     fn last_part(
         &self,
         alloc: Global,
         at: BranchesAt,
         from: usize,
-    ) -> Result<Option<usize>, AllocError> {
+    ) -> Result<Option<usize>, AllocError>
+        requires tabled { AreTables self.now }
+        ensures { IfOk result (λ last. last ≡ last_part self.now.steps.now at from) }
+    {
         let block = BodyAt::plain(from, at.to, at.exit);
         let Some(pieces) = self.pieces(alloc, block)? else {
             return Ok(None);
         };
-        let mut last = None;
-        for piece in &pieces {
-            last = Some(piece.from);
-            if self.jumps_to(piece.from, at.to) {
-                break;
-            }
+        Ok(self.last_begin(at.to, &pieces))
+    }
+
+    fn first_true(&self, at: BranchesAt) -> Option<Way>
+        requires tabled { AreTables self.now }
+        ensures { result ≡ first_true self.now.steps.now at }
+    {
+        if at.bare {
+            self.true_way(at, at.from)
+        } else {
+            None
         }
-        Ok(last)
     }
 
     // The ways in which the first arm may stand.
-    fn first_ways(&self, alloc: Global, at: BranchesAt) -> Result<Vec<Way>, AllocError> {
+    fn first_ways(&self, alloc: Global, at: BranchesAt) -> Result<Vec<Way>, AllocError>
+        requires tabled { AreTables self.now }
+        ensures { IfOk result (λ ways. ways.items ≡ first_ways self.now.steps.now at) }
+    {
         let mut ways = Vec::new(alloc);
         self.tested_ways(alloc, at, at.from, at.bare, &mut ways)?;
-        if at.bare {
-            if let Some(way) = self.true_way(at, at.from) {
-                ways.push(way)?;
-            }
-        }
+        push_some(&mut ways, self.first_true(at))?;
         Ok(ways)
+    }
+
+    // The way with the condition `true`, where there is no other one.
+    fn or_true(
+        &self,
+        alloc: Global,
+        at: BranchesAt,
+        from: usize,
+        ways: &mut Vec<Way>,
+    ) -> Result<(), AllocError>
+        requires tabled { AreTables self.now }
+        ensures { OnOk result (ways.new.items ≡ or_true self.now.steps.now at from ways.old.items) }
+    {
+        if !ways.is_empty() {
+            return Ok(());
+        }
+        let Some(jump) = self.last_part(alloc, at, from)? else {
+            return Ok(());
+        };
+        push_some(ways, self.true_way(at, jump))?;
+        Ok(())
     }
 
     // The ways in which a further arm may stand.
@@ -171,50 +309,111 @@ impl Tables<'_> {
         alloc: Global,
         at: BranchesAt,
         from: usize,
-    ) -> Result<Vec<Way>, AllocError> {
+    ) -> Result<Vec<Way>, AllocError>
+        requires tabled { AreTables self.now }
+        ensures { IfOk result (λ ways. ways.items ≡ further_ways self.now.steps.now at from) }
+    {
         let mut ways = Vec::new(alloc);
         self.tested_ways(alloc, at, from, false, &mut ways)?;
-        if ways.is_empty() {
-            if let Some(jump) = self.last_part(alloc, at, from)? {
-                if let Some(way) = self.true_way(at, jump) {
-                    ways.push(way)?;
-                }
-            }
-        }
+        self.or_true(alloc, at, from, &mut ways)?;
         self.tested_ways(alloc, at, from, true, &mut ways)?;
         Ok(ways)
     }
 
     /// The places at which an arm may begin, in order.
-    pub fn arm_starts(&self, alloc: Global, at: BranchesAt) -> Result<Vec<Start>, AllocError> {
+    pub fn arm_starts(&self, alloc: Global, at: BranchesAt) -> Result<Vec<Start>, AllocError>
+        requires tabled { AreTables self.now }
+        ensures { IfOk result (λ starts. map view_start starts.items ≡ arm_starts self.now.steps.now at) }
+    {
         let mut starts = Vec::new(alloc);
         let ways = self.first_ways(alloc, at)?;
-        let mut reached = vec![in alloc; false; at.to.saturating_sub(at.from)]?;
-        note_next(&mut reached, at.from, &ways);
-        starts.push(Start {
+        let count = at.to.saturating_sub(at.from);
+        let mut reached = vec![in alloc; false; count]?;
+        let first = Start {
             place: at.from,
             ways,
-        })?;
-        for place in at.from..at.to {
-            if reached.get(place - at.from) != Some(&true) {
+        };
+        add_start(&mut starts, &mut reached, at.from, first)?;
+        for number in 1..count {
+            if !is_reached(&reached, number) {
                 continue;
             }
+            let place = at.from + number;
             let ways = self.further_ways(alloc, at, place)?;
-            note_next(&mut reached, at.from, &ways);
-            starts.push(Start { place, ways })?;
+            let start = Start { place, ways };
+            add_start(&mut starts, &mut reached, at.from, start)?;
         }
         Ok(starts)
     }
 }
 
-// Notes where an arm begins behind another one.
-fn note_next(reached: &mut Vec<bool>, from: usize, ways: &[Way]) {
-    for way in ways {
-        let Some(number) = way.next.and_then(|next| next.checked_sub(from)) else {
-            continue;
-        };
-        if let Some(entry) = reached.get_mut(number) {
-            *entry = true;
-        }
+// The way in which an arm may stand behind tests that go to the end of the `if`.
+fn way_last(at: BranchesAt, tests: Tests) -> Option<Way>
+    ensures { result ≡ way_last at tests }
+{
+    if tests.target == at.to {
+        return Some(Way {
+            tests_end: Some(tests.end),
+            block_end: at.to,
+            next: None,
+        });
     }
+    None
+}
+
+fn push_some<T: Drop>(items: &mut Vec<T>, item: Option<T>) -> Result<(), AllocError>
+    ensures { OnOk result (items.new.items ≡ items.old.items ++ option_to_list item) }
+{
+    if let Some(item) = item {
+        items.push(item)?;
+    }
+    Ok(())
+}
+
+// The number of a place behind the first one.
+fn number_behind(from: usize, place: Option<usize>) -> Option<usize>
+    ensures { result ≡ option_and_then (number_behind from) place }
+{
+    place?.checked_sub(from)
+}
+
+fn note(reached: &mut Vec<bool>, number: Option<usize>)
+    ensures { reached.new.items ≡ noted reached.old.items number }
+{
+    let Some(number) = number else {
+        return;
+    };
+    if let Some(entry) = reached.get_mut(number) {
+        *entry = true;
+    }
+}
+
+fn is_reached(reached: &[bool], number: usize) -> bool
+    ensures { result ≡ slice_index_or reached.now number false }
+{
+    reached.get(number).copied().unwrap_or(false)
+}
+
+// Notes where an arm begins behind another one.
+fn note_next(reached: &mut Vec<bool>, from: usize, ways: &[Way])
+    ensures { reached.new.items ≡ with_next from ways.now reached.old.items }
+{
+    for way in ways {
+        note(reached, number_behind(from, way.next));
+    }
+}
+
+// Adds a place at which an arm may begin, and notes those behind it.
+fn add_start(
+    starts: &mut Vec<Start>,
+    reached: &mut Vec<bool>,
+    from: usize,
+    start: Start,
+) -> Result<(), AllocError>
+    ensures starts { OnOk result (map view_start starts.new.items ≡ map view_start starts.old.items ++ view_start start ∷ []) }
+    ensures reached { reached.new.items ≡ with_next from (view_start start).ways reached.old.items }
+{
+    note_next(reached, from, &start.ways);
+    starts.push(start)?;
+    Ok(())
 }

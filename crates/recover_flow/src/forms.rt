@@ -1,5 +1,9 @@
 // Statements around a block that is still to be found.
 
+ghost use Rattle.std.specs.Prelude.{◌≡◌};
+ghost use Rattle.recover_flow.specs.Forms.{choice_at, counted_form, ending, ends_scope, ends_variables, is_own, leaves_closing, leaves_straight, once_form, own_statement, plan_around, returning, scope_end, scope_form, step_behind, straight_choice};
+ghost use Rattle.recover_flow.specs.Tabled.{AreTables};
+
 use crate::plan::{End, Plan, Planned};
 use crate::regions::{BlockAt, BodyAt, Exit, Piece};
 use crate::tables::Tables;
@@ -38,7 +42,9 @@ pub enum Choice {
 
 impl Shape {
     /// The statement, with its block.
-    pub fn around(self, body: usize) -> Plan {
+    pub fn around(self, body: usize) -> Plan
+        ensures { result ≡ plan_around self body }
+    {
         match self {
             Shape::Do { step } => Plan::Do { step, body },
             Shape::For { step, numeric } => Plan::For {
@@ -53,7 +59,10 @@ impl Shape {
 }
 
 /// What the statement of a piece of a body may be.
-pub fn choice_of(tables: &Tables, at: BodyAt, piece: Piece) -> Choice {
+pub fn choice_of(tables: &Tables, at: BodyAt, piece: Piece) -> Choice
+    requires tabled { AreTables tables.now }
+    ensures { result ≡ choice_at tables.now.steps.now at piece }
+{
     let Some(step) = tables.step(piece.from) else {
         return Choice::Settled(None);
     };
@@ -67,7 +76,10 @@ pub fn choice_of(tables: &Tables, at: BodyAt, piece: Piece) -> Choice {
 }
 
 // The same, where no jump goes back to its first step, and it is not a statement by itself.
-fn straight_choice(tables: &Tables, at: BodyAt, piece: Piece, step: Step) -> Choice {
+fn straight_choice(tables: &Tables, at: BodyAt, piece: Piece, step: Step) -> Choice
+    requires tabled { AreTables tables.now }
+    ensures { result ≡ straight_choice tables.now.steps.now at piece step }
+{
     match step.kind {
         StepKind::Head { .. } => Choice::For,
         StepKind::Declaration { .. } => Choice::Locals,
@@ -90,7 +102,9 @@ fn straight_choice(tables: &Tables, at: BodyAt, piece: Piece, step: Step) -> Cho
 }
 
 // Whether a step is a statement of a body by itself: an act, or a declaration of the body's own locals.
-fn is_own(step: Step, at: BodyAt) -> bool {
+fn is_own(step: Step, at: BodyAt) -> bool
+    ensures { result ≡ is_own at step.kind }
+{
     match step.kind {
         StepKind::Act => true,
         StepKind::Declaration { end, .. } => end == at.locals_end,
@@ -99,7 +113,9 @@ fn is_own(step: Step, at: BodyAt) -> bool {
 }
 
 // Captured locals stand only in a body that may have some.
-fn own_statement(at: BodyAt, step: Step, place: usize) -> Option<Planned> {
+fn own_statement(at: BodyAt, step: Step, place: usize) -> Option<Planned>
+    ensures { result ≡ own_statement at step place }
+{
     if let StepKind::Declaration { captured: true, .. } = step.kind {
         if !at.may_capture {
             return None;
@@ -111,7 +127,9 @@ fn own_statement(at: BodyAt, step: Step, place: usize) -> Option<Planned> {
     })
 }
 
-fn returning(at: BodyAt, piece: Piece, step: Step) -> Option<Planned> {
+fn returning(at: BodyAt, piece: Piece, step: Step) -> Option<Planned>
+    ensures { result ≡ returning at piece step }
+{
     if !piece.is_single() {
         return None;
     }
@@ -120,7 +138,9 @@ fn returning(at: BodyAt, piece: Piece, step: Step) -> Option<Planned> {
 }
 
 // A return or a break, in a `do` of its own where it is not last.
-fn ending(at: BodyAt, piece: Piece, end: End, own: u32) -> Planned {
+fn ending(at: BodyAt, piece: Piece, end: End, own: u32) -> Planned
+    ensures { result ≡ ending at piece end own }
+{
     let enclosed = piece.to != at.to;
     let levels = if enclosed { own.saturating_add(1) } else { own };
     Planned {
@@ -130,7 +150,10 @@ fn ending(at: BodyAt, piece: Piece, end: End, own: u32) -> Planned {
 }
 
 // Whether a piece is a break that closes captured locals.
-fn leaves_closing(tables: &Tables, at: BodyAt, piece: Piece, step: Step, from: u32) -> bool {
+fn leaves_closing(tables: &Tables, at: BodyAt, piece: Piece, step: Step, from: u32) -> bool
+    requires tabled { AreTables tables.now }
+    ensures { result ≡ leaves_closing tables.now.steps.now at piece step from }
+{
     let Some(exit) = at.exit else {
         return false;
     };
@@ -141,7 +164,10 @@ fn leaves_closing(tables: &Tables, at: BodyAt, piece: Piece, step: Step, from: u
 }
 
 // Whether a piece is a break with no captured locals to close.
-fn leaves_straight(tables: &Tables, at: BodyAt, piece: Piece, step: Step) -> bool {
+fn leaves_straight(tables: &Tables, at: BodyAt, piece: Piece, step: Step) -> bool
+    requires tabled { AreTables tables.now }
+    ensures { result ≡ leaves_straight tables.now.steps.now at piece step }
+{
     match at.exit {
         Some(exit) => {
             piece.is_single() && tables.leaves(piece.from, exit) && step.captured <= exit.locals
@@ -150,17 +176,24 @@ fn leaves_straight(tables: &Tables, at: BodyAt, piece: Piece, step: Step) -> boo
     }
 }
 
+/// The number behind the step of a number, if there is one.
+pub fn step_behind(steps: &[Step], place: usize) -> Option<usize>
+    ensures { result ≡ step_behind steps.now place }
+{
+    steps.get(place)?;
+    Some(place + 1)
+}
+
 /// A `do` from a declaration to the end of its locals.
-pub fn scope(tables: &Tables, exit: Option<Exit>, piece: Piece) -> Option<Form> {
+pub fn scope(tables: &Tables, exit: Option<Exit>, piece: Piece) -> Option<Form>
+    requires tabled { AreTables tables.now }
+    ensures { result ≡ scope_form tables.now.steps.now exit piece }
+{
     let step = tables.step(piece.from)?;
-    let StepKind::Declaration { end, .. } = step.kind else {
-        return None;
-    };
-    if end > piece.to || !ends_scope(tables, piece, step, end) {
-        return None;
-    }
+    let from = step_behind(tables.steps(), piece.from)?;
+    let end = scope_end(tables, piece, step)?;
     let inner = BodyAt {
-        from: piece.from.saturating_add(1),
+        from,
         to: end,
         locals_end: end,
         may_capture: true,
@@ -176,8 +209,28 @@ pub fn scope(tables: &Tables, exit: Option<Exit>, piece: Piece) -> Option<Form> 
     })
 }
 
+// Where the locals of a declaration end, if a piece that begins with it is their scope.
+fn scope_end(tables: &Tables, piece: Piece, step: Step) -> Option<usize>
+    requires tabled { AreTables tables.now }
+    ensures { result ≡ scope_end tables.now.steps.now piece step }
+{
+    match step.kind {
+        StepKind::Declaration { end, .. } => {
+            if end <= piece.to && ends_scope(tables, piece, step, end) {
+                Some(end)
+            } else {
+                None
+            }
+        }
+        _ => None,
+    }
+}
+
 // Whether a scope whose locals end there ends with a piece, and with a CLOSE where one of its locals is captured.
-fn ends_scope(tables: &Tables, piece: Piece, step: Step, end: usize) -> bool {
+fn ends_scope(tables: &Tables, piece: Piece, step: Step, end: usize) -> bool
+    requires tabled { AreTables tables.now }
+    ensures { result ≡ ends_scope tables.now.steps.now piece step end }
+{
     if tables.ends_captured(end, piece.from) {
         return piece.to.checked_sub(1) == Some(end) && tables.closes(end, step.base);
     }
@@ -185,7 +238,10 @@ fn ends_scope(tables: &Tables, piece: Piece, step: Step, end: usize) -> bool {
 }
 
 /// A loop that runs once, for its breaks: `repeat .. until true`.
-pub fn once(tables: &Tables, exit: Option<Exit>, piece: Piece) -> Option<Form> {
+pub fn once(tables: &Tables, exit: Option<Exit>, piece: Piece) -> Option<Form>
+    requires tabled { AreTables tables.now }
+    ensures { result ≡ once_form tables.now.steps.now exit piece }
+{
     let step = tables.step(piece.from)?;
     let own = Exit {
         place: piece.to,
@@ -205,7 +261,10 @@ pub fn once(tables: &Tables, exit: Option<Exit>, piece: Piece) -> Option<Form> {
 }
 
 /// A `for`.
-pub fn counted(tables: &Tables, piece: Piece) -> Option<Form> {
+pub fn counted(tables: &Tables, piece: Piece) -> Option<Form>
+    requires tabled { AreTables tables.now }
+    ensures { result ≡ counted_form tables.now.steps.now piece }
+{
     let step = tables.step(piece.from)?;
     let StepKind::Head {
         numeric,
@@ -249,7 +308,10 @@ pub fn counted(tables: &Tables, piece: Piece) -> Option<Form> {
 }
 
 // Whether the variables of a `for` end before its foot, and before a CLOSE where one is captured.
-fn ends_variables(tables: &Tables, step: Step, foot: usize, end: usize, captured: bool) -> bool {
+fn ends_variables(tables: &Tables, step: Step, foot: usize, end: usize, captured: bool) -> bool
+    requires tabled { AreTables tables.now }
+    ensures { result ≡ ends_variables tables.now.steps.now step foot end captured }
+{
     if !captured {
         return end == foot;
     }
