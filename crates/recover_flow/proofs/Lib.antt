@@ -1,5 +1,20 @@
-pub mod Arms
+mod Arming
+mod Arms
+mod Bodies
+mod Chained
+mod ConditionExamples
+mod ConditionJoins
+mod ConditionParts
+mod ConditionViews
 mod Failing
-pub mod Paths
-pub mod Starts
-pub mod Telling
+mod Forming
+mod Growing
+mod Joinings
+mod Levels
+mod Looping
+mod Paths
+mod Pieces
+mod Remembered
+mod Separated
+mod Starts
+mod Telling

@@ -1,8 +1,11 @@
 pub mod Arms
 pub mod Asked
+pub mod Conditions
 pub mod Cutting
 pub mod Debug
 pub mod Forms
+pub mod Held
+pub mod Joining
 pub mod Loops
 pub mod Lost
 pub mod Parts
