@@ -1,4 +1,6 @@
+pub mod Asked
 pub mod Debug
 pub mod Lost
 pub mod Stops
+pub mod Tabled
 pub mod Untold
