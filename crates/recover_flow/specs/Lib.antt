@@ -1,4 +1,5 @@
 pub mod Asked
+pub mod Cutting
 pub mod Debug
 pub mod Lost
 pub mod Stops
