@@ -46,8 +46,8 @@ last_none holds n none = last_past holds 0 n none (omega arith)
 between_one : (holds : ℕ → Bool) (from n : ℕ) → from ≤ n → holds n ≡ true → any_between holds from (suc n) ≡ true
 between_one holds from n fits passes = rw passes (grind (arith, nat_tests))
 
-between_more : (holds : ℕ → Bool) (from n : ℕ) → holds n ≡ false → any_between holds from (suc n) ≡ any_between holds from n
-between_more holds from n fails = ap (λ b. (nat_le from n && b) || any_between holds from n) fails ∙ neither (nat_le from n) (any_between holds from n)
+pub none_passes : (holds : ℕ → Bool) (from n : ℕ) → holds n ≡ false → any_between holds from (suc n) ≡ any_between holds from n
+none_passes holds from n fails = ap (λ b. (nat_le from n && b) || any_between holds from n) fails ∙ neither (nat_le from n) (any_between holds from n)
 
 between_before : (holds : ℕ → Bool) (from n : ℕ) → n < from → any_between holds from (suc n) ≡ any_between holds from n
 between_before holds from n before = grind (arith, nat_tests)
@@ -60,7 +60,7 @@ pub between_past : (holds : ℕ → Bool) (from count to : ℕ) → NoneFrom hol
 between_past holds from count zero none past = let same : count ≡ 0 = omega arith in ap (any_between holds from) (sym same)
 between_past holds from count (suc n) none past =
     ⊎_elim
-    (λ h. between_more holds from n (none n h.1) ∙ between_past holds from count n none h.1)
+    (λ h. none_passes holds from n (none n h.1) ∙ between_past holds from count n none h.1)
     (λ h. let same : suc n ≡ count = omega (arith, h.1) in ap (any_between holds from) same)
     (leb_tells count n)
 
@@ -72,7 +72,7 @@ between_last holds from (suc n) = by_test (holds n)
       (λ h. between_one holds from n h.1 passes ∙ sym h.0 ∙ ap (is_from from) (sym (last_one holds n passes)))
       (λ h. between_before holds from n h.1 ∙ none_between holds from n (omega (arith, h.1)) ∙ sym h.0 ∙ ap (is_from from) (sym (last_one holds n passes)))
       (leb_tells from n))
-    (λ fails. between_more holds from n fails ∙ between_last holds from n ∙ ap (is_from from) (sym (last_more holds n fails)))
+    (λ fails. none_passes holds from n fails ∙ between_last holds from n ∙ ap (is_from from) (sym (last_more holds n fails)))
 
 -- ---- the list of them
 
@@ -219,7 +219,7 @@ first_cut_all holds (suc n) from to i past cut =
       (leb_tells from n))
     (λ fails.
       ap (λ ys. is_before to (slice_get ys i)) (listed_more holds n fails)
-      ∙ first_cut_all holds n from to i (omega arith) (subst (λ ys. IsCut ys from i) (listed_more holds n fails) cut) ∙ sym (between_more holds from n fails))
+      ∙ first_cut_all holds n from to i (omega arith) (subst (λ ys. IsCut ys from i) (listed_more holds n fails) cut) ∙ sym (none_passes holds from n fails))
 
 first_cut_some : (holds : ℕ → Bool) (count from to i : ℕ) → to ≤ count → IsCut (places_where holds count) from i → is_before to (slice_get (places_where holds count) i) ≡ any_between holds from to
 first_cut_some holds zero from to i within cut = let same : to ≡ 0 = omega arith in ap (any_between holds from) (sym same)

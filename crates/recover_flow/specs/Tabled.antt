@@ -119,6 +119,10 @@ abbrev pub span_of : (close : ℕ) → Option Exit → List Span
 span_of close None = []
 span_of close (Some exit) = record { close = close; exit = exit } ∷ []
 
+-- a break is noted at the declaration that its CLOSE names
+abbrev pub break_noted : Option ℕ → (close : ℕ) → Option Exit → (place : ℕ) → List Span → List Span
+break_noted to close exit place row = row ++ (if is_this to place then span_of close exit else [])
+
 -- the breaks that name a declaration, whose CLOSEs stand below a count
 abbrev pub spans_where : List Step → (declaration count : ℕ) → List Span
 spans_where steps declaration zero = []

@@ -3,7 +3,7 @@
 ghost use Rattle.std.specs.List.{list_any};
 ghost use Rattle.std.specs.Prelude.{◌≡◌, ◌+◌, ◌<◌, ◌^◌, ◌++◌, Some, None, if◌then◌else◌, IfOk, OnOk, option_map};
 ghost use Rattle.recover_flow.specs.Asked.{is_closed, is_other};
-ghost use Rattle.recover_flow.specs.Cutting.{begun_behind, behind_jump, behind_kind, behind_step, breaks_out, cut_behind, ends_with_body, is_of_other, pieces_of, reach_to, turn_to};
+ghost use Rattle.recover_flow.specs.Cutting.{begun_behind, behind_jump, behind_kind, behind_place, behind_step, breaks_out, cut_behind, ends_with_body, is_of_other, pieces_of, reach_to, turn_to};
 ghost use Rattle.recover_flow.specs.Tabled.{AreTables};
 
 use crate::regions::{BodyAt, Exit, Piece};
@@ -49,10 +49,7 @@ impl Tables<'_> {
             turned: 0,
         };
         for place in at.from..at.to {
-            let Some(step) = self.step(place) else {
-                return Ok(None);
-            };
-            if !self.goes_behind(&mut reach, at, place, step) {
+            if !self.goes_behind(&mut reach, at, place) {
                 return Ok(None);
             }
             cut(&mut pieces, &mut reach, place)?;
@@ -60,11 +57,21 @@ impl Tables<'_> {
         Ok(Some(pieces))
     }
 
-    // How far the piece reaches behind a step; whether it goes neither back before the piece nor past the end of the body.
-    fn goes_behind(&self, reach: &mut Reach, at: BodyAt, place: usize, step: Step) -> bool
+    // How far the piece reaches behind the step of a number; whether it goes neither back before the piece nor past the end of the body.
+    fn goes_behind(&self, reach: &mut Reach, at: BodyAt, place: usize) -> bool
         requires tabled { AreTables self.now }
-        requires within { place < at.to }
-        requires fits { at.to < 2 ^ 64 }
+        requires fits { place + 1 < 2 ^ 64 }
+        ensures { (if result then Some reach.new else None) ≡ behind_place self.now.steps.now at place reach.old }
+    {
+        match self.step(place) {
+            Some(step) => self.goes_behind_step(reach, at, place, step),
+            None => false,
+        }
+    }
+
+    fn goes_behind_step(&self, reach: &mut Reach, at: BodyAt, place: usize, step: Step) -> bool
+        requires tabled { AreTables self.now }
+        requires fits { place + 1 < 2 ^ 64 }
         ensures { (if result then Some reach.new else None) ≡ behind_step self.now.steps.now at place reach.old step }
     {
         reach.to(place + 1);

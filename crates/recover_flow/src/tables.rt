@@ -4,7 +4,7 @@ ghost use Rattle.std.specs.Prelude.{◌≡◌, ◌+◌, ◌-◌, ◌^◌, ◌<�
 ghost use Rattle.std.specs.List.Sorted.{IsNonDecreasing};
 ghost use Rattle.recover_expr.specs.declared.steps.Step.{Step};
 ghost use Rattle.recover_flow.specs.Asked.{any_between, begins_branches, block_at, closed_before, closes, closes_before, ends_captured, ends_there, goes_ahead, goes_back, is_exit_at, is_reached, is_this, jump_of, jumps_to, kind_at, last_back, last_below, leaves, length_at, lengths_after, lengths_before, number_before, run_before, run_behind, target_at, target_of, used};
-ghost use Rattle.recover_flow.specs.Tabled.{ahead_to, AreAll, AreRuns, AreTables, at_place, back_to, captured_end, declared_of, ends_from, exit_of, IsCut, is_before, is_from, is_run, item_before, last_captured, last_noted, noted, NoneFrom, places_where, spans_where, starts_to};
+ghost use Rattle.recover_flow.specs.Tabled.{ahead_to, AreAll, AreRuns, AreTables, at_place, back_to, break_noted, captured_end, declared_of, ends_from, exit_of, IsCut, is_before, is_from, is_run, item_before, last_captured, last_noted, noted, NoneFrom, places_where, spans_where, starts_to};
 
 use crate::regions::{BlockAt, BodyAt, Exit, Piece};
 use recover_expr::{Step, StepKind};
@@ -255,11 +255,25 @@ fn spans(alloc: Global, steps: &[Step]) -> Result<Vec<Vec<Span>>, AllocError>
 {
     let mut spans = lists(alloc, steps)?;
     for (close, step) in steps.iter().enumerate() {
-        if let Some(exit) = exit_of(steps, close, *step) {
-            note(&mut spans, declared_of(*step), Span { close, exit })?;
-        }
+        note_break(&mut spans, steps, close, *step)?;
     }
     Ok(spans)
+}
+
+// Appends the break whose CLOSE a step is.
+fn note_break(
+    spans: &mut Vec<Vec<Span>>,
+    steps: &[Step],
+    close: usize,
+    step: Step,
+) -> Result<(), AllocError>
+    requires { close < length steps.now }
+    ensures { OnOk result ((at : ℕ) → slice_get (map (λ row. row.items) spans.new.items) at ≡ option_map (break_noted (declared_of step.kind) close (exit_of steps.now close step.base step.kind) at) (slice_get (map (λ row. row.items) spans.old.items) at)) }
+{
+    if let Some(exit) = exit_of(steps, close, step) {
+        note(spans, declared_of(step), Span { close, exit })?;
+    }
+    Ok(())
 }
 
 // The declaration that a CLOSE names.
@@ -436,11 +450,11 @@ impl<'s> Tables<'s> {
         requires tabled { AreTables self.now }
         ensures { result ≡ last_back self.now.steps.now place to }
     {
-        last_number(self.back(place), to)
+        last_number(self.jumps_back(place), to)
     }
 
     // The tests and jumps that go back to a place.
-    fn back(&self, place: usize) -> &[usize]
+    fn jumps_back(&self, place: usize) -> &[usize]
         requires tabled { AreTables self.now }
         ensures { result.now ≡ unwrap_or (at_place self.now.steps.now (λ at. places_where (goes_back self.now.steps.now at) (length self.now.steps.now)) place) [] }
     {
@@ -455,11 +469,11 @@ impl<'s> Tables<'s> {
         requires tabled { AreTables self.now }
         ensures { result ≡ is_reached self.now.steps.now place from to }
     {
-        any_number(self.ahead(place), from, to)
+        any_number(self.jumps_ahead(place), from, to)
     }
 
     // The jumps forward to a place.
-    fn ahead(&self, place: usize) -> &[usize]
+    fn jumps_ahead(&self, place: usize) -> &[usize]
         requires tabled { AreTables self.now }
         ensures { result.now ≡ unwrap_or (at_place self.now.steps.now (λ at. places_where (goes_ahead self.now.steps.now at) (length self.now.steps.now)) place) [] }
     {
