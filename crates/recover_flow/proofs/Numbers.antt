@@ -1,5 +1,5 @@
 -- Numbers that pass a test: the last one, whether there is one, and where those below another end in a list of them.
-use Rattle.std.proofs.Common.{◌≡◌, refl, sym, ap, subst, ◌∙◌, ⊎_elim, ℕ, zero, suc, ◌+◌, ◌-◌, ◌<◌, ◌≤◌, min, Bool, true, false, ◌&&◌, ◌||◌, nat_le, nat_lt, List, [], ◌∷◌, ◌++◌, length, get_or, slice_get, Option, None, Some, arith, if◌then◌else◌, append-nil, add-one, ltb-true, ltb-false}
+use Rattle.std.proofs.Common.{◌≡◌, refl, sym, ap, subst, ◌∙◌, ⊎_elim, ℕ, zero, suc, ◌-◌, ◌<◌, ◌≤◌, Bool, true, false, ◌&&◌, ◌||◌, nat_le, nat_lt, List, [], ◌∷◌, ◌++◌, length, get_or, slice_get, None, Some, arith, if◌then◌else◌, append-nil, add-one, ltb-true, ltb-false}
 use Rattle.std.proofs.lemmas.Bool.Decides.{leb_tells, nat_tests}
 use Rattle.std.proofs.lemmas.List.{get_or_push, get_or_append_left, length_push}
 use Rattle.std.proofs.lemmas.List.Sorted.{IsNonDecreasingBy-push}
@@ -69,9 +69,9 @@ pub between_last : (holds : ℕ → Bool) (from count : ℕ) → any_between hol
 between_last holds from zero = refl
 between_last holds from (suc n) = by_test (holds n)
     (λ passes. ⊎_elim
-      (λ h. between_one holds from n h.1 passes ∙ sym h.0 ∙ ap (is_from from) (sym (last_one holds n passes)))
-      (λ h. between_before holds from n h.1 ∙ none_between holds from n (omega (arith, h.1)) ∙ sym h.0 ∙ ap (is_from from) (sym (last_one holds n passes)))
-      (leb_tells from n))
+    (λ h. between_one holds from n h.1 passes ∙ sym h.0 ∙ ap (is_from from) (sym (last_one holds n passes)))
+    (λ h. between_before holds from n h.1 ∙ none_between holds from n (omega (arith, h.1)) ∙ sym h.0 ∙ ap (is_from from) (sym (last_one holds n passes)))
+    (leb_tells from n))
     (λ fails. none_passes holds from n fails ∙ between_last holds from n ∙ ap (is_from from) (sym (last_more holds n fails)))
 
 -- ---- the list of them
@@ -89,11 +89,11 @@ record AreBelow (xs : List ℕ) (n : ℕ) : Type 0 where
 pushed_below : (xs : List ℕ) (n : ℕ) → AreBelow xs n → AreBelow (xs ++ n ∷ []) (suc n)
 pushed_below xs n below = record {
   at = λ k d fits.
-    let count = length_push xs n in
-    ⊎_elim
-    (λ h. let same : k ≡ length xs = omega (arith, h.1) in omega (arith, get_or_push xs n d k (sym same)))
-    (λ h. omega (arith, get_or_append_left xs (n ∷ []) d k h.1, below.at k d h.1))
-    (leb_tells (length xs) k);
+      let count = length_push xs n in
+      ⊎_elim
+      (λ h. let same : k ≡ length xs = omega (arith, h.1) in omega (arith, get_or_push xs n d k (sym same)))
+      (λ h. omega (arith, get_or_append_left xs (n ∷ []) d k h.1, below.at k d h.1))
+      (leb_tells (length xs) k);
 }
 
 below_more : (xs : List ℕ) (n : ℕ) → AreBelow xs n → AreBelow xs (suc n)
@@ -109,7 +109,7 @@ pub listed_rises : (holds : ℕ → Bool) (count : ℕ) → IsNonDecreasing (pla
 listed_rises holds zero = λ i j d le fits. absurd (omega arith)
 listed_rises holds (suc n) = by_test (holds n)
     (λ passes. subst IsNonDecreasing (sym (listed_one holds n passes)) (IsNonDecreasingBy-push (λ x. x) (places_where holds n) n (listed_rises holds n)
-      (λ d some. omega (arith, (listed_below holds n).at (length (places_where holds n) - 1) d (omega arith)))))
+    (λ d some. omega (arith, (listed_below holds n).at (length (places_where holds n) - 1) d (omega arith)))))
     (λ fails. subst IsNonDecreasing (sym (listed_more holds n fails)) (listed_rises holds n))
 
 -- ---- where those below another end
@@ -119,9 +119,9 @@ cut_before : (xs : List ℕ) (n end i : ℕ) → AreBelow xs n → end ≤ n →
 cut_before xs n end i all past cut =
     let count = length_push xs n in
     let fits : i ≤ length xs = ⊎_elim
-      (λ h. h.1)
-      (λ h. absurd (omega (arith, h.1, get_or_push xs n 0 (length xs) refl, cut.below (length xs) 0 h.1)))
-      (leb_tells i (length xs)) in
+    (λ h. h.1)
+    (λ h. absurd (omega (arith, h.1, get_or_push xs n 0 (length xs) refl, cut.below (length xs) 0 h.1)))
+    (leb_tells i (length xs)) in
     record {
       fits = fits;
       below = λ k d lower. omega (arith, get_or_append_left xs (n ∷ []) d k (omega arith), cut.below k d lower);
@@ -135,11 +135,11 @@ cut_whole xs n end i all past cut = ⊎_elim
     (λ h. absurd (omega (arith, cut.behind i 0 (omega arith) h.1, all.at i 0 h.1)))
     (leb_tells (length xs) i)
 
-get_pushed : (xs : List ℕ) (n : ℕ) → slice_get (xs ++ n ∷ []) (length xs) ≡ Some n
+pub get_pushed : (xs : List ℕ) (n : ℕ) → slice_get (xs ++ n ∷ []) (length xs) ≡ Some n
 get_pushed [] n = refl
 get_pushed (x ∷ xs) n = get_pushed xs n
 
-get_before : (xs : List ℕ) (n k : ℕ) → k < length xs → slice_get (xs ++ n ∷ []) k ≡ slice_get xs k
+pub get_before : (xs : List ℕ) (n k : ℕ) → k < length xs → slice_get (xs ++ n ∷ []) k ≡ slice_get xs k
 get_before [] n k fits = absurd (omega arith)
 get_before (x ∷ xs) n zero fits = refl
 get_before (x ∷ xs) n (suc k) fits = get_before xs n k (omega arith)
@@ -152,8 +152,8 @@ last_listed : (holds : ℕ → Bool) (count : ℕ) → item_before (places_where
 last_listed holds zero = refl
 last_listed holds (suc n) = by_test (holds n)
     (λ passes.
-      let xs = places_where holds n in
-      ap (λ ys. item_before ys (length ys)) (listed_one holds n passes) ∙ ap (item_before (xs ++ n ∷ [])) (length_push xs n ∙ add-one (length xs)) ∙ get_pushed xs n ∙ sym (last_one holds n passes))
+    let xs = places_where holds n in
+    ap (λ ys. item_before ys (length ys)) (listed_one holds n passes) ∙ ap (item_before (xs ++ n ∷ [])) (length_push xs n ∙ add-one (length xs)) ∙ get_pushed xs n ∙ sym (last_one holds n passes))
     (λ fails. ap (λ ys. item_before ys (length ys)) (listed_more holds n fails) ∙ last_listed holds n ∙ sym (last_more holds n fails))
 
 last_cut_all : (holds : ℕ → Bool) (count end i : ℕ) → count ≤ end → IsCut (places_where holds count) end i → item_before (places_where holds count) i ≡ last_below holds count
@@ -165,12 +165,12 @@ last_cut_some holds zero end i within cut = let same : end ≡ 0 = omega arith i
 last_cut_some holds (suc n) end i within cut =
     ⊎_elim
     (λ h. let xs = places_where holds n in
-      by_test (holds n)
-      (λ passes.
-        let pushed = subst (λ ys. IsCut ys end i) (listed_one holds n passes) cut in
-        let before = cut_before xs n end i (listed_below holds n) h.1 pushed in
-        ap (λ ys. item_before ys i) (listed_one holds n passes) ∙ item_before_pushed xs n i before.fits ∙ last_cut_some holds n end i h.1 before)
-      (λ fails. ap (λ ys. item_before ys i) (listed_more holds n fails) ∙ last_cut_some holds n end i h.1 (subst (λ ys. IsCut ys end i) (listed_more holds n fails) cut)))
+    by_test (holds n)
+    (λ passes.
+    let pushed = subst (λ ys. IsCut ys end i) (listed_one holds n passes) cut in
+    let before = cut_before xs n end i (listed_below holds n) h.1 pushed in
+    ap (λ ys. item_before ys i) (listed_one holds n passes) ∙ item_before_pushed xs n i before.fits ∙ last_cut_some holds n end i h.1 before)
+    (λ fails. ap (λ ys. item_before ys i) (listed_more holds n fails) ∙ last_cut_some holds n end i h.1 (subst (λ ys. IsCut ys end i) (listed_more holds n fails) cut)))
     (λ h. let same : suc n ≡ end = omega (arith, h.1) in last_cut_all holds (suc n) end i (omega (arith, h.1)) cut ∙ ap (last_below holds) same)
     (leb_tells end n)
 
@@ -188,7 +188,7 @@ before_pushed : (xs : List ℕ) (n to i : ℕ) → to ≤ n → i ≤ length xs 
 before_pushed xs n to i past fits =
     ⊎_elim
     (λ h. let same : i ≡ length xs = omega (arith, h.1) in
-      ap (λ k. is_before to (slice_get (xs ++ n ∷ []) k)) same ∙ ap (is_before to) (get_pushed xs n) ∙ grind (arith, nat_tests) ∙ ap (is_before to) (sym (slice_get_past xs i h.1)))
+    ap (λ k. is_before to (slice_get (xs ++ n ∷ []) k)) same ∙ ap (is_before to) (get_pushed xs n) ∙ grind (arith, nat_tests) ∙ ap (is_before to) (sym (slice_get_past xs i h.1)))
     (λ h. ap (is_before to) (get_before xs n i h.1))
     (leb_tells (length xs) i)
 
@@ -207,19 +207,19 @@ first_cut_all holds (suc n) from to i past cut =
     let below = listed_below holds n in
     by_test (holds n)
     (λ passes.
-      let pushed = subst (λ ys. IsCut ys from i) (listed_one holds n passes) cut in
-      ap (λ ys. is_before to (slice_get ys i)) (listed_one holds n passes)
-      ∙ ⊎_elim
-      (λ h.
-        let before = cut_before xs n from i below h.1 pushed in
-        some_before (xs ++ n ∷ []) (suc n) to i (pushed_below xs n below) past (omega (arith, before.fits, length_push xs n)) ∙ sym (between_one holds from n h.1 passes))
-      (λ h.
-        let whole = cut_whole (xs ++ n ∷ []) (suc n) from i (pushed_below xs n below) (omega (arith, h.1)) pushed in
-        none_before (xs ++ n ∷ []) to i (omega (arith, whole)) ∙ sym (none_between holds from (suc n) (omega (arith, h.1))))
-      (leb_tells from n))
+    let pushed = subst (λ ys. IsCut ys from i) (listed_one holds n passes) cut in
+    ap (λ ys. is_before to (slice_get ys i)) (listed_one holds n passes)
+    ∙ ⊎_elim
+    (λ h.
+    let before = cut_before xs n from i below h.1 pushed in
+    some_before (xs ++ n ∷ []) (suc n) to i (pushed_below xs n below) past (omega (arith, before.fits, length_push xs n)) ∙ sym (between_one holds from n h.1 passes))
+    (λ h.
+    let whole = cut_whole (xs ++ n ∷ []) (suc n) from i (pushed_below xs n below) (omega (arith, h.1)) pushed in
+    none_before (xs ++ n ∷ []) to i (omega (arith, whole)) ∙ sym (none_between holds from (suc n) (omega (arith, h.1))))
+    (leb_tells from n))
     (λ fails.
-      ap (λ ys. is_before to (slice_get ys i)) (listed_more holds n fails)
-      ∙ first_cut_all holds n from to i (omega arith) (subst (λ ys. IsCut ys from i) (listed_more holds n fails) cut) ∙ sym (none_passes holds from n fails))
+    ap (λ ys. is_before to (slice_get ys i)) (listed_more holds n fails)
+    ∙ first_cut_all holds n from to i (omega arith) (subst (λ ys. IsCut ys from i) (listed_more holds n fails) cut) ∙ sym (none_passes holds from n fails))
 
 first_cut_some : (holds : ℕ → Bool) (count from to i : ℕ) → to ≤ count → IsCut (places_where holds count) from i → is_before to (slice_get (places_where holds count) i) ≡ any_between holds from to
 first_cut_some holds zero from to i within cut = let same : to ≡ 0 = omega arith in ap (any_between holds from) (sym same)
@@ -228,20 +228,20 @@ first_cut_some holds (suc n) from to i within cut =
     let below = listed_below holds n in
     ⊎_elim
     (λ h. by_test (holds n)
-      (λ passes.
-        let pushed = subst (λ ys. IsCut ys from i) (listed_one holds n passes) cut in
-        ap (λ ys. is_before to (slice_get ys i)) (listed_one holds n passes)
-        ∙ ⊎_elim
-        (λ g.
-          let before = cut_before xs n from i below g.1 pushed in
-          before_pushed xs n to i h.1 before.fits ∙ first_cut_some holds n from to i h.1 before)
-        (λ g.
-          let whole = cut_whole (xs ++ n ∷ []) (suc n) from i (pushed_below xs n below) (omega (arith, g.1)) pushed in
-          none_before (xs ++ n ∷ []) to i (omega (arith, whole)) ∙ sym (none_between holds from to (omega (arith, g.1, h.1))))
-        (leb_tells from n))
-      (λ fails.
-        ap (λ ys. is_before to (slice_get ys i)) (listed_more holds n fails)
-        ∙ first_cut_some holds n from to i h.1 (subst (λ ys. IsCut ys from i) (listed_more holds n fails) cut)))
+    (λ passes.
+    let pushed = subst (λ ys. IsCut ys from i) (listed_one holds n passes) cut in
+    ap (λ ys. is_before to (slice_get ys i)) (listed_one holds n passes)
+    ∙ ⊎_elim
+    (λ g.
+    let before = cut_before xs n from i below g.1 pushed in
+    before_pushed xs n to i h.1 before.fits ∙ first_cut_some holds n from to i h.1 before)
+    (λ g.
+    let whole = cut_whole (xs ++ n ∷ []) (suc n) from i (pushed_below xs n below) (omega (arith, g.1)) pushed in
+    none_before (xs ++ n ∷ []) to i (omega (arith, whole)) ∙ sym (none_between holds from to (omega (arith, g.1, h.1))))
+    (leb_tells from n))
+    (λ fails.
+    ap (λ ys. is_before to (slice_get ys i)) (listed_more holds n fails)
+    ∙ first_cut_some holds n from to i h.1 (subst (λ ys. IsCut ys from i) (listed_more holds n fails) cut)))
     (λ h. let same : suc n ≡ to = omega (arith, h.1) in first_cut_all holds (suc n) from to i (omega (arith, h.1)) cut ∙ ap (any_between holds from) same)
     (leb_tells to n)
 

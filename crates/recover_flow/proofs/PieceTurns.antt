@@ -1,10 +1,10 @@
 -- The pieces of a body, one behind the other.
-use Rattle.std.proofs.Common.{◌≡◌, refl, sym, ap, ◌∙◌, ℕ, zero, suc, ◌+◌, ◌-◌, ◌<◌, ◌≤◌, List, [], ◌∷◌, ◌++◌, Option, None, Some, option_map, option_and_then, append_assoc, append-nil, arith}
+use Rattle.std.proofs.Common.{◌≡◌, refl, sym, ap, ◌∙◌, ℕ, suc, ◌+◌, ◌-◌, ◌<◌, ◌≤◌, List, [], ◌++◌, Option, None, Some, option_map, option_and_then, append_assoc, append-nil, arith}
 use Rattle.recover_expr.specs.declared.steps.Step.{Step}
 use Rattle.recover_flow.specs.declared.cuts.Reach.{Reach}
 use Rattle.recover_flow.specs.declared.regions.BodyAt.{BodyAt}
 use Rattle.recover_flow.specs.declared.regions.Piece.{Piece}
-use Rattle.recover_flow.specs.Cutting.{begun_behind, behind_place, behind_step, cut_behind, pieces_from, pieces_of}
+use Rattle.recover_flow.specs.Cutting.{begun_behind, behind_place, cut_behind, pieces_from, pieces_of}
 
 joined : (front cut : List Piece) (rest : Option (List Piece)) → option_map (λ all. (front ++ cut) ++ all) rest ≡ option_map (λ all. front ++ all) (option_map (λ all. cut ++ all) rest)
 joined front cut None = refl

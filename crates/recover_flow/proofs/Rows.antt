@@ -1,13 +1,12 @@
 -- Tables by the numbers of steps: how they are made, and what stands in them.
-use Rattle.std.proofs.Common.{◌≡◌, refl, sym, ap, subst, ◌∙◌, ⊎_elim, ℕ, zero, suc, ◌+◌, ◌-◌, ◌<◌, ◌≤◌, ◌≢◌, Bool, true, false, ◌&&◌, ◌||◌, ◌==◌, nat_le, nat_lt, List, [], ◌∷◌, ◌++◌, length, map, replicate, get_or, slice_get, slice_set, Option, None, Some, arith, if◌then◌else◌, append-nil, add-one, eqb-true, option_map}
+use Rattle.std.proofs.Common.{◌≡◌, refl, sym, ap, subst, ◌∙◌, ⊎_elim, ℕ, zero, suc, ◌+◌, ◌<◌, ◌≤◌, ◌≢◌, Bool, true, false, ◌&&◌, ◌==◌, nat_le, nat_lt, List, [], ◌∷◌, ◌++◌, length, map, replicate, get_or, slice_get, slice_set, Option, None, Some, arith, if◌then◌else◌, append-nil, option_map}
 use Rattle.std.specs.Prelude.{option_and_then, unwrap_or}
 use Rattle.std.proofs.lemmas.Bool.Decides.{leb_tells, eqb_tells, nat_tests}
 use Rattle.std.proofs.lemmas.Option.{slice_get_past}
 use Rattle.recover_expr.specs.declared.steps.Step.{Step}
-use Rattle.recover_expr.specs.declared.steps.StepKind.{StepKind}
-use Rattle.recover_flow.specs.Asked.{any_between, ends_captured, ends_there, goes_ahead, goes_back, is_reached, is_test, is_this, is_unit, jump_of, jumps_to, kind_at, last_below, target_at, target_of}
-use Rattle.recover_flow.specs.Tabled.{AreAll, NoneFrom, ahead_to, at_place, back_to, captured_end, held_there, is_from, last_captured, last_noted, noted, places_where}
-use Rattle.recover_flow.proofs.Numbers.{at_true, at_false, between_last, by_test, none_passes}
+use Rattle.recover_flow.specs.Asked.{any_between, ends_captured, ends_there, goes_ahead, goes_back, is_reached, is_test, is_this, is_unit, jump_of, kind_at, target_at, target_of}
+use Rattle.recover_flow.specs.Tabled.{AreAll, NoneFrom, all_ahead, all_back, at_place, held_there, is_from, last_captured, last_ending, noted}
+use Rattle.recover_flow.proofs.Numbers.{at_true, at_false, between_last, none_passes}
 
 -- ---- past the last step
 
@@ -51,17 +50,17 @@ module _ {X : Type 0} (steps : List Step) (held : ℕ → X) where
       (λ h. at_false (nat_le place (length steps)) (Some (held place)) None h.0)
       (leb_tells place (length steps))
 
-pub back_all : (steps : List Step) (place : ℕ) → AreAll (unwrap_or (at_place steps (λ at. places_where (goes_back steps at) (length steps)) place) []) (goes_back steps place)
+pub back_all : (steps : List Step) (place : ℕ) → AreAll (unwrap_or (at_place steps (all_back steps) place) []) (goes_back steps place)
 back_all steps place = ⊎_elim
     (λ h. record {
       count = length steps;
       none = λ n past. none_back steps place n past;
-      are = ap (λ o. unwrap_or o []) (held_at steps (λ at. places_where (goes_back steps at) (length steps)) place h.1);
+      are = ap (λ o. unwrap_or o []) (held_at steps (all_back steps) place h.1);
     })
     (λ h. record {
       count = 0;
       none = λ n past. none_back_there steps place n h.1;
-      are = ap (λ o. unwrap_or o []) (held_past steps (λ at. places_where (goes_back steps at) (length steps)) place h.1);
+      are = ap (λ o. unwrap_or o []) (held_past steps (all_back steps) place h.1);
     })
     (leb_tells place (length steps))
 
@@ -69,32 +68,31 @@ nothing_between : (from to : ℕ) → any_between (λ n. false) from to ≡ fals
 nothing_between from zero = refl
 nothing_between from (suc n) = none_passes (λ n. false) from n refl ∙ nothing_between from n
 
-pub reached_is : (steps : List Step) (place from to : ℕ) (numbers : List ℕ) (result : Bool) → numbers ≡ unwrap_or (at_place steps (λ at. places_where (goes_ahead steps at) (length steps)) place) []
+pub reached_is : (steps : List Step) (place from to : ℕ) (numbers : List ℕ) (result : Bool) → numbers ≡ unwrap_or (at_place steps (all_ahead steps) place) []
     → ((holds : ℕ → Bool) → AreAll numbers holds → result ≡ any_between holds from to) → result ≡ is_reached steps place from to
 reached_is steps place from to numbers result are answers = ⊎_elim
     (λ h.
-      let all : AreAll numbers (goes_ahead steps place) = record {
-        count = length steps;
-        none = λ n past. none_ahead steps place n past;
-        are = are ∙ ap (λ o. unwrap_or o []) (held_at steps (λ at. places_where (goes_ahead steps at) (length steps)) place h.1);
-      } in
-      answers (goes_ahead steps place) all ∙ ap (λ b. b && any_between (goes_ahead steps place) from to) (sym h.0))
+    let all : AreAll numbers (goes_ahead steps place) = record {
+      count = length steps;
+      none = λ n past. none_ahead steps place n past;
+      are = are ∙ ap (λ o. unwrap_or o []) (held_at steps (all_ahead steps) place h.1);
+    } in
+    answers (goes_ahead steps place) all ∙ ap (λ b. b && any_between (goes_ahead steps place) from to) (sym h.0))
     (λ h.
-      let all : AreAll numbers (λ n. false) = record {
-        count = 0;
-        none = λ n past. refl;
-        are = are ∙ ap (λ o. unwrap_or o []) (held_past steps (λ at. places_where (goes_ahead steps at) (length steps)) place h.1);
-      } in
-      answers (λ n. false) all ∙ nothing_between from to ∙ ap (λ b. b && any_between (goes_ahead steps place) from to) (sym h.0))
+    let all : AreAll numbers (λ n. false) = record {
+      count = 0;
+      none = λ n past. refl;
+      are = are ∙ ap (λ o. unwrap_or o []) (held_past steps (all_ahead steps) place h.1);
+    } in
+    answers (λ n. false) all ∙ nothing_between from to ∙ ap (λ b. b && any_between (goes_ahead steps place) from to) (sym h.0))
     (leb_tells place (length steps))
 
 pub captured_is : (steps : List Step) (end from : ℕ) → is_from from (last_captured steps end) ≡ ends_captured steps end from
 captured_is steps end from =
     let holds = λ (n : ℕ). ends_there end (kind_at steps n) in
-    let last = λ (at : ℕ). last_below (λ n. ends_there at (kind_at steps n)) (length steps) in
     ⊎_elim
-    (λ h. ap (λ o. is_from from (held_there o)) (held_at steps last end h.1) ∙ sym (between_last holds from (length steps)) ∙ ap (λ b. b && any_between holds from (length steps)) (sym h.0))
-    (λ h. ap (λ o. is_from from (held_there o)) (held_past steps last end h.1) ∙ ap (λ b. b && any_between holds from (length steps)) (sym h.0))
+    (λ h. ap (λ o. is_from from (held_there o)) (held_at steps (last_ending steps) end h.1) ∙ sym (between_last holds from (length steps)) ∙ ap (λ b. b && any_between holds from (length steps)) (sym h.0))
+    (λ h. ap (λ o. is_from from (held_there o)) (held_past steps (last_ending steps) end h.1) ∙ ap (λ b. b && any_between holds from (length steps)) (sym h.0))
     (leb_tells end (length steps))
 
 -- ---- empty ones
@@ -145,9 +143,9 @@ module _ {X : Type 0} (item : X) where
   noted_where : (place at : ℕ) (row : List X) (old : Option (List X)) → (place ≡ at → old ≡ Some row) → (if place == at then Some (row ++ item ∷ []) else old) ≡ option_map (noted (Some place) item at) old
   noted_where place at row old same = ⊎_elim
       (λ h.
-        at_true (place == at) (Some (row ++ item ∷ [])) old h.0
-        ∙ ap (λ b. Some (row ++ (if b then item ∷ [] else []))) (sym h.0)
-        ∙ ap (option_map (noted (Some place) item at)) (sym (same h.1)))
+      at_true (place == at) (Some (row ++ item ∷ [])) old h.0
+      ∙ ap (λ b. Some (row ++ (if b then item ∷ [] else []))) (sym h.0)
+      ∙ ap (option_map (noted (Some place) item at)) (sym (same h.1)))
       (λ h. at_false (place == at) (Some (row ++ item ∷ [])) old h.0 ∙ unnoted old h.0)
       (eqb_tells place at)
     where
@@ -169,8 +167,8 @@ module _ {X : Type 0} (item : X) where
   pub row_missing : {V : Type 0} (items : V → List X) (rows : List V) (to : Option ℕ) (place : ℕ) → to ≡ Some place → length rows ≤ place → (at : ℕ) → slice_get (map items rows) at ≡ option_map (noted to item at) (slice_get (map items rows) at)
   row_missing items rows to place there past at = ⊎_elim
       (λ h.
-        let none = slice_get_past (map items rows) at (omega (arith, length_map items rows, h.1)) in
-        none ∙ ap (option_map (noted (Some place) item at)) (sym none))
+      let none = slice_get_past (map items rows) at (omega (arith, length_map items rows, h.1)) in
+      none ∙ ap (option_map (noted (Some place) item at)) (sym none))
       (λ h. sym (at_false (place == at) (Some ([] ++ item ∷ [])) (slice_get (map items rows) at) h.0) ∙ noted_where place at [] (slice_get (map items rows) at) (λ same. absurd (h.1 same)))
       (eqb_tells place at)
       ∙ ap (λ o. option_map (noted o item at) (slice_get (map items rows) at)) (sym there)

@@ -1,5 +1,5 @@
 -- Numbers that pass a test, side by side.
-use Rattle.std.proofs.Common.{◌≡◌, refl, sym, ap, ◌∙◌, ⊎_elim, ℕ, zero, suc, ◌+◌, ◌-◌, ◌<◌, ◌≤◌, max, min, Bool, true, false, nat_le, List, [], ◌∷◌, ◌++◌, length, reverse, get_or, slice_get, Option, None, Some, arith, add-one, option_map, if◌then◌else◌}
+use Rattle.std.proofs.Common.{◌≡◌, refl, sym, ap, ◌∙◌, ⊎_elim, ℕ, zero, suc, ◌+◌, ◌-◌, ◌<◌, ◌≤◌, max, min, Bool, true, false, List, [], ◌∷◌, ◌++◌, length, reverse, get_or, slice_get, Some, arith, add-one, option_map, if◌then◌else◌}
 use Rattle.std.specs.Prelude.{unwrap_or}
 use Rattle.std.proofs.lemmas.Bool.Decides.{leb_tells}
 use Rattle.recover_flow.specs.Asked.{kind_at, run_before, run_behind}
@@ -9,7 +9,8 @@ use Rattle.recover_expr.specs.declared.steps.Step.{Step}
 use Rattle.recover_flow.specs.declared.tables.Run.{Run}
 use Rattle.recover_flow.specs.declared.tables.Runs.{Runs}
 use Rattle.recover_flow.specs.Tabled.{AreRuns, NoneFrom, at_place, ends_from, is_run, run_end, run_start, starts_to}
-use Rattle.recover_flow.proofs.Numbers.{at_true, at_false, by_test}
+use Rattle.recover_flow.proofs.Numbers.{at_true, at_false, by_test, get_before, get_pushed}
+use Rattle.recover_flow.proofs.Rows.{held_at, held_past}
 
 -- ---- before a place
 
@@ -57,13 +58,13 @@ pub run_behind_is : (holds : ℕ → Bool) (count place most : ℕ) → NoneFrom
 run_behind_is holds count place zero none = omega arith
 run_behind_is holds count place (suc most) none = by_test (holds place)
     (λ passes. ⊎_elim
-      (λ h. absurd (contradicts passes (none place h.1)))
-      (λ h.
-        let rest = run_behind_is holds count (place + 1) most none in
-        let fewer : count - place - 1 ≡ count - (place + 1) = omega arith in
-        let first = one_stands holds place (count - place) (omega (arith, h.1)) passes ∙ ap (λ k. suc (run_behind holds (place + 1) k)) fewer in
-        at_true (holds place) (suc (run_behind holds (place + 1) most)) 0 passes ∙ omega (arith, rest, first))
-      (leb_tells count place))
+    (λ h. absurd (contradicts passes (none place h.1)))
+    (λ h.
+    let rest = run_behind_is holds count (place + 1) most none in
+    let fewer : count - place - 1 ≡ count - (place + 1) = omega arith in
+    let first = one_stands holds place (count - place) (omega (arith, h.1)) passes ∙ ap (λ k. suc (run_behind holds (place + 1) k)) fewer in
+    at_true (holds place) (suc (run_behind holds (place + 1) most)) 0 passes ∙ omega (arith, rest, first))
+    (leb_tells count place))
     (λ fails. none_stands holds place (suc most) fails ∙ omega (arith, none_stands holds place (count - place) fails))
   where
     contradicts : {b : Bool} → b ≡ true → b ≡ false → ⊥
@@ -71,27 +72,15 @@ run_behind_is holds count place (suc most) none = by_test (holds place)
 
 -- ---- tables of them
 
-at_there : {X : Type 0} (steps : List Step) (held : ℕ → X) (place : ℕ) → place ≤ length steps → at_place steps held place ≡ Some (held place)
-at_there steps held place within = ⊎_elim
-    (λ h. at_true (nat_le place (length steps)) (Some (held place)) None h.0)
-    (λ h. absurd (omega (arith, h.1)))
-    (leb_tells place (length steps))
-
-at_past : {X : Type 0} (steps : List Step) (held : ℕ → X) (place : ℕ) → length steps < place → at_place steps held place ≡ None
-at_past steps held place past = ⊎_elim
-    (λ h. absurd (omega (arith, h.1)))
-    (λ h. at_false (nat_le place (length steps)) (Some (held place)) None h.0)
-    (leb_tells place (length steps))
-
 pub before_is : (steps : List Step) (holds : ℕ → Bool) (runs : Runs) (from to start : ℕ) → AreRuns steps holds runs → NoneFrom holds (length steps) → start ≡ unwrap_or (slice_get runs.starts.items to) to
     → min (to - max start from) 100 ≡ run_before holds to (min 100 (to - from))
 before_is steps holds runs from to start are none is = ⊎_elim
     (λ h.
-      let begins = is ∙ ap (λ o. unwrap_or o to) (are.starts to ∙ at_there steps (run_start holds) to h.1) in
-      omega (arith, begins, run_before_is holds to (min 100 (to - from))))
+    let begins = is ∙ ap (λ o. unwrap_or o to) (are.starts to ∙ held_at steps (run_start holds) to h.1) in
+    omega (arith, begins, run_before_is holds to (min 100 (to - from))))
     (λ h.
-      let begins = is ∙ ap (λ o. unwrap_or o to) (are.starts to ∙ at_past steps (run_start holds) to h.1) in
-      omega (arith, begins, none_runs_before holds (length steps) to (min 100 (to - from)) none h.1))
+    let begins = is ∙ ap (λ o. unwrap_or o to) (are.starts to ∙ held_past steps (run_start holds) to h.1) in
+    omega (arith, begins, none_runs_before holds (length steps) to (min 100 (to - from)) none h.1))
     (leb_tells to (length steps))
 
 pub behind_is : (steps : List Step) (holds : ℕ → Bool) (runs : Runs) (from to end : ℕ) → AreRuns steps holds runs → NoneFrom holds (length steps) → end ≡ unwrap_or (slice_get runs.ends.items from) from
@@ -100,40 +89,30 @@ behind_is steps holds runs from to end are none is =
     let held = λ (at : ℕ). run_end holds at (length steps - at) in
     ⊎_elim
     (λ h.
-      let ends = is ∙ ap (λ o. unwrap_or o from) (are.ends from ∙ at_there steps held from h.1) ∙ run_end_is holds from (length steps - from) in
-      omega (arith, ends, run_behind_is holds (length steps) from (min 100 (to - from)) none))
+    let ends = is ∙ ap (λ o. unwrap_or o from) (are.ends from ∙ held_at steps held from h.1) ∙ run_end_is holds from (length steps - from) in
+    omega (arith, ends, run_behind_is holds (length steps) from (min 100 (to - from)) none))
     (λ h.
-      let ends = is ∙ ap (λ o. unwrap_or o from) (are.ends from ∙ at_past steps held from h.1) in
-      omega (arith, ends, none_runs_behind holds (length steps) from (min 100 (to - from)) none (omega (arith, h.1))))
+    let ends = is ∙ ap (λ o. unwrap_or o from) (are.ends from ∙ held_past steps held from h.1) in
+    omega (arith, ends, none_runs_behind holds (length steps) from (min 100 (to - from)) none (omega (arith, h.1))))
     (leb_tells from (length steps))
 
 length_starts : (holds : ℕ → Bool) (count : ℕ) → length (starts_to holds count) ≡ suc count
 length_starts holds zero = refl
 length_starts holds (suc n) = length_push (starts_to holds n) (run_start holds (suc n)) ∙ omega (arith, length_starts holds n)
 
-get_front : (xs : List ℕ) (x k : ℕ) → k < length xs → slice_get (xs ++ x ∷ []) k ≡ slice_get xs k
-get_front [] x k fits = absurd (omega arith)
-get_front (y ∷ xs) x zero fits = refl
-get_front (y ∷ xs) x (suc k) fits = get_front xs x k (omega arith)
-
-get_last : (xs : List ℕ) (x k : ℕ) → k ≡ length xs → slice_get (xs ++ x ∷ []) k ≡ Some x
-get_last [] x k is = ap (slice_get (x ∷ [])) is
-get_last (y ∷ xs) x zero is = absurd (omega arith)
-get_last (y ∷ xs) x (suc k) is = get_last xs x k (omega arith)
-
 start_there : (holds : ℕ → Bool) (count place : ℕ) → place ≤ count → slice_get (starts_to holds count) place ≡ Some (run_start holds place)
 start_there holds zero place within = let same : place ≡ 0 = omega arith in ap (slice_get (0 ∷ [])) same ∙ ap (λ n. Some (run_start holds n)) (sym same)
 start_there holds (suc n) place within = ⊎_elim
-    (λ h. get_front (starts_to holds n) (run_start holds (suc n)) place (omega (arith, h.1, length_starts holds n)) ∙ start_there holds n place h.1)
+    (λ h. get_before (starts_to holds n) (run_start holds (suc n)) place (omega (arith, h.1, length_starts holds n)) ∙ start_there holds n place h.1)
     (λ h.
-      let same : suc n ≡ place = omega (arith, h.1) in
-      get_last (starts_to holds n) (run_start holds (suc n)) place (omega (arith, same, length_starts holds n)) ∙ ap (λ k. Some (run_start holds k)) same)
+    let same : suc n ≡ place = omega (arith, h.1) in
+    ap (slice_get (starts_to holds (suc n))) (sym same ∙ sym (length_starts holds n)) ∙ get_pushed (starts_to holds n) (run_start holds (suc n)) ∙ ap (λ k. Some (run_start holds k)) same)
     (leb_tells place n)
 
 pub starts_are : (steps : List Step) (holds : ℕ → Bool) (place : ℕ) → slice_get (starts_to holds (length steps)) place ≡ at_place steps (run_start holds) place
 starts_are steps holds place = ⊎_elim
-    (λ h. start_there holds (length steps) place h.1 ∙ sym (at_there steps (run_start holds) place h.1))
-    (λ h. slice_get_past (starts_to holds (length steps)) place (omega (arith, h.1, length_starts holds (length steps))) ∙ sym (at_past steps (run_start holds) place h.1))
+    (λ h. start_there holds (length steps) place h.1 ∙ sym (held_at steps (run_start holds) place h.1))
+    (λ h. slice_get_past (starts_to holds (length steps)) place (omega (arith, h.1, length_starts holds (length steps))) ∙ sym (held_past steps (run_start holds) place h.1))
     (leb_tells place (length steps))
 
 end_there : (holds : ℕ → Bool) (place most k at left : ℕ) → k ≤ most → at ≡ place + k → left ≡ most - k → slice_get (ends_from holds place most) k ≡ Some (run_end holds at left)
@@ -151,8 +130,8 @@ length_ends holds place (suc n) = ap suc (length_ends holds (place + 1) n)
 
 pub ends_are : (steps : List Step) (holds : ℕ → Bool) (place : ℕ) → slice_get (ends_from holds 0 (length steps)) place ≡ at_place steps (λ at. run_end holds at (length steps - at)) place
 ends_are steps holds place = ⊎_elim
-    (λ h. end_there holds 0 (length steps) place place (length steps - place) h.1 (omega arith) refl ∙ sym (at_there steps (λ at. run_end holds at (length steps - at)) place h.1))
-    (λ h. slice_get_past (ends_from holds 0 (length steps)) place (omega (arith, h.1, length_ends holds 0 (length steps))) ∙ sym (at_past steps (λ at. run_end holds at (length steps - at)) place h.1))
+    (λ h. end_there holds 0 (length steps) place place (length steps - place) h.1 (omega arith) refl ∙ sym (held_at steps (λ at. run_end holds at (length steps - at)) place h.1))
+    (λ h. slice_get_past (ends_from holds 0 (length steps)) place (omega (arith, h.1, length_ends holds 0 (length steps))) ∙ sym (held_past steps (λ at. run_end holds at (length steps - at)) place h.1))
     (leb_tells place (length steps))
 
 -- ---- one more place

@@ -1,5 +1,5 @@
 -- The breaks that name a declaration.
-use Rattle.std.proofs.Common.{◌≡◌, refl, sym, ap, ◌∙◌, ⊎_elim, ℕ, zero, suc, ◌+◌, ◌<◌, ◌≤◌, Bool, true, false, ◌&&◌, ◌||◌, ◌==◌, nat_le, nat_lt, List, [], ◌∷◌, ◌++◌, length, slice_get, Option, None, Some, arith, if◌then◌else◌, append-nil, add-one, option_map}
+use Rattle.std.proofs.Common.{◌≡◌, refl, sym, ap, ◌∙◌, ⊎_elim, ℕ, zero, suc, ◌+◌, ◌<◌, ◌≤◌, Bool, true, false, ◌&&◌, ◌||◌, ◌==◌, nat_le, nat_lt, List, [], ◌∷◌, ◌++◌, length, slice_get, Option, None, Some, arith, if◌then◌else◌, add-one, option_map}
 use Rattle.std.specs.Prelude.{option_and_then, unwrap_or}
 use Rattle.std.specs.List.{list_any}
 use Rattle.std.proofs.lemmas.Bool.Decides.{leb_tells, nat_tests}
@@ -11,8 +11,8 @@ use Rattle.recover_flow.specs.declared.regions.Exit.{Exit}
 use Rattle.recover_flow.specs.declared.tables.Span.{Span}
 use Rattle.recover_flow.specs.Asked.{any_between, break_exit, closing_exit, exit_behind, is_closed, is_other, is_this, kind_at}
 use Rattle.recover_flow.specs.Cutting.{is_of_other}
-use Rattle.recover_flow.specs.Tabled.{NoneFrom, at_place, break_noted, declared_of, exit_of, span_of, spans_where}
-use Rattle.recover_flow.proofs.Numbers.{at_true, at_false, between_past}
+use Rattle.recover_flow.specs.Tabled.{NoneFrom, all_spans, at_place, break_noted, declared_of, exit_of, span_of, spans_where}
+use Rattle.recover_flow.proofs.Numbers.{between_past}
 use Rattle.recover_flow.proofs.Rows.{held_at, held_more, held_past}
 
 -- ---- one more step
@@ -39,8 +39,8 @@ pub span_more : (steps : List Step) (n : ℕ) (step : Step) → slice_get steps 
     option_map (break_noted (declared_of step.kind) n (exit_of steps n step.base step.kind) place) (at_place steps (λ at. spans_where steps at n) place) ≡ at_place steps (λ at. spans_where steps at (n + 1)) place
 span_more steps n step is = held_more steps (λ at. spans_where steps at n) (λ at. spans_where steps at (n + 1)) (break_noted (declared_of step.kind) n (exit_of steps n step.base step.kind))
     (λ at.
-      ap (λ xs. spans_where steps at n ++ xs) (cases (is_this (declared_of step.kind) at) (exit_of steps n step.base step.kind) ∙ ap (span_of n) (sym (break_is steps at n step is)))
-      ∙ ap (spans_where steps at) (sym (add-one n)))
+    ap (λ xs. spans_where steps at n ++ xs) (cases (is_this (declared_of step.kind) at) (exit_of steps n step.base step.kind) ∙ ap (span_of n) (sym (break_is steps at n step is)))
+    ∙ ap (spans_where steps at) (sym (add-one n)))
   where
     cases : (b : Bool) (exit : Option Exit) → (if b then span_of n exit else []) ≡ span_of n (if b then exit else None)
     cases true exit = refl
@@ -86,6 +86,7 @@ one_other at n (Some exit) within =
   where
     inside : (m to : ℕ) → m < to → nat_lt m to ≡ true
     inside m to less = grind (arith, nat_tests)
+
     or_false : (b : Bool) → ((true && b) || false) ≡ (true && b)
     or_false true = refl
     or_false false = refl
@@ -115,22 +116,22 @@ module _ (steps : List Step) (at : BodyAt) (declaration : ℕ) where
   some_within zero past = let same : at.to ≡ 0 = omega arith in ap (any_between others 0) (sym same)
   some_within (suc n) past = ⊎_elim
       (λ h.
-        any_joined (is_of_other at) (spans_where steps declaration n) (span_of n (break_exit steps declaration n))
-        ∙ ap (λ b. b || list_any (is_of_other at) (spans_where steps declaration n)) (one_past at n (break_exit steps declaration n) h.1)
-        ∙ some_within n h.1)
+      any_joined (is_of_other at) (spans_where steps declaration n) (span_of n (break_exit steps declaration n))
+      ∙ ap (λ b. b || list_any (is_of_other at) (spans_where steps declaration n)) (one_past at n (break_exit steps declaration n) h.1)
+      ∙ some_within n h.1)
       (λ h. let same : suc n ≡ at.to = omega (arith, h.1) in all_within (suc n) (omega (arith, same)) ∙ ap (any_between others 0) same)
       (leb_tells at.to n)
 
-  pub closed_is : list_any (is_of_other at) (unwrap_or (at_place steps (λ number. spans_where steps number (length steps)) declaration) []) ≡ is_closed steps at declaration
+  pub closed_is : list_any (is_of_other at) (unwrap_or (at_place steps (all_spans steps) declaration) []) ≡ is_closed steps at declaration
   closed_is = ⊎_elim
       (λ h.
-        ap (λ o. list_any (is_of_other at) (unwrap_or o [])) (held_at steps (λ number. spans_where steps number (length steps)) declaration h.1)
-        ∙ ⊎_elim
-        (λ g. some_within (length steps) g.1)
-        (λ g. all_within (length steps) (omega (arith, g.1)) ∙ sym (between_past others 0 (length steps) at.to (none_other steps at declaration) (omega (arith, g.1))))
-        (leb_tells at.to (length steps))
-        ∙ ap (λ b. b && any_between others 0 at.to) (sym h.0))
+      ap (λ o. list_any (is_of_other at) (unwrap_or o [])) (held_at steps (all_spans steps) declaration h.1)
+      ∙ ⊎_elim
+      (λ g. some_within (length steps) g.1)
+      (λ g. all_within (length steps) (omega (arith, g.1)) ∙ sym (between_past others 0 (length steps) at.to (none_other steps at declaration) (omega (arith, g.1))))
+      (leb_tells at.to (length steps))
+      ∙ ap (λ b. b && any_between others 0 at.to) (sym h.0))
       (λ h.
-        ap (λ o. list_any (is_of_other at) (unwrap_or o [])) (held_past steps (λ number. spans_where steps number (length steps)) declaration h.1)
-        ∙ ap (λ b. b && any_between others 0 at.to) (sym h.0))
+      ap (λ o. list_any (is_of_other at) (unwrap_or o [])) (held_past steps (all_spans steps) declaration h.1)
+      ∙ ap (λ b. b && any_between others 0 at.to) (sym h.0))
       (leb_tells declaration (length steps))

@@ -31,8 +31,8 @@ pub record AreAll (numbers : List ℕ) (holds : ℕ → Bool) : Type 0 where
 -- the first so many of these are below an end, and the others are not
 pub record IsCut (numbers : List ℕ) (end many : ℕ) : Type 0 where
   pub fits : many ≤ length numbers
-  pub below : (k other : ℕ) → k < many → get_or numbers k other < end
-  pub behind : (k other : ℕ) → many ≤ k → k < length numbers → end ≤ get_or numbers k other
+  pub below : (place default : ℕ) → place < many → get_or numbers place default < end
+  pub behind : (place default : ℕ) → many ≤ place → place < length numbers → end ≤ get_or numbers place default
 
 -- the last one of the first so many
 abbrev pub item_before : List ℕ → (many : ℕ) → Option ℕ
@@ -104,6 +104,7 @@ abbrev pub ends_from : (ℕ → Bool) → (place most : ℕ) → List ℕ
 ends_from holds place zero = place ∷ []
 ends_from holds place (suc n) = run_end holds place (suc n) ∷ ends_from holds (place + 1) n
 
+-- tables of both, by the numbers of steps
 pub record AreRuns (steps : List Step) (holds : ℕ → Bool) (runs : Runs) : Type 0 where
   pub starts : (place : ℕ) → slice_get runs.starts.items place ≡ at_place steps (run_start holds) place
   pub ends : (place : ℕ) → slice_get runs.ends.items place ≡ at_place steps (λ at. run_end holds at (length steps - at)) place
@@ -130,19 +131,35 @@ spans_where steps declaration (suc n) = spans_where steps declaration n ++ span_
 
 -- ---- the tables
 
--- what a table holds, where it holds something
+-- the tests and jumps that go back to a place
+abbrev pub all_back : List Step → (place : ℕ) → List ℕ
+all_back steps place = places_where (goes_back steps place) (length steps)
+
+-- the jumps forward to it
+abbrev pub all_ahead : List Step → (place : ℕ) → List ℕ
+all_ahead steps place = places_where (goes_ahead steps place) (length steps)
+
+-- the last declaration of a captured local that ends there
+abbrev pub last_ending : List Step → (place : ℕ) → Option ℕ
+last_ending steps place = last_below (λ step. ends_there place (kind_at steps step)) (length steps)
+
+-- the breaks that close the locals of a declaration
+abbrev pub all_spans : List Step → (declaration : ℕ) → List Span
+all_spans steps declaration = spans_where steps declaration (length steps)
+
+-- a value of `Tables` holds the tables of its steps
+pub record AreTables (tables : Tables) : Type 0 where
+  pub back : (place : ℕ) → slice_get (map (λ row. row.items) tables.back.items) place ≡ at_place tables.steps.now (all_back tables.steps.now) place
+  pub ahead : (place : ℕ) → slice_get (map (λ row. row.items) tables.ahead.items) place ≡ at_place tables.steps.now (all_ahead tables.steps.now) place
+  pub captured_ends : (place : ℕ) → slice_get tables.captured_ends.items place ≡ at_place tables.steps.now (last_ending tables.steps.now) place
+  pub spans : (place : ℕ) → slice_get (map (λ row. row.items) tables.spans.items) place ≡ at_place tables.steps.now (all_spans tables.steps.now) place
+  pub tests : AreRuns tables.steps.now (λ step. is_test (kind_at tables.steps.now step)) tables.tests
+  pub jumps : AreRuns tables.steps.now (λ step. is_unit (kind_at tables.steps.now step)) tables.jumps
+
+-- what stands at a place of a table of such, if anything
 abbrev pub held_there : Option (Option ℕ) → Option ℕ
 held_there None = None
 held_there (Some number) = number
 
--- the last declaration of a captured local that ends there
 abbrev pub last_captured : List Step → (end : ℕ) → Option ℕ
-last_captured steps end = held_there (at_place steps (λ at. last_below (λ step. ends_there at (kind_at steps step)) (length steps)) end)
-
-pub record AreTables (tables : Tables) : Type 0 where
-  pub back : (place : ℕ) → slice_get (map (λ row. row.items) tables.back.items) place ≡ at_place tables.steps.now (λ at. places_where (goes_back tables.steps.now at) (length tables.steps.now)) place
-  pub ahead : (place : ℕ) → slice_get (map (λ row. row.items) tables.ahead.items) place ≡ at_place tables.steps.now (λ at. places_where (goes_ahead tables.steps.now at) (length tables.steps.now)) place
-  pub captured_ends : (place : ℕ) → slice_get tables.captured_ends.items place ≡ at_place tables.steps.now (λ at. last_below (λ step. ends_there at (kind_at tables.steps.now step)) (length tables.steps.now)) place
-  pub spans : (place : ℕ) → slice_get (map (λ row. row.items) tables.spans.items) place ≡ at_place tables.steps.now (λ at. spans_where tables.steps.now at (length tables.steps.now)) place
-  pub tests : AreRuns tables.steps.now (λ step. is_test (kind_at tables.steps.now step)) tables.tests
-  pub jumps : AreRuns tables.steps.now (λ step. is_unit (kind_at tables.steps.now step)) tables.jumps
+last_captured steps end = held_there (at_place steps (last_ending steps) end)

@@ -4,7 +4,7 @@ ghost use Rattle.std.specs.Prelude.{◌≡◌, ◌+◌, ◌-◌, ◌^◌, ◌<�
 ghost use Rattle.std.specs.List.Sorted.{IsNonDecreasing};
 ghost use Rattle.recover_expr.specs.declared.steps.Step.{Step};
 ghost use Rattle.recover_flow.specs.Asked.{any_between, begins_branches, block_at, closed_before, closes, closes_before, ends_captured, ends_there, goes_ahead, goes_back, is_exit_at, is_reached, is_this, jump_of, jumps_to, kind_at, last_back, last_below, leaves, length_at, lengths_after, lengths_before, number_before, run_before, run_behind, target_at, target_of, used};
-ghost use Rattle.recover_flow.specs.Tabled.{ahead_to, AreAll, AreRuns, AreTables, at_place, back_to, break_noted, captured_end, declared_of, ends_from, exit_of, IsCut, is_before, is_from, is_run, item_before, last_captured, last_noted, noted, NoneFrom, places_where, spans_where, starts_to};
+ghost use Rattle.recover_flow.specs.Tabled.{ahead_to, all_ahead, all_back, all_spans, AreAll, AreRuns, AreTables, at_place, back_to, break_noted, captured_end, declared_of, ends_from, exit_of, IsCut, is_before, is_from, is_run, item_before, last_captured, last_ending, last_noted, noted, NoneFrom, places_where, spans_where, starts_to};
 
 use crate::regions::{BlockAt, BodyAt, Exit, Piece};
 use recover_expr::{Step, StepKind};
@@ -159,11 +159,7 @@ fn next_start(run: Run, step: Step, place: usize, start: usize) -> usize
     requires { place + 1 < 2 ^ 64 }
     ensures { result ≡ (if is_run run (Some step.kind) then start else place + 1) }
 {
-    if run.has(step.kind) {
-        start
-    } else {
-        place + 1
-    }
+    if run.has(step.kind) { start } else { place + 1 }
 }
 
 fn ends(alloc: Global, steps: &[Step], run: Run) -> Result<Vec<usize>, AllocError>
@@ -211,7 +207,7 @@ fn note<T: Drop>(lists: &mut Vec<Vec<T>>, place: Option<usize>, item: T) -> Resu
 }
 
 fn back(alloc: Global, steps: &[Step]) -> Result<Vec<Vec<usize>>, AllocError>
-    ensures { IfOk result (λ rows. (place : ℕ) → slice_get (map (λ row. row.items) rows.items) place ≡ at_place steps.now (λ at. places_where (goes_back steps.now at) (length steps.now)) place) }
+    ensures { IfOk result (λ rows. (place : ℕ) → slice_get (map (λ row. row.items) rows.items) place ≡ at_place steps.now (all_back steps.now) place) }
 {
     let mut back = lists(alloc, steps)?;
     for (place, step) in steps.iter().enumerate() {
@@ -231,7 +227,7 @@ fn back_to(step: Step, place: usize) -> Option<usize>
 }
 
 fn ahead(alloc: Global, steps: &[Step]) -> Result<Vec<Vec<usize>>, AllocError>
-    ensures { IfOk result (λ rows. (place : ℕ) → slice_get (map (λ row. row.items) rows.items) place ≡ at_place steps.now (λ at. places_where (goes_ahead steps.now at) (length steps.now)) place) }
+    ensures { IfOk result (λ rows. (place : ℕ) → slice_get (map (λ row. row.items) rows.items) place ≡ at_place steps.now (all_ahead steps.now) place) }
 {
     let mut ahead = lists(alloc, steps)?;
     for (place, step) in steps.iter().enumerate() {
@@ -251,7 +247,7 @@ fn ahead_to(step: Step, place: usize) -> Option<usize>
 }
 
 fn spans(alloc: Global, steps: &[Step]) -> Result<Vec<Vec<Span>>, AllocError>
-    ensures { IfOk result (λ rows. (place : ℕ) → slice_get (map (λ row. row.items) rows.items) place ≡ at_place steps.now (λ at. spans_where steps.now at (length steps.now)) place) }
+    ensures { IfOk result (λ rows. (place : ℕ) → slice_get (map (λ row. row.items) rows.items) place ≡ at_place steps.now (all_spans steps.now) place) }
 {
     let mut spans = lists(alloc, steps)?;
     for (close, step) in steps.iter().enumerate() {
@@ -307,7 +303,7 @@ fn exit_of(steps: &[Step], close: usize, step: Step) -> Option<Exit>
 }
 
 fn captured_ends(alloc: Global, steps: &[Step]) -> Result<Vec<Option<usize>>, AllocError>
-    ensures { IfOk result (λ ends. (place : ℕ) → slice_get ends.items place ≡ at_place steps.now (λ at. last_below (λ step. ends_there at (kind_at steps.now step)) (length steps.now)) place) }
+    ensures { IfOk result (λ ends. (place : ℕ) → slice_get ends.items place ≡ at_place steps.now (last_ending steps.now) place) }
 {
     let mut last = vec![in alloc; None; steps.len() + 1]?;
     for (place, step) in steps.iter().enumerate() {
@@ -456,7 +452,7 @@ impl<'s> Tables<'s> {
     // The tests and jumps that go back to a place.
     fn jumps_back(&self, place: usize) -> &[usize]
         requires tabled { AreTables self.now }
-        ensures { result.now ≡ unwrap_or (at_place self.now.steps.now (λ at. places_where (goes_back self.now.steps.now at) (length self.now.steps.now)) place) [] }
+        ensures { result.now ≡ unwrap_or (at_place self.now.steps.now (all_back self.now.steps.now) place) [] }
     {
         match self.back.get(place) {
             Some(jumps) => jumps.as_slice(),
@@ -475,7 +471,7 @@ impl<'s> Tables<'s> {
     // The jumps forward to a place.
     fn jumps_ahead(&self, place: usize) -> &[usize]
         requires tabled { AreTables self.now }
-        ensures { result.now ≡ unwrap_or (at_place self.now.steps.now (λ at. places_where (goes_ahead self.now.steps.now at) (length self.now.steps.now)) place) [] }
+        ensures { result.now ≡ unwrap_or (at_place self.now.steps.now (all_ahead self.now.steps.now) place) [] }
     {
         match self.ahead.get(place) {
             Some(jumps) => jumps.as_slice(),
@@ -516,7 +512,7 @@ impl<'s> Tables<'s> {
     /// The breaks that close the locals of a declaration.
     pub fn spans(&self, declaration: usize) -> &[Span]
         requires tabled { AreTables self.now }
-        ensures { result.now ≡ unwrap_or (at_place self.now.steps.now (λ at. spans_where self.now.steps.now at (length self.now.steps.now)) declaration) [] }
+        ensures { result.now ≡ unwrap_or (at_place self.now.steps.now (all_spans self.now.steps.now) declaration) [] }
     {
         match self.spans.get(declaration) {
             Some(spans) => spans.as_slice(),

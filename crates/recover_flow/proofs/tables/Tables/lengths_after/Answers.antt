@@ -1,5 +1,3 @@
-use Rattle.std.proofs.Common.{ap, ◌∙◌, ℕ}
-use Rattle.recover_flow.specs.declared.tables.Lengths.{Lengths}
 use Rattle.recover_flow.specs.Asked.{is_test, is_unit, kind_at}
 use Rattle.recover_flow.proofs.Rows.{no_tests, no_units}
 use Rattle.recover_flow.proofs.tables.Tables.lengths_after.Goals as goal
