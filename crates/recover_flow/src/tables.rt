@@ -3,8 +3,8 @@
 ghost use Rattle.std.specs.Prelude.{◌≡◌, ◌+◌, ◌-◌, ◌^◌, ◌<◌, ℕ, Bool, min, List, [], length, map, replicate, slice_get, Some, option_map, option_and_then, unwrap_or, if◌then◌else◌, IfOk, OnOk};
 ghost use Rattle.std.specs.List.Sorted.{IsNonDecreasing};
 ghost use Rattle.recover_expr.specs.declared.steps.Step.{Step};
-ghost use Rattle.recover_flow.specs.Asked.{any_between, begins_branches, block_at, closed_before, closes, closes_before, ends_captured, ends_there, goes_ahead, goes_back, is_exit_at, is_reached, is_this, jump_of, jumps_to, kind_at, last_back, last_below, leaves, length_at, lengths_after, lengths_before, number_before, run_before, run_behind, target_at, target_of, used};
-ghost use Rattle.recover_flow.specs.Tabled.{ahead_to, all_ahead, all_back, all_spans, AreAll, AreRuns, AreTables, at_place, back_to, break_noted, captured_end, declared_of, ends_from, exit_of, IsCut, is_before, is_from, is_run, item_before, last_captured, last_ending, last_noted, noted, NoneFrom, places_where, spans_where, starts_to};
+ghost use Rattle.recover_flow.specs.Asked.{any_between, begins_branches, block_at, closed_before, closes, closes_before, ends_captured, is_exit_at, is_reached, is_this, jump_of, jumps_to, kind_at, last_back, last_below, leaves, length_at, lengths_after, lengths_before, number_before, run_before, run_behind, target_at, target_of, used};
+ghost use Rattle.recover_flow.specs.Tabled.{ahead_to, all_ahead, all_back, all_spans, AreAll, AreRuns, AreTables, at_place, back_to, break_noted, captured_end, declared_of, ends_from, exit_of, IsCut, is_before, is_from, is_run, item_before, last_captured, last_ending, last_noted, noted, NoneFrom, starts_to};
 
 use crate::regions::{BlockAt, BodyAt, Exit, Piece};
 use recover_expr::{Step, StepKind};
