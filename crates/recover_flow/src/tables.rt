@@ -47,7 +47,7 @@ pub fn test_target(step: Step) -> Option<usize>
     }
 }
 
-/// Whether it is a bare jump to this target.
+// Whether it is a bare jump to this target.
 fn is_jump(kind: StepKind, target: usize) -> bool
     ensures { result ≡ is_this (jump_of kind) target }
 {
@@ -155,6 +155,7 @@ fn starts(alloc: Global, steps: &[Step], run: Run) -> Result<Vec<usize>, AllocEr
     Ok(starts)
 }
 
+// Where the run begins that goes up to behind a step.
 fn next_start(run: Run, step: Step, place: usize, start: usize) -> usize
     requires { place + 1 < 2 ^ 64 }
     ensures { result ≡ (if is_run run (Some step.kind) then start else place + 1) }
@@ -176,6 +177,7 @@ fn ends(alloc: Global, steps: &[Step], run: Run) -> Result<Vec<usize>, AllocErro
     Ok(ends)
 }
 
+// And where the one ends that begins with it.
 fn next_end(run: Run, step: Step, place: usize, end: usize) -> usize
     ensures { result ≡ (if is_run run (Some step.kind) then end else place) }
 {
@@ -325,6 +327,7 @@ fn captured_end(step: Step) -> Option<usize>
     }
 }
 
+// Where captured locals end, the last declaration is this one.
 fn note_last(last: &mut Vec<Option<usize>>, end: Option<usize>, place: usize)
     ensures { (at : ℕ) → slice_get last.new.items at ≡ option_map (last_noted end place at) (slice_get last.old.items at) }
 {
@@ -350,6 +353,7 @@ fn last_number(numbers: &[usize], end: usize) -> Option<usize>
     item_before(numbers, count_below(numbers, end))
 }
 
+// The last of the first so many.
 fn item_before(numbers: &[usize], many: usize) -> Option<usize>
     ensures { result ≡ item_before numbers.now many }
 {
@@ -357,7 +361,7 @@ fn item_before(numbers: &[usize], many: usize) -> Option<usize>
     numbers.get(last).copied()
 }
 
-// Whether one of these numbers stands between others.
+// Whether one of these numbers is from one on, and below another.
 fn any_number(numbers: &[usize], from: usize, to: usize) -> bool
     ensures { (holds : ℕ → Bool) → AreAll numbers.now holds → result ≡ any_between holds from to }
 {
