@@ -7,14 +7,10 @@ mod ConditionJoins
 mod ConditionParts
 mod ConditionViews
 mod Failing
-mod Forming
-mod Growing
-mod Joinings
-mod Levels
-mod Looping
-mod Paths
-mod Pieces
-mod Remembered
-mod Separated
-mod Starts
-mod Telling
+pub mod Numbers
+pub mod Paths
+pub mod PieceTurns
+pub mod Rows
+pub mod SideBySide
+pub mod Spans
+pub mod Telling

@@ -1,16 +1,21 @@
 -- Serves a body. The pieces of a body: it is cut where no jump, no local and no CLOSE goes across.
-use Rattle.std.specs.Prelude.{◌==◌, ◌&&◌, ◌||◌, ◌+◌, ◌-◌, ◌^◌, not, ℕ, zero, suc, max, min, Bool, true, false, nat_le, nat_lt, List, [], ◌∷◌, Option, None, Some, slice_get, option_map, option_and_then, if◌then◌else◌}
+use Rattle.std.specs.Prelude.{◌==◌, ◌&&◌, ◌+◌, ◌-◌, ◌^◌, not, ℕ, zero, suc, max, min, Bool, false, nat_le, nat_lt, List, [], ◌∷◌, ◌++◌, Option, None, Some, slice_get, option_map, option_and_then, if◌then◌else◌}
 use Rattle.recover_expr.specs.declared.steps.Step.{Step}
 use Rattle.recover_expr.specs.declared.steps.StepKind.{StepKind}
 use Rattle.recover_flow.specs.declared.cuts.Reach.{Reach}
 use Rattle.recover_flow.specs.declared.regions.BodyAt.{BodyAt}
 use Rattle.recover_flow.specs.declared.regions.Exit.{Exit}
 use Rattle.recover_flow.specs.declared.regions.Piece.{Piece}
-use Rattle.recover_flow.specs.Asked.{is_closed, last_back, leaves}
+use Rattle.recover_flow.specs.declared.tables.Span.{Span}
+use Rattle.recover_flow.specs.Asked.{is_closed, is_other, last_back, leaves}
 
 -- so many further, where 64 bits count it
 abbrev pub further : (by place : ℕ) → ℕ
 further by place = min (place + by) (2 ^ 64 - 1)
+
+-- a break of another loop stands in a body
+abbrev pub is_of_other : BodyAt → Span → Bool
+is_of_other at span = nat_lt span.close at.to && is_other at.exit (Some span.exit)
 
 -- ---- how far a piece reaches
 
@@ -86,14 +91,15 @@ ends_behind place reach = reach.far == (place + 1)
 abbrev pub begun_behind : (place : ℕ) → Reach → Reach
 begun_behind place reach = if ends_behind place reach then record reach { begin = reach.far } else reach
 
-abbrev pub cut_behind : (place : ℕ) → Reach → List Piece → List Piece
-cut_behind place reach pieces = if ends_behind place reach then record { from = reach.begin; to = reach.far } ∷ pieces else pieces
+-- and this one has been
+abbrev pub cut_behind : (place : ℕ) → Reach → List Piece
+cut_behind place reach = if ends_behind place reach then record { from = reach.begin; to = reach.far } ∷ [] else []
 
 -- the pieces that end behind so many steps from a place on
 abbrev pub pieces_from : List Step → BodyAt → (count place : ℕ) → Reach → Option (List Piece)
 pieces_from steps at zero place reach = Some []
 pieces_from steps at (suc count) place reach =
-    option_and_then (λ behind. option_map (cut_behind place behind) (pieces_from steps at count (place + 1) (begun_behind place behind))) (behind_place steps at place reach)
+    option_and_then (λ behind. option_map (λ rest. cut_behind place behind ++ rest) (pieces_from steps at count (place + 1) (begun_behind place behind))) (behind_place steps at place reach)
 
 -- the statements of a body; None where something goes past its end, or a jump back before its piece
 abbrev pub pieces_of : List Step → BodyAt → Option (List Piece)

@@ -1,4 +1,6 @@
 // Where parts of a function stand, as numbers of its steps: `from` is the first step of a part, and `to` the one behind it.
+ghost use Rattle.std.specs.Prelude.{◌≡◌};
+ghost use Rattle.recover_flow.specs.Asked.{is_single, plain_body};
 
 /// Where a break goes, and from which register on it closes locals.
 #[derive(Clone, Copy, Debug, PartialEq, Eq, Hash)]
@@ -50,14 +52,18 @@ pub struct Piece {
 
 impl Piece {
     /// Whether it is one step.
-    pub fn is_single(self) -> bool {
+    pub fn is_single(self) -> bool
+        ensures { result ≡ is_single self }
+    {
         self.to.checked_sub(1) == Some(self.from)
     }
 }
 
 impl BodyAt {
     /// A body to whose end its locals go, and none of them is captured.
-    pub fn plain(from: usize, to: usize, exit: Option<Exit>) -> Self {
+    pub fn plain(from: usize, to: usize, exit: Option<Exit>) -> Self
+        ensures { result ≡ plain_body from to exit }
+    {
         Self {
             from,
             to,
