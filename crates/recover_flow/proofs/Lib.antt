@@ -7,10 +7,19 @@ mod ConditionJoins
 mod ConditionParts
 mod ConditionViews
 mod Failing
-pub mod Numbers
-pub mod Paths
-pub mod PieceTurns
-pub mod Rows
-pub mod SideBySide
-pub mod Spans
-pub mod Telling
+mod Forming
+mod Growing
+mod Joinings
+mod Levels
+mod Looping
+mod Numbers
+mod Paths
+mod PieceTurns
+mod Pieces
+mod Remembered
+mod Rows
+mod Separated
+mod SideBySide
+mod Spans
+mod Starts
+mod Telling

@@ -1,4 +1,6 @@
+pub mod Arms
 pub mod Asked
+pub mod Conditions
 pub mod Cutting
 pub mod Debug
 pub mod Forms
