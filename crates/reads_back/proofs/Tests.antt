@@ -1,5 +1,6 @@
 -- Tests that hold together.
-use Rattle.std.proofs.Common.{◌≡◌, Bool, true, false, refl}
+use Rattle.std.proofs.Common.{◌≡◌, ℕ, ◌<◌, nat_lt, nat_le, Bool, true, false, refl, arith}
+use Rattle.std.proofs.lemmas.Bool.Decides.{nat_tests}
 use Rattle.std.specs.Prelude.{◌&&◌}
 
 pub first_of_both : (a b : Bool) → (a && b) ≡ true → a ≡ true
@@ -9,3 +10,9 @@ first_of_both false b both = both
 pub second_of_both : (a b : Bool) → (a && b) ≡ true → b ≡ true
 second_of_both true b both = both
 second_of_both false b both = cc
+
+pub not_below : (m n : ℕ) → m < n → nat_le n m ≡ false
+not_below m n below = grind (arith, nat_tests)
+
+pub not_more : (n : ℕ) → nat_lt n n ≡ false
+not_more n = grind (arith, nat_tests)

@@ -1,0 +1,90 @@
+-- What a value of a step is read as, and what is written of it.
+use Rattle.std.proofs.Common.{◌≡◌, ℕ, ◌+◌, ◌*◌, ◌≤◌, true, false, List, [], ◌∷◌, ◌++◌, length, Option, None, max, Bool, refl}
+use Rattle.lua_tree.specs.OneLine.{one_line_expression, one_line_expressions}
+use Rattle.lua_tree.specs.Syntax as syntax
+use Rattle.lua_tree.specs.Syntax.{Expressions, no_expressions, Expression}
+use Rattle.core_expr.specs.Making.{depth_of, deepest}
+use Rattle.core_expr.specs.Places.{Place, place}
+use Rattle.core_expr.specs.Values.{Value, Values, no_values, and_value, Inner}
+use Rattle.core_expr.specs.Writing.{can_write, can_write_values, word, word_values, is_multiple}
+use Rattle.recover_expr.specs.Assigning.{function_number}
+use Rattle.recover_expr.specs.Declaring.{expression_count}
+use Rattle.recover_expr.specs.Entries.{Entries, value_entry}
+use Rattle.recover_expr.specs.Lists.{value_count}
+use Rattle.recover_expr.specs.Locals.{Scope}
+use Rattle.recover_expr.specs.Situation.{Function, Situation, place_in_step}
+use Rattle.scheme.specs.declared.making.Active.{Active}
+use Rattle.scheme_stands.specs.Words.{Fn, Spot}
+use Rattle.scheme_stands.specs.Relation.{related}
+use Rattle.reads_back.proofs.Reaches.{Reaches}
+use Rattle.reads_back.proofs.ValueWords.{next_free}
+use Rattle.reads_back.proofs.WordsRead.{IsFunction, IsQuiet}
+
+-- ---- what is known behind words
+
+-- the same locals are declared and active; which are captured may change
+pub record SameLocals (before behind : Scope) : Type 0 where
+  pub declared : length behind.declared ≡ length before.declared
+  pub active : behind.active ≡ before.active
+
+pub same_locals : (scope : Scope) → SameLocals scope scope
+same_locals scope = record { declared = refl; active = refl }
+
+-- behind words that took constants and captured locals, with these entries more
+abbrev pub behind_words : (scope : Scope) → (seen : ℕ) → (more : Entries) → Situation → Situation
+behind_words scope seen more s = record s { scope = scope; entries = s.entries ++ more; seen = seen }
+
+-- ---- how values are written, where so many constants are taken and these functions are left
+
+pub record IsWritten (at : Place) (n : ℕ) (left : List (Option Inner)) (v : Value) (e : Expression) (levels : ℕ) : Type 0 where
+  pub can : can_write at left v ≡ true
+  pub words : (word at n left v).words ≡ one_line_expression e
+  pub few : (word at n left v).levels ≤ levels
+
+pub record AreWritten (at : Place) (n : ℕ) (left : List (Option Inner)) (values : Values) (es : Expressions) (levels : ℕ) : Type 0 where
+  pub can : can_write_values at left values ≡ true
+  pub words : (word_values at n left values false).words ≡ one_line_expressions es
+  pub few : (word_values at n left values false).levels ≤ levels
+
+-- ---- one value
+
+-- the value is one only, and no function; a call of one constructor is two values for one level
+pub record IsPlainValue (v : Value) (levels : ℕ) : Type 0 where
+  pub single : is_multiple v ≡ false
+  pub no_function : function_number v ≡ None
+  pub shallow : depth_of v ≤ 2 * levels
+
+-- a value that is written as this expression comes to the next free register
+pub record Gives (f : Function) (e : Expression) (levels : ℕ) (s : Situation) (first last : ℕ) : Type 0 where
+  pub value : Value
+  pub scope : Scope
+  pub seen : ℕ
+  pub same : SameLocals s.scope scope
+  pub reaches : Reaches f first s last (behind_words scope seen (value_entry value ∷ []) s)
+  pub written : (n : ℕ) (left : List (Option Inner)) → IsWritten (place_in_step f s) n left value e levels
+  pub plain : IsPlainValue value levels
+
+-- where its words stand
+pub record IsValueRead (f : Function) (g : Fn) (active : List Active) (levels : ℕ) (e : Expression) : Type 0 where
+  pub forward : (free r : ℕ) (p q : Spot) → (related g e).to_reg active free r p q → p.pc ≤ q.pc
+  pub gives : (free : ℕ) (p q : Spot) (s : Situation) → s.base ≡ length active → free ≡ next_free s → IsQuiet f s.scope p.pc q.pc → (related g e).to_reg active free free p q → Gives f e levels s p.pc q.pc
+
+-- ---- several values
+
+abbrev pub entries_of : Values → Entries
+entries_of no_values = []
+entries_of (and_value v values) = value_entry v ∷ entries_of values
+
+abbrev pub AreValuesRead : Function → Fn → List Active → (levels : ℕ) → Expressions → Type 0
+AreValuesRead f g active levels no_expressions = Unit {0}
+AreValuesRead f g active levels (syntax.expression e es) = IsValueRead f g active levels e × AreValuesRead f g active levels es
+
+pub record AllGiven (f : Function) (es : Expressions) (levels : ℕ) (s : Situation) (first last : ℕ) : Type 0 where
+  pub values : Values
+  pub scope : Scope
+  pub seen : ℕ
+  pub same : SameLocals s.scope scope
+  pub reaches : Reaches f first s last (behind_words scope seen (entries_of values) s)
+  pub written : (n : ℕ) (left : List (Option Inner)) → AreWritten (place_in_step f s) n left values es levels
+  pub shallow : deepest values ≤ 2 * levels
+  pub count : value_count values ≡ expression_count es
