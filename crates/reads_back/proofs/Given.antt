@@ -1,8 +1,11 @@
 -- What a value of a step is read as, and what is written of it.
-use Rattle.std.proofs.Common.{◌≡◌, ℕ, ◌+◌, ◌*◌, ◌≤◌, true, false, List, [], ◌∷◌, ◌++◌, length, Option, None, max, Bool, refl}
+use Rattle.std.proofs.Common.{◌≡◌, ℕ, ◌+◌, ◌*◌, ◌≤◌, true, false, List, [], ◌∷◌, ◌++◌, length, Option, None, max, Bool, refl, ap, ◌∙◌, drop}
+use Rattle.std.specs.List.{prefix_len}
+use Rattle.std.specs.Prelude.{◌==◌}
 use Rattle.lua_tree.specs.OneLine.{one_line_expression, one_line_expressions}
 use Rattle.lua_tree.specs.Syntax as syntax
 use Rattle.lua_tree.specs.Syntax.{Expressions, no_expressions, Expression}
+use Rattle.proto.specs.declared.parts.LocVar.{LocVar}
 use Rattle.core_expr.specs.Making.{depth_of, deepest}
 use Rattle.core_expr.specs.Places.{Place, place}
 use Rattle.core_expr.specs.Values.{Value, Values, no_values, and_value, Inner}
@@ -29,6 +32,15 @@ pub record SameLocals (before behind : Scope) : Type 0 where
 
 pub same_locals : (scope : Scope) → SameLocals scope scope
 same_locals scope = record { declared = refl; active = refl }
+
+pub same_then : {scope mid behind : Scope} → SameLocals scope mid → SameLocals mid behind → SameLocals scope behind
+same_then one more = record { declared = more.declared ∙ one.declared; active = more.active ∙ one.active }
+
+pub quiet_same : {f : Function} {scope behind : Scope} {first last : ℕ} → SameLocals scope behind → IsQuiet f scope first last → IsQuiet f behind first last
+quiet_same {f} same quiet = record {
+  none = λ pc from below. ap (λ n. prefix_len (λ (local : LocVar). local.start == pc) (drop n f.of.locals)) same.declared ∙ quiet.none pc from below;
+  within = quiet.within;
+}
 
 -- behind words that took constants and captured locals, with these entries more
 abbrev pub behind_words : (scope : Scope) → (seen : ℕ) → (more : Entries) → Situation → Situation

@@ -5,3 +5,4 @@ pub mod WordsRead
 pub mod ValueWords
 pub mod Given
 pub mod Literals
+pub mod ValueLists

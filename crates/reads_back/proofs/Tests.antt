@@ -16,3 +16,11 @@ not_below m n below = grind (arith, nat_tests)
 
 pub not_more : (n : ℕ) → nat_lt n n ≡ false
 not_more n = grind (arith, nat_tests)
+
+pub both_hold : (a b : Bool) → a ≡ true → b ≡ true → (a && b) ≡ true
+both_hold true b first second = second
+both_hold false b first second = cc
+
+pub and_not : (a : Bool) → (a && false) ≡ false
+and_not true = refl
+and_not false = refl
