@@ -6,3 +6,5 @@ pub mod ValueWords
 pub mod Given
 pub mod Literals
 pub mod ValueLists
+pub mod TakenEntries
+pub mod CallsMade
