@@ -60,7 +60,7 @@ call_made w s before on args c =
 
 -- ---- what is written of it
 
-more_at_most : (n : ℕ) → one_more n ≤ suc n
+pub more_at_most : (n : ℕ) → one_more n ≤ suc n
 more_at_most n = omega arith
 
 natural_list : (short all : Bool) (only : Option ArgumentWording) (ws : Wordings) → short ≡ false → as_arguments (short && all) only ws ≡ as_list ws

@@ -8,3 +8,6 @@ pub mod Literals
 pub mod ValueLists
 pub mod TakenEntries
 pub mod CallsMade
+pub mod Acts
+pub mod CallParts
+pub mod CallStatements

@@ -57,6 +57,14 @@ none_given f levels s p q same = record {
   count = refl;
 }
 
+-- one value, and others behind it
+pub gives_then : {f : Function} {e : Expression} {es : Expressions} {levels first mid last : ℕ} {s : Situation} (one : Gives f e levels s first mid) (rest : AllGiven f es levels (behind_words one.scope one.seen (value_entry one.value ∷ []) s) mid last) →
+    Reaches f first s last (behind_words rest.scope rest.seen (value_entry one.value ∷ entries_of rest.values) s)
+gives_then {f} {mid = mid} {last = last} {s = s} one rest =
+    reaches_then one.reaches
+    (subst (λ (entries : Entries). Reaches f mid (behind_words one.scope one.seen (value_entry one.value ∷ []) s) last (record s { scope = rest.scope; entries = entries; seen = rest.seen }))
+    (append_assoc s.entries (value_entry one.value ∷ []) (entries_of rest.values)) rest.reaches)
+
 more_given : {f : Function} {e : Expression} {es : Expressions} {levels first mid last : ℕ} {s : Situation} (one : Gives f e levels s first mid) → AllGiven f es levels (behind_words one.scope one.seen (value_entry one.value ∷ []) s) mid last →
     AllGiven f (syntax.expression e es) levels s first last
 more_given {f} {e} {es} {levels} {first} {mid} {last} {s} one rest = record {
@@ -64,10 +72,7 @@ more_given {f} {e} {es} {levels} {first} {mid} {last} {s} one rest = record {
   scope = rest.scope;
   seen = rest.seen;
   same = same_then one.same rest.same;
-  reaches =
-      reaches_then one.reaches
-      (subst (λ (entries : Entries). Reaches f mid (behind_words one.scope one.seen (value_entry one.value ∷ []) s) last (record s { scope = rest.scope; entries = entries; seen = rest.seen }))
-      (append_assoc s.entries (value_entry one.value ∷ []) (entries_of rest.values)) rest.reaches);
+  reaches = gives_then one rest;
   written = λ n left.
       more_written (place_in_step f s) n left one.value rest.values e es levels one.plain.single (one.written n left)
       (subst (λ (active : List ℕ). AreWritten (place f.of active f.short) (taken_behind one.value n) (left_by one.value left) rest.values es levels) one.same.active

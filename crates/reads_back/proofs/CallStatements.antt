@@ -1,0 +1,87 @@
+-- The words of a call that is a statement are read as that statement.
+use Rattle.std.proofs.Common.{◌≡◌, ℕ, suc, ◌+◌, ◌*◌, ◌<◌, ◌≤◌, max, true, false, List, [], ◌∷◌, ◌++◌, length, Option, Some, None, refl, sym, ap, ◌∙◌, subst, arith}
+use Rattle.std.specs.Prelude.{option_map, option_and_then, if◌then◌else◌}
+use Rattle.lua_tree.specs.OneLine.{one_line_expression, one_line_statement}
+use Rattle.lua_tree.specs.Syntax.{Expressions, Expression, call_expression, argument_list, Statement, call_statement}
+use Rattle.opcode.specs.declared.op.Op.{Op}
+use Rattle.core_expr.specs.Counting.{one_more, taken_behind, left_by}
+use Rattle.core_expr.specs.Making.{depth_of, deepest}
+use Rattle.core_expr.specs.Places.{place}
+use Rattle.core_expr.specs.Values.{Value, Values}
+use Rattle.core_expr.specs.Writing.{Wording, word}
+use Rattle.recover_expr.specs.Declaring.{expression_count}
+use Rattle.recover_expr.specs.Drafts.{Drafted, drafted, ends, statement_part}
+use Rattle.recover_expr.specs.Entries.{Entries, value_entry}
+use Rattle.recover_expr.specs.Situation.{Function, Situation, place_in_step, with_left}
+use Rattle.recover_expr.specs.Words.{as_end, call, call_ended, call_made}
+use Rattle.recover_expr.specs.declared.draft.DraftKind.{DraftKind}
+use Rattle.recover_expr.specs.declared.function.Word.{Word}
+use Rattle.scheme.specs.Expressions.{count_field}
+use Rattle.scheme.specs.declared.making.Piece.{Piece}
+use Rattle.scheme.specs.declared.making.Active.{Active}
+use Rattle.scheme_stands.specs.Relation.{related, given_rel}
+use Rattle.scheme_stands.specs.Words.{Fn, Spot, WordAt}
+use Rattle.reads_back.proofs.Acts.{Acts, last_word}
+use Rattle.reads_back.proofs.CallParts.{CallGiven, IsClosedCall, call_count, call_parts}
+use Rattle.reads_back.proofs.CallsMade.{CallsBy, call_of, call_made as made_by, call_written, more_at_most}
+use Rattle.reads_back.proofs.Given.{behind_words, IsWritten, entries_of, quiet_same}
+use Rattle.reads_back.proofs.Reaches.{Reaches}
+use Rattle.reads_back.proofs.ValueWords.{next_free}
+use Rattle.reads_back.proofs.WordsRead.{IsFunction, IsQuiet, word_of, abc_is_read}
+
+-- the value of a call with nothing below it, behind the call
+abbrev pub after_call : Value → Situation → Situation
+after_call v s = with_left (left_by v s.left) (record s { entries = [] })
+
+abbrev pub call_draft : (f : Function) → (next : ℕ) → Value → Situation → Drafted
+call_draft f next v s =
+    let w = word (place_in_step f s) s.taken s.left v in
+    drafted DraftKind.Act next (one_more w.levels) (statement_part (call_statement w.words)) s
+
+call_ends : (f : Function) (pc r b : ℕ) (s : Situation) (on : Value) (args : Values) (e : Expression) (levels : ℕ) → CallsBy (word_of pc (Piece.Abc Op.Call r b 1)) s [] on args →
+    IsWritten (place_in_step f s) s.taken s.left (call_of on args) e levels → call f (word_of pc (Piece.Abc Op.Call r b 1)) s ≡ Some (ends (call_draft f (suc pc) (call_of on args) s), after_call (call_of on args) s)
+call_ends f pc r b s on args e levels by written =
+    let w = word_of pc (Piece.Abc Op.Call r b 1) in
+    let v = call_of on args in
+    let wrote : Wording × ℕ × Situation = (word (place_in_step f s) s.taken s.left v, taken_behind v s.taken, after_call v s) in
+    ap (option_and_then (call_made f w)) (made_by w s [] on args by) ∙ ap (λ can. option_map as_end (option_map (call_ended w) (if can then Some wrote else None))) written.can
+
+module _ (f : Function) (g : Fn) (active : List Active) (levels : ℕ) (e : Expression) (es : Expressions) (i : IsFunction f g) (c : IsClosedCall f g active levels e es) where
+  statement_acts : (line on_line : ℕ) (p q last : Spot) (s : Situation) (parts : CallGiven f e es levels s p.pc last.pc) → s.base ≡ length active → s.entries ≡ [] → IsQuiet f s.scope p.pc q.pc →
+      WordAt g (Piece.Abc Op.Call (length active) (suc (expression_count es)) 1) last q → Acts f s p.pc q.pc (call_statement (one_line_expression (call_expression line e (argument_list es) on_line))) (suc (suc levels))
+  statement_acts line on_line p q last s parts base empty quiet at =
+      let t = behind_words parts.scope parts.seen (value_entry parts.on ∷ entries_of parts.args) s in
+      let v = call_of parts.on parts.args in
+      let w = word_of last.pc (Piece.Abc Op.Call (length active) (suc (expression_count es)) 1) in
+      let by : CallsBy w t [] parts.on parts.args = record {
+        entries = ap (λ entries. entries ++ (value_entry parts.on ∷ entries_of parts.args)) empty;
+        register = omega arith;
+        counts = ap suc (sym parts.count);
+        shallow = omega (arith, parts.shallow, c.shallow);
+      } in
+      let is_written : IsWritten (place_in_step f s) s.taken s.left v (call_expression line e (argument_list es) on_line) (suc levels) =
+          call_written (place_in_step f s) s.taken s.left parts.on parts.args (suc (max (depth_of parts.on) (deepest parts.args))) levels line on_line e es i.natural c.prefix
+          (parts.called s.taken s.left) (parts.given (taken_behind parts.on s.taken) (left_by parts.on s.left)) in
+      let written : IsWritten (place_in_step f t) s.taken s.left v (call_expression line e (argument_list es) on_line) (suc levels) =
+          subst (λ (active : List ℕ). IsWritten (place f.of active f.short) s.taken s.left v (call_expression line e (argument_list es) on_line) (suc levels)) (sym parts.same.active) is_written in
+      record {
+        draft = call_draft f (suc last.pc) v t;
+        behind = after_call v t;
+        reads = last_word (call_draft f (suc last.pc) v t) i parts.reaches (quiet_same parts.same quiet) at (abc_is_read i at) (call_ends f last.pc (length active) (suc (expression_count es)) t parts.on parts.args _ _ by written);
+        kind = refl;
+        pc = refl;
+        next = sym at.next;
+        base = refl;
+        innermost = refl;
+        part = ap (λ words. statement_part (call_statement words)) written.words;
+        few = omega (arith, more_at_most (word (place_in_step f t) s.taken s.left v).levels, written.few);
+        same = parts.same;
+      }
+
+  pub call_acts : (line on_line : ℕ) (p q : Spot) (s : Situation) → s.base ≡ length active → s.entries ≡ [] → IsQuiet f s.scope p.pc q.pc → (related g (call_expression line e (argument_list es) on_line)).multi active (length active) Op.Call (Some 0) p q →
+      Acts f s p.pc q.pc (call_statement (one_line_expression (call_expression line e (argument_list es) on_line))) (suc (suc levels))
+  call_acts line on_line p q s base empty quiet at =
+      let next : length active ≡ next_free s = omega (arith, ap length empty) in
+      let count = call_count f g active levels e es c (expression_count es) refl in
+      statement_acts line on_line p q at.last s (call_parts f g active levels e es c (length active) Op.Call (Some 0) p q s base next quiet at) base empty quiet
+      (subst (λ (b : ℕ). WordAt g (Piece.Abc Op.Call (length active) b 1) at.last q) count at.word)
