@@ -11,3 +11,4 @@ pub mod CallsMade
 pub mod Acts
 pub mod CallParts
 pub mod CallStatements
+pub mod GlobalStores
