@@ -12,3 +12,4 @@ pub mod Acts
 pub mod CallParts
 pub mod CallStatements
 pub mod GlobalStores
+pub mod GlobalAssignments

@@ -94,7 +94,7 @@ false_read {f} active line i = record {
 
 -- ---- constants that are loaded
 
-constant_there : {f : Function} {g : Fn} (number : ℕ) (k : Constant) → IsFunction f g → slice_get g.constants number ≡ Some k → slice_get f.of.constants number ≡ Some k
+pub constant_there : {f : Function} {g : Fn} (number : ℕ) (k : Constant) → IsFunction f g → slice_get g.constants number ≡ Some k → slice_get f.of.constants number ≡ Some k
 constant_there number k i is = ap (λ constants. slice_get constants number) i.constants ∙ is
 
 constant_written : (at : Place) (n : ℕ) (left : List (Option Inner)) (number : ℕ) (k : Constant) (e : Expression) → constant_at at number ≡ Some k → (literal k).words ≡ one_line_expression e → (literal k).levels ≤ 1 →
