@@ -1,5 +1,6 @@
 -- Words that are read as one step, which is an act.
-use Rattle.std.proofs.Common.{◌≡◌, ℕ, suc, ◌+◌, ◌<◌, ◌≤◌, ◌++◌, List, [], ◌∷◌, Option, Some, None, ap, ◌∙◌, arith}
+use Rattle.std.proofs.Common.{◌≡◌, ℕ, suc, ◌+◌, ◌<◌, ◌≤◌, ◌++◌, List, [], ◌∷◌, Option, Some, None, ap, ◌∙◌, arith, inl, inr}
+use Rattle.std.proofs.lemmas.Bool.Decides.{leb_tells}
 use Rattle.std.specs.Prelude.{option_and_then}
 use Rattle.lua_tree.specs.Syntax.{Statement}
 use Rattle.core_expr.specs.Counting.{one_more}
@@ -39,3 +40,8 @@ last_word {f} {g} {w} {p} {q} {first} {s} {t} {behind} draft i reaches quiet at 
     let later : p.pc < q.pc = omega (arith, at.next) in
     let turn = turn_there p.pc t quiet (reaches_on reaches) later (word_there i at read (omega (arith, quiet.within))) in
     step_ends draft count reaches (turn ∙ ends_turn f (word_of p.pc w) draft t behind does) (omega (arith, at.next))
+
+-- there is a word
+pub acts_on : {f : Function} {s : Situation} {first last levels : ℕ} {statement : Statement} → Acts f s first last statement levels → first < last
+acts_on {f} {s} {first} {last} acts =
+    elim (leb_tells last first) [ inl before ↦ let none = acts.reads 0 (omega (arith, before.1)) in cc | inr behind ↦ behind.1 ]

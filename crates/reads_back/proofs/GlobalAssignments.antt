@@ -82,9 +82,9 @@ assigned g text e active p q only stands at =
 -- ---- how they are read
 
 module _ (f : Function) (g : Fn) (active : List Active) (levels : ℕ) (text : Text) (e : Expression) (i : IsFunction f g) (reads : IsValueRead f g active levels e) (some : 1 ≤ levels) (named : is_name text ≡ true) where
-  store_acts : (line : ℕ) (p q : Spot) (s : Situation) (a : IsAssigned g text e active p q) (one : Gives f e levels s a.begun.pc a.mid.pc) → s.base ≡ length active → s.entries ≡ [] → IsQuiet f s.scope a.begun.pc q.pc →
+  store_acts : (p q : Spot) (s : Situation) (a : IsAssigned g text e active p q) (one : Gives f e levels s a.begun.pc a.mid.pc) → s.base ≡ length active → s.entries ≡ [] → IsQuiet f s.scope a.begun.pc q.pc →
       Acts f s a.begun.pc q.pc (assignment (expression (name_expression 1 text) no_expressions) (expression (one_line_expression e) no_expressions)) (suc levels)
-  store_acts line p q s a one base empty quiet =
+  store_acts p q s a one base empty quiet =
       let v = one.value in
       let number = a.store.number in
       let w = word_of a.mid.pc (Piece.Abx Op.SetGlobal (length active) number) in
@@ -110,12 +110,17 @@ module _ (f : Function) (g : Fn) (active : List Active) (levels : ℕ) (text : T
         same = one.same;
       }
 
-  pub assignment_acts : (line : ℕ) (p q : Spot) (s : Situation) → OnlyGlobals g active → StandsNext g active e → s.base ≡ length active → s.entries ≡ [] → IsQuiet f s.scope p.pc q.pc → AssignAt g (rel_name g text ∷ []) (related g e ∷ []) active p q →
+  pub assignment_forward : (p q : Spot) → OnlyGlobals g active → StandsNext g active e → AssignAt g (rel_name g text ∷ []) (related g e ∷ []) active p q → p.pc ≤ q.pc
+  assignment_forward p q only stands at =
+      let a = assigned g text e active p q only stands at in
+      omega (arith, a.same, reads.forward (length active) (length active) a.begun a.mid a.value, a.store.word.next)
+
+  pub assignment_acts : (p q : Spot) (s : Situation) → OnlyGlobals g active → StandsNext g active e → s.base ≡ length active → s.entries ≡ [] → IsQuiet f s.scope p.pc q.pc → AssignAt g (rel_name g text ∷ []) (related g e ∷ []) active p q →
       Acts f s p.pc q.pc (assignment (expression (name_expression 1 text) no_expressions) (expression (one_line_expression e) no_expressions)) (suc levels)
-  assignment_acts line p q s only stands base empty quiet at =
+  assignment_acts p q s only stands base empty quiet at =
       let a = assigned g text e active p q only stands at in
       let from = subst (λ (pc : ℕ). IsQuiet f s.scope pc q.pc) (sym a.same) quiet in
       let next : length active ≡ next_free s = omega (arith, ap length empty) in
       let one = reads.gives (length active) a.begun a.mid s base next (quiet_before a.mid.pc (omega (arith, a.store.word.next)) from) a.value in
       subst (λ (pc : ℕ). Acts f s pc q.pc (assignment (expression (name_expression 1 text) no_expressions) (expression (one_line_expression e) no_expressions)) (suc levels)) a.same
-      (store_acts line p q s a one base empty from)
+      (store_acts p q s a one base empty from)

@@ -13,3 +13,4 @@ pub mod CallParts
 pub mod CallStatements
 pub mod GlobalStores
 pub mod GlobalAssignments
+pub mod FlatStatements

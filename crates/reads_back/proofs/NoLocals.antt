@@ -15,7 +15,7 @@ use Rattle.scheme.specs.Functions.{empty_maker}
 use Rattle.scheme.specs.Statements.{Loop, set_where, store_register, store, clashes, copies, each_stored}
 use Rattle.scheme.specs.Scheme.{scheme, ahead_of, statements_made, statement_made, coded, all_coded}
 use Rattle.scheme.specs.Shapes.{Flat, is_bare_name, is_simple, are_simple, is_flat_call, is_flat_statement, are_flat}
-use Rattle.reads_back.proofs.Tests.{first_of_both, second_of_both}
+use Rattle.reads_back.proofs.Tests.{first_of_both, second_of_both, not_so}
 
 -- nothing is active or listed
 abbrev Bare : Maker → Type 0
@@ -45,7 +45,7 @@ value_keeps (false_literal line) simple r m bare = bare
 value_keeps (number_literal line n) simple r m bare = bare
 value_keeps (text_literal line text) simple r m bare = bare
 value_keeps (name_expression line text) simple r m bare = read_keeps line r text (next_name m) (pass_name m) bare
-value_keeps e simple r m bare = cc
+value_keeps e simple r m bare = not_so simple
 
 several_keep : (e : Expression) → is_simple e ≡ true → (op : Op) (want : Want) → Keeps ((coded e).multi op want)
 several_keep (nil_literal line) simple op want m bare = bare
@@ -54,7 +54,7 @@ several_keep (false_literal line) simple op want m bare = bare
 several_keep (number_literal line n) simple op want m bare = bare
 several_keep (text_literal line text) simple op want m bare = bare
 several_keep (name_expression line text) simple op want m bare = bare
-several_keep e simple op want m bare = cc
+several_keep e simple op want m bare = not_so simple
 
 next_keeps : (e : Expression) → is_simple e ≡ true → Keeps (next_reg (coded e))
 next_keeps e simple m bare = value_keeps e simple m.free m bare
@@ -105,7 +105,7 @@ assign_keeps line (name_expression at text) e named simple loop m bare =
     subst (λ (count : ℕ). Bare (each_stored line (copies line count parts (pass_name m)).value (coded e ∷ []) (copies line count parts (pass_name m)).after))
     (ap length (sym bare.0))
     (store_keeps line text (next_name m) e simple (pass_name m) bare)
-assign_keeps line target e named simple loop m bare = cc
+assign_keeps line target e named simple loop m bare = not_so named
 
 -- ---- calls, and statements
 
@@ -115,14 +115,14 @@ call_keeps line (call_expression at on (argument_list es) on_line) flat loop m b
   where
     name_is_simple : (e : Expression) → is_bare_name e ≡ true → is_simple e ≡ true
     name_is_simple (name_expression line name) named = refl
-    name_is_simple e named = cc
-call_keeps line e flat loop m bare = cc
+    name_is_simple e named = not_so named
+call_keeps line e flat loop m bare = not_so flat
 
 statement_keeps : (line : ℕ) (s : Statement) → is_flat_statement s ≡ true → (loop : Option Loop) → Keeps (statement_made s line loop)
 statement_keeps line (assignment (syntax.expression target no_expressions) (syntax.expression e no_expressions)) flat loop m bare =
     assign_keeps line target e (first_of_both _ _ flat) (second_of_both _ _ flat) loop m bare
 statement_keeps line (call_statement e) flat loop m bare = call_keeps line e flat loop m bare
-statement_keeps line s flat loop m bare = cc
+statement_keeps line s flat loop m bare = not_so flat
 
 statements_keep : (block : Statements) → are_flat block ≡ true → (loop : Option Loop) → Keeps (statements_made block loop)
 statements_keep no_statements flat loop m bare = bare

@@ -24,3 +24,6 @@ both_hold false b first second = cc
 pub and_not : (a : Bool) → (a && false) ≡ false
 and_not true = refl
 and_not false = refl
+
+pub not_so : {A : Type 0} → false ≡ true → A
+not_so is = absurd cc
