@@ -14,3 +14,5 @@ pub mod CallStatements
 pub mod GlobalStores
 pub mod GlobalAssignments
 pub mod FlatStatements
+pub mod StepsRead
+pub mod StepsPlaced
