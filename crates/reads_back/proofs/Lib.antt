@@ -16,3 +16,5 @@ pub mod GlobalAssignments
 pub mod FlatStatements
 pub mod StepsRead
 pub mod StepsPlaced
+pub mod FlatBlocks
+pub mod FlatSources
