@@ -1,20 +1,18 @@
 -- Words that are read as one step, which is an act.
-use Rattle.std.proofs.Common.{◌≡◌, ℕ, suc, ◌+◌, ◌<◌, ◌≤◌, ◌++◌, List, [], ◌∷◌, Option, Some, None, ap, ◌∙◌, arith, inl, inr}
+use Rattle.std.proofs.Common.{◌≡◌, ℕ, ◌+◌, ◌<◌, ◌≤◌, Some, ap, ◌∙◌, arith, inl, inr}
 use Rattle.std.proofs.lemmas.Bool.Decides.{leb_tells}
 use Rattle.std.specs.Prelude.{option_and_then}
 use Rattle.lua_tree.specs.Syntax.{Statement}
-use Rattle.core_expr.specs.Counting.{one_more}
-use Rattle.recover_expr.specs.Drafts.{Drafted, Part, ends, statement_part}
-use Rattle.recover_expr.specs.Reading.{over, read_word, turned, turn_at, turn_of, words_from}
+use Rattle.recover_expr.specs.Drafts.{Drafted, ends, statement_part}
+use Rattle.recover_expr.specs.Reading.{over, read_word, turned, turn_of, words_from}
 use Rattle.recover_expr.specs.Situation.{Function, Situation, see}
-use Rattle.recover_expr.specs.Writing.{ended}
 use Rattle.recover_expr.specs.declared.draft.DraftKind.{DraftKind}
 use Rattle.recover_expr.specs.declared.function.Word.{Word}
 use Rattle.scheme.specs.declared.making.Piece.{Piece}
 use Rattle.scheme_stands.specs.Words.{Fn, Spot, WordAt, IsRead}
 use Rattle.reads_back.proofs.Given.{SameLocals}
 use Rattle.reads_back.proofs.Reaches.{Reaches, reaches_on, step_ends}
-use Rattle.reads_back.proofs.WordsRead.{IsFunction, IsQuiet, quiet_from, word_of, word_there, turn_there}
+use Rattle.reads_back.proofs.WordsRead.{IsFunction, IsQuiet, word_of, word_there, turn_there}
 
 -- the words from one pc up to another are read as this statement, which needs so many levels at most
 pub record Acts (f : Function) (s : Situation) (first last : ℕ) (statement : Statement) (levels : ℕ) : Type 0 where
@@ -36,9 +34,9 @@ ends_turn f w draft s behind does = ap (option_and_then (λ p. turned f w p.1 p.
 -- the last word of a step
 pub last_word : {f : Function} {g : Fn} {w : Piece} {p q : Spot} {first : ℕ} {s t behind : Situation} (draft : Drafted) → IsFunction f g → Reaches f first s p.pc t → IsQuiet f t.scope first q.pc → WordAt g w p q → IsRead p.pc w →
     read_word f (word_of p.pc w) (see (word_of p.pc w).instr t) ≡ Some (ends draft, behind) → (count : ℕ) → q.pc ≤ count + first → words_from f count first s ≡ Some (draft, behind)
-last_word {f} {g} {w} {p} {q} {first} {s} {t} {behind} draft i reaches quiet at read does count few =
+last_word {f} {g} {w} {p} {q} {first} {s} {t} {behind} draft is_function reaches quiet at read does count few =
     let later : p.pc < q.pc = omega (arith, at.next) in
-    let turn = turn_there p.pc t quiet (reaches_on reaches) later (word_there i at read (omega (arith, quiet.within))) in
+    let turn = turn_there p.pc t quiet (reaches_on reaches) later (word_there is_function at read (omega (arith, quiet.within))) in
     step_ends draft count reaches (turn ∙ ends_turn f (word_of p.pc w) draft t behind does) (omega (arith, at.next))
 
 -- there is a word

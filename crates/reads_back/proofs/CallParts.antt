@@ -1,40 +1,29 @@
 -- A function and its arguments, in the registers of a call.
-use Rattle.std.proofs.Common.{◌≡◌, ℕ, suc, ◌+◌, ◌*◌, ◌<◌, ◌≤◌, max, true, false, cond, Bool, List, [], ◌∷◌, ◌++◌, length, length-append, append_assoc, Option, Some, None, refl, sym, ap, ◌∙◌, subst, arith}
+use Rattle.std.proofs.Common.{◌≡◌, ℕ, suc, ◌+◌, ◌*◌, ◌<◌, ◌≤◌, max, true, false, cond, Bool, List, [], ◌∷◌, length, length-append, Option, Some, None, refl, ap, ◌∙◌, subst, arith}
 use Rattle.std.proofs.Math.Nat.{max-le}
-use Rattle.std.specs.Prelude.{option_map, option_and_then, if◌then◌else◌}
-use Rattle.lua_tree.specs.OneLine.{one_line_expression, one_line_statement}
+use Rattle.lua_tree.specs.OneLine.{one_line_expression}
 use Rattle.lua_tree.specs.Syntax as syntax
 use Rattle.lua_tree.specs.Syntax.{Expressions, no_expressions, Expression, call_expression, argument_list, call_statement}
 use Rattle.lua_tree.specs.WellFormed.{is_prefix}
 use Rattle.opcode.specs.declared.op.Op.{Op}
-use Rattle.core_expr.specs.Counting.{one_more, taken_behind, left_by}
 use Rattle.core_expr.specs.Making.{depth_of, deepest}
 use Rattle.core_expr.specs.Places.{place}
 use Rattle.core_expr.specs.Values.{Value, Values, Inner}
-use Rattle.core_expr.specs.Writing.{Wording, can_write, word}
 use Rattle.recover_expr.specs.Declaring.{expression_count}
-use Rattle.recover_expr.specs.Drafts.{Drafted, ends, statement_part}
-use Rattle.recover_expr.specs.Entries.{Entries, value_entry}
+use Rattle.recover_expr.specs.Entries.{value_entry}
 use Rattle.recover_expr.specs.Lists.{value_count}
 use Rattle.recover_expr.specs.Locals.{Scope}
-use Rattle.recover_expr.specs.Reading.{words_from}
-use Rattle.recover_expr.specs.Situation.{Function, Situation, place_in_step, with_left}
-use Rattle.recover_expr.specs.Words.{as_end, call, call_ended, call_made}
-use Rattle.recover_expr.specs.declared.function.Word.{Word}
+use Rattle.recover_expr.specs.Situation.{Function, Situation, place_in_step}
 use Rattle.scheme.specs.Expressions.{count_field}
-use Rattle.scheme.specs.declared.making.Piece.{Piece}
 use Rattle.scheme.specs.declared.making.Active.{Active}
-use Rattle.scheme_stands.specs.Lists.{AllNextAt, OpenBy, CallAt, rels_open, rels_count}
+use Rattle.scheme_stands.specs.Lists.{AllNextAt, OpenBy, CallAt, rels_open}
 use Rattle.scheme_stands.specs.Relation.{related, all_related, given_rel}
-use Rattle.scheme_stands.specs.Words.{Fn, Spot, WordAt}
-use Rattle.reads_back.proofs.Acts.{Acts, last_word}
-use Rattle.reads_back.proofs.CallsMade.{CallsBy, call_of, call_written, more_at_most}
-use Rattle.reads_back.proofs.CallsMade as made
+use Rattle.scheme_stands.specs.Words.{Fn, Spot}
 use Rattle.reads_back.proofs.Given.{SameLocals, same_then, quiet_same, behind_words, IsWritten, AreWritten, Gives, IsValueRead, AreValuesRead, AllGiven, entries_of}
-use Rattle.reads_back.proofs.Reaches.{Reaches, reaches_then}
+use Rattle.reads_back.proofs.Reaches.{Reaches}
 use Rattle.reads_back.proofs.ValueLists.{list_forward, list_gives, gives_then}
 use Rattle.reads_back.proofs.ValueWords.{next_free}
-use Rattle.reads_back.proofs.WordsRead.{IsFunction, IsQuiet, quiet_before, quiet_from, word_of, abc_is_read}
+use Rattle.reads_back.proofs.WordsRead.{IsQuiet, quiet_before, quiet_from}
 
 -- a function with its arguments, in the registers of a call
 pub record CallGiven (f : Function) (e : Expression) (es : Expressions) (levels : ℕ) (s : Situation) (first last : ℕ) : Type 0 where
@@ -76,29 +65,29 @@ pub record IsClosedCall (f : Function) (g : Fn) (active : List Active) (levels :
   pub prefix : is_prefix (one_line_expression e) ≡ true
   pub shallow : 2 * levels < 400
 
-module _ (f : Function) (g : Fn) (active : List Active) (levels : ℕ) (e : Expression) (es : Expressions) (c : IsClosedCall f g active levels e es) where
+module _ (f : Function) (g : Fn) (active : List Active) (levels : ℕ) (e : Expression) (es : Expressions) (closed : IsClosedCall f g active levels e es) where
   args_at : (free : ℕ) (p q : Spot) → (given_rel g (argument_list es)).part active free p q → AllNextAt g (all_related g es) active free p q
-  args_at free p q at = subst (λ (is_open : Bool). OpenBy is_open g (all_related g es) active free p q) c.closed at
+  args_at free p q at = subst (λ (is_open : Bool). OpenBy is_open g (all_related g es) active free p q) closed.closed at
 
   pub call_forward : (free : ℕ) (op : Op) (want : Option ℕ) (p q : Spot) → CallAt g (related g e) (given_rel g (argument_list es)) active free op want p q → p.pc ≤ q.pc
   call_forward free op want p q at =
-      omega (arith, c.on.forward free free p at.mid at.on_at, list_forward f g active levels es c.given (free + 1) at.mid at.last (args_at (free + 1) at.mid at.last at.given_at), at.word.next)
+      omega (arith, closed.on.forward free free p at.mid at.on_at, list_forward f g active levels es closed.given (free + 1) at.mid at.last (args_at (free + 1) at.mid at.last at.given_at), at.word.next)
 
   pub call_parts : (free : ℕ) (op : Op) (want : Option ℕ) (p q : Spot) (s : Situation) → s.base ≡ length active → free ≡ next_free s → IsQuiet f s.scope p.pc q.pc → (at : CallAt g (related g e) (given_rel g (argument_list es)) active free op want p q) →
       CallGiven f e es levels s p.pc at.last.pc
   call_parts free op want p q s base is quiet at =
       let args = args_at (free + 1) at.mid at.last at.given_at in
-      let on = c.on.forward free free p at.mid at.on_at in
-      let back = list_forward f g active levels es c.given (free + 1) at.mid at.last args in
+      let on = closed.on.forward free free p at.mid at.on_at in
+      let back = list_forward f g active levels es closed.given (free + 1) at.mid at.last args in
       let before = quiet_before at.last.pc (omega (arith, at.word.next)) quiet in
-      let one = c.on.gives free p at.mid s base is (quiet_before at.mid.pc back before) at.on_at in
+      let one = closed.on.gives free p at.mid s base is (quiet_before at.mid.pc back before) at.on_at in
       let t = behind_words one.scope one.seen (value_entry one.value ∷ []) s in
       let next : free + 1 ≡ next_free t = omega (arith, length-append s.entries (value_entry one.value ∷ [])) in
-      parts_given one (list_gives f g active levels es c.given (free + 1) at.mid at.last t base next (quiet_same one.same (quiet_from at.mid.pc on before)) args)
+      parts_given one (list_gives f g active levels es closed.given (free + 1) at.mid at.last t base next (quiet_same one.same (quiet_from at.mid.pc on before)) args)
 
   -- as many as the word counts
   pub call_count : (n : ℕ) → n ≡ expression_count es → count_field 1 (given_rel g (argument_list es)).count ≡ suc n
-  call_count n is = ap (λ (is_open : Bool). count_field 1 (cond is_open None (Some (length (all_related g es))))) c.closed ∙ counted
+  call_count n is = ap (λ (is_open : Bool). count_field 1 (cond is_open None (Some (length (all_related g es))))) closed.closed ∙ counted
     where
       counted : length (all_related g es) + 1 ≡ suc n
       counted = omega (arith, related_count g es)

@@ -1,8 +1,8 @@
 -- The words of a call that is a statement are read as that statement.
-use Rattle.std.proofs.Common.{◌≡◌, ℕ, suc, ◌+◌, ◌*◌, ◌<◌, ◌≤◌, max, true, false, List, [], ◌∷◌, ◌++◌, length, Option, Some, None, refl, sym, ap, ◌∙◌, subst, arith}
+use Rattle.std.proofs.Common.{◌≡◌, ℕ, suc, max, List, [], ◌∷◌, ◌++◌, length, Some, None, refl, sym, ap, ◌∙◌, subst, arith}
 use Rattle.std.specs.Prelude.{option_map, option_and_then, if◌then◌else◌}
-use Rattle.lua_tree.specs.OneLine.{one_line_expression, one_line_statement}
-use Rattle.lua_tree.specs.Syntax.{Expressions, Expression, call_expression, argument_list, Statement, call_statement}
+use Rattle.lua_tree.specs.OneLine.{one_line_expression}
+use Rattle.lua_tree.specs.Syntax.{Expressions, Expression, call_expression, argument_list, call_statement}
 use Rattle.opcode.specs.declared.op.Op.{Op}
 use Rattle.core_expr.specs.Counting.{one_more, taken_behind, left_by}
 use Rattle.core_expr.specs.Making.{depth_of, deepest}
@@ -11,21 +11,18 @@ use Rattle.core_expr.specs.Values.{Value, Values}
 use Rattle.core_expr.specs.Writing.{Wording, word}
 use Rattle.recover_expr.specs.Declaring.{expression_count}
 use Rattle.recover_expr.specs.Drafts.{Drafted, drafted, ends, statement_part}
-use Rattle.recover_expr.specs.Entries.{Entries, value_entry}
+use Rattle.recover_expr.specs.Entries.{value_entry}
 use Rattle.recover_expr.specs.Situation.{Function, Situation, place_in_step, with_left}
 use Rattle.recover_expr.specs.Words.{as_end, call, call_ended, call_made}
 use Rattle.recover_expr.specs.declared.draft.DraftKind.{DraftKind}
-use Rattle.recover_expr.specs.declared.function.Word.{Word}
-use Rattle.scheme.specs.Expressions.{count_field}
 use Rattle.scheme.specs.declared.making.Piece.{Piece}
 use Rattle.scheme.specs.declared.making.Active.{Active}
-use Rattle.scheme_stands.specs.Relation.{related, given_rel}
+use Rattle.scheme_stands.specs.Relation.{related}
 use Rattle.scheme_stands.specs.Words.{Fn, Spot, WordAt}
 use Rattle.reads_back.proofs.Acts.{Acts, last_word}
 use Rattle.reads_back.proofs.CallParts.{CallGiven, IsClosedCall, call_count, call_parts}
 use Rattle.reads_back.proofs.CallsMade.{CallsBy, call_of, call_made as made_by, call_written, more_at_most}
 use Rattle.reads_back.proofs.Given.{behind_words, IsWritten, entries_of, quiet_same}
-use Rattle.reads_back.proofs.Reaches.{Reaches}
 use Rattle.reads_back.proofs.ValueWords.{next_free}
 use Rattle.reads_back.proofs.WordsRead.{IsFunction, IsQuiet, word_of, abc_is_read}
 
@@ -46,7 +43,7 @@ call_ends f pc r b s on args e levels by written =
     let wrote : Wording × ℕ × Situation = (word (place_in_step f s) s.taken s.left v, taken_behind v s.taken, after_call v s) in
     ap (option_and_then (call_made f w)) (made_by w s [] on args by) ∙ ap (λ can. option_map as_end (option_map (call_ended w) (if can then Some wrote else None))) written.can
 
-module _ (f : Function) (g : Fn) (active : List Active) (levels : ℕ) (e : Expression) (es : Expressions) (i : IsFunction f g) (c : IsClosedCall f g active levels e es) where
+module _ (f : Function) (g : Fn) (active : List Active) (levels : ℕ) (e : Expression) (es : Expressions) (is_function : IsFunction f g) (closed : IsClosedCall f g active levels e es) where
   statement_acts : (line on_line : ℕ) (p q last : Spot) (s : Situation) (parts : CallGiven f e es levels s p.pc last.pc) → s.base ≡ length active → s.entries ≡ [] → IsQuiet f s.scope p.pc q.pc →
       WordAt g (Piece.Abc Op.Call (length active) (suc (expression_count es)) 1) last q → Acts f s p.pc q.pc (call_statement (one_line_expression (call_expression line e (argument_list es) on_line))) (suc (suc levels))
   statement_acts line on_line p q last s parts base empty quiet at =
@@ -57,17 +54,17 @@ module _ (f : Function) (g : Fn) (active : List Active) (levels : ℕ) (e : Expr
         entries = ap (λ entries. entries ++ (value_entry parts.on ∷ entries_of parts.args)) empty;
         register = omega arith;
         counts = ap suc (sym parts.count);
-        shallow = omega (arith, parts.shallow, c.shallow);
+        shallow = omega (arith, parts.shallow, closed.shallow);
       } in
       let is_written : IsWritten (place_in_step f s) s.taken s.left v (call_expression line e (argument_list es) on_line) (suc levels) =
-          call_written (place_in_step f s) s.taken s.left parts.on parts.args (suc (max (depth_of parts.on) (deepest parts.args))) levels line on_line e es i.natural c.prefix
-          (parts.called s.taken s.left) (parts.given (taken_behind parts.on s.taken) (left_by parts.on s.left)) in
+      call_written (place_in_step f s) s.taken s.left parts.on parts.args (suc (max (depth_of parts.on) (deepest parts.args))) levels line on_line e es is_function.natural closed.prefix
+      (parts.called s.taken s.left) (parts.given (taken_behind parts.on s.taken) (left_by parts.on s.left)) in
       let written : IsWritten (place_in_step f t) s.taken s.left v (call_expression line e (argument_list es) on_line) (suc levels) =
-          subst (λ (active : List ℕ). IsWritten (place f.of active f.short) s.taken s.left v (call_expression line e (argument_list es) on_line) (suc levels)) (sym parts.same.active) is_written in
+      subst (λ (active : List ℕ). IsWritten (place f.of active f.short) s.taken s.left v (call_expression line e (argument_list es) on_line) (suc levels)) (sym parts.same.active) is_written in
       record {
         draft = call_draft f (suc last.pc) v t;
         behind = after_call v t;
-        reads = last_word (call_draft f (suc last.pc) v t) i parts.reaches (quiet_same parts.same quiet) at (abc_is_read i at) (call_ends f last.pc (length active) (suc (expression_count es)) t parts.on parts.args _ _ by written);
+        reads = last_word (call_draft f (suc last.pc) v t) is_function parts.reaches (quiet_same parts.same quiet) at (abc_is_read is_function at) (call_ends f last.pc (length active) (suc (expression_count es)) t parts.on parts.args _ _ by written);
         kind = refl;
         pc = refl;
         next = sym at.next;
@@ -82,6 +79,6 @@ module _ (f : Function) (g : Fn) (active : List Active) (levels : ℕ) (e : Expr
       Acts f s p.pc q.pc (call_statement (one_line_expression (call_expression line e (argument_list es) on_line))) (suc (suc levels))
   call_acts line on_line p q s base empty quiet at =
       let next : length active ≡ next_free s = omega (arith, ap length empty) in
-      let count = call_count f g active levels e es c (expression_count es) refl in
-      statement_acts line on_line p q at.last s (call_parts f g active levels e es c (length active) Op.Call (Some 0) p q s base next quiet at) base empty quiet
+      let count = call_count f g active levels e es closed (expression_count es) refl in
+      statement_acts line on_line p q at.last s (call_parts f g active levels e es closed (length active) Op.Call (Some 0) p q s base next quiet at) base empty quiet
       (subst (λ (b : ℕ). WordAt g (Piece.Abc Op.Call (length active) b 1) at.last q) count at.word)

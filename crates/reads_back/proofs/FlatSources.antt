@@ -1,23 +1,19 @@
 -- The chunk of a flat source is read as its statements.
-use Rattle.std.proofs.Common.{◌≡◌, ℕ, suc, ◌+◌, ◌-◌, ◌^◌, ◌<◌, ◌≤◌, eqb, nat_le, true, false, Bool, List, [], ◌∷◌, ◌++◌, length, take, Option, Some, None, refl, sym, ap, ap₂, ◌∙◌, subst, subst₂, arith, le-leb, if◌then◌else◌}
-use Rattle.std.specs.List.{AllByRecursion, list_all}
+use Rattle.std.proofs.Common.{◌≡◌, ℕ, ◌-◌, ◌^◌, ◌<◌, true, false, Bool, List, [], length, Option, Some, None, refl, sym, ap, ◌∙◌, subst, arith, le-leb, if◌then◌else◌}
 use Rattle.std.specs.Prelude.{◌==◌, option_and_then, option_map, slice_get}
 use Rattle.lua_num.specs.Bytes.{Text}
 use Rattle.lua_tree.specs.Resolved.{resolved}
 use Rattle.lua_tree.specs.Scoping.{Scoped}
 use Rattle.lua_tree.specs.Syntax.{Source}
 use Rattle.lua_tree.specs.WellFormed.{WellFormed}
-use Rattle.opcode.specs.declared.op.Op.{Op}
 use Rattle.opcode.specs.Reading.{instr_of}
 use Rattle.proto.specs.Chunk.{Own, Chunk, function, SameButLines, no_lines, own}
-use Rattle.proto.specs.Short.{HasShortLists, IsShort}
-use Rattle.proto.specs.declared.parts.LocVar.{LocVar}
 use Rattle.core_expr.specs.Values.{Inner}
 use Rattle.recover_expr.specs.Drafts.{Part}
 use Rattle.recover_expr.specs.Items.{is_so}
-use Rattle.recover_expr.specs.Locals.{Scope, all_end, declare, starting, highest_captured, names_from}
+use Rattle.recover_expr.specs.Locals.{all_end, declare, starting, highest_captured, names_from}
 use Rattle.recover_expr.specs.Placing.{Steps, numbers_of, placed}
-use Rattle.recover_expr.specs.Reading.{ReadSoFar, all_declared, as_function, drafts_from, ends_code, function_steps, left_at, params_declared, read_drafts, read_params, read_steps, steps_of, with_params}
+use Rattle.recover_expr.specs.Reading.{as_function, ends_code, function_steps, left_at, params_declared, read_params, read_steps, steps_of, with_params}
 use Rattle.recover_expr.specs.Situation.{Function, Situation, at_first, is_return}
 use Rattle.scheme.specs.Making.{Ahead, Where, in_register, in_upvalue, in_globals}
 use Rattle.scheme.specs.Scheme.{scheme, ahead_of, Fits}
@@ -26,13 +22,13 @@ use Rattle.scheme.specs.declared.making.Active.{Active}
 use Rattle.scheme.specs.declared.making.Local.{Local}
 use Rattle.scheme_stands.specs.Functions.{Activated, FunctionAt}
 use Rattle.scheme_stands.specs.Relation.{MainAt, StatementsAt}
-use Rattle.scheme_stands.specs.Words.{Law, Names, Fn, Means, Spot, fn}
+use Rattle.scheme_stands.specs.Words.{Names, Means, fn}
 use Rattle.reads_back.specs.Flat.{IsReadAs, FlatSourcesAreRead, flat_parts}
 use Rattle.reads_back.proofs.FlatBlocks.{block_read}
 use Rattle.reads_back.proofs.Literals.{OnlyGlobals}
 use Rattle.reads_back.proofs.NoLocals.{no_locals}
 use Rattle.reads_back.proofs.StepsPlaced.{as_many, acts_of, flat_placed, flat_steps, parts_of}
-use Rattle.reads_back.proofs.StepsRead.{StepsRead, none_active, none_start}
+use Rattle.reads_back.proofs.StepsRead.{StepsRead, none_start}
 use Rattle.reads_back.proofs.WordsRead.{IsFunction, abc_is_read}
 
 abbrev pub no_names : Names
@@ -46,9 +42,6 @@ NamesStand = (source : Source) (name : Text) → WellFormed source → Scoped so
 
 own_of_same : (c d : Chunk) → SameButLines c d → no_lines (own c) ≡ no_lines (own d)
 own_of_same (function f inner) (function g others) same = ap own same
-
-has_short : (c : Chunk) → IsShort c → HasShortLists (own c)
-has_short (function f inner) short = short.0
 
 -- in a main chunk where no local is active all names mean globals
 main_globals : (c : Chunk) → OnlyGlobals (fn (Some (no_names)) c) []
@@ -86,7 +79,7 @@ is_read_as source f s steps =
 
 -- ---- the whole
 
-module _ (source : Source) (chunk made : Chunk) (behind : Ahead) (flat : Flat source) (formed : WellFormed source) (same : SameButLines chunk made) (short : IsShort chunk) (none : (own made).locals ≡ [])
+module _ (source : Source) (chunk made : Chunk) (behind : Ahead) (flat : Flat source) (formed : WellFormed source) (same : SameButLines chunk made) (short : length (own chunk).code < 2 ^ 32) (none : (own made).locals ≡ [])
     (at : FunctionAt (Some no_names) [] true (λ g. StatementsAt g None source.body) (ahead_of (resolved source)) behind made) where
   f : Function
   f = as_function chunk false (length (own chunk).code - 1)
@@ -106,7 +99,7 @@ module _ (source : Source) (chunk made : Chunk) (behind : Ahead) (flat : Flat so
     code = ap (λ (own : Own). own.code) same_own;
     constants = ap (λ (own : Own). own.constants) same_own;
     natural = refl;
-    short = omega (arith, (has_short chunk short).code);
+    short = omega (arith, short);
   }
 
   no_listed : f.of.locals ≡ []
@@ -137,10 +130,11 @@ module _ (source : Source) (chunk made : Chunk) (behind : Ahead) (flat : Flat so
 
   pub is_read : (steps : Steps) × (read_steps chunk [] false ≡ Some steps) × IsReadAs source steps
   unfolding f
-  is_read =
-      (record { params = []; steps = acts_of (highest_captured read.behind.scope) read.more; parts = parts_of read.more },
-        ap (λ ends. if ends then function_steps [] f else None) ends ∙ steps_read f [] (flat_parts source.body) takes_none no_listed read,
-        is_read_as source f (left_at f 0 (at_first [])) read)
+  is_read = (
+    record { params = []; steps = acts_of (highest_captured read.behind.scope) read.more; parts = parts_of read.more },
+    ap (λ ends. if ends then function_steps [] f else None) ends ∙ steps_read f [] (flat_parts source.body) takes_none no_listed read,
+    is_read_as source f (left_at f 0 (at_first [])) read,
+  )
 
 pub flat_sources_read : NamesStand → FlatSourcesAreRead
 flat_sources_read stand source name chunk formed scoped fits flat same short =

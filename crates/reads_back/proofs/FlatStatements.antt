@@ -1,15 +1,14 @@
 -- The statements of flat sources are read one by one, where all names mean globals.
-use Rattle.std.proofs.Common.{◌≡◌, ℕ, suc, ◌+◌, ◌<◌, ◌≤◌, true, false, ◌&&◌, List, [], ◌∷◌, length, Option, Some, None, refl, sym, ap, ◌∙◌, subst, arith, le_refl}
+use Rattle.std.proofs.Common.{◌≡◌, ℕ, ◌≤◌, true, false, List, [], ◌∷◌, length, Option, Some, None, refl, ap, arith, le_refl}
 use Rattle.lua_num.specs.Bytes.{Text}
 use Rattle.lua_tree.specs.Names.{is_name}
-use Rattle.lua_tree.specs.OneLine.{one_line_expression, one_line_statement}
+use Rattle.lua_tree.specs.OneLine.{one_line_statement}
 use Rattle.lua_tree.specs.Syntax as syntax
 use Rattle.lua_tree.specs.Syntax.{Statement, assignment, call_statement, Expressions, no_expressions, Expression, nil_literal, true_literal, false_literal, number_literal, text_literal, name_expression, call_expression, argument_list}
-use Rattle.lua_tree.specs.WellFormed.{formed_expression, formed_expressions, formed_statement, is_prefix}
+use Rattle.lua_tree.specs.WellFormed.{formed_expression, formed_expressions, formed_statement}
 use Rattle.opcode.specs.declared.op.Op.{Op}
 use Rattle.recover_expr.specs.Situation.{Function, Situation}
 use Rattle.scheme.specs.Expressions.{register_of}
-use Rattle.scheme.specs.Making.{Where, in_globals}
 use Rattle.scheme.specs.Shapes.{is_bare_name, is_simple, are_simple, is_flat_call, is_flat_statement}
 use Rattle.scheme.specs.declared.making.Active.{Active}
 use Rattle.scheme_stands.specs.Expressions.{NextAt, OperandBy}
@@ -31,16 +30,16 @@ pub record IsActRead (f : Function) (active : List Active) (s : Statement) (p q 
   pub forward : p.pc ≤ q.pc
   pub acts : (now : Situation) → now.base ≡ length active → now.entries ≡ [] → IsQuiet f now.scope p.pc q.pc → Acts f now p.pc q.pc (one_line_statement s) 3
 
-module _ (f : Function) (g : Fn) (active : List Active) (i : IsFunction f g) (only : OnlyGlobals g active) where
+module _ (f : Function) (g : Fn) (active : List Active) (is_function : IsFunction f g) (only : OnlyGlobals g active) where
   -- ---- simple expressions
 
   simple_read : (e : Expression) → is_simple e ≡ true → formed_expression e ≡ true → IsValueRead f g active 1 e
-  simple_read (nil_literal line) simple formed = nil_read active line i
-  simple_read (true_literal line) simple formed = true_read active line i
-  simple_read (false_literal line) simple formed = false_read active line i
-  simple_read (number_literal line n) simple formed = number_read active line n formed i
-  simple_read (text_literal line text) simple formed = text_read active line text i
-  simple_read (name_expression line text) simple formed = global_read line text formed only i
+  simple_read (nil_literal line) simple formed = nil_read active line is_function
+  simple_read (true_literal line) simple formed = true_read active line is_function
+  simple_read (false_literal line) simple formed = false_read active line is_function
+  simple_read (number_literal line n) simple formed = number_read active line n formed is_function
+  simple_read (text_literal line text) simple formed = text_read active line text is_function
+  simple_read (name_expression line text) simple formed = global_read line text formed only is_function
   simple_read e simple formed = not_so simple
 
   all_read : (es : Expressions) → are_simple es ≡ true → formed_expressions es ≡ true → AreValuesRead f g active 1 es
@@ -80,7 +79,7 @@ module _ (f : Function) (g : Fn) (active : List Active) (i : IsFunction f g) (on
   -- ---- statements
 
   flat_closed : (line : ℕ) (text : Text) (es : Expressions) → is_name text ≡ true → are_simple es ≡ true → formed_expressions es ≡ true → IsClosedCall f g active 1 (name_expression line text) es
-  flat_closed line text es named simple formed = record { on = global_read line text named only i; given = all_read es simple formed; closed = all_closed es simple; prefix = refl; shallow = omega arith }
+  flat_closed line text es named simple formed = record { on = global_read line text named only is_function; given = all_read es simple formed; closed = all_closed es simple; prefix = refl; shallow = omega arith }
 
   named_call_read : (line on_line : ℕ) (on : Expression) (es : Expressions) (p q : Spot) → is_bare_name on ≡ true → are_simple es ≡ true → formed_statement (call_statement (call_expression line on (argument_list es) on_line)) ≡ true →
       (related g (call_expression line on (argument_list es) on_line)).multi active (length active) Op.Call (Some 0) p q → IsActRead f active (call_statement (call_expression line on (argument_list es) on_line)) p q
@@ -88,7 +87,7 @@ module _ (f : Function) (g : Fn) (active : List Active) (i : IsFunction f g) (on
       let closed = flat_closed at text es (first_of_both _ _ formed) simple (second_of_both _ _ (second_of_both _ _ formed)) in
       record {
         forward = call_forward f g active 1 (name_expression at text) es closed (length active) Op.Call (Some 0) p q stands;
-        acts = λ now base empty quiet. call_acts f g active 1 (name_expression at text) es i closed line on_line p q now base empty quiet stands;
+        acts = λ now base empty quiet. call_acts f g active 1 (name_expression at text) es is_function closed line on_line p q now base empty quiet stands;
       }
   named_call_read line on_line on es p q named simple formed stands = not_so named
 
@@ -105,8 +104,8 @@ module _ (f : Function) (g : Fn) (active : List Active) (i : IsFunction f g) (on
       let reads : IsValueRead f g active 1 e = simple_read e simple (first_of_both _ _ (second_of_both _ _ formed)) in
       let next = simple_next e simple in
       record {
-        forward = assignment_forward f g active 1 text e i reads (le_refl 1) good p q only next stands.part_at;
-        acts = λ now base empty quiet. weaker (assignment_acts f g active 1 text e i reads (le_refl 1) good p q now only next base empty quiet stands.part_at);
+        forward = assignment_forward f g active 1 text e is_function reads (le_refl 1) good p q only next stands.part_at;
+        acts = λ now base empty quiet. weaker (assignment_acts f g active 1 text e is_function reads (le_refl 1) good p q now only next base empty quiet stands.part_at);
       }
     where
       weaker : {now : Situation} {first last : ℕ} {s : Statement} → Acts f now first last s 2 → Acts f now first last s 3

@@ -1,5 +1,5 @@
 -- What a value of a step is read as, and what is written of it.
-use Rattle.std.proofs.Common.{◌≡◌, ℕ, ◌+◌, ◌*◌, ◌≤◌, true, false, List, [], ◌∷◌, ◌++◌, length, Option, None, max, Bool, refl, ap, ◌∙◌, drop}
+use Rattle.std.proofs.Common.{◌≡◌, ℕ, ◌*◌, ◌≤◌, true, false, List, [], ◌∷◌, ◌++◌, length, Option, None, refl, ap, ◌∙◌, drop}
 use Rattle.std.specs.List.{prefix_len}
 use Rattle.std.specs.Prelude.{◌==◌}
 use Rattle.lua_tree.specs.OneLine.{one_line_expression, one_line_expressions}
@@ -7,7 +7,7 @@ use Rattle.lua_tree.specs.Syntax as syntax
 use Rattle.lua_tree.specs.Syntax.{Expressions, no_expressions, Expression}
 use Rattle.proto.specs.declared.parts.LocVar.{LocVar}
 use Rattle.core_expr.specs.Making.{depth_of, deepest}
-use Rattle.core_expr.specs.Places.{Place, place}
+use Rattle.core_expr.specs.Places.{Place}
 use Rattle.core_expr.specs.Values.{Value, Values, no_values, and_value, Inner}
 use Rattle.core_expr.specs.Writing.{can_write, can_write_values, word, word_values, is_multiple}
 use Rattle.recover_expr.specs.Assigning.{function_number}
@@ -21,7 +21,7 @@ use Rattle.scheme_stands.specs.Words.{Fn, Spot}
 use Rattle.scheme_stands.specs.Relation.{related}
 use Rattle.reads_back.proofs.Reaches.{Reaches}
 use Rattle.reads_back.proofs.ValueWords.{next_free}
-use Rattle.reads_back.proofs.WordsRead.{IsFunction, IsQuiet}
+use Rattle.reads_back.proofs.WordsRead.{IsQuiet}
 
 -- ---- what is known behind words
 

@@ -1,20 +1,19 @@
 -- The words of an assignment of one value to the name of a global are read as that statement.
-use Rattle.std.proofs.Common.{◌≡◌, ℕ, zero, suc, ◌+◌, ◌<◌, ◌≤◌, max, true, false, List, [], ◌∷◌, ◌++◌, length, Option, Some, None, refl, sym, ap, ap₂, ◌∙◌, subst, subst₂, arith}
+use Rattle.std.proofs.Common.{◌≡◌, ℕ, zero, suc, ◌≤◌, max, true, List, [], ◌∷◌, ◌++◌, length, refl, sym, ap, ap₂, ◌∙◌, subst, subst₂, arith}
 use Rattle.std.specs.Prelude.{option_map}
 use Rattle.lua_num.specs.Bytes.{Text}
 use Rattle.lua_tree.specs.Names.{is_name}
 use Rattle.lua_tree.specs.OneLine.{one_line_expression}
-use Rattle.lua_tree.specs.Syntax.{expression, no_expressions, Expression, name_expression, Statement, assignment}
+use Rattle.lua_tree.specs.Syntax.{expression, no_expressions, Expression, name_expression, assignment}
 use Rattle.opcode.specs.declared.op.Op.{Op}
 use Rattle.proto.specs.declared.parts.Constant.{Constant}
 use Rattle.core_expr.specs.Counting.{with_constant}
 use Rattle.core_expr.specs.Places.{place}
 use Rattle.core_expr.specs.Writing.{word}
 use Rattle.recover_expr.specs.Assigning.{assignment_from}
-use Rattle.recover_expr.specs.Drafts.{ends, statement_part}
+use Rattle.recover_expr.specs.Drafts.{statement_part}
 use Rattle.recover_expr.specs.Entries.{Entries, value_entry}
-use Rattle.recover_expr.specs.Reading.{read_word}
-use Rattle.recover_expr.specs.Situation.{Function, Situation, place_in_step, see}
+use Rattle.recover_expr.specs.Situation.{Function, Situation, place_in_step}
 use Rattle.recover_expr.specs.Words.{as_end}
 use Rattle.scheme.specs.Expressions.{Target, name_target}
 use Rattle.scheme.specs.Making.{Where, in_globals}
@@ -22,15 +21,15 @@ use Rattle.scheme.specs.declared.making.Piece.{Piece}
 use Rattle.scheme.specs.declared.making.Active.{Active}
 use Rattle.scheme_stands.specs.Expressions.{OperandAt, NextAt, OneAt, rel_name}
 use Rattle.scheme_stands.specs.Relation.{related}
-use Rattle.scheme_stands.specs.Statements.{AssignAt, CopiesAt, EachStoredAt, NoTargetsAt, SetAt, StoreAt, TargetsAt}
+use Rattle.scheme_stands.specs.Statements.{AssignAt, CopiesAt, EachStoredAt, NoTargetsAt, SetAt}
 use Rattle.scheme_stands.specs.Words.{Fn, Spot, ConstantWord, meaning}
 use Rattle.reads_back.proofs.Acts.{Acts, last_word}
 use Rattle.reads_back.proofs.CallsMade.{more_at_most}
-use Rattle.reads_back.proofs.Given.{behind_words, IsWritten, Gives, IsValueRead, quiet_same}
-use Rattle.reads_back.proofs.GlobalStores.{IsGlobalName, after_store, global_stored, only_value, store_draft}
+use Rattle.reads_back.proofs.Given.{IsWritten, Gives, IsValueRead, quiet_same}
+use Rattle.reads_back.proofs.GlobalStores.{IsGlobalName, after_store, global_stored, store_draft}
 use Rattle.reads_back.proofs.Literals.{OnlyGlobals, constant_there}
 use Rattle.reads_back.proofs.ValueWords.{next_free}
-use Rattle.reads_back.proofs.WordsRead.{IsFunction, IsQuiet, quiet_before, quiet_from, word_of, abx_is_read}
+use Rattle.reads_back.proofs.WordsRead.{IsFunction, IsQuiet, quiet_before, word_of, abx_is_read}
 
 -- ---- where the words stand
 
@@ -81,7 +80,7 @@ assigned g text e active p q only stands at =
 
 -- ---- how they are read
 
-module _ (f : Function) (g : Fn) (active : List Active) (levels : ℕ) (text : Text) (e : Expression) (i : IsFunction f g) (reads : IsValueRead f g active levels e) (some : 1 ≤ levels) (named : is_name text ≡ true) where
+module _ (f : Function) (g : Fn) (active : List Active) (levels : ℕ) (text : Text) (e : Expression) (is_function : IsFunction f g) (reads : IsValueRead f g active levels e) (some : 1 ≤ levels) (named : is_name text ≡ true) where
   store_acts : (p q : Spot) (s : Situation) (a : IsAssigned g text e active p q) (one : Gives f e levels s a.begun.pc a.mid.pc) → s.base ≡ length active → s.entries ≡ [] → IsQuiet f s.scope a.begun.pc q.pc →
       Acts f s a.begun.pc q.pc (assignment (expression (name_expression 1 text) no_expressions) (expression (one_line_expression e) no_expressions)) (suc levels)
   store_acts p q s a one base empty quiet =
@@ -90,16 +89,16 @@ module _ (f : Function) (g : Fn) (active : List Active) (levels : ℕ) (text : T
       let w = word_of a.mid.pc (Piece.Abx Op.SetGlobal (length active) number) in
       let u = record s { scope = one.scope; seen = with_constant one.seen number } in
       let draft = store_draft f (suc a.mid.pc) v text u in
-      let name : IsGlobalName f number text = record { there = constant_there number (Constant.Text text) i a.store.is; named = named } in
+      let name : IsGlobalName f number text = record { there = constant_there number (Constant.Text text) is_function a.store.is; named = named } in
       let written : IsWritten (place_in_step f u) s.taken s.left v e levels =
-          subst (λ (active : List ℕ). IsWritten (place f.of active f.short) s.taken s.left v e levels) (sym one.same.active) (one.written s.taken s.left) in
+      subst (λ (active : List ℕ). IsWritten (place f.of active f.short) s.taken s.left v e levels) (sym one.same.active) (one.written s.taken s.left) in
       let does =
-          ap (λ (entries : Entries). option_map as_end (assignment_from f w (record u { entries = entries }))) (ap (λ (entries : Entries). entries ++ value_entry v ∷ []) empty)
-          ∙ ap (option_map as_end) (global_stored f a.mid.pc (length active) number text v u name (omega arith) one.plain.no_function e levels written) in
+      ap (λ (entries : Entries). option_map as_end (assignment_from f w (record u { entries = entries }))) (ap (λ (entries : Entries). entries ++ value_entry v ∷ []) empty)
+      ∙ ap (option_map as_end) (global_stored f a.mid.pc (length active) number text v u name (omega arith) one.plain.no_function e levels written) in
       record {
         draft = draft;
         behind = after_store v u;
-        reads = last_word draft i one.reaches (quiet_same one.same quiet) a.store.word (abx_is_read i a.store.word) does;
+        reads = last_word draft is_function one.reaches (quiet_same one.same quiet) a.store.word (abx_is_read is_function a.store.word) does;
         kind = refl;
         pc = refl;
         next = sym a.store.word.next;

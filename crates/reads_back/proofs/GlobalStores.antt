@@ -1,19 +1,18 @@
 -- A SETGLOBAL that stores the only value of a step ends an assignment to that name.
-use Rattle.std.proofs.Common.{◌≡◌, ℕ, suc, ◌+◌, ◌<◌, ◌≤◌, max, ◌&&◌, true, false, List, [], ◌∷◌, ◌++◌, length, Option, Some, None, is_some, refl, sym, ap, ◌∙◌, subst, arith, if◌then◌else◌}
+use Rattle.std.proofs.Common.{◌≡◌, ℕ, suc, ◌+◌, max, ◌&&◌, true, [], ◌∷◌, Option, Some, None, is_some, refl, ap, ◌∙◌, if◌then◌else◌}
 use Rattle.std.specs.Prelude.{option_map, option_and_then, slice_get}
 use Rattle.lua_num.specs.Bytes.{Text}
 use Rattle.lua_tree.specs.Names.{is_name}
-use Rattle.lua_tree.specs.OneLine.{one_line_expression, one_line_statement}
-use Rattle.lua_tree.specs.Syntax.{expression, no_expressions, Expression, name_expression, Statement, assignment}
+use Rattle.lua_tree.specs.Syntax.{expression, no_expressions, Expression, name_expression, assignment}
 use Rattle.opcode.specs.declared.op.Op.{Op}
 use Rattle.proto.specs.declared.parts.Constant.{Constant}
 use Rattle.core_expr.specs.Counting.{one_more, taken_behind, left_by}
 use Rattle.core_expr.specs.Held.{wordings_with}
-use Rattle.core_expr.specs.Places.{Place, constant_at, constant_name, as_name, as_text}
-use Rattle.core_expr.specs.Targets.{global_target, TargetValue}
+use Rattle.core_expr.specs.Places.{constant_name, as_name, as_text}
+use Rattle.core_expr.specs.Targets.{global_target}
 use Rattle.core_expr.specs.Values.{Value, no_values, Values}
 use Rattle.core_expr.specs.Values as values
-use Rattle.core_expr.specs.Writing.{Wording, Wordings, can_write, name_word, word, word_values}
+use Rattle.core_expr.specs.Writing.{Wording, Wordings, name_word, word, word_values}
 use Rattle.recover_expr.specs.Assigning.{as_statement, assignment_from, assignment_of, assignment_ended, assignment_step, function_number, named_as, no_targets}
 use Rattle.recover_expr.specs.Drafts.{Drafted, drafted, statement_part}
 use Rattle.recover_expr.specs.Entries.{value_entry}

@@ -1,6 +1,6 @@
 -- Literals and names of globals are read as values that are written as they are.
-use Rattle.std.proofs.Common.{◌≡◌, ℕ, suc, ◌+◌, ◌<◌, ◌≤◌, eqb, nat_lt, true, false, not, List, [], ◌∷◌, length, Option, Some, None, Bool, refl, sym, ap, ◌∙◌, subst, arith, lt-ltb, eq-eqb}
-use Rattle.std.specs.Prelude.{◌==◌, ℤ, pos, negsuc, option_and_then, option_map, slice_get, is_some, if◌then◌else◌}
+use Rattle.std.proofs.Common.{◌≡◌, ℕ, suc, ◌<◌, ◌≤◌, true, false, List, length, Option, Some, None, refl, sym, ap, ◌∙◌, subst, arith, lt-ltb, eq-eqb}
+use Rattle.std.specs.Prelude.{ℤ, pos, negsuc, option_and_then, option_map, slice_get, is_some, if◌then◌else◌}
 use Rattle.std.proofs.lemmas.Option.{slice_get_within}
 use Rattle.lua_num.specs.Bytes.{Text}
 use Rattle.lua_tree.specs.Names.{is_name}
@@ -13,17 +13,17 @@ use Rattle.core_expr.specs.Places.{Place, constant_at, constant_name, as_name, a
 use Rattle.core_expr.specs.Values.{Value, nil_value, bool_value, constant_value, global_value, Inner}
 use Rattle.core_expr.specs.Writing.{constant_word, name_word, literal}
 use Rattle.recover_expr.specs.Drafts.{makes}
-use Rattle.recover_expr.specs.Entries.{place_in, value_entry}
+use Rattle.recover_expr.specs.Entries.{place_in}
 use Rattle.recover_expr.specs.Reading.{on, read_word, made}
-use Rattle.recover_expr.specs.Situation.{Function, Situation, see, see_constant, constant_in, global_in, place_in_step, is_good_name}
+use Rattle.recover_expr.specs.Situation.{Function, Situation, see, see_constant, place_in_step, is_good_name}
 use Rattle.recover_expr.specs.Words.{loaded, far_method}
 use Rattle.scheme.specs.Making.{Where, in_register, in_upvalue, in_globals}
 use Rattle.scheme.specs.declared.making.Piece.{Piece}
 use Rattle.scheme.specs.declared.making.Active.{Active}
 use Rattle.scheme_stands.specs.Expressions.{NameBy}
-use Rattle.scheme_stands.specs.Words.{Fn, Spot, WordAt, ConstantWord, IsRead, instr_by, meaning, Means, MeansBy}
-use Rattle.reads_back.proofs.Given.{same_locals, IsWritten, IsPlainValue, Gives, IsValueRead, behind_words}
-use Rattle.reads_back.proofs.Reaches.{Reaches, here, word}
+use Rattle.scheme_stands.specs.Words.{Fn, Spot, WordAt, ConstantWord, IsRead, instr_by, meaning, Means}
+use Rattle.reads_back.proofs.Given.{same_locals, IsWritten, IsPlainValue, Gives, IsValueRead}
+use Rattle.reads_back.proofs.Reaches.{here, word}
 use Rattle.reads_back.proofs.Tests.{not_more}
 use Rattle.reads_back.proofs.ValueWords.{and_value, next_free, place_of_next, makes_turn}
 use Rattle.reads_back.proofs.WordsRead.{IsFunction, IsQuiet, word_of, abc_is_read, abx_is_read, word_there, turn_there}
@@ -37,9 +37,9 @@ pub record MakesValue (f : Function) (pc : ℕ) (w : Piece) (s : Situation) (v :
 
 word_gives : {f : Function} {g : Fn} {w : Piece} {p q : Spot} {s : Situation} {v : Value} {e : Expression} {levels : ℕ} → IsFunction f g → IsQuiet f s.scope p.pc q.pc → WordAt g w p q → IsRead p.pc w →
     (instr_by p.pc w).a ≡ next_free s → MakesValue f p.pc w s v → IsPlainValue v levels → ((n : ℕ) (left : List (Option Inner)) → IsWritten (place_in_step f s) n left v e levels) → Gives f e levels s p.pc q.pc
-word_gives {f} {g} {w} {p} {q} {s} {v} i quiet at read to by plain written =
+word_gives {f} {g} {w} {p} {q} {s} {v} is_function quiet at read to by plain written =
     let later : p.pc < q.pc = omega (arith, at.next) in
-    let turn = turn_there p.pc s quiet (omega arith) later (word_there i at read (omega (arith, quiet.within))) in
+    let turn = turn_there p.pc s quiet (omega arith) later (word_there is_function at read (omega (arith, quiet.within))) in
     let does = makes_turn f (word_of p.pc w) v (suc p.pc) s (record s { seen = by.seen }) by.does to in
     record {
       value = v;
@@ -57,10 +57,10 @@ nil_written : (at : Place) (n : ℕ) (left : List (Option Inner)) (line : ℕ) �
 nil_written at n left line = record { can = refl; words = refl; few = omega arith }
 
 pub nil_read : {f : Function} {g : Fn} (active : List Active) (line : ℕ) → IsFunction f g → IsValueRead f g active 1 (nil_literal line)
-nil_read {f} {g} active line i = record {
+nil_read {f} {g} active line is_function = record {
   forward = λ free r p q at. omega (arith, at.next);
   gives = λ free p q s base is quiet at.
-      word_gives i quiet at (abc_is_read i at) is
+      word_gives is_function quiet at (abc_is_read is_function at) is
       (record { seen = s.seen; does = rw (eq-eqb free free refl) })
       (record { single = refl; no_function = refl; shallow = omega arith })
       (λ n left. nil_written (place_in_step f s) n left line);
@@ -73,20 +73,20 @@ untruth_written : (at : Place) (n : ℕ) (left : List (Option Inner)) (line : �
 untruth_written at n left line = record { can = refl; words = refl; few = omega arith }
 
 pub true_read : {f : Function} {g : Fn} (active : List Active) (line : ℕ) → IsFunction f g → IsValueRead f g active 1 (true_literal line)
-true_read {f} active line i = record {
+true_read {f} active line is_function = record {
   forward = λ free r p q at. omega (arith, at.next);
   gives = λ free p q s base is quiet at.
-      word_gives i quiet at (abc_is_read i at) is
+      word_gives is_function quiet at (abc_is_read is_function at) is
       (record { seen = s.seen; does = refl })
       (record { single = refl; no_function = refl; shallow = omega arith })
       (λ n left. truth_written (place_in_step f s) n left line);
 }
 
 pub false_read : {f : Function} {g : Fn} (active : List Active) (line : ℕ) → IsFunction f g → IsValueRead f g active 1 (false_literal line)
-false_read {f} active line i = record {
+false_read {f} active line is_function = record {
   forward = λ free r p q at. omega (arith, at.next);
   gives = λ free p q s base is quiet at.
-      word_gives i quiet at (abc_is_read i at) is
+      word_gives is_function quiet at (abc_is_read is_function at) is
       (record { seen = s.seen; does = refl })
       (record { single = refl; no_function = refl; shallow = omega arith })
       (λ n left. untruth_written (place_in_step f s) n left line);
@@ -95,7 +95,7 @@ false_read {f} active line i = record {
 -- ---- constants that are loaded
 
 pub constant_there : {f : Function} {g : Fn} (number : ℕ) (k : Constant) → IsFunction f g → slice_get g.constants number ≡ Some k → slice_get f.of.constants number ≡ Some k
-constant_there number k i is = ap (λ constants. slice_get constants number) i.constants ∙ is
+constant_there number k is_function is = ap (λ constants. slice_get constants number) is_function.constants ∙ is
 
 constant_written : (at : Place) (n : ℕ) (left : List (Option Inner)) (number : ℕ) (k : Constant) (e : Expression) → constant_at at number ≡ Some k → (literal k).words ≡ one_line_expression e → (literal k).levels ≤ 1 →
     IsWritten at n left (constant_value number) e 1
@@ -120,26 +120,26 @@ load_makes f pc r number k s there is =
 
 load_gives : {f : Function} {g : Fn} {p q : Spot} {s : Situation} (free : ℕ) (k : Constant) (e : Expression) → IsFunction f g → IsQuiet f s.scope p.pc q.pc → free ≡ next_free s → ConstantWord g Op.LoadK free k p q →
     (literal k).words ≡ one_line_expression e → (literal k).levels ≤ 1 → Gives f e 1 s p.pc q.pc
-load_gives {f} {g} {p} {q} {s} free k e i quiet is at words few =
-    let there = constant_there at.number k i at.is in
-    word_gives i quiet at.word (abx_is_read i at.word) is
+load_gives {f} {g} {p} {q} {s} free k e is_function quiet is at words few =
+    let there = constant_there at.number k is_function at.is in
+    word_gives is_function quiet at.word (abx_is_read is_function at.word) is
     (load_makes f p.pc free at.number k s there is)
     (record { single = refl; no_function = refl; shallow = omega arith })
     (λ n left. constant_written (place_in_step f s) n left at.number k e there words few)
 
 pub text_read : {f : Function} {g : Fn} (active : List Active) (line : ℕ) (text : Text) → IsFunction f g → IsValueRead f g active 1 (text_literal line text)
-text_read active line text i = record {
+text_read active line text is_function = record {
   forward = λ free r p q at. omega (arith, at.word.next);
-  gives = λ free p q s base is quiet at. load_gives free (Constant.Text text) (text_literal line text) i quiet is at refl (omega arith);
+  gives = λ free p q s base is quiet at. load_gives free (Constant.Text text) (text_literal line text) is_function quiet is at refl (omega arith);
 }
 
 -- no numeral is below 0
 pub number_read : {f : Function} {g : Fn} (active : List Active) (line : ℕ) (n : ℤ) → is_numeral_value n ≡ true → IsFunction f g → IsValueRead f g active 1 (number_literal line n)
-number_read active line (pos n) numeral i = record {
+number_read active line (pos n) numeral is_function = record {
   forward = λ free r p q at. omega (arith, at.word.next);
-  gives = λ free p q s base is quiet at. load_gives free (Constant.Number (pos n)) (number_literal line (pos n)) i quiet is at refl (omega arith);
+  gives = λ free p q s base is quiet at. load_gives free (Constant.Number (pos n)) (number_literal line (pos n)) is_function quiet is at refl (omega arith);
 }
-number_read active line (negsuc n) numeral i = cc
+number_read active line (negsuc n) numeral is_function = cc
 
 -- ---- names of globals
 
@@ -167,9 +167,9 @@ global_makes f pc r number text s there named =
 
 global_gives : {f : Function} {g : Fn} {p q : Spot} {s : Situation} (free line : ℕ) (text : Text) → IsFunction f g → IsQuiet f s.scope p.pc q.pc → free ≡ next_free s → is_name text ≡ true → ConstantWord g Op.GetGlobal free (Constant.Text text) p q →
     Gives f (name_expression line text) 1 s p.pc q.pc
-global_gives {f} {g} {p} {q} {s} free line text i quiet is named at =
-    let there = constant_there at.number (Constant.Text text) i at.is in
-    word_gives i quiet at.word (abx_is_read i at.word) is
+global_gives {f} {g} {p} {q} {s} free line text is_function quiet is named at =
+    let there = constant_there at.number (Constant.Text text) is_function at.is in
+    word_gives is_function quiet at.word (abx_is_read is_function at.word) is
     (global_makes f p.pc free at.number text s there named)
     (record { single = refl; no_function = refl; shallow = omega arith })
     (λ n left. global_written (place_in_step f s) n left at.number line text there named)
@@ -180,12 +180,12 @@ name_forward g text (in_upvalue slot) r p q at = omega (arith, at.next)
 name_forward g text in_globals r p q at = omega (arith, at.word.next)
 
 pub global_read : {f : Function} {g : Fn} {active : List Active} (line : ℕ) (text : Text) → is_name text ≡ true → OnlyGlobals g active → IsFunction f g → IsValueRead f g active 1 (name_expression line text)
-global_read {f} {g} {active} line text named only i = record {
+global_read {f} {g} {active} line text named only is_function = record {
   forward = λ free r p q at. omega (arith, at.1.first_at.pc, name_forward g text (meaning active p) r at.1.mid q at.1.second_at);
   gives = λ free p q s base is quiet at.
       let same = at.1.first_at.pc in
       let means = only.globals text (meaning active p) at.0 in
       subst (λ (pc : ℕ). Gives f (name_expression line text) 1 s pc q.pc) same
-      (global_gives free line text i (subst (λ (pc : ℕ). IsQuiet f s.scope pc q.pc) (sym same) quiet) is named
+      (global_gives free line text is_function (subst (λ (pc : ℕ). IsQuiet f s.scope pc q.pc) (sym same) quiet) is named
       (subst (λ (w : Where). NameBy g text w free at.1.mid q) means at.1.second_at));
 }

@@ -1,18 +1,17 @@
 -- The chunk of a flat source lists no locals.
-use Rattle.std.proofs.Common.{◌≡◌, ℕ, zero, suc, ◌+◌, Bool, true, false, cond, List, [], ◌∷◌, length, drop, refl, sym, ap, ap₂, subst}
-use Rattle.std.specs.Prelude.{◌&&◌, Option, None, Some}
+use Rattle.std.proofs.Common.{◌≡◌, ℕ, Bool, true, false, cond, [], ◌∷◌, length, refl, sym, ap, ap₂, subst}
+use Rattle.std.specs.Prelude.{Option, None, Some}
 use Rattle.lua_num.specs.Bytes.{Text}
 use Rattle.lua_tree.specs.Resolved.{resolved}
 use Rattle.lua_tree.specs.Syntax as syntax
 use Rattle.lua_tree.specs.Syntax.{Source, Statements, no_statements, Statement, assignment, call_statement, Expressions, no_expressions, Expression, nil_literal, true_literal, false_literal, number_literal, text_literal, name_expression, call_expression, argument_list}
 use Rattle.opcode.specs.declared.op.Op.{Op}
 use Rattle.proto.specs.Chunk.{own}
-use Rattle.proto.specs.declared.parts.Constant.{Constant}
 use Rattle.scheme.specs.Making.{Maker, Part, Asks, Where, in_register, in_upvalue, in_globals, end_all, next_name, pass_name}
-use Rattle.scheme.specs.Expressions.{Want, Coded, Target, name_target, part_target, read_where, operand, operand_by, local_register, rk, rk_by, is_small, literal, next_reg}
+use Rattle.scheme.specs.Expressions.{Want, Target, name_target, part_target, read_where, operand, operand_by, local_register, next_reg}
 use Rattle.scheme.specs.Lists.{all_next, all_multi, open_list, ends_open}
 use Rattle.scheme.specs.Functions.{empty_maker}
-use Rattle.scheme.specs.Statements.{Loop, set_where, store_register, store, clashes, copies, each_stored}
+use Rattle.scheme.specs.Statements.{Loop, set_where, store_register, store, copies, each_stored}
 use Rattle.scheme.specs.Scheme.{scheme, ahead_of, statements_made, statement_made, coded, all_coded}
 use Rattle.scheme.specs.Shapes.{Flat, is_bare_name, is_simple, are_simple, is_flat_call, is_flat_statement, are_flat}
 use Rattle.reads_back.proofs.Tests.{first_of_both, second_of_both, not_so}

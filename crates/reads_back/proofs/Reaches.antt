@@ -1,5 +1,5 @@
 -- The words of a step one behind the other: from a pc and what is known there, reading comes to another.
-use Rattle.std.proofs.Common.{◌≡◌, ℕ, zero, suc, ◌+◌, ◌<◌, List, Option, Some, None, ap, ◌∙◌, ◌≤◌, arith}
+use Rattle.std.proofs.Common.{◌≡◌, ℕ, zero, suc, ◌+◌, ◌<◌, Some, ap, ◌∙◌, ◌≤◌, arith}
 use Rattle.std.specs.Prelude.{option_and_then}
 use Rattle.recover_expr.specs.Drafts.{Drafted}
 use Rattle.recover_expr.specs.Reading.{on, over, go_on, turn_at, words_from}

@@ -1,12 +1,11 @@
 -- Flat steps are placed as they are: none goes anywhere.
-use Rattle.std.proofs.Common.{◌≡◌, ℕ, suc, ◌≤◌, List, [], ◌∷◌, ◌++◌, length, map, append-nil, append_assoc, Option, Some, None, refl, sym, ap, ap₂, ◌∙◌}
+use Rattle.std.proofs.Common.{◌≡◌, ℕ, suc, List, [], ◌∷◌, ◌++◌, length, map, append-nil, append_assoc, Some, refl, sym, ap, ap₂, ◌∙◌}
 use Rattle.std.specs.List.{AllByRecursion}
 use Rattle.std.specs.Prelude.{option_and_then}
 use Rattle.recover_expr.specs.Drafts.{Drafted, Part}
 use Rattle.recover_expr.specs.Locals.{Scope, up_to}
 use Rattle.recover_expr.specs.Placing.{Numbers, Steps, and_step, kind_placed, step_of_kind, steps_placed}
 use Rattle.recover_expr.specs.Situation.{Function}
-use Rattle.recover_expr.specs.declared.draft.DraftKind.{DraftKind}
 use Rattle.recover_expr.specs.declared.steps.Step.{Step}
 use Rattle.recover_expr.specs.declared.steps.StepKind.{StepKind}
 use Rattle.reads_back.specs.Flat.{IsFlatStep}

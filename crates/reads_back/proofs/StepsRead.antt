@@ -1,5 +1,5 @@
 -- Steps of a function that lists no locals, one behind the other.
-use Rattle.std.proofs.Common.{◌≡◌, ℕ, zero, suc, ◌+◌, ◌-◌, ◌^◌, ◌<◌, ◌≤◌, eqb, nat_lt, nat_le, true, false, List, [], ◌∷◌, ◌++◌, length, append-nil, append_assoc, drop, map, Option, Some, None, refl, sym, ap, ap₂, ◌∙◌, subst, arith, le-leb, lt-ltb, if◌then◌else◌}
+use Rattle.std.proofs.Common.{◌≡◌, ℕ, zero, suc, ◌+◌, ◌-◌, ◌^◌, ◌≤◌, nat_lt, List, [], ◌∷◌, ◌++◌, length, append-nil, append_assoc, drop, map, Option, Some, None, refl, sym, ap, ap₂, ◌∙◌, arith, le-leb, if◌then◌else◌}
 use Rattle.std.specs.List.{AllByRecursion, prefix_len}
 use Rattle.std.specs.Prelude.{◌==◌, option_and_then, slice_get}
 use Rattle.lua_tree.specs.Syntax.{Statement}

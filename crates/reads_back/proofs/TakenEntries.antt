@@ -1,10 +1,10 @@
 -- What is taken off the entries: a value on top, and the values behind a place.
-use Rattle.std.proofs.Common.{◌≡◌, ℕ, zero, suc, ◌+◌, ◌-◌, ◌<◌, ◌≤◌, eqb, nat_le, true, false, ◌&&◌, List, [], ◌∷◌, ◌++◌, length, length-append, append_assoc, take, drop, Option, Some, None, refl, sym, ap, ap₂, ◌∙◌, subst, arith, le-leb, eq-eqb}
+use Rattle.std.proofs.Common.{◌≡◌, ℕ, suc, ◌+◌, ◌-◌, ◌≤◌, false, List, [], ◌∷◌, ◌++◌, length, length-append, take, drop, Some, None, refl, ap, ap₂, ◌∙◌, arith, le-leb, eq-eqb}
 use Rattle.std.proofs.Math.Seq.{drop-append_seam, take-append_seam}
-use Rattle.std.specs.Prelude.{◌==◌, option_map, option_and_then, slice_get, if◌then◌else◌}
+use Rattle.std.specs.Prelude.{option_map, option_and_then, slice_get, if◌then◌else◌}
 use Rattle.core_expr.specs.Values.{Value, Values, no_values}
 use Rattle.core_expr.specs.Values as values
-use Rattle.recover_expr.specs.Entries.{EntryValue, Entries, Listed, value_entry, before_values, singles_of, singles_with, single_alone, take_from, take_singles, take_at, take_list, listed}
+use Rattle.recover_expr.specs.Entries.{Entries, value_entry, before_values, singles_of, singles_with, single_alone, take_from, take_singles, take_at, take_list, listed}
 use Rattle.recover_expr.specs.Lists.{value_count}
 use Rattle.reads_back.proofs.Given.{entries_of}
 use Rattle.reads_back.proofs.Tests.{both_hold}

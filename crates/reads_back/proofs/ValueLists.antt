@@ -1,23 +1,20 @@
 -- Values in the next registers, one after the other, are read as a list of values.
-use Rattle.std.proofs.Common.{◌≡◌, ℕ, suc, ◌+◌, ◌*◌, ◌≤◌, max, true, false, not, ◌&&◌, List, [], ◌∷◌, ◌++◌, length, length-append, append-nil, append_assoc, Bool, Option, refl, sym, ap, ap₂, ◌∙◌, subst, arith}
+use Rattle.std.proofs.Common.{◌≡◌, ℕ, suc, ◌+◌, ◌≤◌, true, false, not, ◌&&◌, List, [], ◌∷◌, length, length-append, append-nil, append_assoc, Bool, Option, refl, sym, ap, ap₂, ◌∙◌, subst, arith}
 use Rattle.std.proofs.Math.Nat.{max-le}
-use Rattle.lua_tree.specs.OneLine.{one_line_expression, one_line_expressions}
 use Rattle.lua_tree.specs.Syntax as syntax
 use Rattle.lua_tree.specs.Syntax.{Expressions, no_expressions, Expression}
 use Rattle.core_expr.specs.Counting.{taken_behind, left_by}
 use Rattle.core_expr.specs.Places.{Place, place}
 use Rattle.core_expr.specs.Values.{Value, Values, no_values, Inner}
 use Rattle.core_expr.specs.Values as values
-use Rattle.core_expr.specs.Writing.{Wording, as_value, ends_values, is_multiple, unless, word, word_values}
-use Rattle.recover_expr.specs.Declaring.{expression_count}
-use Rattle.recover_expr.specs.Entries.{EntryValue, Entries, value_entry}
+use Rattle.core_expr.specs.Writing.{Wording, as_value, ends_values, is_multiple, unless, word}
+use Rattle.recover_expr.specs.Entries.{Entries, value_entry}
 use Rattle.recover_expr.specs.Situation.{Function, Situation, place_in_step}
 use Rattle.scheme.specs.declared.making.Active.{Active}
-use Rattle.scheme_stands.specs.Expressions.{several}
-use Rattle.scheme_stands.specs.Lists.{AllNextAt, rels_open}
-use Rattle.scheme_stands.specs.Relation.{related, all_related}
+use Rattle.scheme_stands.specs.Lists.{AllNextAt}
+use Rattle.scheme_stands.specs.Relation.{all_related}
 use Rattle.scheme_stands.specs.Words.{Fn, Spot}
-use Rattle.reads_back.proofs.Given.{SameLocals, same_locals, same_then, quiet_same, behind_words, IsWritten, AreWritten, IsPlainValue, Gives, IsValueRead, entries_of, AreValuesRead, AllGiven}
+use Rattle.reads_back.proofs.Given.{same_locals, same_then, quiet_same, behind_words, IsWritten, AreWritten, Gives, entries_of, AreValuesRead, AllGiven}
 use Rattle.reads_back.proofs.Reaches.{Reaches, here, reaches_then}
 use Rattle.reads_back.proofs.Tests.{both_hold, and_not}
 use Rattle.reads_back.proofs.ValueWords.{next_free}

@@ -1,12 +1,12 @@
 -- Words that make a value in the next free register.
-use Rattle.std.proofs.Common.{◌≡◌, ℕ, suc, ◌+◌, ◌-◌, ◌<◌, ◌≤◌, eqb, nat_lt, nat_le, true, false, List, [], ◌∷◌, ◌++◌, length, Option, Some, None, refl, sym, ap, ◌∙◌, subst, arith, le-leb, eq-eqb}
-use Rattle.std.specs.Prelude.{◌==◌, option_and_then, option_map, slice_get, if◌then◌else◌}
+use Rattle.std.proofs.Common.{◌≡◌, ℕ, ◌+◌, ◌-◌, [], ◌∷◌, ◌++◌, length, Some, None, refl, ap, ◌∙◌, arith, le-leb, eq-eqb}
+use Rattle.std.specs.Prelude.{option_and_then, option_map, if◌then◌else◌}
 use Rattle.core_expr.specs.Values.{Value}
 use Rattle.recover_expr.specs.Drafts.{makes}
-use Rattle.recover_expr.specs.Entries.{EntryValue, value_entry, Entries, place_in, is_place, set_next}
-use Rattle.recover_expr.specs.Reading.{Turn, on, as_over, read_word, turned, turn_of, value_to}
+use Rattle.recover_expr.specs.Entries.{EntryValue, value_entry, Entries, place_in, is_place}
+use Rattle.recover_expr.specs.Reading.{on, read_word, turned, turn_of, value_to}
 use Rattle.recover_expr.specs.Situation.{Function, Situation, see}
-use Rattle.recover_expr.specs.Words.{Done, with_register}
+use Rattle.recover_expr.specs.Words.{with_register}
 use Rattle.recover_expr.specs.declared.function.Word.{Word}
 
 -- the situation with an entry more

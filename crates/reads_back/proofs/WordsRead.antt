@@ -1,16 +1,14 @@
 -- Where a word stands as the scheme lays it down, it is read as its instruction.
-use Rattle.std.proofs.Common.{◌≡◌, ℕ, suc, ◌+◌, ◌-◌, ◌^◌, ◌<◌, ◌≤◌, nat_lt, nat_le, true, false, List, [], ◌∷◌, ◌++◌, length, drop, Option, Some, None, refl, sym, ap, ◌∙◌, subst, arith, lt-ltb, le-leb, lt_of_lt_of_le}
-use Rattle.std.specs.List.{prefix_len}
-use Rattle.std.specs.Prelude.{◌==◌, option_and_then, option_map, slice_get, if◌then◌else◌}
+use Rattle.std.proofs.Common.{◌≡◌, ℕ, suc, ◌^◌, ◌<◌, ◌≤◌, nat_lt, nat_le, false, List, Some, None, ap, ◌∙◌, subst, arith, lt-ltb, lt_of_lt_of_le}
+use Rattle.std.specs.Prelude.{option_and_then, option_map, slice_get, if◌then◌else◌}
 use Rattle.opcode.specs.Reading.{instr_of}
 use Rattle.opcode.specs.declared.op.Op.{Op}
-use Rattle.proto.specs.declared.parts.LocVar.{LocVar}
 use Rattle.scheme.specs.declared.making.Piece.{Piece}
 use Rattle.scheme_stands.specs.Words.{Law, Lawful, Names, Fn, Spot, WordAt, IsRead, instr_by, number_at}
 use Rattle.recover_expr.specs.Declaring.{declaration}
 use Rattle.recover_expr.specs.Locals.{Scope, starting}
 use Rattle.recover_expr.specs.Reading.{as_over, turn_at, turn_of}
-use Rattle.recover_expr.specs.Situation.{Function, Situation, instr_at, next_pc, word_at}
+use Rattle.recover_expr.specs.Situation.{Function, Situation, next_pc, word_at}
 use Rattle.recover_expr.specs.declared.function.Word.{Word}
 use Rattle.reads_back.proofs.Tests.{not_below}
 
@@ -43,19 +41,19 @@ lawful : (l : Law) (n : Names) (P : Type 0) → l ≡ Some n → Lawful l P → 
 lawful l n P is holds = subst (λ (l : Law). Lawful l P) is holds
 
 pub abc_is_read : {f : Function} {g : Fn} {op : Op} {a b c : ℕ} {p q : Spot} → IsFunction f g → WordAt g (Piece.Abc op a b c) p q → IsRead p.pc (Piece.Abc op a b c)
-abc_is_read {g = g} i at = (lawful g.law i.names _ i.law at.reads).is
+abc_is_read {g = g} is_function at = (lawful g.law is_function.names _ is_function.law at.reads).is
 
 pub abx_is_read : {f : Function} {g : Fn} {op : Op} {a bx : ℕ} {p q : Spot} → IsFunction f g → WordAt g (Piece.Abx op a bx) p q → IsRead p.pc (Piece.Abx op a bx)
-abx_is_read {g = g} i at = (lawful g.law i.names _ i.law at.reads).is
+abx_is_read {g = g} is_function at = (lawful g.law is_function.names _ is_function.law at.reads).is
 
 instr_there : (code : List ℕ) (pc : ℕ) (w : Piece) → slice_get code pc ≡ Some (number_at pc w) → IsRead pc w → option_and_then instr_of (slice_get code pc) ≡ Some (instr_by pc w)
 instr_there code pc w has read = ap (option_and_then instr_of) has ∙ read
 
 pub word_there : {f : Function} {g : Fn} {w : Piece} {p q : Spot} → IsFunction f g → WordAt g w p q → IsRead p.pc w → p.pc < f.last → word_at f p.pc ≡ Some (word_of p.pc w)
-word_there {f} {g} {w} {p} i at read before =
-    ap (λ code. option_and_then (next_pc p.pc) (option_and_then instr_of (slice_get code p.pc))) i.code
+word_there {f} {g} {w} {p} is_function at read before =
+    ap (λ code. option_and_then (next_pc p.pc) (option_and_then instr_of (slice_get code p.pc))) is_function.code
     ∙ ap (option_and_then (next_pc p.pc)) (instr_there g.code p.pc w at.has read)
-    ∙ ap (λ small. if small then Some (word_of p.pc w) else None) (lt-ltb (suc p.pc) (2 ^ 32) (omega (arith, i.short)))
+    ∙ ap (λ small. if small then Some (word_of p.pc w) else None) (lt-ltb (suc p.pc) (2 ^ 32) (omega (arith, is_function.short)))
 
 -- where no local starts, what is read at a pc is what its word does
 pub turn_there : {f : Function} {first last : ℕ} {word : Word} (pc : ℕ) (s : Situation) → IsQuiet f s.scope first last → first ≤ pc → pc < last → word_at f pc ≡ Some word → turn_at f pc s ≡ turn_of f s word

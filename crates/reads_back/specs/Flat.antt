@@ -1,13 +1,12 @@
 -- To be believed. What the words of a flat source are read as: its statements, one step each.
-use Rattle.std.specs.Prelude.{◌≡◌, ◌≤◌, ℕ, false, List, [], ◌∷◌, length, Option, Some}
+use Rattle.std.specs.Prelude.{◌≡◌, ◌≤◌, ◌<◌, ◌^◌, false, List, [], ◌∷◌, length, Some}
 use Rattle.std.specs.List.{AllByRecursion}
 use Rattle.lua_num.specs.Bytes.{Text}
 use Rattle.lua_tree.specs.OneLine.{one_line_statement}
 use Rattle.lua_tree.specs.Scoping.{Scoped}
 use Rattle.lua_tree.specs.Syntax.{Statements, no_statements, statement, Source}
 use Rattle.lua_tree.specs.WellFormed.{WellFormed}
-use Rattle.proto.specs.Chunk.{Chunk, SameButLines}
-use Rattle.proto.specs.Short.{IsShort}
+use Rattle.proto.specs.Chunk.{Chunk, SameButLines, own}
 use Rattle.scheme.specs.Scheme.{scheme, Fits}
 use Rattle.scheme.specs.Shapes.{Flat}
 use Rattle.recover_expr.specs.Drafts.{Part, statement_part}
@@ -34,8 +33,8 @@ pub record IsReadAs (source : Source) (steps : Steps) : Type 0 where
   pub flat : AllByRecursion IsFlatStep steps.steps
   pub same_length : length steps.steps ≡ length steps.parts
 
--- of a chunk whose lists 32 bits count: a pc is no greater number
+-- 32 bits count the words, as they do in every chunk that is short (`IsShort`): no pc is read that is a greater number
 abbrev pub FlatSourcesAreRead : Type 0
 FlatSourcesAreRead =
-    (source : Source) (name : Text) (chunk : Chunk) → WellFormed source → Scoped source → Fits source → Flat source → SameButLines chunk (scheme source name) → IsShort chunk
+    (source : Source) (name : Text) (chunk : Chunk) → WellFormed source → Scoped source → Fits source → Flat source → SameButLines chunk (scheme source name) → length (own chunk).code < 2 ^ 32
     → (steps : Steps) × (read_steps chunk [] false ≡ Some steps) × IsReadAs source steps

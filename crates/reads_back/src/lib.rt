@@ -1,9 +1,11 @@
-//! That what is read off the words of a source's chunk is the source.
+//! That the steps which are read off the words of a source's chunk are its statements.
 #![tactic(auto)]
 
-ghost use Rattle.std.specs.Prelude.{◌≡◌, ℕ};
+ghost use Rattle.reads_back.specs.Flat.{FlatSourcesAreRead};
 
-/// Law: for a while.
-pub fn for_a_while()
-    ensures { (n : ℕ) → n ≡ n }
-{}
+/// Law: the words of a flat source are read as its statements, one step each.
+pub fn flat_sources_are_read()
+    ensures { FlatSourcesAreRead }
+{
+    scheme_stands::names_stand();
+}
