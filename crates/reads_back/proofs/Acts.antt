@@ -10,12 +10,12 @@ use Rattle.recover_expr.specs.declared.draft.DraftKind.{DraftKind}
 use Rattle.recover_expr.specs.declared.function.Word.{Word}
 use Rattle.scheme.specs.declared.making.Piece.{Piece}
 use Rattle.scheme_stands.specs.Words.{Fn, Spot, WordAt, IsRead}
-use Rattle.reads_back.proofs.Given.{SameLocals}
+use Rattle.reads_back.proofs.Given.{Remaining, SameLocals}
 use Rattle.reads_back.proofs.Reaches.{Reaches, reaches_on, step_ends}
 use Rattle.reads_back.proofs.WordsRead.{IsFunction, IsQuiet, word_of, word_there, turn_there}
 
 -- the words from one pc up to another are read as this statement, which needs so many levels at most
-pub record Acts (f : Function) (s : Situation) (first last : ℕ) (statement : Statement) (levels : ℕ) : Type 0 where
+pub record Acts (f : Function) (remaining : Remaining) (s : Situation) (first last : ℕ) (statement : Statement) (levels : ℕ) : Type 0 where
   pub draft : Drafted
   pub behind : Situation
   pub reads : (count : ℕ) → last ≤ count + first → words_from f count first s ≡ Some (draft, behind)
@@ -27,6 +27,7 @@ pub record Acts (f : Function) (s : Situation) (first last : ℕ) (statement : S
   pub part : draft.part ≡ statement_part statement
   pub few : draft.levels ≤ levels
   pub same : SameLocals s.scope behind.scope
+  pub left : remaining.holds first s.left → remaining.holds last behind.left
 
 ends_turn : (f : Function) (w : Word) (draft : Drafted) (s behind : Situation) → read_word f w (see w.instr s) ≡ Some (ends draft, behind) → turn_of f s w ≡ Some (over draft, behind)
 ends_turn f w draft s behind does = ap (option_and_then (λ p. turned f w p.1 p.0)) does
@@ -40,6 +41,6 @@ last_word {f} {g} {w} {p} {q} {first} {s} {t} {behind} draft is_function reaches
     step_ends draft count reaches (turn ∙ ends_turn f (word_of p.pc w) draft t behind does) (omega (arith, at.next))
 
 -- there is a word
-pub acts_on : {f : Function} {s : Situation} {first last levels : ℕ} {statement : Statement} → Acts f s first last statement levels → first < last
-acts_on {f} {s} {first} {last} acts =
+pub acts_on : {f : Function} {remaining : Remaining} {s : Situation} {first last levels : ℕ} {statement : Statement} → Acts f remaining s first last statement levels → first < last
+acts_on {first = first} {last = last} acts =
     elim (leb_tells last first) [ inl before ↦ let none = acts.reads 0 (omega (arith, before.1)) in cc | inr behind ↦ behind.1 ]

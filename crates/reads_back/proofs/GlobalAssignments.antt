@@ -4,10 +4,10 @@ use Rattle.std.specs.Prelude.{option_map}
 use Rattle.lua_num.specs.Bytes.{Text}
 use Rattle.lua_tree.specs.Names.{is_name}
 use Rattle.lua_tree.specs.OneLine.{one_line_expression}
-use Rattle.lua_tree.specs.Syntax.{expression, no_expressions, Expression, name_expression, assignment}
+use Rattle.lua_tree.specs.Syntax.{expression, no_expressions, Expression, name_expression, Statement, assignment}
 use Rattle.opcode.specs.declared.op.Op.{Op}
 use Rattle.proto.specs.declared.parts.Constant.{Constant}
-use Rattle.core_expr.specs.Counting.{with_constant}
+use Rattle.core_expr.specs.Counting.{with_constant, left_by}
 use Rattle.core_expr.specs.Places.{place}
 use Rattle.core_expr.specs.Writing.{word}
 use Rattle.recover_expr.specs.Assigning.{assignment_from}
@@ -25,7 +25,7 @@ use Rattle.scheme_stands.specs.Statements.{AssignAt, CopiesAt, EachStoredAt, NoT
 use Rattle.scheme_stands.specs.Words.{Fn, Spot, ConstantWord, meaning}
 use Rattle.reads_back.proofs.Acts.{Acts, last_word}
 use Rattle.reads_back.proofs.CallsMade.{more_at_most}
-use Rattle.reads_back.proofs.Given.{IsWritten, Gives, IsValueRead, quiet_same}
+use Rattle.reads_back.proofs.Given.{IsNoFunction, IsWritten, Gives, IsValueRead, Remaining, quiet_same}
 use Rattle.reads_back.proofs.GlobalStores.{IsGlobalName, after_store, global_stored, store_draft}
 use Rattle.reads_back.proofs.Literals.{OnlyGlobals, constant_there}
 use Rattle.reads_back.proofs.ValueWords.{next_free}
@@ -80,21 +80,25 @@ assigned g text e active p q only stands at =
 
 -- ---- how they are read
 
-module _ (f : Function) (g : Fn) (active : List Active) (levels : ℕ) (text : Text) (e : Expression) (is_function : IsFunction f g) (reads : IsValueRead f g active levels e) (some : 1 ≤ levels) (named : is_name text ≡ true) where
-  store_acts : (p q : Spot) (s : Situation) (a : IsAssigned g text e active p q) (one : Gives f e levels s a.begun.pc a.mid.pc) → s.base ≡ length active → s.entries ≡ [] → IsQuiet f s.scope a.begun.pc q.pc →
-      Acts f s a.begun.pc q.pc (assignment (expression (name_expression 1 text) no_expressions) (expression (one_line_expression e) no_expressions)) (suc levels)
-  store_acts p q s a one base empty quiet =
+abbrev pub to_global : Text → Expression → Statement
+to_global text e = assignment (expression (name_expression 1 text) no_expressions) (expression (one_line_expression e) no_expressions)
+
+module _ (f : Function) (g : Fn) (remaining : Remaining) (active : List Active) (levels : ℕ) (text : Text) (e : Expression) (is_function : IsFunction f g) (reads : IsValueRead f g remaining active IsNoFunction levels e) (some : 1 ≤ levels) (named : is_name text ≡ true) where
+  store_acts : (p q : Spot) (s : Situation) (a : IsAssigned g text e active p q) (one : Gives f remaining IsNoFunction e levels s a.begun.pc a.mid.pc) → s.base ≡ length active → s.entries ≡ [] → s.taken ≡ s.seen → remaining.holds a.begun.pc s.left →
+      IsQuiet f s.scope a.begun.pc q.pc → Acts f remaining s a.begun.pc q.pc (to_global text e) (suc levels)
+  store_acts p q s a one base empty taken holds quiet =
       let v = one.value in
       let number = a.store.number in
       let w = word_of a.mid.pc (Piece.Abx Op.SetGlobal (length active) number) in
       let u = record s { scope = one.scope; seen = with_constant one.seen number } in
       let draft = store_draft f (suc a.mid.pc) v text u in
       let name : IsGlobalName f number text = record { there = constant_there number (Constant.Text text) is_function a.store.is; named = named } in
-      let written : IsWritten (place_in_step f u) s.taken s.left v e levels =
-      subst (λ (active : List ℕ). IsWritten (place f.of active f.short) s.taken s.left v e levels) (sym one.same.active) (one.written s.taken s.left) in
+      let written =
+      subst (λ (n : ℕ). IsWritten (place_in_step f u) n s.left v e levels) (sym taken)
+      (subst (λ (active : List ℕ). IsWritten (place f.of active f.short) s.seen s.left v e levels) (sym one.same.active) (one.written s.left holds)) in
       let does =
       ap (λ (entries : Entries). option_map as_end (assignment_from f w (record u { entries = entries }))) (ap (λ (entries : Entries). entries ++ value_entry v ∷ []) empty)
-      ∙ ap (option_map as_end) (global_stored f a.mid.pc (length active) number text v u name (omega arith) one.plain.no_function e levels written) in
+      ∙ ap (option_map as_end) (global_stored f a.mid.pc (length active) number text v u name (omega arith) one.is e levels written) in
       record {
         draft = draft;
         behind = after_store v u;
@@ -107,6 +111,7 @@ module _ (f : Function) (g : Fn) (active : List Active) (levels : ℕ) (text : T
         part = ap (λ word. statement_part (assignment (expression (name_expression 1 text) no_expressions) (expression word no_expressions))) written.words;
         few = omega (arith, more_at_most (max (max 1 1) (max (word (place_in_step f u) s.taken s.left v).levels 0)), written.few);
         same = one.same;
+        left = λ holds. remaining.later a.mid.pc q.pc (left_by v s.left) (omega (arith, a.store.word.next)) (one.left s.left holds);
       }
 
   pub assignment_forward : (p q : Spot) → OnlyGlobals g active → StandsNext g active e → AssignAt g (rel_name g text ∷ []) (related g e ∷ []) active p q → p.pc ≤ q.pc
@@ -114,12 +119,12 @@ module _ (f : Function) (g : Fn) (active : List Active) (levels : ℕ) (text : T
       let a = assigned g text e active p q only stands at in
       omega (arith, a.same, reads.forward (length active) (length active) a.begun a.mid a.value, a.store.word.next)
 
-  pub assignment_acts : (p q : Spot) (s : Situation) → OnlyGlobals g active → StandsNext g active e → s.base ≡ length active → s.entries ≡ [] → IsQuiet f s.scope p.pc q.pc → AssignAt g (rel_name g text ∷ []) (related g e ∷ []) active p q →
-      Acts f s p.pc q.pc (assignment (expression (name_expression 1 text) no_expressions) (expression (one_line_expression e) no_expressions)) (suc levels)
-  assignment_acts p q s only stands base empty quiet at =
+  pub assignment_acts : (p q : Spot) (s : Situation) → OnlyGlobals g active → StandsNext g active e → s.base ≡ length active → s.entries ≡ [] → s.taken ≡ s.seen → remaining.holds p.pc s.left → IsQuiet f s.scope p.pc q.pc →
+      AssignAt g (rel_name g text ∷ []) (related g e ∷ []) active p q → Acts f remaining s p.pc q.pc (to_global text e) (suc levels)
+  assignment_acts p q s only stands base empty taken holds quiet at =
       let a = assigned g text e active p q only stands at in
       let from = subst (λ (pc : ℕ). IsQuiet f s.scope pc q.pc) (sym a.same) quiet in
       let next : length active ≡ next_free s = omega (arith, ap length empty) in
       let one = reads.gives (length active) a.begun a.mid s base next (quiet_before a.mid.pc (omega (arith, a.store.word.next)) from) a.value in
-      subst (λ (pc : ℕ). Acts f s pc q.pc (assignment (expression (name_expression 1 text) no_expressions) (expression (one_line_expression e) no_expressions)) (suc levels)) a.same
-      (store_acts p q s a one base empty from)
+      subst (λ (pc : ℕ). Acts f remaining s pc q.pc (to_global text e) (suc levels)) a.same
+      (store_acts p q s a one base empty taken (subst (λ (pc : ℕ). remaining.holds pc s.left) (sym a.same) holds) from)

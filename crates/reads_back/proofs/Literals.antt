@@ -9,87 +9,87 @@ use Rattle.lua_tree.specs.Syntax.{Expression, nil_literal, true_literal, false_l
 use Rattle.lua_tree.specs.WellFormed.{is_numeral_value}
 use Rattle.opcode.specs.declared.op.Op.{Op}
 use Rattle.proto.specs.declared.parts.Constant.{Constant}
-use Rattle.core_expr.specs.Places.{Place, constant_at, constant_name, as_name, as_text}
+use Rattle.core_expr.specs.Counting.{taken_behind, left_by}
+use Rattle.core_expr.specs.Making.{depth_of}
+use Rattle.core_expr.specs.Places.{Place, place, constant_at, constant_name, as_name, as_text}
 use Rattle.core_expr.specs.Values.{Value, nil_value, bool_value, constant_value, global_value, Inner}
 use Rattle.core_expr.specs.Writing.{constant_word, name_word, literal}
 use Rattle.recover_expr.specs.Drafts.{makes}
 use Rattle.recover_expr.specs.Entries.{place_in}
 use Rattle.recover_expr.specs.Reading.{on, read_word, made}
-use Rattle.recover_expr.specs.Situation.{Function, Situation, see, see_constant, place_in_step, is_good_name}
+use Rattle.recover_expr.specs.Situation.{Function, Situation, see, see_constant, is_good_name}
 use Rattle.recover_expr.specs.Words.{loaded, far_method}
 use Rattle.scheme.specs.Making.{Where, in_register, in_upvalue, in_globals}
 use Rattle.scheme.specs.declared.making.Piece.{Piece}
 use Rattle.scheme.specs.declared.making.Active.{Active}
 use Rattle.scheme_stands.specs.Expressions.{NameBy}
 use Rattle.scheme_stands.specs.Words.{Fn, Spot, WordAt, ConstantWord, IsRead, instr_by, meaning, Means}
-use Rattle.reads_back.proofs.Given.{same_locals, IsWritten, IsPlainValue, Gives, IsValueRead}
+use Rattle.reads_back.proofs.Given.{same_locals, IsWritten, IsPlain, Gives, IsValueRead, Remaining}
 use Rattle.reads_back.proofs.Reaches.{here, word}
-use Rattle.reads_back.proofs.Tests.{not_more}
+use Rattle.reads_back.proofs.Tests.{not_more, not_so}
 use Rattle.reads_back.proofs.ValueWords.{and_value, next_free, place_of_next, makes_turn}
 use Rattle.reads_back.proofs.WordsRead.{IsFunction, IsQuiet, word_of, abc_is_read, abx_is_read, word_there, turn_there}
 
 -- ---- one word that makes a value, and takes constants
 
--- the word makes a value where the next free register is its A
+-- the word makes a value where the next free register is its A, and takes the constants that the value takes where it is written
 pub record MakesValue (f : Function) (pc : ℕ) (w : Piece) (s : Situation) (v : Value) : Type 0 where
-  pub seen : ℕ
-  pub does : read_word f (word_of pc w) (see (instr_by pc w) s) ≡ Some (makes v (suc pc), record s { seen = seen })
+  pub does : read_word f (word_of pc w) (see (instr_by pc w) s) ≡ Some (makes v (suc pc), record s { seen = taken_behind v s.seen })
 
-word_gives : {f : Function} {g : Fn} {w : Piece} {p q : Spot} {s : Situation} {v : Value} {e : Expression} {levels : ℕ} → IsFunction f g → IsQuiet f s.scope p.pc q.pc → WordAt g w p q → IsRead p.pc w →
-    (instr_by p.pc w).a ≡ next_free s → MakesValue f p.pc w s v → IsPlainValue v levels → ((n : ℕ) (left : List (Option Inner)) → IsWritten (place_in_step f s) n left v e levels) → Gives f e levels s p.pc q.pc
-word_gives {f} {g} {w} {p} {q} {s} {v} is_function quiet at read to by plain written =
+-- it is written as it is, and uses no function
+pub record IsLiteral (f : Function) (v : Value) (e : Expression) : Type 0 where
+  pub plain : IsPlain v
+  pub shallow : depth_of v ≤ 2
+  pub written : (entries : List ℕ) (n : ℕ) (left : List (Option Inner)) → IsWritten (place f.of entries f.short) n left v e 1
+  pub unused : (left : List (Option Inner)) → left_by v left ≡ left
+
+word_gives : {f : Function} {g : Fn} {remaining : Remaining} {w : Piece} {p q : Spot} {s : Situation} {v : Value} {e : Expression} → IsFunction f g → IsQuiet f s.scope p.pc q.pc → WordAt g w p q → IsRead p.pc w →
+    (instr_by p.pc w).a ≡ next_free s → MakesValue f p.pc w s v → IsLiteral f v e → Gives f remaining IsPlain e 1 s p.pc q.pc
+word_gives {f} {g} {remaining} {w} {p} {q} {s} {v} is_function quiet at read to by literal =
     let later : p.pc < q.pc = omega (arith, at.next) in
     let turn = turn_there p.pc s quiet (omega arith) later (word_there is_function at read (omega (arith, quiet.within))) in
-    let does = makes_turn f (word_of p.pc w) v (suc p.pc) s (record s { seen = by.seen }) by.does to in
+    let t = record s { seen = taken_behind v s.seen } in
+    let does = makes_turn f (word_of p.pc w) v (suc p.pc) s t by.does to in
     record {
       value = v;
+      is = literal.plain;
+      shallow = omega (arith, literal.shallow);
       scope = s.scope;
-      seen = by.seen;
       same = same_locals s.scope;
-      reaches = word later (turn ∙ does ∙ ap (λ (next : ℕ). Some (on next, and_value v (record s { seen = by.seen }))) (sym at.next)) here;
-      written = written;
-      plain = plain;
+      seen = taken_behind v s.seen;
+      taken = refl;
+      reaches = word later (turn ∙ does ∙ ap (λ (next : ℕ). Some (on next, and_value v t)) (sym at.next)) here;
+      written = λ left holds. literal.written s.scope.active s.seen left;
+      left = λ left holds. subst (remaining.holds q.pc) (sym (literal.unused left)) (remaining.later p.pc q.pc left (omega (arith, at.next)) holds);
     }
 
 -- ---- literals
 
-nil_written : (at : Place) (n : ℕ) (left : List (Option Inner)) (line : ℕ) → IsWritten at n left nil_value (nil_literal line) 1
-nil_written at n left line = record { can = refl; words = refl; few = omega arith }
+nil_literal_is : (f : Function) (line : ℕ) → IsLiteral f nil_value (nil_literal line)
+nil_literal_is f line = record { plain = record { single = refl; no_function = refl }; shallow = omega arith; written = λ entries n left. record { can = refl; words = refl; few = omega arith }; unused = λ left. refl }
 
-pub nil_read : {f : Function} {g : Fn} (active : List Active) (line : ℕ) → IsFunction f g → IsValueRead f g active 1 (nil_literal line)
-nil_read {f} {g} active line is_function = record {
+pub nil_read : {f : Function} {g : Fn} {remaining : Remaining} (active : List Active) (line : ℕ) → IsFunction f g → IsValueRead f g remaining active IsPlain 1 (nil_literal line)
+nil_read {f} active line is_function = record {
   forward = λ free r p q at. omega (arith, at.next);
-  gives = λ free p q s base is quiet at.
-      word_gives is_function quiet at (abc_is_read is_function at) is
-      (record { seen = s.seen; does = rw (eq-eqb free free refl) })
-      (record { single = refl; no_function = refl; shallow = omega arith })
-      (λ n left. nil_written (place_in_step f s) n left line);
+  gives = λ free p q s base is quiet at. word_gives is_function quiet at (abc_is_read is_function at) is (record { does = rw (eq-eqb free free refl) }) (nil_literal_is f line);
 }
 
-truth_written : (at : Place) (n : ℕ) (left : List (Option Inner)) (line : ℕ) → IsWritten at n left (bool_value true) (true_literal line) 1
-truth_written at n left line = record { can = refl; words = refl; few = omega arith }
+true_is : (f : Function) (line : ℕ) → IsLiteral f (bool_value true) (true_literal line)
+true_is f line = record { plain = record { single = refl; no_function = refl }; shallow = omega arith; written = λ entries n left. record { can = refl; words = refl; few = omega arith }; unused = λ left. refl }
 
-untruth_written : (at : Place) (n : ℕ) (left : List (Option Inner)) (line : ℕ) → IsWritten at n left (bool_value false) (false_literal line) 1
-untruth_written at n left line = record { can = refl; words = refl; few = omega arith }
-
-pub true_read : {f : Function} {g : Fn} (active : List Active) (line : ℕ) → IsFunction f g → IsValueRead f g active 1 (true_literal line)
+pub true_read : {f : Function} {g : Fn} {remaining : Remaining} (active : List Active) (line : ℕ) → IsFunction f g → IsValueRead f g remaining active IsPlain 1 (true_literal line)
 true_read {f} active line is_function = record {
   forward = λ free r p q at. omega (arith, at.next);
-  gives = λ free p q s base is quiet at.
-      word_gives is_function quiet at (abc_is_read is_function at) is
-      (record { seen = s.seen; does = refl })
-      (record { single = refl; no_function = refl; shallow = omega arith })
-      (λ n left. truth_written (place_in_step f s) n left line);
+  gives = λ free p q s base is quiet at. word_gives is_function quiet at (abc_is_read is_function at) is (record { does = refl }) (true_is f line);
 }
 
-pub false_read : {f : Function} {g : Fn} (active : List Active) (line : ℕ) → IsFunction f g → IsValueRead f g active 1 (false_literal line)
+false_is : (f : Function) (line : ℕ) → IsLiteral f (bool_value false) (false_literal line)
+false_is f line = record { plain = record { single = refl; no_function = refl }; shallow = omega arith; written = λ entries n left. record { can = refl; words = refl; few = omega arith }; unused = λ left. refl }
+
+pub false_read : {f : Function} {g : Fn} {remaining : Remaining} (active : List Active) (line : ℕ) → IsFunction f g → IsValueRead f g remaining active IsPlain 1 (false_literal line)
 false_read {f} active line is_function = record {
   forward = λ free r p q at. omega (arith, at.next);
-  gives = λ free p q s base is quiet at.
-      word_gives is_function quiet at (abc_is_read is_function at) is
-      (record { seen = s.seen; does = refl })
-      (record { single = refl; no_function = refl; shallow = omega arith })
-      (λ n left. untruth_written (place_in_step f s) n left line);
+  gives = λ free p q s base is quiet at. word_gives is_function quiet at (abc_is_read is_function at) is (record { does = refl }) (false_is f line);
 }
 
 -- ---- constants that are loaded
@@ -111,35 +111,38 @@ load_makes f pc r number k s there is =
     let t = see_constant number s in
     let count = length s.entries in
     record {
-      seen = t.seen;
       does =
           ap (λ here. option_and_then (loaded f w t (place_in s.base r)) (if here then Some number else None)) (lt-ltb number (length f.of.constants) (slice_get_within f.of.constants number k there))
           ∙ ap (λ place. loaded f w t place number) (place_of_next s.base count r is)
           ∙ ap (λ far. if far then far_method f w number t else Some (makes (constant_value number) (suc pc), t)) (not_more count);
     }
 
-load_gives : {f : Function} {g : Fn} {p q : Spot} {s : Situation} (free : ℕ) (k : Constant) (e : Expression) → IsFunction f g → IsQuiet f s.scope p.pc q.pc → free ≡ next_free s → ConstantWord g Op.LoadK free k p q →
-    (literal k).words ≡ one_line_expression e → (literal k).levels ≤ 1 → Gives f e 1 s p.pc q.pc
-load_gives {f} {g} {p} {q} {s} free k e is_function quiet is at words few =
+load_gives : {f : Function} {g : Fn} {remaining : Remaining} {p q : Spot} {s : Situation} (free : ℕ) (k : Constant) (e : Expression) → IsFunction f g → IsQuiet f s.scope p.pc q.pc → free ≡ next_free s → ConstantWord g Op.LoadK free k p q →
+    (literal k).words ≡ one_line_expression e → (literal k).levels ≤ 1 → Gives f remaining IsPlain e 1 s p.pc q.pc
+load_gives {f} {p = p} {s = s} free k e is_function quiet is at words few =
     let there = constant_there at.number k is_function at.is in
     word_gives is_function quiet at.word (abx_is_read is_function at.word) is
     (load_makes f p.pc free at.number k s there is)
-    (record { single = refl; no_function = refl; shallow = omega arith })
-    (λ n left. constant_written (place_in_step f s) n left at.number k e there words few)
+    (record {
+      plain = record { single = refl; no_function = refl };
+      shallow = omega arith;
+      written = λ entries n left. constant_written (place f.of entries f.short) n left at.number k e there words few;
+      unused = λ left. refl;
+    })
 
-pub text_read : {f : Function} {g : Fn} (active : List Active) (line : ℕ) (text : Text) → IsFunction f g → IsValueRead f g active 1 (text_literal line text)
+pub text_read : {f : Function} {g : Fn} {remaining : Remaining} (active : List Active) (line : ℕ) (text : Text) → IsFunction f g → IsValueRead f g remaining active IsPlain 1 (text_literal line text)
 text_read active line text is_function = record {
   forward = λ free r p q at. omega (arith, at.word.next);
   gives = λ free p q s base is quiet at. load_gives free (Constant.Text text) (text_literal line text) is_function quiet is at refl (omega arith);
 }
 
 -- no numeral is below 0
-pub number_read : {f : Function} {g : Fn} (active : List Active) (line : ℕ) (n : ℤ) → is_numeral_value n ≡ true → IsFunction f g → IsValueRead f g active 1 (number_literal line n)
+pub number_read : {f : Function} {g : Fn} {remaining : Remaining} (active : List Active) (line : ℕ) (n : ℤ) → is_numeral_value n ≡ true → IsFunction f g → IsValueRead f g remaining active IsPlain 1 (number_literal line n)
 number_read active line (pos n) numeral is_function = record {
   forward = λ free r p q at. omega (arith, at.word.next);
   gives = λ free p q s base is quiet at. load_gives free (Constant.Number (pos n)) (number_literal line (pos n)) is_function quiet is at refl (omega arith);
 }
-number_read active line (negsuc n) numeral is_function = cc
+number_read active line (negsuc n) numeral is_function = not_so numeral
 
 -- ---- names of globals
 
@@ -161,31 +164,34 @@ global_makes f pc r number text s there named =
     let t = see_constant number s in
     let does = option_map (λ name. made (word_of pc (Piece.Abx Op.GetGlobal r number)) t (global_value name)) in
     record {
-      seen = t.seen;
       does = ap (λ constant. does (if is_good_name constant then Some number else None)) there ∙ ap (λ good. does (if good then Some number else None)) named;
     }
 
-global_gives : {f : Function} {g : Fn} {p q : Spot} {s : Situation} (free line : ℕ) (text : Text) → IsFunction f g → IsQuiet f s.scope p.pc q.pc → free ≡ next_free s → is_name text ≡ true → ConstantWord g Op.GetGlobal free (Constant.Text text) p q →
-    Gives f (name_expression line text) 1 s p.pc q.pc
-global_gives {f} {g} {p} {q} {s} free line text is_function quiet is named at =
+global_gives : {f : Function} {g : Fn} {remaining : Remaining} {p q : Spot} {s : Situation} (free line : ℕ) (text : Text) → IsFunction f g → IsQuiet f s.scope p.pc q.pc → free ≡ next_free s → is_name text ≡ true →
+    ConstantWord g Op.GetGlobal free (Constant.Text text) p q → Gives f remaining IsPlain (name_expression line text) 1 s p.pc q.pc
+global_gives {f} {p = p} {s = s} free line text is_function quiet is named at =
     let there = constant_there at.number (Constant.Text text) is_function at.is in
     word_gives is_function quiet at.word (abx_is_read is_function at.word) is
     (global_makes f p.pc free at.number text s there named)
-    (record { single = refl; no_function = refl; shallow = omega arith })
-    (λ n left. global_written (place_in_step f s) n left at.number line text there named)
+    (record {
+      plain = record { single = refl; no_function = refl };
+      shallow = omega arith;
+      written = λ entries n left. global_written (place f.of entries f.short) n left at.number line text there named;
+      unused = λ left. refl;
+    })
 
 name_forward : (g : Fn) (text : Text) (w : Where) (r : ℕ) (p q : Spot) → NameBy g text w r p q → p.pc ≤ q.pc
 name_forward g text (in_register x) r p q at = omega (arith, at.next)
 name_forward g text (in_upvalue slot) r p q at = omega (arith, at.next)
 name_forward g text in_globals r p q at = omega (arith, at.word.next)
 
-pub global_read : {f : Function} {g : Fn} {active : List Active} (line : ℕ) (text : Text) → is_name text ≡ true → OnlyGlobals g active → IsFunction f g → IsValueRead f g active 1 (name_expression line text)
-global_read {f} {g} {active} line text named only is_function = record {
+pub global_read : {f : Function} {g : Fn} {remaining : Remaining} {active : List Active} (line : ℕ) (text : Text) → is_name text ≡ true → OnlyGlobals g active → IsFunction f g → IsValueRead f g remaining active IsPlain 1 (name_expression line text)
+global_read {f} {g} {remaining} {active} line text named only is_function = record {
   forward = λ free r p q at. omega (arith, at.1.first_at.pc, name_forward g text (meaning active p) r at.1.mid q at.1.second_at);
   gives = λ free p q s base is quiet at.
       let same = at.1.first_at.pc in
       let means = only.globals text (meaning active p) at.0 in
-      subst (λ (pc : ℕ). Gives f (name_expression line text) 1 s pc q.pc) same
+      subst (λ (pc : ℕ). Gives f remaining IsPlain (name_expression line text) 1 s pc q.pc) same
       (global_gives free line text is_function (subst (λ (pc : ℕ). IsQuiet f s.scope pc q.pc) (sym same) quiet) is named
       (subst (λ (w : Where). NameBy g text w free at.1.mid q) means at.1.second_at));
 }

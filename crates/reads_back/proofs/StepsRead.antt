@@ -10,6 +10,7 @@ use Rattle.recover_expr.specs.Reading.{ReadSoFar, and_draft, drafts_from, left_a
 use Rattle.recover_expr.specs.Situation.{Function, Situation, begun}
 use Rattle.recover_expr.specs.declared.draft.DraftKind.{DraftKind}
 use Rattle.reads_back.proofs.Acts.{Acts, acts_on}
+use Rattle.reads_back.proofs.Given.{Remaining}
 use Rattle.reads_back.proofs.Tests.{not_below}
 use Rattle.reads_back.proofs.WordsRead.{IsQuiet}
 
@@ -42,10 +43,10 @@ pub record IsFlatDraft (draft : Drafted) : Type 0 where
 none_innermost : (scope : Scope) → scope.active ≡ [] → innermost scope ≡ None
 none_innermost scope none = ap (λ (active : List ℕ). slice_get active (length active - 1)) none
 
-pub act_is_flat : {f : Function} {number pc first last : ℕ} {statement : Statement} (s : Situation) (acts : Acts f (begun number pc s) first last statement 3) → s.scope.active ≡ [] → IsFlatDraft acts.draft
+pub act_is_flat : {f : Function} {remaining : Remaining} {number pc first last : ℕ} {statement : Statement} (s : Situation) (acts : Acts f remaining (begun number pc s) first last statement 3) → s.scope.active ≡ [] → IsFlatDraft acts.draft
 act_is_flat s acts none = record { kind = acts.kind; base = acts.base ∙ ap (λ (active : List ℕ). length active) none; innermost = acts.innermost ∙ none_innermost s.scope none; few = acts.few }
 
-pub act_is_read : {f : Function} {number pc last : ℕ} {statement : Statement} (s : Situation) (acts : Acts f (begun number pc s) pc last statement 3) → f.of.locals ≡ [] → s.scope.active ≡ [] → last ≤ f.last →
+pub act_is_read : {f : Function} {remaining : Remaining} {number pc last : ℕ} {statement : Statement} (s : Situation) (acts : Acts f remaining (begun number pc s) pc last statement 3) → f.of.locals ≡ [] → s.scope.active ≡ [] → last ≤ f.last →
     step_at f number pc s ≡ Some (acts.draft, acts.behind)
 act_is_read {f} {number} {pc} {last} s acts none active within =
     let now = begun number pc s in
@@ -73,9 +74,9 @@ no_steps {f} drafts s first over = record { more = []; behind = s; reads = reads
     reads (suc count) few =
         ap (λ over. if over then Some (drafts, first, s) else option_and_then (λ step. drafts_from f count (and_draft f drafts step)) (step_at f (length drafts) first s)) (le-leb f.last first (omega arith)) ∙ same
 
-pub one_step : {f : Function} {statement : Statement} {parts : List Part} (drafts : List Drafted) (s : Situation) (first mid : ℕ) → f.of.locals ≡ [] → s.scope.active ≡ [] → mid ≤ f.last → (acts : Acts f (begun (length drafts) first s) first mid statement 3) →
+pub one_step : {f : Function} {remaining : Remaining} {statement : Statement} {parts : List Part} (drafts : List Drafted) (s : Situation) (first mid : ℕ) → f.of.locals ≡ [] → s.scope.active ≡ [] → mid ≤ f.last → (acts : Acts f remaining (begun (length drafts) first s) first mid statement 3) →
     StepsRead f parts (drafts ++ acts.draft ∷ []) (left_at f mid acts.behind) mid → StepsRead f (statement_part statement ∷ parts) drafts s first
-one_step {f} {statement} {parts} drafts s first mid none active within acts rest = record {
+one_step {f} {parts = parts} drafts s first mid none active within acts rest = record {
   more = acts.draft ∷ rest.more;
   behind = rest.behind;
   reads = reads;
