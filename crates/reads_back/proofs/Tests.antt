@@ -1,0 +1,29 @@
+-- Tests that hold together.
+use Rattle.std.proofs.Common.{◌≡◌, ℕ, ◌<◌, nat_lt, nat_le, Bool, true, false, refl, arith}
+use Rattle.std.proofs.lemmas.Bool.Decides.{nat_tests}
+use Rattle.std.specs.Prelude.{◌&&◌}
+
+pub first_of_both : (a b : Bool) → (a && b) ≡ true → a ≡ true
+first_of_both true b both = refl
+first_of_both false b both = both
+
+pub second_of_both : (a b : Bool) → (a && b) ≡ true → b ≡ true
+second_of_both true b both = both
+second_of_both false b both = cc
+
+pub not_below : (m n : ℕ) → m < n → nat_le n m ≡ false
+not_below m n below = grind (arith, nat_tests)
+
+pub not_more : (n : ℕ) → nat_lt n n ≡ false
+not_more n = grind (arith, nat_tests)
+
+pub both_hold : (a b : Bool) → a ≡ true → b ≡ true → (a && b) ≡ true
+both_hold true b first second = second
+both_hold false b first second = cc
+
+pub and_not : (a : Bool) → (a && false) ≡ false
+and_not true = refl
+and_not false = refl
+
+pub not_so : {A : Type 0} → false ≡ true → A
+not_so is = absurd cc
