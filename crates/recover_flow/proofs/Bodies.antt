@@ -32,7 +32,7 @@ has_failed recalled = false
 pub recalled_found : (is_found : Found → Type 0) (is_none : ℕ → Type 0) (levels : ℕ) (known : Option Known) (found : Found) → ((one : Known) → known ≡ Some one → IsKnown is_found is_none one) → recalled levels known ≡ Recalled.Found found
     → (found.levels ≤ levels) × is_found found
 recalled_found is_found is_none levels None found right is = absurd (none-some found (ap found_in is))
-recalled_found is_found is_none levels (Some (record { failed = failed; found = before })) found right is = by_found before (right _ refl).found is
+recalled_found is_found is_none levels (Some one) found right is = by_found one.found (right one refl).found is
   where
     by_failed : {X : Type 0} (failed : Option ℕ) → recall_failed_of levels failed ≡ Recalled.Found found → X
     by_failed None e = absurd (none-some found (ap found_in e))
@@ -41,20 +41,20 @@ recalled_found is_found is_none levels (Some (record { failed = failed; found = 
         by_test : {X : Type 0} (b : Bool) → (if b then Recalled.Failed else Recalled.Unknown) ≡ Recalled.Found found → X
         by_test true e = absurd (none-some found (ap found_in e))
         by_test false e = absurd (none-some found (ap found_in e))
-    by_found : (before : Option Found) → KnownFound is_found before → recall_found levels (record { failed = failed; found = before }) before ≡ Recalled.Found found → (found.levels ≤ levels) × is_found found
-    by_found None known e = by_failed failed e
-    by_found (Some one) known e = by_fits (nat_le one.levels levels) refl e
+    by_found : (before : Option Found) → KnownFound is_found before → recall_found levels one before ≡ Recalled.Found found → (found.levels ≤ levels) × is_found found
+    by_found None known e = by_failed one.failed e
+    by_found (Some other) known e = by_fits (nat_le other.levels levels) refl e
       where
-        by_fits : (b : Bool) → nat_le one.levels levels ≡ b → (if b then Recalled.Found one else recall_failed_of levels failed) ≡ Recalled.Found found → (found.levels ≤ levels) × is_found found
+        by_fits : (b : Bool) → nat_le other.levels levels ≡ b → (if b then Recalled.Found other else recall_failed_of levels one.failed) ≡ Recalled.Found found → (found.levels ≤ levels) × is_found found
         by_fits true fits e =
-            let same : one ≡ found = same_Some one found (ap found_in e) in
+            let same : other ≡ found = same_Some other found (ap found_in e) in
             subst (λ that. (that.levels ≤ levels) × is_found that) same (grind (arith, nat_tests), known)
-        by_fits false fits e = by_failed failed e
+        by_fits false fits e = by_failed one.failed e
 
 -- the number of levels with which none was found, which is no less
 pub recalled_failed : (is_found : Found → Type 0) (is_none : ℕ → Type 0) (levels : ℕ) (known : Option Known) → ((one : Known) → known ≡ Some one → IsKnown is_found is_none one) → recalled levels known ≡ Recalled.Failed → (n : ℕ) × (levels ≤ n) × is_none n
 recalled_failed is_found is_none levels None right is = absurd (true≢false (sym (ap has_failed is)))
-recalled_failed is_found is_none levels (Some (record { failed = failed; found = before })) right is = by_found before is
+recalled_failed is_found is_none levels (Some one) right is = by_found one.found is
   where
     by_failed : (failed : Option ℕ) → KnownFailed is_none failed → recall_failed_of levels failed ≡ Recalled.Failed → (n : ℕ) × (levels ≤ n) × is_none n
     by_failed None known e = absurd (true≢false (sym (ap has_failed e)))
@@ -63,13 +63,13 @@ recalled_failed is_found is_none levels (Some (record { failed = failed; found =
         by_test : (b : Bool) → nat_le levels n ≡ b → (if b then Recalled.Failed else Recalled.Unknown) ≡ Recalled.Failed → (n : ℕ) × (levels ≤ n) × is_none n
         by_test true within e = (n, grind (arith, nat_tests), known)
         by_test false within e = absurd (true≢false (sym (ap has_failed e)))
-    by_found : (before : Option Found) → recall_found levels (record { failed = failed; found = before }) before ≡ Recalled.Failed → (n : ℕ) × (levels ≤ n) × is_none n
-    by_found None e = by_failed failed (right _ refl).failed e
-    by_found (Some one) e = by_fits (nat_le one.levels levels) e
+    by_found : (before : Option Found) → recall_found levels one before ≡ Recalled.Failed → (n : ℕ) × (levels ≤ n) × is_none n
+    by_found None e = by_failed one.failed (right one refl).failed e
+    by_found (Some other) e = by_fits (nat_le other.levels levels) e
       where
-        by_fits : (b : Bool) → (if b then Recalled.Found one else recall_failed_of levels failed) ≡ Recalled.Failed → (n : ℕ) × (levels ≤ n) × is_none n
-        by_fits true e = absurd (none-some one (sym (ap found_in e)))
-        by_fits false e = by_failed failed (right _ refl).failed e
+        by_fits : (b : Bool) → (if b then Recalled.Found other else recall_failed_of levels one.failed) ≡ Recalled.Failed → (n : ℕ) × (levels ≤ n) × is_none n
+        by_fits true e = absurd (none-some other (sym (ap found_in e)))
+        by_fits false e = by_failed one.failed (right one refl).failed e
 
 pub body_recalled : (steps : List Step) (memory : Memory) (at : BodyAt) (levels : ℕ) (found : Found) → IsRight steps memory → recalled levels (body_known memory at) ≡ Recalled.Found found → BodyAnswer at levels (Some found) steps (view_store memory)
 body_recalled steps memory at levels found right is = recalled_found (BodyFound steps (view_store memory) at) (NoBody steps at) levels (body_known memory at) found (right.bodies at) is

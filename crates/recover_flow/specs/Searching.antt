@@ -245,6 +245,7 @@ TestAnswer place way levels (Some test) steps store = (test.levels ≤ levels) �
 
 -- the start of an arm or the `else` at its place, and no other there
 pub record IsStartOf (steps : List Step) (at : BranchesAt) (place : ℕ) (ways : List Way) : Type 0 where
+  pub within : at.from ≤ place
   pub start : IsStart (arm_starts steps at) place
   pub all : (way : Way) → IsWay (arm_starts steps at) place way → IsAmongWays ways way
   pub each : (way : Way) → IsAmongWays ways way → IsWay (arm_starts steps at) place way

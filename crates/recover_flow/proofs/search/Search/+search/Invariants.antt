@@ -5,8 +5,9 @@ use Rattle.recover_flow.specs.Cutting.{pieces_of}
 use Rattle.recover_flow.specs.Searching.{Keeps, NoLastIf, SoFar, rest_at, steps_of, store_of}
 use Rattle.recover_flow.specs.declared.branches.Way.{Way}
 use Rattle.recover_flow.specs.declared.regions.Piece.{Piece}
-use Rattle.recover_flow.proofs.Arming.{RestsOf, WayTried}
-use Rattle.recover_flow.proofs.Forming.{TurnTried}
+use Rattle.recover_flow.proofs.Arming.{WayTried}
+use Rattle.recover_flow.proofs.Looping.{TurnTried}
+use Rattle.recover_flow.proofs.Resting.{RestsOf}
 use Rattle.recover_flow.proofs.search.Search.+search.Given as goal
 
 abbrev pub decreases-branches : goal.decreases-branches
@@ -70,13 +71,13 @@ abbrev pub decreases-filled : goal.decreases-filled
 decreases-filled l = 16 * l.levels + 2
 
 -- what was found stands behind the starts that are left
-abbrev pub invariant-arms-loop-starts : goal.invariant-arms-loop-starts
-invariant-arms-loop-starts l =
+abbrev pub invariant-arms-loop-start : goal.invariant-arms-loop-start
+invariant-arms-loop-start l =
     Keeps l.fn.self l.self × ((done : List Starting) × (map view_start l.starts.items ++ done ≡ arm_starts (steps_of l.fn.self) l.at)
     × RestsOf (steps_of l.fn.self) (store_of l.self) l.at l.levels done (rest_at l.rests))
 
-abbrev pub decreases-arms-loop-starts : goal.decreases-arms-loop-starts
-decreases-arms-loop-starts l = length l.starts.items
+abbrev pub decreases-arms-loop-start : goal.decreases-arms-loop-start
+decreases-arms-loop-start l = length l.starts.items
 
 -- no `if` begins with a piece behind this number
 abbrev pub invariant-last_branches-loop-statements : goal.invariant-last_branches-loop-statements
@@ -99,7 +100,7 @@ invariant-statements-loop-piece l =
 
 -- no loop has a condition of an earlier length
 abbrev pub invariant-tested_loop-loop-turn : goal.invariant-tested_loop-loop-turn
-invariant-tested_loop-loop-turn l = Keeps l.fn.self l.self × ((n : ℕ) → n < l.turn → TurnTried (steps_of l.fn.self) l.at l.levels n)
+invariant-tested_loop-loop-turn l = Keeps l.fn.self l.self × ((n : ℕ) → n < l.turn → TurnTried (steps_of l.fn.self) (Some l.at) l.levels n)
 
 abbrev pub decreases-tested_loop-loop-turn : goal.decreases-tested_loop-loop-turn
 decreases-tested_loop-loop-turn l = l.most + 1 - l.turn
