@@ -10,7 +10,7 @@ use Rattle.recover_flow.specs.Asked.{block_at}
 use Rattle.recover_flow.specs.Conditions.{ConditionTree, condition_of, condition_levels}
 use Rattle.recover_flow.specs.Held.{Store, ArmsHeld, BodyHeld, BranchesFound, ConditionFound, NoBranches, view_store}
 use Rattle.recover_flow.specs.Plans.{Plans, no_plans, ArmPlans, no_arms, last_arm, and_arm, body_levels, arm_levels, tested_levels}
-use Rattle.recover_flow.specs.Searching.{AreRests, ArmAnswer, BehindAnswer, BehindFound, BlockAnswer, BlockFound, Grows, BranchesAnswer, IsRight, IsStartOf, LastAnswer, NoArm, NoBlock, NoRest, NoTest, NoneBehind, RestAnswer, RestFound, RestKept, TestAnswer, TestFound, found_behind, rest_at}
+use Rattle.recover_flow.specs.Searching.{AreRests, ArmAnswer, BehindAnswer, BehindFound, BlockAnswer, BlockFound, Grows, BranchesAnswer, IsRight, IsStartOf, LastAnswer, NoArm, NoBlock, NoRest, NoTest, NoWay, NoneBehind, RestAnswer, RestFound, RestKept, TestAnswer, TestFound, found_behind, rest_at}
 use Rattle.recover_flow.specs.Standing.{ArmStands, ArmsBehind, ArmsFrom, BlockStands, BranchesStand, IsAmongWays, IsStart, IsTested, IsWay, way_block, way_condition}
 use Rattle.recover_flow.specs.declared.branches.Way.{Way}
 use Rattle.recover_flow.specs.declared.memory.Memory.{Memory}
@@ -163,15 +163,10 @@ behind_answer steps memory at levels place found (Some begin) within right rests
 
 -- ---- the ways at a place
 
--- each arm that stands in a way needs more levels
-abbrev pub WayTried : List Step → BranchesAt → (place levels : ℕ) → Way → Type 0
-WayTried steps at place levels way =
-    (condition : Option ConditionTree) (body : Plans) (behind : ArmPlans) → ArmStands steps at place way condition body → ArmsBehind steps at place way.next behind → levels < arm_levels steps (and_arm condition body behind)
-
-pub nothing_behind_way : (steps : List Step) (at : BranchesAt) (place levels : ℕ) (way : Way) → NoneBehind steps at place way.next levels → WayTried steps at place levels way
+pub nothing_behind_way : (steps : List Step) (at : BranchesAt) (place levels : ℕ) (way : Way) → NoneBehind steps at place way.next levels → NoWay steps at place levels way
 nothing_behind_way steps at place levels way none condition body behind stands is_behind = omega (arith, none behind is_behind)
 
-pub no_arm_in_way : (steps : List Step) (at : BranchesAt) (place levels : ℕ) (way : Way) → NoArm steps at place way levels → WayTried steps at place levels way
+pub no_arm_in_way : (steps : List Step) (at : BranchesAt) (place levels : ℕ) (way : Way) → NoArm steps at place way levels → NoWay steps at place levels way
 no_arm_in_way steps at place levels way none condition body behind stands is_behind = omega (arith, none condition body stands)
 
 -- a way of a list has a number in it
@@ -187,18 +182,18 @@ numbered_way (first ∷ ways) zero way there = inl (same_Some first way there)
 numbered_way (first ∷ ways) (suc n) way there = inr (numbered_way ways n way there)
 
 -- where all ways were tried, an `else` is left, where that is not the first place
-arms_tried : (steps : List Step) (at : BranchesAt) (place levels : ℕ) (ways : List Way) → IsStartOf steps at place ways → ((n : ℕ) (way : Way) → slice_get ways n ≡ Some way → WayTried steps at place levels way) → (condition : Option ConditionTree) (body : Plans) (rest : ArmPlans)
+arms_tried : (steps : List Step) (at : BranchesAt) (place levels : ℕ) (ways : List Way) → IsStartOf steps at place ways → ((n : ℕ) (way : Way) → slice_get ways n ≡ Some way → NoWay steps at place levels way) → (condition : Option ConditionTree) (body : Plans) (rest : ArmPlans)
     → ArmsFrom steps at place (and_arm condition body rest) → levels < arm_levels steps (and_arm condition body rest)
 arms_tried steps at place levels ways start tried condition body rest (way, is_way, tested, stands, behind) =
     let number = way_number ways way (start.all way is_way) in
     tried number.0 way number.1 condition body rest (tested, stands) behind
 
-pub no_rest_first : (steps : List Step) (at : BranchesAt) (place levels : ℕ) (ways : List Way) → IsStartOf steps at place ways → ((n : ℕ) (way : Way) → slice_get ways n ≡ Some way → WayTried steps at place levels way) → place ≡ at.from → NoRest steps at place levels
+pub no_rest_first : (steps : List Step) (at : BranchesAt) (place levels : ℕ) (ways : List Way) → IsStartOf steps at place ways → ((n : ℕ) (way : Way) → slice_get ways n ≡ Some way → NoWay steps at place levels way) → place ≡ at.from → NoRest steps at place levels
 no_rest_first steps at place levels ways start tried first no_arms stand = absurd stand
 no_rest_first steps at place levels ways start tried first (last_arm body) (apart, is_start, stands) = absurd (apart first)
 no_rest_first steps at place levels ways start tried first (and_arm condition body rest) stand = arms_tried steps at place levels ways start tried condition body rest stand
 
-pub no_rest_further : (steps : List Step) (at : BranchesAt) (place levels : ℕ) (ways : List Way) → IsStartOf steps at place ways → ((n : ℕ) (way : Way) → slice_get ways n ≡ Some way → WayTried steps at place levels way) → NoBlock steps (block_at steps place at.to at.exit) levels
+pub no_rest_further : (steps : List Step) (at : BranchesAt) (place levels : ℕ) (ways : List Way) → IsStartOf steps at place ways → ((n : ℕ) (way : Way) → slice_get ways n ≡ Some way → NoWay steps at place levels way) → NoBlock steps (block_at steps place at.to at.exit) levels
     → NoRest steps at place levels
 no_rest_further steps at place levels ways start tried none no_arms stand = absurd stand
 no_rest_further steps at place levels ways start tried none (last_arm body) (apart, is_start, stands) = none body stands

@@ -8,7 +8,7 @@ use Rattle.recover_expr.specs.declared.steps.Step.{Step}
 use Rattle.recover_flow.specs.Arms.{Starting, arm_starts}
 use Rattle.recover_flow.specs.Held.{Store, NoBranches}
 use Rattle.recover_flow.specs.Plans.{ArmPlans, no_arms, last_arm, and_arm, arm_levels}
-use Rattle.recover_flow.specs.Searching.{AreRests, BranchesAnswer, Grows, IsStartOf, NoRest, RestAnswer, rest_at}
+use Rattle.recover_flow.specs.Searching.{AreRests, BranchesAnswer, Grows, IsNoted, IsStartOf, NoRest, RestAnswer, rest_at}
 use Rattle.recover_flow.specs.Standing.{ArmsFrom, BranchesStand, IsAmongWays, IsStart, IsWay}
 use Rattle.recover_flow.specs.declared.branches.Way.{Way}
 use Rattle.recover_flow.specs.declared.plan.Found.{Found}
@@ -28,7 +28,8 @@ in_order place to [] ordered = tt
 in_order place to (start ∷ starts) ordered = (each_behind start.place to starts ordered.2, in_order start.place to starts ordered.2)
 
 pub starts_in_order : (steps : List Step) (at : BranchesAt) → AreInOrder (arm_starts steps at)
-starts_in_order steps at = (each_behind at.from at.to (other_starts steps at) (others_ordered steps at), in_order at.from at.to (other_starts steps at) (others_ordered steps at))
+starts_in_order steps at =
+    subst AreInOrder (sym (starts_are steps at)) (each_behind at.from at.to (other_starts steps at) (others_ordered steps at), in_order at.from at.to (other_starts steps at) (others_ordered steps at))
 
 -- those of a part
 later_in_order : (before after : List Starting) → AreInOrder (before ++ after) → AreInOrder after
@@ -83,8 +84,11 @@ way_of_start (first ∷ before) current after way ordered (inl (same, among)) =
 way_of_start (first ∷ before) current after way ordered (inr is) = way_of_start before current after way ordered.1 is
 
 first_within : (steps : List Step) (at : BranchesAt) (place : ℕ) → IsStart (arm_starts steps at) place → at.from ≤ place
-first_within steps at place (inl same) = omega (arith, same)
-first_within steps at place (inr start) = omega (arith, start_behind at.from place (other_starts steps at) (each_behind at.from at.to (other_starts steps at) (others_ordered steps at)) start)
+first_within steps at place there = by (subst (λ starts. IsStart starts place) (starts_are steps at) there)
+  where
+    by : (at.from ≡ place) ⊎ IsStart (other_starts steps at) place → at.from ≤ place
+    by (inl same) = omega (arith, same)
+    by (inr start) = omega (arith, start_behind at.from place (other_starts steps at) (each_behind at.from at.to (other_starts steps at) (others_ordered steps at)) start)
 
 pub start_is : (steps : List Step) (at : BranchesAt) (before : List Starting) (current : Starting) (after : List Starting) → before ++ current ∷ after ≡ arm_starts steps at → IsStartOf steps at current.place current.ways
 start_is steps at before current after are =
@@ -96,6 +100,14 @@ start_is steps at before current after are =
       all = λ way is. way_of_start before current after way ordered (subst (λ starts. IsWay starts current.place way) (sym are) is);
       each = λ way among. subst (λ starts. IsWay starts current.place way) are (way_there before current after way among);
     }
+
+-- the last one is taken off
+pub popped : (before all : List Starting) (current : Starting) (done starts : List Starting) → all ≡ before ++ current ∷ [] → all ++ done ≡ starts → before ++ current ∷ done ≡ starts
+popped before all current done starts last are = joined before ∙ sym (ap (λ list. list ++ done) last) ∙ are
+  where
+    joined : (before : List Starting) → before ++ current ∷ done ≡ (before ++ current ∷ []) ++ done
+    joined [] = refl
+    joined (first ∷ before) = ap (λ rest. first ∷ rest) (joined before)
 
 -- ---- what was found of the last starts, and of no others
 
@@ -158,7 +170,7 @@ are_rests steps store at levels before current done found are rests = record { b
         by (inr none) = subst (λ answer. RestAnswer at begin levels answer steps store) (sym (rests.elsewhere begin none)) (no_start_no_rest steps at begin levels (nowhere none))
 
 -- with what was found at one more
-pub rests_more : (steps : List Step) (store : Store) (at : BranchesAt) (levels : ℕ) (before : List Starting) (current : Starting) (done : List Starting) (found after : ℕ → Option Found) (answer : Option Found) → before ++ current ∷ done ≡ arm_starts steps at
+rests_more : (steps : List Step) (store : Store) (at : BranchesAt) (levels : ℕ) (before : List Starting) (current : Starting) (done : List Starting) (found after : ℕ → Option Found) (answer : Option Found) → before ++ current ∷ done ≡ arm_starts steps at
     → RestsOf steps store at levels done found → RestAnswer at current.place levels answer steps store → (after current.place ≡ answer) → ((begin : ℕ) → (current.place ≡ begin → ⊥) → after begin ≡ found begin) → RestsOf steps store at levels (current ∷ done) after
 rests_more steps store at levels before current done found after answer are rests is at_place others = record { here = here; elsewhere = λ begin none. others begin (λ same. none (inl same)) ∙ rests.elsewhere begin (λ start. none (inr start)) }
   where
@@ -171,16 +183,24 @@ rests_more steps store at levels before current done found after answer are rest
         apart : current.place ≡ begin → ⊥
         apart same = omega (arith, same, start_behind current.place begin done ordered.0 start)
 
--- an entry that is put into the map
-pub put_at : {S : Type 0} (before after : HashMap ℕ Found S) (place : ℕ) (one : Found) → Updates (λ first second. first == second) before after place (Some one) → rest_at after place ≡ Some one
-put_at before after place one puts = puts.1
-
-pub put_elsewhere : {S : Type 0} (before after : HashMap ℕ Found S) (place : ℕ) (one : Found) → Updates (λ first second. first == second) before after place (Some one) → (begin : ℕ) → (place ≡ begin → ⊥) → rest_at after begin ≡ rest_at before begin
-put_elsewhere before after place one puts begin apart = puts.2 begin (by (place == begin) refl)
+pub rests_noted : (steps : List Step) (store : Store) (at : BranchesAt) (levels : ℕ) (before : List Starting) (current : Starting) (done : List Starting) (found after : ℕ → Option Found) (answer : Option Found) → before ++ current ∷ done ≡ arm_starts steps at → RestsOf steps store at levels done found
+    → RestAnswer at current.place levels answer steps store → IsNoted current.place answer found after → RestsOf steps store at levels (current ∷ done) after
+rests_noted steps store at levels before current done found after None are rests is noted =
+    rests_more steps store at levels before current done found after None are rests is (noted current.place ∙ rests.elsewhere current.place not_done) (λ begin apart. noted begin)
   where
-    by : (b : Bool) → (place == begin) ≡ b → (place == begin) ≡ false
-    by true same = absurd (apart (grind (arith, nat_tests)))
-    by false other = other
+    ordered : AreInOrder (current ∷ done)
+    ordered = later_in_order before (current ∷ done) (subst AreInOrder (sym are) (starts_in_order steps at))
+    not_done : IsStart done current.place → ⊥
+    not_done start = omega (arith, start_behind current.place current.place done ordered.0 start)
+rests_noted steps store at levels before current done found after (Some one) are rests is noted = rests_more steps store at levels before current done found after (Some one) are rests is noted.0 noted.1
+
+-- an entry that is put into the map
+pub noted : {S : Type 0} (before after : HashMap ℕ Found S) (place : ℕ) (one : Found) → Updates (λ first second. first == second) before after place (Some one) → IsNoted place (Some one) (rest_at before) (rest_at after)
+noted before after place one puts = (puts.1, λ begin apart. puts.2 begin (by begin apart (place == begin) refl))
+  where
+    by : (begin : ℕ) → (place ≡ begin → ⊥) → (b : Bool) → (place == begin) ≡ b → (place == begin) ≡ false
+    by begin apart true same = absurd (apart (grind (arith, nat_tests)))
+    by begin apart false other = other
 
 -- ---- the whole
 
@@ -195,7 +215,7 @@ from_branches steps at (last_arm body) (apart, start, stands) = absurd (apart re
 from_branches steps at (and_arm condition body rest) stand = stand
 
 pub branches_answer : (steps : List Step) (store : Store) (at : BranchesAt) (levels : ℕ) (done : List Starting) (found : ℕ → Option Found) → done ≡ arm_starts steps at → RestsOf steps store at levels done found → BranchesAnswer at levels (found at.from) steps store
-branches_answer steps store at levels done found are rests = by (found at.from) (rests.here at.from (subst (λ starts. IsStart starts at.from) (sym are) (inl refl)))
+branches_answer steps store at levels done found are rests = by (found at.from) (rests.here at.from (subst (λ starts. IsStart starts at.from) (sym (are ∙ starts_are steps at)) (inl refl)))
   where
     by : (answer : Option Found) → RestAnswer at at.from levels answer steps store → BranchesAnswer at levels answer steps store
     by None none = λ arms stand. none arms (branches_from steps at arms stand)

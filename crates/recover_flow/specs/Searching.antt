@@ -224,6 +224,15 @@ abbrev pub ArmAnswer : BranchesAt → (place : ℕ) → Way → (levels : ℕ) �
 ArmAnswer at place way levels None steps store = NoArm steps at place way levels
 ArmAnswer at place way levels (Some found) steps store = (found.levels ≤ levels) × RestFound steps store at place found
 
+-- an arm that stands in a way, and what stands behind it
+abbrev pub NoWay : List Step → BranchesAt → (place levels : ℕ) → Way → Type 0
+NoWay steps at place levels way =
+    (condition : Option ConditionTree) (body : Plans) (behind : ArmPlans) → ArmStands steps at place way condition body → ArmsBehind steps at place way.next behind → levels < arm_levels steps (ArmPlans.and_arm condition body behind)
+
+abbrev pub WayAnswer : BranchesAt → (place : ℕ) → Way → (levels : ℕ) → Option Found → List Step → Store → Type 0
+WayAnswer at place way levels None steps store = NoWay steps at place levels way
+WayAnswer at place way levels (Some found) steps store = (found.levels ≤ levels) × RestFound steps store at place found
+
 -- the `else` from a place on
 abbrev pub LastAnswer : BranchesAt → (place levels : ℕ) → Option Found → List Step → Store → Type 0
 LastAnswer at place levels None steps store = NoBlock steps (block_at steps place at.to at.exit) levels
@@ -307,6 +316,11 @@ if_planned found = record { plan = Plan.If found.number; levels = one_more found
 
 abbrev pub rest_at : {S : Type 0} → HashMap ℕ Found S → (place : ℕ) → Option Found
 rest_at rests place = get (λ first second. first == second) rests place
+
+-- what was found at a place is noted
+abbrev pub IsNoted : (place : ℕ) → Option Found → (before after : ℕ → Option Found) → Type 0
+IsNoted place None before after = (begin : ℕ) → after begin ≡ before begin
+IsNoted place (Some found) before after = (after place ≡ Some found) × ((begin : ℕ) → (place ≡ begin → ⊥) → after begin ≡ before begin)
 
 abbrev pub found_behind : (ℕ → Option Found) → (next : Option ℕ) → (to : ℕ) → Option Found
 found_behind found None to = Some (record { number = 0; levels = 0 })

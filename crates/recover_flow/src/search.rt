@@ -1,10 +1,10 @@
 // The search for the statements of a function.
-ghost use Rattle.std.specs.Prelude.{◌≡◌, ◌<◌, ◌≤◌, IfOk, Some, option_map};
+ghost use Rattle.std.specs.Prelude.{◌≡◌, ◌<◌, ◌≤◌, IfOk, OnOk, Some, option_map};
 ghost use Rattle.recover_flow.specs.Arms.{arm_starts};
 ghost use Rattle.recover_flow.specs.Cutting.{pieces_of};
 ghost use Rattle.recover_flow.specs.Forms.{choice_at};
 ghost use Rattle.recover_flow.specs.Held.{ConditionFound};
-ghost use Rattle.recover_flow.specs.Searching.{Answers, AreRests, ArmAnswer, BehindFound, BlockAnswer, BodyAnswer, BranchesAnswer, FormAnswer, IfAnswer, IsReady, IsStartOf, IsStuck, LastAnswer, LastIfAnswer, LoopAnswer, LoopFormAnswer, PlanAnswer, RestAnswer, StatementsAnswer, TestAnswer, fitting_plan, found_behind, if_planned, rest_at, steps_of, store_of, whole_body};
+ghost use Rattle.recover_flow.specs.Searching.{Answers, AreRests, ArmAnswer, BehindFound, BlockAnswer, BodyAnswer, BranchesAnswer, FormAnswer, IfAnswer, IsNoted, IsReady, IsStartOf, IsStuck, LastAnswer, LastIfAnswer, LoopAnswer, LoopFormAnswer, PlanAnswer, RestAnswer, StatementsAnswer, TestAnswer, WayAnswer, fitting_plan, found_behind, if_planned, rest_at, steps_of, store_of, whole_body};
 ghost use Rattle.recover_flow.specs.Standing.{IsStart, IsWay, branches_used, piece_branches, with_used};
 ghost use Rattle.recover_flow.specs.declared.forms.Choice.{Choice};
 
@@ -133,8 +133,7 @@ impl<'s> Search<'s> {
         }
         let mut statements = Vec::new(self.alloc);
         for piece in &pieces {
-            let Some(statement) = self.statement(at, *piece, levels)? else {
-                self.memory.stops_at(piece.from);
+            let Some(statement) = self.next_statement(at, *piece, levels)? else {
                 return self.last_branches(at, &pieces, statements, levels);
             };
             statements.push(statement)?;
@@ -181,10 +180,9 @@ impl<'s> Search<'s> {
         levels: u32,
     ) -> Result<Option<Planned>, AllocError>
         requires ready { IsReady self.old }
-        requires some { 0 < levels }
         ensures { IfOk result (λ planned. Answers self.old self.new (LastIfAnswer at piece levels planned)) }
     {
-        if levels < 2 || !self.tables.begins_branches(at, piece) {
+        if !self.tables.begins_branches(at, piece) {
             return Ok(None);
         }
         let tested = BranchesAt {
@@ -193,16 +191,34 @@ impl<'s> Search<'s> {
             exit: at.exit,
             bare: false,
         };
-        let found = self.branches(tested, levels - 1)?;
-        if let Some(found) = found {
-            return Ok(Some(branches_planned(found)));
+        let planned = self.if_at(tested, levels)?;
+        if planned.is_some() {
+            return Ok(planned);
         }
         let bare = BranchesAt {
             bare: true,
             ..tested
         };
-        let found = self.branches(bare, levels - 1)?;
-        Ok(found.map(branches_planned))
+        self.if_at(bare, levels)
+    }
+
+    // The statement of a piece, or where none is found, a note of where that is.
+    #[cycle(search)]
+    fn next_statement(
+        &mut self,
+        at: BodyAt,
+        piece: Piece,
+        levels: u32,
+    ) -> Result<Option<Planned>, AllocError>
+        requires ready { IsReady self.old }
+        ensures { IfOk result (λ planned. Answers self.old self.new (PlanAnswer at piece levels planned)) }
+    {
+        let planned = self.statement(at, piece, levels)?;
+        if planned.is_some() {
+            return Ok(planned);
+        }
+        self.memory.stops_at(piece.from);
+        Ok(None)
     }
 
     // The statement of a piece.
@@ -286,7 +302,7 @@ impl<'s> Search<'s> {
         self.if_of(at, piece, true, levels)
     }
 
-    // An `if`; `bare` where there is a bare jump in its first condition.
+    // The `if` of a piece; `bare` where there is a bare jump in its first condition.
     #[cycle(search)]
     fn if_of(
         &mut self,
@@ -298,17 +314,28 @@ impl<'s> Search<'s> {
         requires ready { IsReady self.old }
         ensures { IfOk result (λ planned. Answers self.old self.new (IfAnswer (piece_branches at piece bare) levels planned)) }
     {
-        if levels < 2 {
-            return Ok(None);
-        }
         let branches = BranchesAt {
             from: piece.from,
             to: piece.to,
             exit: at.exit,
             bare,
         };
-        let found = self.branches(branches, levels - 1)?;
-        Ok(found.map(branches_planned))
+        self.if_at(branches, levels)
+    }
+
+    // An `if`. It needs two levels.
+    #[cycle(search)]
+    fn if_at(&mut self, at: BranchesAt, levels: u32) -> Result<Option<Planned>, AllocError>
+        requires ready { IsReady self.old }
+        ensures { IfOk result (λ planned. Answers self.old self.new (IfAnswer at levels planned)) }
+    {
+        if levels < 2 {
+            return Ok(None);
+        }
+        let Some(found) = self.branches(at, levels - 1)? else {
+            return Ok(None);
+        };
+        Ok(Some(branches_planned(found)))
     }
 
     // A statement around a block, where the block is found.
@@ -378,15 +405,14 @@ impl<'s> Search<'s> {
         let lengths = at.lengths(&self.tables);
         let most = lengths.tests.max(lengths.jumps);
         let mut turn = 0;
-        while turn <= most {
+        loop {
             let form = self.loop_form(at, lengths.at(turn))?;
             let planned = self.filled(form, levels)?;
-            if planned.is_some() {
+            if planned.is_some() || turn >= most {
                 return Ok(planned);
             }
             turn += 1;
         }
-        Ok(None)
     }
 
     // A loop whose condition has this length, where that is a condition.
@@ -463,9 +489,8 @@ impl<'s> Search<'s> {
         let mut starts = self.tables.arm_starts(self.alloc, at)?;
         let mut rests = HashMap::new(self.alloc);
         while let Some(start) = starts.pop() {
-            if let Some(rest) = self.rest(at, &start, &rests, levels)? {
-                rests.insert(start.place, rest)?;
-            }
+            let found = self.rest(at, &start, &rests, levels)?;
+            note(&mut rests, start.place, found)?;
         }
         Ok(rests.get(&at.from).copied())
     }
@@ -486,17 +511,38 @@ impl<'s> Search<'s> {
         ensures { IfOk result (λ found. Answers self.old self.new (RestAnswer at start.now.place levels found)) }
     {
         for way in &start.ways {
-            if let Some(behind) = rest_behind(rests, way.next, at.to) {
-                let found = self.arm(at, start.place, *way, behind, levels)?;
-                if found.is_some() {
-                    return Ok(found);
-                }
+            let found = self.way(at, start, *way, rests, levels)?;
+            if found.is_some() {
+                return Ok(found);
             }
         }
         if start.place == at.from {
             return Ok(None);
         }
         self.last(at, start.place, levels)
+    }
+
+    // The arm that stands in this way at a place, behind which these were found.
+    #[cycle(search)]
+    fn way(
+        &mut self,
+        at: BranchesAt,
+        start: &Start,
+        way: Way,
+        rests: &HashMap<usize, Found>,
+        levels: u32,
+    ) -> Result<Option<Found>, AllocError>
+        requires ready { IsReady self.old }
+        requires some { 0 < levels }
+        requires within { at.from ≤ start.now.place }
+        requires way { IsWay (arm_starts (steps_of self.old) at) start.now.place way }
+        requires rests { AreRests (steps_of self.old) (store_of self.old) at levels start.now.place (rest_at rests.now) }
+        ensures { IfOk result (λ found. Answers self.old self.new (WayAnswer at start.now.place way levels found)) }
+    {
+        let Some(behind) = rest_behind(rests, way.next, at.to) else {
+            return Ok(None);
+        };
+        self.arm(at, start.place, way, behind, levels)
     }
 
     // The arm that stands in this way, with what was found behind it.
@@ -605,6 +651,21 @@ fn fitting(planned: Option<Planned>, levels: u32) -> Option<Planned>
         Some(planned) if planned.levels <= levels => Some(planned),
         _ => None,
     }
+}
+
+// Notes what was found at a place, where something was.
+fn note(
+    rests: &mut HashMap<usize, Found>,
+    place: usize,
+    found: Option<Found>,
+) -> Result<(), AllocError>
+    ensures { OnOk result (IsNoted place found (rest_at rests.old) (rest_at rests.new)) }
+{
+    let Some(found) = found else {
+        return Ok(());
+    };
+    rests.insert(place, found)?;
+    Ok(())
 }
 
 // What stands behind an arm of an `if` that ends there, if that was found.
