@@ -83,8 +83,8 @@ impl<'m> Builder<'m> {
         ensures built { OnOk result ((steps : List Step) (plans : Plans) → PlansHeld steps (view_store self.old.memory.now) planned.now plans → Some (statements_of statements.new.items, parts_of self.new.parts) ≡ built_from (statements_of statements.old.items) plans (parts_of self.old.parts)) }
         ensures gone { IfErr result (λ error. (steps : List Step) (plans : Plans) → PlansHeld steps (view_store self.old.memory.now) planned.now plans → body_levels steps plans ≤ levels → IsGoneOnlyWhere (built_from (statements_of statements.old.items) plans (parts_of self.old.parts) ≡ None) error) }
     {
-        for planned in planned {
-            let statement = self.statement(planned.plan, levels)?;
+        for next in planned {
+            let statement = self.statement(next.plan, levels)?;
             append(statements, statement)?;
         }
         Ok(())

@@ -1,5 +1,12 @@
 -- Each call within the building has fewer levels, or is of a lower rank.
-use Rattle.std.proofs.Common.{◌+◌, ◌*◌}
+use Rattle.std.proofs.Common.{◌≡◌, ◌≤◌, ◌+◌, ◌*◌, List, drop}
+use Rattle.lua_tree.specs.TreeLists.{statements_of}
+use Rattle.lua_tree.specs.View.{view_arms}
+use Rattle.recover_expr.specs.declared.steps.Step.{Step}
+use Rattle.recover_flow.proofs.Builds.{PlansLeft, ArmsLeft}
+use Rattle.recover_flow.specs.Held.{ArmsHeld, PlansHeld, view_store}
+use Rattle.recover_flow.specs.Parts.{parts_of}
+use Rattle.recover_flow.specs.Plans.{Plans, ArmPlans}
 use Rattle.recover_flow.proofs.building.Builder.+building.Given as goal
 
 abbrev pub decreases-append_body : goal.decreases-append_body
@@ -31,3 +38,8 @@ decreases-statement l = 8 * l.levels + 4
 
 abbrev pub decreases-while_loop : goal.decreases-while_loop
 decreases-while_loop l = 8 * l.levels + 3
+
+abbrev pub invariant-append_planned-loop-next : goal.invariant-append_planned-loop-next
+invariant-append_planned-loop-next l =
+    (l.self.memory ≡ l.fn.self.memory) × ((steps : List Step) (plans : Plans) → PlansHeld steps (view_store l.fn.self.memory.now) l.planned plans
+    → PlansLeft steps (view_store l.fn.self.memory.now) (statements_of l.fn.statements.items) plans (parts_of l.fn.self.parts) (statements_of l.statements.items) (drop l.next-index l.planned) (parts_of l.self.parts))
