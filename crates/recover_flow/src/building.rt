@@ -264,7 +264,7 @@ impl<'m> Builder<'m> {
     {
         let mut arms = Arms::new(self.alloc);
         let mut number = first;
-        for _ in 0..=first {
+        loop {
             let memory = self.memory;
             let Some(rest) = memory.rest(number) else {
                 return Err(Unbuilt::Gone);
@@ -281,16 +281,18 @@ impl<'m> Builder<'m> {
                 Rest::Arm {
                     condition,
                     body,
-                    rest,
+                    rest: behind,
                 } => {
+                    if behind >= number {
+                        return Err(Unbuilt::Gone);
+                    }
                     let cond = self.condition(condition)?;
                     let body = self.inner(body, levels)?;
                     arms.push(Arm { cond, body })?;
-                    number = rest;
+                    number = behind;
                 }
             }
         }
-        Err(Unbuilt::Gone)
     }
 }
 

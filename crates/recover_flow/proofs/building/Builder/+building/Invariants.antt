@@ -43,3 +43,11 @@ abbrev pub invariant-append_planned-loop-next : goal.invariant-append_planned-lo
 invariant-append_planned-loop-next l =
     (l.self.memory ≡ l.fn.self.memory) × ((steps : List Step) (plans : Plans) → PlansHeld steps (view_store l.fn.self.memory.now) l.planned plans
     → PlansLeft steps (view_store l.fn.self.memory.now) (statements_of l.fn.statements.items) plans (parts_of l.fn.self.parts) (statements_of l.statements.items) (drop l.next-index l.planned) (parts_of l.self.parts))
+
+abbrev pub decreases-branches-loop-rest : goal.decreases-branches-loop-rest
+decreases-branches-loop-rest l = l.number
+
+abbrev pub invariant-branches-loop-rest : goal.invariant-branches-loop-rest
+invariant-branches-loop-rest l =
+    (l.self.memory ≡ l.fn.self.memory) × ((steps : List Step) (arms : ArmPlans) → ArmsHeld steps (view_store l.fn.self.memory.now) l.first arms
+    → ArmsLeft steps (view_store l.fn.self.memory.now) arms (parts_of l.fn.self.parts) (view_arms l.arms) l.number (parts_of l.self.parts))
