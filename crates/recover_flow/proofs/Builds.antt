@@ -4,6 +4,10 @@ use Rattle.std.proofs.lemmas.Option.{none-some, same_Some}
 use Rattle.std.specs.Prelude.{IfErr, IsErrAnd, slice_get, option_map, option_and_then}
 use Rattle.lua_tree.specs.Joins.{join_branches}
 use Rattle.lua_tree.specs.Syntax.{Statements, no_statements, Statement, while_loop, if_statement, Branches, no_branches, branch, Expression, Otherwise, no_otherwise, otherwise}
+use Rattle.lua_tree.specs.View.{view_arm, view_block, view_exp}
+use Rattle.lua_tree.specs.declared.tree.Arm.{roll-Arm}
+use Rattle.lua_tree.specs.declared.tree.Block.{Block}
+use Rattle.lua_tree.specs.declared.tree.Exp.{Exp}
 use Rattle.recover_expr.specs.Drafts.{Part}
 use Rattle.recover_expr.specs.declared.steps.Step.{Step}
 use Rattle.recover_flow.proofs.Joinings.{gone_where}
@@ -31,6 +35,10 @@ kept_with P old new same held = subst (λ (those : Bor Memory). P (view_store th
 
 pub plan_kept : (steps : List Step) (old new : Bor Memory) (plan : Plan) (tree : PlanTree) → new ≡ old → PlanHeld steps (view_store old.now) plan tree → PlanHeld steps (view_store new.now) plan tree
 plan_kept steps old new plan tree same held = kept_with (λ store. PlanHeld steps store plan tree) old new same held
+
+-- what stands under a number
+pub rest_kept : (old new : Bor Memory) (number : ℕ) (found : Option Rest) → new ≡ old → found ≡ slice_get (view_store new.now).rests number → found ≡ slice_get (view_store old.now).rests number
+rest_kept old new number found same is = is ∙ ap (λ (those : Bor Memory). slice_get (view_store those.now).rests number) same
 
 -- ---- bodies
 
@@ -263,18 +271,22 @@ block_gone steps store arms parts done number left test block behind levels made
         (gone body held (omega (arith, lower, enough))))
       these.same these.lower
 
+pub arm_view : (cond : Exp) (block : Block) (rest : Branches) → view_arm (roll-Arm (record { cond = cond; body = block })) rest ≡ branch (view_exp cond) (view_block block) rest
+unfolding roll-Arm denote.Hole.Carrier.roll
+arm_view cond block rest = refl
+
 -- an arm more is built
-pub arm_built : (steps : List Step) (store : Store) (arms : ArmPlans) (parts : List Part) (done : Branches) (number : ℕ) (left : List Part) (test : Option ℕ) (block behind : ℕ) (made : Expression) (middle : List Part) (inner : Statements) (after : List Part)
+pub arm_built : (steps : List Step) (store : Store) (arms : ArmPlans) (parts : List Part) (done : Branches) (number : ℕ) (left : List Part) (test : Option ℕ) (block behind : ℕ) (made : Expression) (middle : List Part) (inner : Statements) (after : List Part) (all : Branches)
     → Some (Rest.Arm test block behind) ≡ slice_get store.rests number → ArmsLeft steps store arms parts done number left
     → ((condition : Option ConditionTree) → ConditionHeld store test condition → Some (made, middle) ≡ built_condition condition left)
     → ((body : Plans) → BodyHeld steps store block body → Some (inner, after) ≡ built_body body middle)
-    → ArmsLeft steps store arms parts (join_branches done (branch made inner no_branches)) behind after
-arm_built steps store arms parts done number left test block behind made middle inner after is these tests built =
-    by_rest steps store number (λ rest. arms_behind done rest left ≡ built_plan (if_plan arms) parts → arm_levels steps rest ≤ arm_levels steps arms → ArmsLeft steps store arms parts (join_branches done (branch made inner no_branches)) behind after) (Rest.Arm test block behind) these.rest is these.held
+    → all ≡ join_branches done (branch made inner no_branches) → ArmsLeft steps store arms parts all behind after
+arm_built steps store arms parts done number left test block behind made middle inner after all is these tests built whole =
+    by_rest steps store number (λ rest. arms_behind done rest left ≡ built_plan (if_plan arms) parts → arm_levels steps rest ≤ arm_levels steps arms → ArmsLeft steps store arms parts all behind after) (Rest.Arm test block behind) these.rest is these.held
       (λ condition body rest low tested held others same lower. record {
         rest = rest;
         held = others;
-        same = joined (built_arms rest after) ∙ ap (λ (found : Built Statements). if_behind done (arm_around made rest found)) (built body held) ∙ ap (λ (found : Option Joined). if_behind done (arm_with body rest found)) (tests condition tested) ∙ same;
+        same = ap (λ (those : Branches). if_behind those (built_arms rest after)) whole ∙ joined (built_arms rest after) ∙ ap (λ (found : Built Statements). if_behind done (arm_around made rest found)) (built body held) ∙ ap (λ (found : Option Joined). if_behind done (arm_with body rest found)) (tests condition tested) ∙ same;
         lower = omega (arith, lower);
       })
       these.same these.lower

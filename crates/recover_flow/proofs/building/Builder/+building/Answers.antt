@@ -1,11 +1,14 @@
-use Rattle.std.proofs.Common.{◌≡◌, ◌∙◌, ◌+◌, ◌≤◌, List, None, Some, subst, sym, drop, arith}
+use Rattle.std.proofs.Common.{◌≡◌, ◌∙◌, None, Some, subst, sym, ap, arith}
 use Rattle.std.proofs.lemmas.List.{drop_all, drop_more}
+use Rattle.lua_tree.specs.Joins.{join_branches}
+use Rattle.lua_tree.specs.Syntax.{no_branches}
 use Rattle.lua_tree.specs.TreeLists.{statements_of}
 use Rattle.lua_tree.specs.View.{view_arms, view_block, view_exp, view_statement}
-use Rattle.recover_flow.specs.Held.{BodyHeld, PlanHeld, view_store}
+use Rattle.recover_flow.specs.Held.{BodyHeld, ConditionHeld, view_store}
 use Rattle.recover_flow.specs.Parts.{parts_of}
-use Rattle.recover_flow.specs.Plans.{Plans, body_levels}
-use Rattle.recover_flow.proofs.Builds.{PlansLeft, arm_built, arms_built, block_gone, body_held, fewer_inside, handed_on, kept_with, last_built, last_gone, lower_behind, no_body, no_rest, none_left, one_built, one_gone, plan_built, plan_gone, plan_kept, test_gone, while_built, while_empty, while_untested}
+use Rattle.recover_flow.specs.Plans.{body_levels}
+use Rattle.recover_flow.specs.declared.plan.Rest.{Rest}
+use Rattle.recover_flow.proofs.Builds.{PlansLeft, arm_built, arm_view, arms_built, block_gone, body_held, fewer_inside, handed_on, kept_with, last_built, last_gone, lower_behind, no_body, no_rest, none_left, one_built, one_gone, plan_built, plan_gone, plan_kept, rest_kept, test_gone, while_built, while_empty, while_untested}
 use Rattle.recover_flow.proofs.Joinings.{gone_where}
 use Rattle.recover_flow.proofs.building.Builder.+building.Goals as goal
 
@@ -147,30 +150,63 @@ while_loop-returns-clause-built t c = λ steps tree plans tested held.
 pub branches-returns-in_default-clause-gone : goal.branches-returns-in_default-clause-gone
 branches-returns-in_default-clause-gone t c = λ steps arms held enough.
     let left = c.loop-rest.invariant.1 steps arms held in
-    no_rest steps (view_store c.args.self.now.memory.now) c.loop-rest.number left.rest ? left.held
+    no_rest steps (view_store c.args.self.now.memory.now) c.loop-rest.number left.rest (rest_kept c.args.self.now.memory c.loop-rest.self.memory c.loop-rest.number None c.loop-rest.invariant.0 c.in_default.ensures) left.held
 
 pub branches-returns-in-Nothing-clause-built : goal.branches-returns-in-Nothing-clause-built
 branches-returns-in-Nothing-clause-built t c = λ steps arms held.
-    arms_built steps (view_store c.args.self.now.memory.now) arms (parts_of c.args.self.now.parts) (view_arms c.loop-rest.arms) c.loop-rest.number (parts_of c.loop-rest.self.parts) ? (c.loop-rest.invariant.1 steps arms held)
+    arms_built steps (view_store c.args.self.now.memory.now) arms (parts_of c.args.self.now.parts) (view_arms c.loop-rest.arms) c.loop-rest.number (parts_of c.loop-rest.self.parts)
+      (rest_kept c.args.self.now.memory c.loop-rest.self.memory c.loop-rest.number (Some Rest.Nothing) c.loop-rest.invariant.0 (ap Some (sym c.in-Nothing.is) ∙ c.in-Some.ensures))
+      (c.loop-rest.invariant.1 steps arms held)
 
 pub branches-returns-in_err-last-in-Last-clause-gone :
     goal.branches-returns-in_err-last-in-Last-clause-gone
-branches-returns-in_err-last-in-Last-clause-gone t c = ?
+branches-returns-in_err-last-in-Last-clause-gone t c =
+    handed_on _ c.from_residual.result _ c.from_residual.ensures.1
+      (λ steps arms held enough. last_gone steps (view_store c.args.self.now.memory.now) arms (parts_of c.args.self.now.parts) (view_arms c.loop-rest.arms) c.loop-rest.number (parts_of c.loop-rest.self.parts) c.in-Last.body c.args.levels _
+        (rest_kept c.args.self.now.memory c.loop-rest.self.memory c.loop-rest.number (Some (Rest.Last c.in-Last.body)) c.loop-rest.invariant.0 (ap Some (sym c.in-Last.is) ∙ c.in-Some.ensures))
+        (c.loop-rest.invariant.1 steps arms held) enough
+        (λ body there needs. c.in_err-last-in-Last.ensures.gone steps body (kept_with (λ store. BodyHeld steps store c.in-Last.body body) c.args.self.now.memory c.loop-rest.self.memory c.loop-rest.invariant.0 there) needs))
 
 pub branches-returns-in-Last-clause-built : goal.branches-returns-in-Last-clause-built
-branches-returns-in-Last-clause-built t c = ?
+branches-returns-in-Last-clause-built t c = λ steps arms held.
+    last_built steps (view_store c.args.self.now.memory.now) arms (parts_of c.args.self.now.parts) (view_arms c.loop-rest.arms) c.loop-rest.number (parts_of c.loop-rest.self.parts) c.in-Last.body (view_block c.in_ok-last-in-Last.last) (parts_of c.inner.new.self.parts)
+      (rest_kept c.args.self.now.memory c.loop-rest.self.memory c.loop-rest.number (Some (Rest.Last c.in-Last.body)) c.loop-rest.invariant.0 (ap Some (sym c.in-Last.is) ∙ c.in-Some.ensures))
+      (c.loop-rest.invariant.1 steps arms held)
+      (λ body there. c.in_ok-last-in-Last.ensures.built steps body (kept_with (λ store. BodyHeld steps store c.in-Last.body body) c.args.self.now.memory c.loop-rest.self.memory c.loop-rest.invariant.0 there))
 
 pub branches-returns-then-behind-number-clause-gone :
     goal.branches-returns-then-behind-number-clause-gone
-branches-returns-then-behind-number-clause-gone t c = ?
+branches-returns-then-behind-number-clause-gone t c = λ steps arms held enough.
+    let left = c.loop-rest.invariant.1 steps arms held in
+    let low = lower_behind steps (view_store c.args.self.now.memory.now) c.loop-rest.number left.rest c.in-Arm.condition c.in-Arm.body c.in-Arm.behind
+          (rest_kept c.args.self.now.memory c.loop-rest.self.memory c.loop-rest.number (Some (Rest.Arm c.in-Arm.condition c.in-Arm.body c.in-Arm.behind)) c.loop-rest.invariant.0 (ap Some (sym c.in-Arm.is) ∙ c.in-Some.ensures)) left.held in
+    absurd (omega (arith, low, c.if-behind-number.true))
 
 pub branches-returns-in_err-cond-in-Arm-clause-gone :
     goal.branches-returns-in_err-cond-in-Arm-clause-gone
-branches-returns-in_err-cond-in-Arm-clause-gone t c = ?
+branches-returns-in_err-cond-in-Arm-clause-gone t c =
+    handed_on _ c.from_residual-in_err-cond-in-Arm.result _ c.from_residual-in_err-cond-in-Arm.ensures.1
+      (λ steps arms held enough. test_gone steps (view_store c.args.self.now.memory.now) arms (parts_of c.args.self.now.parts) (view_arms c.loop-rest.arms) c.loop-rest.number (parts_of c.loop-rest.self.parts) c.in-Arm.condition c.in-Arm.body c.in-Arm.behind _
+        (rest_kept c.args.self.now.memory c.loop-rest.self.memory c.loop-rest.number (Some (Rest.Arm c.in-Arm.condition c.in-Arm.body c.in-Arm.behind)) c.loop-rest.invariant.0 (ap Some (sym c.in-Arm.is) ∙ c.in-Some.ensures))
+        (c.loop-rest.invariant.1 steps arms held)
+        (λ condition tested. c.in_err-cond-in-Arm.ensures.gone condition (kept_with (λ store. ConditionHeld store c.in-Arm.condition condition) c.args.self.now.memory c.loop-rest.self.memory c.loop-rest.invariant.0 tested)))
 
 pub branches-returns-in_err-body-in-Arm-clause-gone :
     goal.branches-returns-in_err-body-in-Arm-clause-gone
-branches-returns-in_err-body-in-Arm-clause-gone t c = ?
+branches-returns-in_err-body-in-Arm-clause-gone t c =
+    handed_on _ c.from_residual-in_err-body-in-Arm.result _ c.from_residual-in_err-body-in-Arm.ensures.1
+      (λ steps arms held enough. block_gone steps (view_store c.args.self.now.memory.now) arms (parts_of c.args.self.now.parts) (view_arms c.loop-rest.arms) c.loop-rest.number (parts_of c.loop-rest.self.parts) c.in-Arm.condition c.in-Arm.body c.in-Arm.behind c.args.levels (view_exp c.in_ok-cond-in-Arm.cond) (parts_of c.condition.new.self.parts) _
+        (rest_kept c.args.self.now.memory c.loop-rest.self.memory c.loop-rest.number (Some (Rest.Arm c.in-Arm.condition c.in-Arm.body c.in-Arm.behind)) c.loop-rest.invariant.0 (ap Some (sym c.in-Arm.is) ∙ c.in-Some.ensures))
+        (c.loop-rest.invariant.1 steps arms held) enough
+        (λ condition tested. c.in_ok-cond-in-Arm.ensures.built condition (kept_with (λ store. ConditionHeld store c.in-Arm.condition condition) c.args.self.now.memory c.loop-rest.self.memory c.loop-rest.invariant.0 tested))
+        (λ body there needs. c.in_err-body-in-Arm.ensures.gone steps body (kept_with (λ store. BodyHeld steps store c.in-Arm.body body) c.args.self.now.memory c.condition.new.self.memory (c.in_ok-cond-in-Arm.ensures.kept ∙ c.loop-rest.invariant.0) there) needs))
 
 pub branches-loop-rest-preserved : goal.branches-loop-rest-preserved
-branches-loop-rest-preserved t c = ?
+branches-loop-rest-preserved t c =
+    ( c.in_ok-body-in-Arm.ensures.kept ∙ c.in_ok-cond-in-Arm.ensures.kept ∙ c.loop-rest.invariant.0
+    , λ steps arms held. arm_built steps (view_store c.args.self.now.memory.now) arms (parts_of c.args.self.now.parts) (view_arms c.loop-rest.arms) c.loop-rest.number (parts_of c.loop-rest.self.parts) c.in-Arm.condition c.in-Arm.body c.in-Arm.behind (view_exp c.in_ok-cond-in-Arm.cond) (parts_of c.condition.new.self.parts) (view_block c.in_ok-body-in-Arm.body) (parts_of c.inner-in-Arm.new.self.parts) (view_arms c.push.new.self)
+        (rest_kept c.args.self.now.memory c.loop-rest.self.memory c.loop-rest.number (Some (Rest.Arm c.in-Arm.condition c.in-Arm.body c.in-Arm.behind)) c.loop-rest.invariant.0 (ap Some (sym c.in-Arm.is) ∙ c.in-Some.ensures))
+        (c.loop-rest.invariant.1 steps arms held)
+        (λ condition tested. c.in_ok-cond-in-Arm.ensures.built condition (kept_with (λ store. ConditionHeld store c.in-Arm.condition condition) c.args.self.now.memory c.loop-rest.self.memory c.loop-rest.invariant.0 tested))
+        (λ body there. c.in_ok-body-in-Arm.ensures.built steps body (kept_with (λ store. BodyHeld steps store c.in-Arm.body body) c.args.self.now.memory c.condition.new.self.memory (c.in_ok-cond-in-Arm.ensures.kept ∙ c.loop-rest.invariant.0) there))
+        (c.in_ok-push-in-Arm.ensures.view ∙ ap (join_branches (view_arms c.loop-rest.arms)) (arm_view c.in_ok-cond-in-Arm.cond c.in_ok-body-in-Arm.body no_branches)) )
