@@ -1,9 +1,9 @@
 -- What is built of plans that stand in the memory under their numbers.
-use Rattle.std.proofs.Common.{◌≡◌, ◌≤◌, ◌+◌, ◌<◌, ℕ, Bool, List, [], ◌∷◌, Option, None, Some, Result, Ok, Err, Bor, refl, sym, ap, ◌∙◌, subst, max, drop, length, arith}
+use Rattle.std.proofs.Common.{◌≡◌, ◌≤◌, ◌+◌, ◌<◌, ℕ, List, [], ◌∷◌, Option, None, Some, Result, Ok, Err, Bor, refl, sym, ap, ◌∙◌, subst, arith}
 use Rattle.std.proofs.lemmas.Option.{none-some, same_Some}
 use Rattle.std.specs.Prelude.{IfErr, IsErrAnd, slice_get, option_map, option_and_then}
 use Rattle.lua_tree.specs.Joins.{join_branches}
-use Rattle.lua_tree.specs.Syntax.{Statements, no_statements, Statement, while_loop, if_statement, Branches, no_branches, branch, Expression, Otherwise, no_otherwise, otherwise}
+use Rattle.lua_tree.specs.Syntax.{Statements, Statement, while_loop, if_statement, Branches, no_branches, branch, Expression, Otherwise, no_otherwise, otherwise}
 use Rattle.lua_tree.specs.View.{view_arm, view_block, view_exp}
 use Rattle.lua_tree.specs.declared.tree.Arm.{roll-Arm}
 use Rattle.lua_tree.specs.declared.tree.Block.{Block}
@@ -16,10 +16,9 @@ use Rattle.recover_flow.specs.Conditions.{ConditionTree}
 use Rattle.recover_flow.specs.Held.{ArmsHeld, BodyHeld, ConditionHeld, PlanHeld, PlansHeld, Store, view_store}
 use Rattle.recover_flow.specs.Joining.{Joined, condition_expression}
 use Rattle.recover_flow.specs.Parts.{IsGoneOnlyWhere, appended}
-use Rattle.recover_flow.specs.Plans.{Plans, no_plans, and_plan, PlanTree, step_plan, end_plan, do_plan, for_plan, while_plan, repeat_plan, if_plan, ArmPlans, no_arms, last_arm, and_arm, body_levels, plan_levels, arm_levels, around_block, tested_levels}
+use Rattle.recover_flow.specs.Plans.{Plans, no_plans, and_plan, PlanTree, step_plan, end_plan, do_plan, for_plan, while_plan, repeat_plan, if_plan, ArmPlans, no_arms, last_arm, and_arm, body_levels, plan_levels, arm_levels, around_block}
 use Rattle.recover_flow.specs.declared.memory.Memory.{Memory}
 use Rattle.recover_flow.specs.declared.parts.Unbuilt.{Unbuilt}
-use Rattle.recover_flow.specs.declared.plan.End.{End}
 use Rattle.recover_flow.specs.declared.plan.Plan.{Plan}
 use Rattle.recover_flow.specs.declared.plan.Planned.{Planned}
 use Rattle.recover_flow.specs.declared.plan.Rest.{Rest}
@@ -221,8 +220,8 @@ pub arms_built : (steps : List Step) (store : Store) (arms : ArmPlans) (parts : 
     → Some (if_statement done no_otherwise, left) ≡ built_plan (if_plan arms) parts
 arms_built steps store arms parts done number left is these =
     by_rest steps store number (λ rest. arms_behind done rest left ≡ built_plan (if_plan arms) parts → Some (if_statement done no_otherwise, left) ≡ built_plan (if_plan arms) parts) Rest.Nothing these.rest is these.held
-      (λ same. ap (λ (before : Branches). Some (if_statement before no_otherwise, left)) (sym (branches_end done)) ∙ same)
-      these.same
+    (λ same. ap (λ (before : Branches). Some (if_statement before no_otherwise, left)) (sym (branches_end done)) ∙ same)
+    these.same
 
 -- the `else` is left
 pub last_built : (steps : List Step) (store : Store) (arms : ArmPlans) (parts : List Part) (done : Branches) (number : ℕ) (left : List Part) (block : ℕ) (made : Statements) (behind : List Part) → Some (Rest.Last block) ≡ slice_get store.rests number
@@ -230,11 +229,11 @@ pub last_built : (steps : List Step) (store : Store) (arms : ArmPlans) (parts : 
     → Some (if_statement done (otherwise made), behind) ≡ built_plan (if_plan arms) parts
 last_built steps store arms parts done number left block made behind is these built =
     by_rest steps store number (λ rest. arms_behind done rest left ≡ built_plan (if_plan arms) parts → Some (if_statement done (otherwise made), behind) ≡ built_plan (if_plan arms) parts) (Rest.Last block) these.rest is these.held
-      (λ body held same.
-        ap (λ (before : Branches). Some (if_statement before (otherwise made), behind)) (sym (branches_end done))
-        ∙ ap (λ (found : Built Statements). if_behind done (last_with found)) (built body held)
-        ∙ same)
-      these.same
+    (λ body held same.
+    ap (λ (before : Branches). Some (if_statement before (otherwise made), behind)) (sym (branches_end done))
+    ∙ ap (λ (found : Built Statements). if_behind done (last_with found)) (built body held)
+    ∙ same)
+    these.same
 
 pub last_gone : (steps : List Step) (store : Store) (arms : ArmPlans) (parts : List Part) (done : Branches) (number : ℕ) (left : List Part) (block levels : ℕ) (unbuilt : Unbuilt) → Some (Rest.Last block) ≡ slice_get store.rests number
     → ArmsLeft steps store arms parts done number left → arm_levels steps arms + 1 ≤ levels
@@ -242,10 +241,10 @@ pub last_gone : (steps : List Step) (store : Store) (arms : ArmPlans) (parts : L
     → IsGoneOnlyWhere (built_plan (if_plan arms) parts ≡ None) unbuilt
 last_gone steps store arms parts done number left block levels unbuilt is these enough gone =
     by_rest steps store number (λ rest. arms_behind done rest left ≡ built_plan (if_plan arms) parts → arm_levels steps rest ≤ arm_levels steps arms → IsGoneOnlyWhere (built_plan (if_plan arms) parts ≡ None) unbuilt) (Rest.Last block) these.rest is these.held
-      (λ body held same lower. gone_where unbuilt
-        (λ none. sym same ∙ ap (λ (found : Built Statements). if_behind done (last_with found)) none)
-        (gone body held (omega (arith, lower, enough))))
-      these.same these.lower
+    (λ body held same lower. gone_where unbuilt
+    (λ none. sym same ∙ ap (λ (found : Built Statements). if_behind done (last_with found)) none)
+    (gone body held (omega (arith, lower, enough))))
+    these.same these.lower
 
 -- what stands behind an arm has a lower number
 pub lower_behind : (steps : List Step) (store : Store) (number : ℕ) (arms : ArmPlans) (test : Option ℕ) (block behind : ℕ) → Some (Rest.Arm test block behind) ≡ slice_get store.rests number → ArmsHeld steps store number arms → behind < number
@@ -256,8 +255,8 @@ pub test_gone : (steps : List Step) (store : Store) (arms : ArmPlans) (parts : L
     → IsGoneOnlyWhere (built_plan (if_plan arms) parts ≡ None) unbuilt
 test_gone steps store arms parts done number left test block behind unbuilt is these gone =
     by_rest steps store number (λ rest. arms_behind done rest left ≡ built_plan (if_plan arms) parts → IsGoneOnlyWhere (built_plan (if_plan arms) parts ≡ None) unbuilt) (Rest.Arm test block behind) these.rest is these.held
-      (λ condition body rest low tested held others same. gone_where unbuilt (λ none. sym same ∙ ap (λ (found : Option Joined). if_behind done (arm_with body rest found)) none) (gone condition tested))
-      these.same
+    (λ condition body rest low tested held others same. gone_where unbuilt (λ none. sym same ∙ ap (λ (found : Option Joined). if_behind done (arm_with body rest found)) none) (gone condition tested))
+    these.same
 
 pub block_gone : (steps : List Step) (store : Store) (arms : ArmPlans) (parts : List Part) (done : Branches) (number : ℕ) (left : List Part) (test : Option ℕ) (block behind levels : ℕ) (made : Expression) (middle : List Part) (unbuilt : Unbuilt)
     → Some (Rest.Arm test block behind) ≡ slice_get store.rests number → ArmsLeft steps store arms parts done number left → arm_levels steps arms + 1 ≤ levels
@@ -266,10 +265,10 @@ pub block_gone : (steps : List Step) (store : Store) (arms : ArmPlans) (parts : 
     → IsGoneOnlyWhere (built_plan (if_plan arms) parts ≡ None) unbuilt
 block_gone steps store arms parts done number left test block behind levels made middle unbuilt is these enough tests gone =
     by_rest steps store number (λ rest. arms_behind done rest left ≡ built_plan (if_plan arms) parts → arm_levels steps rest ≤ arm_levels steps arms → IsGoneOnlyWhere (built_plan (if_plan arms) parts ≡ None) unbuilt) (Rest.Arm test block behind) these.rest is these.held
-      (λ condition body rest low tested held others same lower. gone_where unbuilt
-        (λ none. sym same ∙ sym (ap (λ (found : Option Joined). if_behind done (arm_with body rest found)) (tests condition tested)) ∙ ap (λ (found : Built Statements). if_behind done (arm_around made rest found)) none)
-        (gone body held (omega (arith, lower, enough))))
-      these.same these.lower
+    (λ condition body rest low tested held others same lower. gone_where unbuilt
+    (λ none. sym same ∙ sym (ap (λ (found : Option Joined). if_behind done (arm_with body rest found)) (tests condition tested)) ∙ ap (λ (found : Built Statements). if_behind done (arm_around made rest found)) none)
+    (gone body held (omega (arith, lower, enough))))
+    these.same these.lower
 
 pub arm_view : (cond : Exp) (block : Block) (rest : Branches) → view_arm (roll-Arm (record { cond = cond; body = block })) rest ≡ branch (view_exp cond) (view_block block) rest
 unfolding roll-Arm denote.Hole.Carrier.roll
@@ -283,13 +282,13 @@ pub arm_built : (steps : List Step) (store : Store) (arms : ArmPlans) (parts : L
     → all ≡ join_branches done (branch made inner no_branches) → ArmsLeft steps store arms parts all behind after
 arm_built steps store arms parts done number left test block behind made middle inner after all is these tests built whole =
     by_rest steps store number (λ rest. arms_behind done rest left ≡ built_plan (if_plan arms) parts → arm_levels steps rest ≤ arm_levels steps arms → ArmsLeft steps store arms parts all behind after) (Rest.Arm test block behind) these.rest is these.held
-      (λ condition body rest low tested held others same lower. record {
-        rest = rest;
-        held = others;
-        same = ap (λ (those : Branches). if_behind those (built_arms rest after)) whole ∙ joined (built_arms rest after) ∙ ap (λ (found : Built Statements). if_behind done (arm_around made rest found)) (built body held) ∙ ap (λ (found : Option Joined). if_behind done (arm_with body rest found)) (tests condition tested) ∙ same;
-        lower = omega (arith, lower);
-      })
-      these.same these.lower
+    (λ condition body rest low tested held others same lower. record {
+      rest = rest;
+      held = others;
+      same = ap (λ (those : Branches). if_behind those (built_arms rest after)) whole ∙ joined (built_arms rest after) ∙ ap (λ (found : Built Statements). if_behind done (arm_around made rest found)) (built body held) ∙ ap (λ (found : Option Joined). if_behind done (arm_with body rest found)) (tests condition tested) ∙ same;
+      lower = omega (arith, lower);
+    })
+    these.same these.lower
   where
     joined : (found : Built (Branches × Otherwise)) → if_behind (join_branches done (branch made inner no_branches)) found ≡ if_behind done (arm_before made inner found)
     joined None = refl

@@ -1,5 +1,5 @@
 -- Serves a body. The statements of a plan, from the parts of the source. All lines are 1.
-use Rattle.std.specs.Prelude.{Bool, true, false, List, [], ◌∷◌, Option, None, Some, option_map, option_and_then}
+use Rattle.std.specs.Prelude.{Bool, true, false, List, ◌∷◌, Option, None, Some, option_map, option_and_then}
 use Rattle.lua_num.specs.Bytes.{Text}
 use Rattle.lua_tree.specs.Syntax.{Statements, no_statements, Statement, do_block, while_loop, repeat_loop, if_statement, numeric_for, generic_for, return_statement, break_statement, Branches, no_branches, branch, Otherwise, no_otherwise, otherwise, ForStep, no_step, by_step, Expressions, no_expressions, expression, true_literal}
 use Rattle.recover_expr.specs.Drafts.{Part}
@@ -9,7 +9,7 @@ use Rattle.recover_flow.specs.Parts.{take_statement, take_values, take_head, app
 use Rattle.recover_flow.specs.Plans.{Plans, no_plans, and_plan, PlanTree, step_plan, end_plan, do_plan, for_plan, while_plan, repeat_plan, if_plan, ArmPlans, no_arms, last_arm, and_arm}
 use Rattle.recover_flow.specs.declared.plan.End.{End}
 
--- what is built, and the parts that are left; nothing where a part was taken before
+-- what is built, and the parts that are left; none where a part of it is not there
 abbrev pub Built : Type 0 → Type 0
 Built Made = Option (Made × List Part)
 
@@ -74,7 +74,7 @@ abbrev mutual
   built_arms (last_arm body) parts = option_map (λ made. ((no_branches, otherwise made.0), made.1)) (built_from no_statements body parts)
   built_arms (and_arm condition body rest) parts =
       option_and_then (λ test. option_and_then (λ made. option_map (λ behind. ((branch test.0 made.0 behind.0.0, behind.0.1), behind.1)) (built_arms rest made.1)) (built_from no_statements body test.1))
-        (built_condition condition parts)
+      (built_condition condition parts)
 
 -- the statements of a body, one after the other
 abbrev pub built_body : Plans → List Part → Built Statements

@@ -209,7 +209,12 @@ impl<'m> Builder<'m> {
     }
 
     #[cycle(building)]
-    fn while_loop(&mut self, condition: usize, body: usize, levels: u32) -> Result<StatKind, Unbuilt>
+    fn while_loop(
+        &mut self,
+        condition: usize,
+        body: usize,
+        levels: u32,
+    ) -> Result<StatKind, Unbuilt>
         ensures kept { self.new.memory ≡ self.old.memory }
         ensures built { IfOk result (λ statement. (steps : List Step) (tree : ConditionTree) (plans : Plans) → ConditionHeld (view_store self.old.memory.now) (Some condition) (Some tree) → BodyHeld steps (view_store self.old.memory.now) body plans → Some (view_statement statement, parts_of self.new.parts) ≡ built_plan (while_plan tree plans) (parts_of self.old.parts)) }
         ensures gone { IfErr result (λ error. (steps : List Step) (tree : ConditionTree) (plans : Plans) → ConditionHeld (view_store self.old.memory.now) (Some condition) (Some tree) → BodyHeld steps (view_store self.old.memory.now) body plans → body_levels steps plans + 1 ≤ levels → IsGoneOnlyWhere (built_plan (while_plan tree plans) (parts_of self.old.parts) ≡ None) error) }

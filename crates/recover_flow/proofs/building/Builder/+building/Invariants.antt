@@ -1,5 +1,5 @@
 -- Each call within the building has fewer levels, or is of a lower rank.
-use Rattle.std.proofs.Common.{◌≡◌, ◌≤◌, ◌+◌, ◌*◌, List, drop}
+use Rattle.std.proofs.Common.{◌≡◌, ◌+◌, ◌*◌, List, drop}
 use Rattle.lua_tree.specs.TreeLists.{statements_of}
 use Rattle.lua_tree.specs.View.{view_arms}
 use Rattle.recover_expr.specs.declared.steps.Step.{Step}
