@@ -1,6 +1,8 @@
 mod Arming
 mod Arms
 mod Bodies
+mod BuildExamples
+mod Builds
 mod Chained
 mod ConditionExamples
 mod ConditionJoins

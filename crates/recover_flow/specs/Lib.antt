@@ -1,5 +1,6 @@
 pub mod Arms
 pub mod Asked
+pub mod Built
 pub mod Conditions
 pub mod Cutting
 pub mod Debug
