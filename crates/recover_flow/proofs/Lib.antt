@@ -1,3 +1,4 @@
+mod Answered
 mod Arming
 mod Arms
 mod Bodies
@@ -19,6 +20,7 @@ mod Paths
 mod PieceTurns
 mod Pieces
 mod Remembered
+mod Resting
 mod Rows
 mod Separated
 mod SideBySide
