@@ -11,6 +11,7 @@ pub mod CallsMade
 pub mod Acts
 pub mod CallParts
 pub mod CallStatements
+pub mod CallValues
 pub mod GlobalStores
 pub mod GlobalAssignments
 pub mod FlatStatements
