@@ -68,28 +68,28 @@ word_gives {f} {g} {remaining} {w} {p} {q} {s} {v} is_function quiet at read to 
 nil_literal_is : (f : Function) (line : ℕ) → IsLiteral f nil_value (nil_literal line)
 nil_literal_is f line = record { plain = record { single = refl; no_function = refl }; shallow = omega arith; written = λ entries n left. record { can = refl; words = refl; few = omega arith }; unused = λ left. refl }
 
-pub nil_read : {f : Function} {g : Fn} {remaining : Remaining} (active : List Active) (line : ℕ) → IsFunction f g → IsValueRead f g remaining active IsPlain 1 (nil_literal line)
+pub nil_read : {f : Function} {g : Fn} {remaining : Remaining} {listed : List ℕ} (active : List Active) (line : ℕ) → IsFunction f g → IsValueRead f g remaining active listed IsPlain 1 (nil_literal line)
 nil_read {f} active line is_function = record {
   forward = λ free r p q at. omega (arith, at.next);
-  gives = λ free p q s base is quiet at. word_gives is_function quiet at (abc_is_read is_function at) is (record { does = rw (eq-eqb free free refl) }) (nil_literal_is f line);
+  gives = λ free p q s locals is quiet at. word_gives is_function quiet at (abc_is_read is_function at) is (record { does = rw (eq-eqb free free refl) }) (nil_literal_is f line);
 }
 
 true_is : (f : Function) (line : ℕ) → IsLiteral f (bool_value true) (true_literal line)
 true_is f line = record { plain = record { single = refl; no_function = refl }; shallow = omega arith; written = λ entries n left. record { can = refl; words = refl; few = omega arith }; unused = λ left. refl }
 
-pub true_read : {f : Function} {g : Fn} {remaining : Remaining} (active : List Active) (line : ℕ) → IsFunction f g → IsValueRead f g remaining active IsPlain 1 (true_literal line)
+pub true_read : {f : Function} {g : Fn} {remaining : Remaining} {listed : List ℕ} (active : List Active) (line : ℕ) → IsFunction f g → IsValueRead f g remaining active listed IsPlain 1 (true_literal line)
 true_read {f} active line is_function = record {
   forward = λ free r p q at. omega (arith, at.next);
-  gives = λ free p q s base is quiet at. word_gives is_function quiet at (abc_is_read is_function at) is (record { does = refl }) (true_is f line);
+  gives = λ free p q s locals is quiet at. word_gives is_function quiet at (abc_is_read is_function at) is (record { does = refl }) (true_is f line);
 }
 
 false_is : (f : Function) (line : ℕ) → IsLiteral f (bool_value false) (false_literal line)
 false_is f line = record { plain = record { single = refl; no_function = refl }; shallow = omega arith; written = λ entries n left. record { can = refl; words = refl; few = omega arith }; unused = λ left. refl }
 
-pub false_read : {f : Function} {g : Fn} {remaining : Remaining} (active : List Active) (line : ℕ) → IsFunction f g → IsValueRead f g remaining active IsPlain 1 (false_literal line)
+pub false_read : {f : Function} {g : Fn} {remaining : Remaining} {listed : List ℕ} (active : List Active) (line : ℕ) → IsFunction f g → IsValueRead f g remaining active listed IsPlain 1 (false_literal line)
 false_read {f} active line is_function = record {
   forward = λ free r p q at. omega (arith, at.next);
-  gives = λ free p q s base is quiet at. word_gives is_function quiet at (abc_is_read is_function at) is (record { does = refl }) (false_is f line);
+  gives = λ free p q s locals is quiet at. word_gives is_function quiet at (abc_is_read is_function at) is (record { does = refl }) (false_is f line);
 }
 
 -- ---- constants that are loaded
@@ -130,17 +130,17 @@ load_gives {f} {p = p} {s = s} free k e is_function quiet is at words few =
       unused = λ left. refl;
     })
 
-pub text_read : {f : Function} {g : Fn} {remaining : Remaining} (active : List Active) (line : ℕ) (text : Text) → IsFunction f g → IsValueRead f g remaining active IsPlain 1 (text_literal line text)
+pub text_read : {f : Function} {g : Fn} {remaining : Remaining} {listed : List ℕ} (active : List Active) (line : ℕ) (text : Text) → IsFunction f g → IsValueRead f g remaining active listed IsPlain 1 (text_literal line text)
 text_read active line text is_function = record {
   forward = λ free r p q at. omega (arith, at.word.next);
-  gives = λ free p q s base is quiet at. load_gives free (Constant.Text text) (text_literal line text) is_function quiet is at refl (omega arith);
+  gives = λ free p q s locals is quiet at. load_gives free (Constant.Text text) (text_literal line text) is_function quiet is at refl (omega arith);
 }
 
 -- no numeral is below 0
-pub number_read : {f : Function} {g : Fn} {remaining : Remaining} (active : List Active) (line : ℕ) (n : ℤ) → is_numeral_value n ≡ true → IsFunction f g → IsValueRead f g remaining active IsPlain 1 (number_literal line n)
+pub number_read : {f : Function} {g : Fn} {remaining : Remaining} {listed : List ℕ} (active : List Active) (line : ℕ) (n : ℤ) → is_numeral_value n ≡ true → IsFunction f g → IsValueRead f g remaining active listed IsPlain 1 (number_literal line n)
 number_read active line (pos n) numeral is_function = record {
   forward = λ free r p q at. omega (arith, at.word.next);
-  gives = λ free p q s base is quiet at. load_gives free (Constant.Number (pos n)) (number_literal line (pos n)) is_function quiet is at refl (omega arith);
+  gives = λ free p q s locals is quiet at. load_gives free (Constant.Number (pos n)) (number_literal line (pos n)) is_function quiet is at refl (omega arith);
 }
 number_read active line (negsuc n) numeral is_function = not_so numeral
 
@@ -185,10 +185,10 @@ name_forward g text (in_register x) r p q at = omega (arith, at.next)
 name_forward g text (in_upvalue slot) r p q at = omega (arith, at.next)
 name_forward g text in_globals r p q at = omega (arith, at.word.next)
 
-pub global_read : {f : Function} {g : Fn} {remaining : Remaining} {active : List Active} (line : ℕ) (text : Text) → is_name text ≡ true → OnlyGlobals g active → IsFunction f g → IsValueRead f g remaining active IsPlain 1 (name_expression line text)
+pub global_read : {f : Function} {g : Fn} {remaining : Remaining} {active : List Active} {listed : List ℕ} (line : ℕ) (text : Text) → is_name text ≡ true → OnlyGlobals g active → IsFunction f g → IsValueRead f g remaining active listed IsPlain 1 (name_expression line text)
 global_read {f} {g} {remaining} {active} line text named only is_function = record {
   forward = λ free r p q at. omega (arith, at.1.first_at.pc, name_forward g text (meaning active p) r at.1.mid q at.1.second_at);
-  gives = λ free p q s base is quiet at.
+  gives = λ free p q s locals is quiet at.
       let same = at.1.first_at.pc in
       let means = only.globals text (meaning active p) at.0 in
       subst (λ (pc : ℕ). Gives f remaining IsPlain (name_expression line text) 1 s pc q.pc) same
