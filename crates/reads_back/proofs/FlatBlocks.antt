@@ -14,7 +14,7 @@ use Rattle.scheme_stands.specs.Words.{Fn, Spot}
 use Rattle.reads_back.specs.Flat.{flat_parts}
 use Rattle.reads_back.proofs.FlatStatements.{statement_read}
 use Rattle.reads_back.proofs.Given.{Remaining}
-use Rattle.reads_back.proofs.Literals.{OnlyGlobals}
+use Rattle.reads_back.proofs.Names.{OnlyGlobals}
 use Rattle.reads_back.proofs.StepsRead.{StepsRead, no_steps, none_active, one_step, quiet_there}
 use Rattle.reads_back.proofs.Tests.{first_of_both, not_so, second_of_both}
 use Rattle.reads_back.proofs.WordsRead.{IsFunction}

@@ -21,7 +21,8 @@ use Rattle.reads_back.proofs.CallParts.{IsClosedCall, call_forward}
 use Rattle.reads_back.proofs.CallStatements.{call_acts}
 use Rattle.reads_back.proofs.Given.{HasLocals, IsNoFunction, IsPlain, IsValueRead, AreValuesRead, Remaining, read_less}
 use Rattle.reads_back.proofs.GlobalAssignments.{StandsNext, assignment_acts, assignment_forward}
-use Rattle.reads_back.proofs.Literals.{OnlyGlobals, false_read, global_read, nil_read, number_read, text_read, true_read}
+use Rattle.reads_back.proofs.Literals.{false_read, nil_read, number_read, text_read, true_read}
+use Rattle.reads_back.proofs.Names.{OnlyGlobals, globals_listed, name_read}
 use Rattle.reads_back.proofs.Tests.{first_of_both, second_of_both, not_so}
 use Rattle.reads_back.proofs.WordsRead.{IsFunction, IsQuiet}
 
@@ -39,7 +40,7 @@ module _ (f : Function) (g : Fn) (remaining : Remaining) (active : List Active) 
   simple_read (false_literal line) simple formed = false_read active line is_function
   simple_read (number_literal line n) simple formed = number_read active line n formed is_function
   simple_read (text_literal line text) simple formed = text_read active line text is_function
-  simple_read (name_expression line text) simple formed = global_read line text formed only is_function
+  simple_read (name_expression line text) simple formed = name_read f g remaining active listed line text is_function formed (globals_listed listed only)
   simple_read e simple formed = not_so simple
 
   all_read : (es : Expressions) → are_simple es ≡ true → formed_expressions es ≡ true → AreValuesRead f g remaining active listed 1 es
@@ -80,7 +81,7 @@ module _ (f : Function) (g : Fn) (remaining : Remaining) (active : List Active) 
   -- ---- statements
 
   flat_closed : (line : ℕ) (text : Text) (es : Expressions) → is_name text ≡ true → are_simple es ≡ true → formed_expressions es ≡ true → IsClosedCall f g remaining active listed 1 (name_expression line text) es
-  flat_closed line text es named simple formed = record { on = read_less (λ v plain. tt) (global_read line text named only is_function); given = all_read es simple formed; closed = all_closed es simple; prefix = refl; shallow = omega arith }
+  flat_closed line text es named simple formed = record { on = read_less (λ v plain. tt) (name_read f g remaining active listed line text is_function named (globals_listed listed only)); given = all_read es simple formed; closed = all_closed es simple; prefix = refl; shallow = omega arith }
 
   named_call_read : (line on_line : ℕ) (on : Expression) (es : Expressions) (p q : Spot) → is_bare_name on ≡ true → are_simple es ≡ true → formed_statement (call_statement (call_expression line on (argument_list es) on_line)) ≡ true →
       (related g (call_expression line on (argument_list es) on_line)).multi active (length active) Op.Call (Some 0) p q → IsActRead f remaining active listed (call_statement (call_expression line on (argument_list es) on_line)) p q

@@ -27,7 +27,8 @@ use Rattle.reads_back.proofs.Acts.{Acts, last_word}
 use Rattle.reads_back.proofs.CallsMade.{more_at_most}
 use Rattle.reads_back.proofs.Given.{HasLocals, IsNoFunction, IsWritten, Gives, IsValueRead, Remaining, quiet_same}
 use Rattle.reads_back.proofs.GlobalStores.{IsGlobalName, after_store, global_stored, store_draft}
-use Rattle.reads_back.proofs.Literals.{OnlyGlobals, constant_there}
+use Rattle.reads_back.proofs.Literals.{constant_there}
+use Rattle.reads_back.proofs.Names.{OnlyGlobals}
 use Rattle.reads_back.proofs.ValueWords.{next_free}
 use Rattle.reads_back.proofs.WordsRead.{IsFunction, IsQuiet, quiet_before, word_of, abx_is_read}
 

@@ -5,6 +5,7 @@ pub mod WordsRead
 pub mod ValueWords
 pub mod Given
 pub mod Literals
+pub mod Names
 pub mod ValueLists
 pub mod TakenEntries
 pub mod CallsMade
