@@ -19,9 +19,9 @@ use Rattle.scheme.specs.declared.making.Active.{Active}
 use Rattle.scheme_stands.specs.Lists.{AllNextAt, OpenBy, CallAt, rels_open}
 use Rattle.scheme_stands.specs.Relation.{related, all_related, given_rel}
 use Rattle.scheme_stands.specs.Words.{Fn, Spot}
-use Rattle.reads_back.proofs.Given.{SameLocals, same_then, quiet_same, behind_words, IsAny, IsWritten, AreWritten, Gives, IsValueRead, Remaining, AreValuesRead, AllGiven, entries_of}
+use Rattle.reads_back.proofs.Given.{HasLocals, SameLocals, same_then, quiet_same, behind_words, IsAny, IsWritten, AreWritten, Gives, IsValueRead, Remaining, AreValuesRead, AllGiven, entries_of}
 use Rattle.reads_back.proofs.Reaches.{Reaches}
-use Rattle.reads_back.proofs.ValueLists.{behind_one, gives_then, list_forward, list_gives, next_behind, written_then}
+use Rattle.reads_back.proofs.ValueLists.{behind_one, gives_then, list_forward, list_gives, locals_behind, next_behind, written_then}
 use Rattle.reads_back.proofs.ValueWords.{next_free}
 use Rattle.reads_back.proofs.WordsRead.{IsQuiet, quiet_before, quiet_from}
 
@@ -62,31 +62,31 @@ related_count g no_expressions = refl
 related_count g (syntax.expression e es) = ap suc (related_count g es)
 
 -- a call has arguments of which none is left open
-pub record IsClosedCall (f : Function) (g : Fn) (remaining : Remaining) (active : List Active) (levels : ℕ) (e : Expression) (es : Expressions) : Type 0 where
-  pub on : IsValueRead f g remaining active IsAny levels e
-  pub given : AreValuesRead f g remaining active levels es
+pub record IsClosedCall (f : Function) (g : Fn) (remaining : Remaining) (active : List Active) (listed : List ℕ) (levels : ℕ) (e : Expression) (es : Expressions) : Type 0 where
+  pub on : IsValueRead f g remaining active listed IsAny levels e
+  pub given : AreValuesRead f g remaining active listed levels es
   pub closed : rels_open (all_related g es) ≡ false
   pub prefix : is_prefix (one_line_expression e) ≡ true
   pub shallow : 2 * levels < 400
 
-module _ (f : Function) (g : Fn) (remaining : Remaining) (active : List Active) (levels : ℕ) (e : Expression) (es : Expressions) (closed : IsClosedCall f g remaining active levels e es) where
+module _ (f : Function) (g : Fn) (remaining : Remaining) (active : List Active) (listed : List ℕ) (levels : ℕ) (e : Expression) (es : Expressions) (closed : IsClosedCall f g remaining active listed levels e es) where
   args_at : (free : ℕ) (p q : Spot) → (given_rel g (argument_list es)).part active free p q → AllNextAt g (all_related g es) active free p q
   args_at free p q at = subst (λ (is_open : Bool). OpenBy is_open g (all_related g es) active free p q) closed.closed at
 
   pub call_forward : (free : ℕ) (op : Op) (want : Option ℕ) (p q : Spot) → CallAt g (related g e) (given_rel g (argument_list es)) active free op want p q → p.pc ≤ q.pc
   call_forward free op want p q at =
-      omega (arith, closed.on.forward free free p at.mid at.on_at, list_forward f g remaining active levels es closed.given (free + 1) at.mid at.last (args_at (free + 1) at.mid at.last at.given_at), at.word.next)
+      omega (arith, closed.on.forward free free p at.mid at.on_at, list_forward f g remaining active listed levels es closed.given (free + 1) at.mid at.last (args_at (free + 1) at.mid at.last at.given_at), at.word.next)
 
-  pub call_parts : (free : ℕ) (op : Op) (want : Option ℕ) (p q : Spot) (s : Situation) → s.base ≡ length active → free ≡ next_free s → IsQuiet f s.scope p.pc q.pc → (at : CallAt g (related g e) (given_rel g (argument_list es)) active free op want p q) →
+  pub call_parts : (free : ℕ) (op : Op) (want : Option ℕ) (p q : Spot) (s : Situation) → HasLocals active listed s → free ≡ next_free s → IsQuiet f s.scope p.pc q.pc → (at : CallAt g (related g e) (given_rel g (argument_list es)) active free op want p q) →
       CallGiven f remaining e es levels s p.pc at.last.pc
-  call_parts free op want p q s base is quiet at =
+  call_parts free op want p q s locals is quiet at =
       let args = args_at (free + 1) at.mid at.last at.given_at in
       let on = closed.on.forward free free p at.mid at.on_at in
-      let back = list_forward f g remaining active levels es closed.given (free + 1) at.mid at.last args in
+      let back = list_forward f g remaining active listed levels es closed.given (free + 1) at.mid at.last args in
       let before = quiet_before at.last.pc (omega (arith, at.word.next)) quiet in
-      let one = closed.on.gives free p at.mid s base is (quiet_before at.mid.pc back before) at.on_at in
-      let next = next_behind f g remaining active levels free one is in
-      parts_given one (list_gives f g remaining active levels es closed.given (free + 1) at.mid at.last (behind_one one) base next (quiet_same one.same (quiet_from at.mid.pc on before)) args)
+      let one = closed.on.gives free p at.mid s locals is (quiet_before at.mid.pc back before) at.on_at in
+      let next = next_behind f g remaining active listed levels free one is in
+      parts_given one (list_gives f g remaining active listed levels es closed.given (free + 1) at.mid at.last (behind_one one) (locals_behind f g remaining active listed levels one locals) next (quiet_same one.same (quiet_from at.mid.pc on before)) args)
 
   -- as many as the word counts
   pub call_count : (n : ℕ) → n ≡ expression_count es → count_field 1 (given_rel g (argument_list es)).count ≡ suc n

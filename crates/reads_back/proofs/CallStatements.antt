@@ -22,7 +22,7 @@ use Rattle.scheme_stands.specs.Words.{Fn, Spot, WordAt}
 use Rattle.reads_back.proofs.Acts.{Acts, last_word}
 use Rattle.reads_back.proofs.CallParts.{CallGiven, IsClosedCall, call_count, call_parts}
 use Rattle.reads_back.proofs.CallsMade.{CallsBy, call_of, call_made as made_by, call_written, more_at_most}
-use Rattle.reads_back.proofs.Given.{behind_words, IsWritten, Remaining, entries_of, quiet_same}
+use Rattle.reads_back.proofs.Given.{HasLocals, behind_words, IsWritten, Remaining, entries_of, quiet_same}
 use Rattle.reads_back.proofs.ValueWords.{next_free}
 use Rattle.reads_back.proofs.WordsRead.{IsFunction, IsQuiet, word_of, abc_is_read}
 
@@ -43,16 +43,16 @@ call_ends f pc r b s on args e levels by written =
     let wrote : Wording × ℕ × Situation = (word (place_in_step f s) s.taken s.left v, taken_behind v s.taken, after_call v s) in
     ap (option_and_then (call_made f w)) (made_by w s [] on args by) ∙ ap (λ can. option_map as_end (option_map (call_ended w) (if can then Some wrote else None))) written.can
 
-module _ (f : Function) (g : Fn) (remaining : Remaining) (active : List Active) (levels : ℕ) (e : Expression) (es : Expressions) (is_function : IsFunction f g) (closed : IsClosedCall f g remaining active levels e es) where
+module _ (f : Function) (g : Fn) (remaining : Remaining) (active : List Active) (listed : List ℕ) (levels : ℕ) (e : Expression) (es : Expressions) (is_function : IsFunction f g) (closed : IsClosedCall f g remaining active listed levels e es) where
   is_called : (line on_line : ℕ) (s : Situation) (first last : ℕ) (parts : CallGiven f remaining e es levels s first last) → remaining.holds first s.left →
       IsWritten (place f.of parts.scope.active f.short) s.seen s.left (call_of parts.on parts.args) (call_expression line e (argument_list es) on_line) (suc levels)
   is_called line on_line s first last parts holds =
       subst (λ (active : List ℕ). IsWritten (place f.of active f.short) s.seen s.left (call_of parts.on parts.args) (call_expression line e (argument_list es) on_line) (suc levels)) (sym parts.same.active)
       (call_written (place_in_step f s) s.seen s.left parts.on parts.args (suc (max (depth_of parts.on) (deepest parts.args))) levels line on_line e es is_function.natural closed.prefix (parts.called s.left holds) (parts.given s.left holds))
 
-  statement_acts : (line on_line : ℕ) (p q last : Spot) (s : Situation) (parts : CallGiven f remaining e es levels s p.pc last.pc) → s.base ≡ length active → s.entries ≡ [] → s.taken ≡ s.seen → remaining.holds p.pc s.left → IsQuiet f s.scope p.pc q.pc →
+  statement_acts : (line on_line : ℕ) (p q last : Spot) (s : Situation) (parts : CallGiven f remaining e es levels s p.pc last.pc) → HasLocals active listed s → s.entries ≡ [] → s.taken ≡ s.seen → remaining.holds p.pc s.left → IsQuiet f s.scope p.pc q.pc →
       WordAt g (Piece.Abc Op.Call (length active) (suc (expression_count es)) 1) last q → Acts f remaining s p.pc q.pc (call_statement (one_line_expression (call_expression line e (argument_list es) on_line))) (suc (suc levels))
-  statement_acts line on_line p q last s parts base empty taken holds quiet at =
+  statement_acts line on_line p q last s parts locals empty taken holds quiet at =
       let t = behind_words parts.scope parts.seen (value_entry parts.on ∷ entries_of parts.args) s in
       let v = call_of parts.on parts.args in
       let by : CallsBy (word_of last.pc (Piece.Abc Op.Call (length active) (suc (expression_count es)) 1)) t [] parts.on parts.args = record {
@@ -78,11 +78,11 @@ module _ (f : Function) (g : Fn) (remaining : Remaining) (active : List Active) 
         left = λ holds. remaining.later last.pc q.pc (left_by v s.left) (omega (arith, at.next)) (parts.left s.left holds);
       }
 
-  pub call_acts : (line on_line : ℕ) (p q : Spot) (s : Situation) → s.base ≡ length active → s.entries ≡ [] → s.taken ≡ s.seen → remaining.holds p.pc s.left → IsQuiet f s.scope p.pc q.pc →
+  pub call_acts : (line on_line : ℕ) (p q : Spot) (s : Situation) → HasLocals active listed s → s.entries ≡ [] → s.taken ≡ s.seen → remaining.holds p.pc s.left → IsQuiet f s.scope p.pc q.pc →
       (related g (call_expression line e (argument_list es) on_line)).multi active (length active) Op.Call (Some 0) p q →
       Acts f remaining s p.pc q.pc (call_statement (one_line_expression (call_expression line e (argument_list es) on_line))) (suc (suc levels))
-  call_acts line on_line p q s base empty taken holds quiet at =
+  call_acts line on_line p q s locals empty taken holds quiet at =
       let next : length active ≡ next_free s = omega (arith, ap length empty) in
-      let count = call_count f g remaining active levels e es closed (expression_count es) refl in
-      let parts = call_parts f g remaining active levels e es closed (length active) Op.Call (Some 0) p q s base next quiet at in
-      statement_acts line on_line p q at.last s parts base empty taken holds quiet (subst (λ (b : ℕ). WordAt g (Piece.Abc Op.Call (length active) b 1) at.last q) count at.word)
+      let count = call_count f g remaining active listed levels e es closed (expression_count es) refl in
+      let parts = call_parts f g remaining active listed levels e es closed (length active) Op.Call (Some 0) p q s locals next quiet at in
+      statement_acts line on_line p q at.last s parts locals empty taken holds quiet (subst (λ (b : ℕ). WordAt g (Piece.Abc Op.Call (length active) b 1) at.last q) count at.word)

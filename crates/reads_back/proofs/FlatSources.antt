@@ -25,7 +25,7 @@ use Rattle.scheme_stands.specs.Relation.{MainAt, StatementsAt}
 use Rattle.scheme_stands.specs.Words.{Names, Means, fn}
 use Rattle.reads_back.specs.Flat.{IsReadAs, FlatSourcesAreRead, flat_parts}
 use Rattle.reads_back.proofs.FlatBlocks.{block_read}
-use Rattle.reads_back.proofs.Literals.{OnlyGlobals}
+use Rattle.reads_back.proofs.Names.{OnlyGlobals}
 use Rattle.reads_back.proofs.NoLocals.{no_locals}
 use Rattle.reads_back.proofs.StepsPlaced.{as_many, acts_of, flat_placed, flat_steps, parts_of}
 use Rattle.reads_back.proofs.StepsRead.{StepsRead, none_start}

@@ -43,6 +43,11 @@ quiet_same {f} same quiet = record {
   within = quiet.within;
 }
 
+-- so many locals are below the entries, at these places in the list
+pub record HasLocals (active : List Active) (listed : List ℕ) (s : Situation) : Type 0 where
+  pub base : s.base ≡ length active
+  pub places : s.scope.active ≡ listed
+
 -- behind words that took constants and captured locals, with these entries more
 abbrev pub behind_words : (scope : Scope) → (seen : ℕ) → (more : Entries) → Situation → Situation
 behind_words scope seen more s = record s { scope = scope; entries = s.entries ++ more; seen = seen }
@@ -81,9 +86,9 @@ pub record Gives (f : Function) (remaining : Remaining) (Is : Value → Type 0) 
   pub left : (left : List (Option Inner)) → remaining.holds first left → remaining.holds last (left_by value left)
 
 -- where its words stand
-pub record IsValueRead (f : Function) (g : Fn) (remaining : Remaining) (active : List Active) (Is : Value → Type 0) (levels : ℕ) (e : Expression) : Type 0 where
+pub record IsValueRead (f : Function) (g : Fn) (remaining : Remaining) (active : List Active) (listed : List ℕ) (Is : Value → Type 0) (levels : ℕ) (e : Expression) : Type 0 where
   pub forward : (free r : ℕ) (p q : Spot) → (related g e).to_reg active free r p q → p.pc ≤ q.pc
-  pub gives : (free : ℕ) (p q : Spot) (s : Situation) → s.base ≡ length active → free ≡ next_free s → IsQuiet f s.scope p.pc q.pc → (related g e).to_reg active free free p q → Gives f remaining Is e levels s p.pc q.pc
+  pub gives : (free : ℕ) (p q : Spot) (s : Situation) → HasLocals active listed s → free ≡ next_free s → IsQuiet f s.scope p.pc q.pc → (related g e).to_reg active free free p q → Gives f remaining Is e levels s p.pc q.pc
 
 abbrev pub IsAny : Value → Type 0
 IsAny v = Unit {0}
@@ -113,9 +118,9 @@ gives_less less gives = record {
   left = gives.left;
 }
 
-pub read_less : {f : Function} {g : Fn} {remaining : Remaining} {active : List Active} {Is Less : Value → Type 0} {levels : ℕ} {e : Expression} → ((v : Value) → Is v → Less v) → IsValueRead f g remaining active Is levels e →
-    IsValueRead f g remaining active Less levels e
-read_less less read = record { forward = read.forward; gives = λ free p q s base is quiet at. gives_less less (read.gives free p q s base is quiet at) }
+pub read_less : {f : Function} {g : Fn} {remaining : Remaining} {active : List Active} {listed : List ℕ} {Is Less : Value → Type 0} {levels : ℕ} {e : Expression} → ((v : Value) → Is v → Less v) → IsValueRead f g remaining active listed Is levels e →
+    IsValueRead f g remaining active listed Less levels e
+read_less less read = record { forward = read.forward; gives = λ free p q s locals is quiet at. gives_less less (read.gives free p q s locals is quiet at) }
 
 -- ---- several values
 
@@ -124,11 +129,11 @@ entries_of no_values = []
 entries_of (and_value v values) = value_entry v ∷ entries_of values
 
 -- the last one gives one value only
-abbrev pub AreValuesRead : Function → Fn → Remaining → List Active → (levels : ℕ) → Expressions → Type 0
-AreValuesRead f g remaining active levels no_expressions = Unit {0}
-AreValuesRead f g remaining active levels (syntax.expression e no_expressions) = IsValueRead f g remaining active IsSingle levels e
-AreValuesRead f g remaining active levels (syntax.expression e (syntax.expression d es)) =
-    IsValueRead f g remaining active IsAny levels e × AreValuesRead f g remaining active levels (syntax.expression d es)
+abbrev pub AreValuesRead : Function → Fn → Remaining → List Active → (listed : List ℕ) → (levels : ℕ) → Expressions → Type 0
+AreValuesRead f g remaining active listed levels no_expressions = Unit {0}
+AreValuesRead f g remaining active listed levels (syntax.expression e no_expressions) = IsValueRead f g remaining active listed IsSingle levels e
+AreValuesRead f g remaining active listed levels (syntax.expression e (syntax.expression d es)) =
+    IsValueRead f g remaining active listed IsAny levels e × AreValuesRead f g remaining active listed levels (syntax.expression d es)
 
 pub record AllGiven (f : Function) (remaining : Remaining) (es : Expressions) (levels : ℕ) (s : Situation) (first last : ℕ) : Type 0 where
   pub values : Values

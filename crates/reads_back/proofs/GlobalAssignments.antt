@@ -25,9 +25,10 @@ use Rattle.scheme_stands.specs.Statements.{AssignAt, CopiesAt, EachStoredAt, NoT
 use Rattle.scheme_stands.specs.Words.{Fn, Spot, ConstantWord, meaning}
 use Rattle.reads_back.proofs.Acts.{Acts, last_word}
 use Rattle.reads_back.proofs.CallsMade.{more_at_most}
-use Rattle.reads_back.proofs.Given.{IsNoFunction, IsWritten, Gives, IsValueRead, Remaining, quiet_same}
+use Rattle.reads_back.proofs.Given.{HasLocals, IsNoFunction, IsWritten, Gives, IsValueRead, Remaining, quiet_same}
 use Rattle.reads_back.proofs.GlobalStores.{IsGlobalName, after_store, global_stored, store_draft}
-use Rattle.reads_back.proofs.Literals.{OnlyGlobals, constant_there}
+use Rattle.reads_back.proofs.Literals.{constant_there}
+use Rattle.reads_back.proofs.Names.{OnlyGlobals}
 use Rattle.reads_back.proofs.ValueWords.{next_free}
 use Rattle.reads_back.proofs.WordsRead.{IsFunction, IsQuiet, quiet_before, word_of, abx_is_read}
 
@@ -83,10 +84,10 @@ assigned g text e active p q only stands at =
 abbrev pub to_global : Text → Expression → Statement
 to_global text e = assignment (expression (name_expression 1 text) no_expressions) (expression (one_line_expression e) no_expressions)
 
-module _ (f : Function) (g : Fn) (remaining : Remaining) (active : List Active) (levels : ℕ) (text : Text) (e : Expression) (is_function : IsFunction f g) (reads : IsValueRead f g remaining active IsNoFunction levels e) (some : 1 ≤ levels) (named : is_name text ≡ true) where
-  store_acts : (p q : Spot) (s : Situation) (a : IsAssigned g text e active p q) (one : Gives f remaining IsNoFunction e levels s a.begun.pc a.mid.pc) → s.base ≡ length active → s.entries ≡ [] → s.taken ≡ s.seen → remaining.holds a.begun.pc s.left →
+module _ (f : Function) (g : Fn) (remaining : Remaining) (active : List Active) (listed : List ℕ) (levels : ℕ) (text : Text) (e : Expression) (is_function : IsFunction f g) (reads : IsValueRead f g remaining active listed IsNoFunction levels e) (some : 1 ≤ levels) (named : is_name text ≡ true) where
+  store_acts : (p q : Spot) (s : Situation) (a : IsAssigned g text e active p q) (one : Gives f remaining IsNoFunction e levels s a.begun.pc a.mid.pc) → HasLocals active listed s → s.entries ≡ [] → s.taken ≡ s.seen → remaining.holds a.begun.pc s.left →
       IsQuiet f s.scope a.begun.pc q.pc → Acts f remaining s a.begun.pc q.pc (to_global text e) (suc levels)
-  store_acts p q s a one base empty taken holds quiet =
+  store_acts p q s a one locals empty taken holds quiet =
       let v = one.value in
       let number = a.store.number in
       let w = word_of a.mid.pc (Piece.Abx Op.SetGlobal (length active) number) in
@@ -119,12 +120,12 @@ module _ (f : Function) (g : Fn) (remaining : Remaining) (active : List Active) 
       let a = assigned g text e active p q only stands at in
       omega (arith, a.same, reads.forward (length active) (length active) a.begun a.mid a.value, a.store.word.next)
 
-  pub assignment_acts : (p q : Spot) (s : Situation) → OnlyGlobals g active → StandsNext g active e → s.base ≡ length active → s.entries ≡ [] → s.taken ≡ s.seen → remaining.holds p.pc s.left → IsQuiet f s.scope p.pc q.pc →
+  pub assignment_acts : (p q : Spot) (s : Situation) → OnlyGlobals g active → StandsNext g active e → HasLocals active listed s → s.entries ≡ [] → s.taken ≡ s.seen → remaining.holds p.pc s.left → IsQuiet f s.scope p.pc q.pc →
       AssignAt g (rel_name g text ∷ []) (related g e ∷ []) active p q → Acts f remaining s p.pc q.pc (to_global text e) (suc levels)
-  assignment_acts p q s only stands base empty taken holds quiet at =
+  assignment_acts p q s only stands locals empty taken holds quiet at =
       let a = assigned g text e active p q only stands at in
       let from = subst (λ (pc : ℕ). IsQuiet f s.scope pc q.pc) (sym a.same) quiet in
       let next : length active ≡ next_free s = omega (arith, ap length empty) in
-      let one = reads.gives (length active) a.begun a.mid s base next (quiet_before a.mid.pc (omega (arith, a.store.word.next)) from) a.value in
+      let one = reads.gives (length active) a.begun a.mid s locals next (quiet_before a.mid.pc (omega (arith, a.store.word.next)) from) a.value in
       subst (λ (pc : ℕ). Acts f remaining s pc q.pc (to_global text e) (suc levels)) a.same
-      (store_acts p q s a one base empty taken (subst (λ (pc : ℕ). remaining.holds pc s.left) (sym a.same) holds) from)
+      (store_acts p q s a one locals empty taken (subst (λ (pc : ℕ). remaining.holds pc s.left) (sym a.same) holds) from)

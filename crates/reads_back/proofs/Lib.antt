@@ -5,12 +5,14 @@ pub mod WordsRead
 pub mod ValueWords
 pub mod Given
 pub mod Literals
+pub mod Names
 pub mod ValueLists
 pub mod TakenEntries
 pub mod CallsMade
 pub mod Acts
 pub mod CallParts
 pub mod CallStatements
+pub mod CallValues
 pub mod GlobalStores
 pub mod GlobalAssignments
 pub mod FlatStatements

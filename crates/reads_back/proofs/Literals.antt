@@ -1,29 +1,26 @@
--- Literals and names of globals are read as values that are written as they are.
+-- Literals are read as values that are written as they are.
 use Rattle.std.proofs.Common.{◌≡◌, ℕ, suc, ◌<◌, ◌≤◌, true, false, List, length, Option, Some, None, refl, sym, ap, ◌∙◌, subst, arith, lt-ltb, eq-eqb}
-use Rattle.std.specs.Prelude.{ℤ, pos, negsuc, option_and_then, option_map, slice_get, is_some, if◌then◌else◌}
+use Rattle.std.specs.Prelude.{ℤ, pos, negsuc, option_and_then, slice_get, is_some, if◌then◌else◌}
 use Rattle.std.proofs.lemmas.Option.{slice_get_within}
 use Rattle.lua_num.specs.Bytes.{Text}
-use Rattle.lua_tree.specs.Names.{is_name}
 use Rattle.lua_tree.specs.OneLine.{one_line_expression}
-use Rattle.lua_tree.specs.Syntax.{Expression, nil_literal, true_literal, false_literal, number_literal, text_literal, name_expression}
+use Rattle.lua_tree.specs.Syntax.{Expression, nil_literal, true_literal, false_literal, number_literal, text_literal}
 use Rattle.lua_tree.specs.WellFormed.{is_numeral_value}
 use Rattle.opcode.specs.declared.op.Op.{Op}
 use Rattle.proto.specs.declared.parts.Constant.{Constant}
 use Rattle.core_expr.specs.Counting.{taken_behind, left_by}
 use Rattle.core_expr.specs.Making.{depth_of}
-use Rattle.core_expr.specs.Places.{Place, place, constant_at, constant_name, as_name, as_text}
-use Rattle.core_expr.specs.Values.{Value, nil_value, bool_value, constant_value, global_value, Inner}
-use Rattle.core_expr.specs.Writing.{constant_word, name_word, literal}
+use Rattle.core_expr.specs.Places.{Place, place, constant_at}
+use Rattle.core_expr.specs.Values.{Value, nil_value, bool_value, constant_value, Inner}
+use Rattle.core_expr.specs.Writing.{constant_word, literal}
 use Rattle.recover_expr.specs.Drafts.{makes}
 use Rattle.recover_expr.specs.Entries.{place_in}
-use Rattle.recover_expr.specs.Reading.{on, read_word, made}
-use Rattle.recover_expr.specs.Situation.{Function, Situation, see, see_constant, is_good_name}
+use Rattle.recover_expr.specs.Reading.{on, read_word}
+use Rattle.recover_expr.specs.Situation.{Function, Situation, see, see_constant, place_in_step}
 use Rattle.recover_expr.specs.Words.{loaded, far_method}
-use Rattle.scheme.specs.Making.{Where, in_register, in_upvalue, in_globals}
 use Rattle.scheme.specs.declared.making.Piece.{Piece}
 use Rattle.scheme.specs.declared.making.Active.{Active}
-use Rattle.scheme_stands.specs.Expressions.{NameBy}
-use Rattle.scheme_stands.specs.Words.{Fn, Spot, WordAt, ConstantWord, IsRead, instr_by, meaning, Means}
+use Rattle.scheme_stands.specs.Words.{Fn, Spot, WordAt, ConstantWord, IsRead, instr_by}
 use Rattle.reads_back.proofs.Given.{same_locals, IsWritten, IsPlain, Gives, IsValueRead, Remaining}
 use Rattle.reads_back.proofs.Reaches.{here, word}
 use Rattle.reads_back.proofs.Tests.{not_more, not_so}
@@ -37,14 +34,14 @@ pub record MakesValue (f : Function) (pc : ℕ) (w : Piece) (s : Situation) (v :
   pub does : read_word f (word_of pc w) (see (instr_by pc w) s) ≡ Some (makes v (suc pc), record s { seen = taken_behind v s.seen })
 
 -- it is written as it is, and uses no function
-pub record IsLiteral (f : Function) (v : Value) (e : Expression) : Type 0 where
+pub record IsLiteral (f : Function) (listed : List ℕ) (v : Value) (e : Expression) : Type 0 where
   pub plain : IsPlain v
   pub shallow : depth_of v ≤ 2
-  pub written : (entries : List ℕ) (n : ℕ) (left : List (Option Inner)) → IsWritten (place f.of entries f.short) n left v e 1
+  pub written : (n : ℕ) (left : List (Option Inner)) → IsWritten (place f.of listed f.short) n left v e 1
   pub unused : (left : List (Option Inner)) → left_by v left ≡ left
 
-word_gives : {f : Function} {g : Fn} {remaining : Remaining} {w : Piece} {p q : Spot} {s : Situation} {v : Value} {e : Expression} → IsFunction f g → IsQuiet f s.scope p.pc q.pc → WordAt g w p q → IsRead p.pc w →
-    (instr_by p.pc w).a ≡ next_free s → MakesValue f p.pc w s v → IsLiteral f v e → Gives f remaining IsPlain e 1 s p.pc q.pc
+pub word_gives : {f : Function} {g : Fn} {remaining : Remaining} {w : Piece} {p q : Spot} {s : Situation} {v : Value} {e : Expression} → IsFunction f g → IsQuiet f s.scope p.pc q.pc → WordAt g w p q → IsRead p.pc w →
+    (instr_by p.pc w).a ≡ next_free s → MakesValue f p.pc w s v → IsLiteral f s.scope.active v e → Gives f remaining IsPlain e 1 s p.pc q.pc
 word_gives {f} {g} {remaining} {w} {p} {q} {s} {v} is_function quiet at read to by literal =
     let later : p.pc < q.pc = omega (arith, at.next) in
     let turn = turn_there p.pc s quiet (omega arith) later (word_there is_function at read (omega (arith, quiet.within))) in
@@ -59,37 +56,37 @@ word_gives {f} {g} {remaining} {w} {p} {q} {s} {v} is_function quiet at read to 
       seen = taken_behind v s.seen;
       taken = refl;
       reaches = word later (turn ∙ does ∙ ap (λ (next : ℕ). Some (on next, and_value v t)) (sym at.next)) here;
-      written = λ left holds. literal.written s.scope.active s.seen left;
+      written = λ left holds. literal.written s.seen left;
       left = λ left holds. subst (remaining.holds q.pc) (sym (literal.unused left)) (remaining.later p.pc q.pc left (omega (arith, at.next)) holds);
     }
 
 -- ---- literals
 
-nil_literal_is : (f : Function) (line : ℕ) → IsLiteral f nil_value (nil_literal line)
-nil_literal_is f line = record { plain = record { single = refl; no_function = refl }; shallow = omega arith; written = λ entries n left. record { can = refl; words = refl; few = omega arith }; unused = λ left. refl }
+nil_literal_is : (f : Function) (listed : List ℕ) (line : ℕ) → IsLiteral f listed nil_value (nil_literal line)
+nil_literal_is f listed line = record { plain = record { single = refl; no_function = refl }; shallow = omega arith; written = λ n left. record { can = refl; words = refl; few = omega arith }; unused = λ left. refl }
 
-pub nil_read : {f : Function} {g : Fn} {remaining : Remaining} (active : List Active) (line : ℕ) → IsFunction f g → IsValueRead f g remaining active IsPlain 1 (nil_literal line)
+pub nil_read : {f : Function} {g : Fn} {remaining : Remaining} {listed : List ℕ} (active : List Active) (line : ℕ) → IsFunction f g → IsValueRead f g remaining active listed IsPlain 1 (nil_literal line)
 nil_read {f} active line is_function = record {
   forward = λ free r p q at. omega (arith, at.next);
-  gives = λ free p q s base is quiet at. word_gives is_function quiet at (abc_is_read is_function at) is (record { does = rw (eq-eqb free free refl) }) (nil_literal_is f line);
+  gives = λ free p q s locals is quiet at. word_gives is_function quiet at (abc_is_read is_function at) is (record { does = rw (eq-eqb free free refl) }) (nil_literal_is f s.scope.active line);
 }
 
-true_is : (f : Function) (line : ℕ) → IsLiteral f (bool_value true) (true_literal line)
-true_is f line = record { plain = record { single = refl; no_function = refl }; shallow = omega arith; written = λ entries n left. record { can = refl; words = refl; few = omega arith }; unused = λ left. refl }
+true_is : (f : Function) (listed : List ℕ) (line : ℕ) → IsLiteral f listed (bool_value true) (true_literal line)
+true_is f listed line = record { plain = record { single = refl; no_function = refl }; shallow = omega arith; written = λ n left. record { can = refl; words = refl; few = omega arith }; unused = λ left. refl }
 
-pub true_read : {f : Function} {g : Fn} {remaining : Remaining} (active : List Active) (line : ℕ) → IsFunction f g → IsValueRead f g remaining active IsPlain 1 (true_literal line)
+pub true_read : {f : Function} {g : Fn} {remaining : Remaining} {listed : List ℕ} (active : List Active) (line : ℕ) → IsFunction f g → IsValueRead f g remaining active listed IsPlain 1 (true_literal line)
 true_read {f} active line is_function = record {
   forward = λ free r p q at. omega (arith, at.next);
-  gives = λ free p q s base is quiet at. word_gives is_function quiet at (abc_is_read is_function at) is (record { does = refl }) (true_is f line);
+  gives = λ free p q s locals is quiet at. word_gives is_function quiet at (abc_is_read is_function at) is (record { does = refl }) (true_is f s.scope.active line);
 }
 
-false_is : (f : Function) (line : ℕ) → IsLiteral f (bool_value false) (false_literal line)
-false_is f line = record { plain = record { single = refl; no_function = refl }; shallow = omega arith; written = λ entries n left. record { can = refl; words = refl; few = omega arith }; unused = λ left. refl }
+false_is : (f : Function) (listed : List ℕ) (line : ℕ) → IsLiteral f listed (bool_value false) (false_literal line)
+false_is f listed line = record { plain = record { single = refl; no_function = refl }; shallow = omega arith; written = λ n left. record { can = refl; words = refl; few = omega arith }; unused = λ left. refl }
 
-pub false_read : {f : Function} {g : Fn} {remaining : Remaining} (active : List Active) (line : ℕ) → IsFunction f g → IsValueRead f g remaining active IsPlain 1 (false_literal line)
+pub false_read : {f : Function} {g : Fn} {remaining : Remaining} {listed : List ℕ} (active : List Active) (line : ℕ) → IsFunction f g → IsValueRead f g remaining active listed IsPlain 1 (false_literal line)
 false_read {f} active line is_function = record {
   forward = λ free r p q at. omega (arith, at.next);
-  gives = λ free p q s base is quiet at. word_gives is_function quiet at (abc_is_read is_function at) is (record { does = refl }) (false_is f line);
+  gives = λ free p q s locals is quiet at. word_gives is_function quiet at (abc_is_read is_function at) is (record { does = refl }) (false_is f s.scope.active line);
 }
 
 -- ---- constants that are loaded
@@ -126,72 +123,20 @@ load_gives {f} {p = p} {s = s} free k e is_function quiet is at words few =
     (record {
       plain = record { single = refl; no_function = refl };
       shallow = omega arith;
-      written = λ entries n left. constant_written (place f.of entries f.short) n left at.number k e there words few;
+      written = λ n left. constant_written (place_in_step f s) n left at.number k e there words few;
       unused = λ left. refl;
     })
 
-pub text_read : {f : Function} {g : Fn} {remaining : Remaining} (active : List Active) (line : ℕ) (text : Text) → IsFunction f g → IsValueRead f g remaining active IsPlain 1 (text_literal line text)
+pub text_read : {f : Function} {g : Fn} {remaining : Remaining} {listed : List ℕ} (active : List Active) (line : ℕ) (text : Text) → IsFunction f g → IsValueRead f g remaining active listed IsPlain 1 (text_literal line text)
 text_read active line text is_function = record {
   forward = λ free r p q at. omega (arith, at.word.next);
-  gives = λ free p q s base is quiet at. load_gives free (Constant.Text text) (text_literal line text) is_function quiet is at refl (omega arith);
+  gives = λ free p q s locals is quiet at. load_gives free (Constant.Text text) (text_literal line text) is_function quiet is at refl (omega arith);
 }
 
 -- no numeral is below 0
-pub number_read : {f : Function} {g : Fn} {remaining : Remaining} (active : List Active) (line : ℕ) (n : ℤ) → is_numeral_value n ≡ true → IsFunction f g → IsValueRead f g remaining active IsPlain 1 (number_literal line n)
+pub number_read : {f : Function} {g : Fn} {remaining : Remaining} {listed : List ℕ} (active : List Active) (line : ℕ) (n : ℤ) → is_numeral_value n ≡ true → IsFunction f g → IsValueRead f g remaining active listed IsPlain 1 (number_literal line n)
 number_read active line (pos n) numeral is_function = record {
   forward = λ free r p q at. omega (arith, at.word.next);
-  gives = λ free p q s base is quiet at. load_gives free (Constant.Number (pos n)) (number_literal line (pos n)) is_function quiet is at refl (omega arith);
+  gives = λ free p q s locals is quiet at. load_gives free (Constant.Number (pos n)) (number_literal line (pos n)) is_function quiet is at refl (omega arith);
 }
 number_read active line (negsuc n) numeral is_function = not_so numeral
-
--- ---- names of globals
-
--- every name that is used means a global
-pub record OnlyGlobals (g : Fn) (active : List Active) : Type 0 where
-  pub globals : (text : Text) (w : Where) → Means g.law active text w → w ≡ in_globals
-
-global_written : (at : Place) (n : ℕ) (left : List (Option Inner)) (number line : ℕ) (text : Text) → constant_at at number ≡ Some (Constant.Text text) → is_name text ≡ true → IsWritten at n left (global_value number) (name_expression line text) 1
-global_written at n left number line text is named =
-    let name : constant_name at number ≡ Some text = ap (λ there. as_name (as_text there)) is ∙ ap (λ good. if good then Some text else None) named in
-    record {
-      can = ap is_some name;
-      words = ap (λ there. (name_word there).words) name;
-      few = omega (arith, ap (λ there. (name_word there).levels) name);
-    }
-
-global_makes : (f : Function) (pc r number : ℕ) (text : Text) (s : Situation) → slice_get f.of.constants number ≡ Some (Constant.Text text) → is_name text ≡ true → MakesValue f pc (Piece.Abx Op.GetGlobal r number) s (global_value number)
-global_makes f pc r number text s there named =
-    let t = see_constant number s in
-    let does = option_map (λ name. made (word_of pc (Piece.Abx Op.GetGlobal r number)) t (global_value name)) in
-    record {
-      does = ap (λ constant. does (if is_good_name constant then Some number else None)) there ∙ ap (λ good. does (if good then Some number else None)) named;
-    }
-
-global_gives : {f : Function} {g : Fn} {remaining : Remaining} {p q : Spot} {s : Situation} (free line : ℕ) (text : Text) → IsFunction f g → IsQuiet f s.scope p.pc q.pc → free ≡ next_free s → is_name text ≡ true →
-    ConstantWord g Op.GetGlobal free (Constant.Text text) p q → Gives f remaining IsPlain (name_expression line text) 1 s p.pc q.pc
-global_gives {f} {p = p} {s = s} free line text is_function quiet is named at =
-    let there = constant_there at.number (Constant.Text text) is_function at.is in
-    word_gives is_function quiet at.word (abx_is_read is_function at.word) is
-    (global_makes f p.pc free at.number text s there named)
-    (record {
-      plain = record { single = refl; no_function = refl };
-      shallow = omega arith;
-      written = λ entries n left. global_written (place f.of entries f.short) n left at.number line text there named;
-      unused = λ left. refl;
-    })
-
-name_forward : (g : Fn) (text : Text) (w : Where) (r : ℕ) (p q : Spot) → NameBy g text w r p q → p.pc ≤ q.pc
-name_forward g text (in_register x) r p q at = omega (arith, at.next)
-name_forward g text (in_upvalue slot) r p q at = omega (arith, at.next)
-name_forward g text in_globals r p q at = omega (arith, at.word.next)
-
-pub global_read : {f : Function} {g : Fn} {remaining : Remaining} {active : List Active} (line : ℕ) (text : Text) → is_name text ≡ true → OnlyGlobals g active → IsFunction f g → IsValueRead f g remaining active IsPlain 1 (name_expression line text)
-global_read {f} {g} {remaining} {active} line text named only is_function = record {
-  forward = λ free r p q at. omega (arith, at.1.first_at.pc, name_forward g text (meaning active p) r at.1.mid q at.1.second_at);
-  gives = λ free p q s base is quiet at.
-      let same = at.1.first_at.pc in
-      let means = only.globals text (meaning active p) at.0 in
-      subst (λ (pc : ℕ). Gives f remaining IsPlain (name_expression line text) 1 s pc q.pc) same
-      (global_gives free line text is_function (subst (λ (pc : ℕ). IsQuiet f s.scope pc q.pc) (sym same) quiet) is named
-      (subst (λ (w : Where). NameBy g text w free at.1.mid q) means at.1.second_at));
-}

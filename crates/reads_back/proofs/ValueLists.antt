@@ -1,5 +1,5 @@
 -- Values in the next registers, one after the other, are read as a list of values.
-use Rattle.std.proofs.Common.{◌≡◌, ℕ, suc, ◌+◌, ◌≤◌, true, false, not, ◌&&◌, List, [], ◌∷◌, length, length-append, append-nil, append_assoc, Bool, Option, refl, sym, ap, ap₂, ◌∙◌, subst, arith}
+use Rattle.std.proofs.Common.{◌≡◌, ℕ, suc, ◌+◌, ◌≤◌, true, false, not, ◌&&◌, List, [], ◌∷◌, length-append, append-nil, append_assoc, Bool, Option, refl, sym, ap, ap₂, ◌∙◌, subst, arith}
 use Rattle.std.proofs.Math.Nat.{max-le}
 use Rattle.lua_tree.specs.Syntax as syntax
 use Rattle.lua_tree.specs.Syntax.{Expressions, no_expressions, Expression}
@@ -16,7 +16,7 @@ use Rattle.scheme.specs.declared.making.Active.{Active}
 use Rattle.scheme_stands.specs.Lists.{AllNextAt}
 use Rattle.scheme_stands.specs.Relation.{all_related}
 use Rattle.scheme_stands.specs.Words.{Fn, Spot}
-use Rattle.reads_back.proofs.Given.{same_locals, same_then, quiet_same, behind_words, IsSingle, IsWritten, AreWritten, Gives, Remaining, entries_of, AreValuesRead, AllGiven}
+use Rattle.reads_back.proofs.Given.{HasLocals, same_locals, same_then, quiet_same, behind_words, IsSingle, IsWritten, AreWritten, Gives, Remaining, entries_of, AreValuesRead, AllGiven}
 use Rattle.reads_back.proofs.Reaches.{Reaches, here, reaches_then}
 use Rattle.reads_back.proofs.Tests.{both_hold, first_of_both}
 use Rattle.reads_back.proofs.ValueWords.{next_free}
@@ -98,8 +98,8 @@ not_last : (vs : Values) (n : ℕ) → value_count vs ≡ suc n → ends_values 
 not_last no_values n count last = absurd cc
 not_last (values.and_value v vs) n count last = absurd cc
 
-module _ (f : Function) (g : Fn) (remaining : Remaining) (active : List Active) (levels : ℕ) where
-  pub list_forward : (es : Expressions) → AreValuesRead f g remaining active levels es → (free : ℕ) (p q : Spot) → AllNextAt g (all_related g es) active free p q → p.pc ≤ q.pc
+module _ (f : Function) (g : Fn) (remaining : Remaining) (active : List Active) (listed : List ℕ) (levels : ℕ) where
+  pub list_forward : (es : Expressions) → AreValuesRead f g remaining active listed levels es → (free : ℕ) (p q : Spot) → AllNextAt g (all_related g es) active free p q → p.pc ≤ q.pc
   list_forward no_expressions reads free p q at = omega (arith, at.pc)
   list_forward (syntax.expression e no_expressions) reads free p q at = omega (arith, reads.forward free free p at.mid at.first, at.others.pc)
   list_forward (syntax.expression e (syntax.expression d es)) reads free p q at =
@@ -108,16 +108,19 @@ module _ (f : Function) (g : Fn) (remaining : Remaining) (active : List Active) 
   pub next_behind : {Is : Value → Type 0} {e : Expression} {first last : ℕ} {s : Situation} (free : ℕ) (one : Gives f remaining Is e levels s first last) → free ≡ next_free s → free + 1 ≡ next_free (behind_one one)
   next_behind {s = s} free one is = omega (arith, length-append s.entries (value_entry one.value ∷ []))
 
-  pub list_gives : (es : Expressions) → AreValuesRead f g remaining active levels es → (free : ℕ) (p q : Spot) (s : Situation) → s.base ≡ length active → free ≡ next_free s → IsQuiet f s.scope p.pc q.pc →
+  pub locals_behind : {Is : Value → Type 0} {e : Expression} {first last : ℕ} {s : Situation} (one : Gives f remaining Is e levels s first last) → HasLocals active listed s → HasLocals active listed (behind_one one)
+  locals_behind one locals = record { base = locals.base; places = one.same.active ∙ locals.places }
+
+  pub list_gives : (es : Expressions) → AreValuesRead f g remaining active listed levels es → (free : ℕ) (p q : Spot) (s : Situation) → HasLocals active listed s → free ≡ next_free s → IsQuiet f s.scope p.pc q.pc →
       AllNextAt g (all_related g es) active free p q → AllGiven f remaining es levels s p.pc q.pc
-  list_gives no_expressions reads free p q s base is quiet at = none_given f remaining levels s p q at.pc
-  list_gives (syntax.expression e no_expressions) reads free p q s base is quiet at =
+  list_gives no_expressions reads free p q s locals is quiet at = none_given f remaining levels s p q at.pc
+  list_gives (syntax.expression e no_expressions) reads free p q s locals is quiet at =
       let back : at.mid.pc ≤ q.pc = omega (arith, at.others.pc) in
-      let one = reads.gives free p at.mid s base is (quiet_before at.mid.pc back quiet) at.first in
+      let one = reads.gives free p at.mid s locals is (quiet_before at.mid.pc back quiet) at.first in
       more_given one (none_given f remaining levels (behind_one one) at.mid q at.others.pc) (λ last. one.is)
-  list_gives (syntax.expression e (syntax.expression d es)) reads free p q s base is quiet at =
+  list_gives (syntax.expression e (syntax.expression d es)) reads free p q s locals is quiet at =
       let on = reads.0.forward free free p at.mid at.first in
       let back = list_forward (syntax.expression d es) reads.1 (free + 1) at.mid q at.others in
-      let one = reads.0.gives free p at.mid s base is (quiet_before at.mid.pc back quiet) at.first in
-      let rest = list_gives (syntax.expression d es) reads.1 (free + 1) at.mid q (behind_one one) base (next_behind free one is) (quiet_same one.same (quiet_from at.mid.pc on quiet)) at.others in
+      let one = reads.0.gives free p at.mid s locals is (quiet_before at.mid.pc back quiet) at.first in
+      let rest = list_gives (syntax.expression d es) reads.1 (free + 1) at.mid q (behind_one one) (locals_behind one locals) (next_behind free one is) (quiet_same one.same (quiet_from at.mid.pc on quiet)) at.others in
       more_given one rest (λ last. absurd (not_last rest.values (expression_count es) rest.count last))
