@@ -64,12 +64,15 @@ block_answer before middle after block closed levels first second is none tried 
   where
     steps : List Step
     steps = steps_of middle
+
     same : steps_of middle ≡ steps_of before
     same = same_steps before middle tried.keeps
+
     failed : (at : BodyAt) → block.closed ≡ Some at → BodyAnswer (with_used steps at) levels None steps (store_of after)
     failed at there = subst (λ s. BodyAnswer (with_used s at) levels None s (store_of after)) (sym same)
         (subst (λ one. BodyAnswer (with_used (steps_of before) one) levels None (steps_of before) (store_of middle)) (same_Some closed at (sym is ∙ there))
-            (subst (λ one. BodyAnswer (with_used (steps_of before) closed) levels one (steps_of before) (store_of middle)) none tried.gives))
+        (subst (λ one. BodyAnswer (with_used (steps_of before) closed) levels one (steps_of before) (store_of middle)) none tried.gives))
+
     by : (second : Option Found) → BodyAnswer (with_used steps block.whole) levels second steps (store_of after) → BlockAnswer block levels second steps (store_of after)
     by None whole = block_none steps block levels failed whole
     by (Some found) whole = whole_found steps (store_of after) block levels found whole
@@ -110,11 +113,12 @@ pub locals_answer : (before middle after : Search) (at : BodyAt) (piece : Piece)
 locals_answer before middle after at piece levels scoped once first None choice is_scope is_once missing tried answers =
     answers_behind before middle after (PlanAnswer at piece levels None) tried.keeps (answers_as middle after _ _ answers
     (λ none. locals_none (steps_of middle) (store_of middle) (store_of after) at piece levels (ap (λ s. choice_at s at piece) same ∙ choice)
-        (subst (λ s. FormAnswer (scope_form s at.exit piece) levels None s (store_of middle)) (sym same) scope_tried)
-        (subst (λ one. FormAnswer one levels None (steps_of middle) (store_of after)) is_once none)))
+    (subst (λ s. FormAnswer (scope_form s at.exit piece) levels None s (store_of middle)) (sym same) scope_tried)
+    (subst (λ one. FormAnswer one levels None (steps_of middle) (store_of after)) is_once none)))
   where
     same : steps_of middle ≡ steps_of before
     same = same_steps before middle tried.keeps
+
     scope_tried : FormAnswer (scope_form (steps_of before) at.exit piece) levels None (steps_of before) (store_of middle)
     scope_tried = subst (λ one. FormAnswer one levels None (steps_of before) (store_of middle)) is_scope (subst (λ one. FormAnswer scoped levels one (steps_of before) (store_of middle)) (is_none first missing) tried.gives)
 locals_answer before middle after at piece levels scoped once first (Some planned) choice is_scope is_once missing tried answers =
@@ -137,15 +141,17 @@ pub jumps_answer : (before first second after : Search) (at : BodyAt) (piece : P
 jumps_answer before first second after at piece levels form tested once None choice no_tested tried is no_once tried_once answers =
     answers_behind before second after (PlanAnswer at piece levels None) keeps (answers_as second after _ _ answers
     (λ none. jumps_none steps (store_of second) at piece levels (ap (λ s. choice_at s at piece) same ∙ choice)
-        (subst (λ s. IfAnswer (piece_branches at piece false) levels None s (store_of first)) (sym same) (subst (λ one. IfAnswer (piece_branches at piece false) levels one (steps_of before) (store_of first)) (is_none tested no_tested) tried.gives))
-        (subst (λ s. FormAnswer (once_form s at.exit piece) levels None s (store_of second)) (sym (same_steps first second tried_once.keeps))
-            (subst (λ one. FormAnswer one levels None (steps_of first) (store_of second)) is (subst (λ one. FormAnswer form levels one (steps_of first) (store_of second)) (is_none once no_once) tried_once.gives)))
-        none))
+    (subst (λ s. IfAnswer (piece_branches at piece false) levels None s (store_of first)) (sym same) (subst (λ one. IfAnswer (piece_branches at piece false) levels one (steps_of before) (store_of first)) (is_none tested no_tested) tried.gives))
+    (subst (λ s. FormAnswer (once_form s at.exit piece) levels None s (store_of second)) (sym (same_steps first second tried_once.keeps))
+    (subst (λ one. FormAnswer one levels None (steps_of first) (store_of second)) is (subst (λ one. FormAnswer form levels one (steps_of first) (store_of second)) (is_none once no_once) tried_once.gives)))
+    none))
   where
     steps : List Step
     steps = steps_of second
+
     keeps : Keeps before second
     keeps = keeps_both before first second tried.keeps tried_once.keeps
+
     same : steps_of second ≡ steps_of before
     same = same_steps before second keeps
 jumps_answer before first second after at piece levels form tested once (Some planned) choice no_tested tried is no_once tried_once answers =
@@ -176,18 +182,24 @@ loops_answer before first second after at piece last levels closed whiles other 
   where
     keeps : Keeps before second
     keeps = keeps_both before first second tried_closed.keeps tried_while.keeps
+
     steps : List Step
     steps = steps_of second
+
     same : steps_of second ≡ steps_of before
     same = same_steps before second keeps
+
     here : choice_at steps at piece ≡ Choice.Loop last
     here = ap (λ s. choice_at s at piece) same ∙ choice
+
     no_first : LoopAnswer (closed_loop_at steps piece last) levels None steps (store_of first)
     no_first = subst (λ s. LoopAnswer (closed_loop_at s piece last) levels None s (store_of first)) (sym same)
         (subst (λ loop. LoopAnswer loop levels None (steps_of before) (store_of first)) is_closed (subst (λ found. LoopAnswer closed levels found (steps_of before) (store_of first)) (is_none one no_closed) tried_closed.gives))
+
     no_second : LoopAnswer (while_loop_at steps piece last) levels None steps (store_of second)
     no_second = subst (λ s. LoopAnswer (while_loop_at s piece last) levels None s (store_of second)) (sym (same_steps first second tried_while.keeps))
         (subst (λ loop. LoopAnswer loop levels None (steps_of first) (store_of second)) is_while (subst (λ found. LoopAnswer whiles levels found (steps_of first) (store_of second)) (is_none two no_while) tried_while.gives))
+
     by : (three : Option Planned) → LoopAnswer other levels three steps (store_of after) → PlanAnswer at piece levels three steps (store_of after)
     by None none = loops_none steps (store_of first) (store_of second) (store_of after) at piece last levels here no_first no_second (subst (λ loop. LoopAnswer loop levels None steps (store_of after)) is_open none)
     by (Some planned) found = open_found steps (store_of after) at piece last levels planned here (subst (λ loop. LoopAnswer loop levels (Some planned) steps (store_of after)) is_open found)
@@ -199,7 +211,7 @@ turn_answer before first after loop levels turn long form None is given formed a
 turn_answer before first after loop levels turn long form (Some planned) is given formed answers =
     answers_behind before first after (LoopAnswer (Some loop) levels (Some planned)) formed.keeps (answers_as first after _ _ answers
     (λ found. turn_found (steps_of first) (store_of first) (store_of after) loop levels turn long form planned (is ∙ ap (λ s. length_at (loop_lengths s loop) turn) (sym same))
-        (subst (λ s. LoopFormAnswer loop long form s (store_of first)) (sym same) formed.gives) answers.keeps.grows.conditions found))
+    (subst (λ s. LoopFormAnswer loop long form s (store_of first)) (sym same) formed.gives) answers.keeps.grows.conditions found))
   where
     same : steps_of first ≡ steps_of before
     same = same_steps before first formed.keeps
@@ -224,8 +236,10 @@ turns_tried before now first after loop levels turn long form planned keeps is m
   where
     same : steps_of now ≡ steps_of before
     same = same_steps before now keeps
+
     here : TurnTried (steps_of before) (Some loop) levels turn
     here = subst (λ s. TurnTried s (Some loop) levels turn) same (turn_in_vain now first after loop levels turn long form planned (is ∙ ap (λ s. length_at (loop_lengths s loop) turn) (sym same)) missing formed answers)
+
     by : (b : Bool) → nat_lt n turn ≡ b → TurnTried (steps_of before) (Some loop) levels n
     by true earlier = tried n (grind (arith, nat_tests))
     by false last = subst (λ m. TurnTried (steps_of before) (Some loop) levels m) is_last here
@@ -305,6 +319,7 @@ ifs_tried before now after at levels number most pieces piece keeps some tried t
   where
     here : NoLastIf (steps_of before) at piece levels
     here = subst (λ s. NoLastIf s at piece levels) (same_steps before now keeps) answers.gives
+
     by : (b : Bool) → nat_lt number n ≡ b → NoLastIf (steps_of before) at one levels
     by true further = tried n one (grind (arith, nat_tests)) within is
     by false last = subst (λ p. NoLastIf (steps_of before) at p levels) (same_Some piece one (sym there ∙ ap (slice_get pieces) is_last ∙ is)) here
@@ -321,6 +336,7 @@ last_in_vain before now after at levels number pieces statements piece apart are
   where
     here : NoLastIf (steps_of before) at piece levels
     here = subst (λ s. NoLastIf s at piece levels) (same_steps before now keeps) answers.gives
+
     by : (n : ℕ) (one : Piece) → n ≤ length statements → slice_get pieces n ≡ Some one → (b : Bool) → nat_lt number n ≡ b → NoLastIf (steps_of before) at one levels
     by n one within is true further = tried n one (grind (arith, nat_tests)) within is
     by n one within is false last = subst (λ p. NoLastIf (steps_of before) at p levels) (same_Some piece one (sym there ∙ ap (slice_get pieces) is_last ∙ is)) here
@@ -346,6 +362,7 @@ last_if_answer before middle after at piece levels first second begins missing t
   where
     same : steps_of middle ≡ steps_of before
     same = same_steps before middle tried.keeps
+
     by : (second : Option Planned) → IfAnswer (last_branches at piece true) levels second (steps_of middle) (store_of after) → LastIfAnswer at piece levels second (steps_of middle) (store_of after)
     by None none = last_if_none (steps_of middle) at piece levels
         (subst (λ s. IfAnswer (last_branches at piece false) levels None s (store_of middle)) (sym same) (subst (λ one. IfAnswer (last_branches at piece false) levels one (steps_of before) (store_of middle)) (is_none first missing) tried.gives)) none
@@ -427,6 +444,7 @@ ways_tried before now after at place levels ways index way found keeps tried the
   where
     here : NoWay (steps_of before) at place levels way
     here = subst (λ s. NoWay s at place levels way) (same_steps before now keeps) (subst (λ f. WayAnswer at place way levels f (steps_of now) (store_of after)) missing answers.gives)
+
     by : (b : Bool) → nat_lt n index ≡ b → NoWay (steps_of before) at place levels one
     by true earlier = tried n one (grind (arith, nat_tests)) is
     by false last = subst (λ w. NoWay (steps_of before) at place levels w) (same_Some way one (sym there ∙ ap (slice_get ways) same ∙ is)) here

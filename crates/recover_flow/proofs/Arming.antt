@@ -35,13 +35,15 @@ condition_at_way steps place way to at (Some found) is here tested = (found, ref
 
 pub tests_found : (steps : List Step) (store : Store) (place : ℕ) (way : Way) (to : ℕ) (at : ConditionAt) (levels : ℕ) (found : Found) (needed : ℕ) → way.tests_end ≡ Some to → at ≡ way_condition place way to → ConditionFound steps store at (Some found) → needed ≡ max found.levels 1 → needed ≤ levels
     → TestAnswer place way levels (Some (record { condition = Some found.number; levels = needed })) steps store
-tests_found steps store place way to at levels found needed is here (condition, there, held, count) needs fits =
-    (fits, record {
-      condition = Some condition;
-      tested = subst (λ end. IsTested steps place way end (Some condition)) (sym is) (ap (condition_of steps) (sym here) ∙ there);
-      held = held;
-      levels = needs ∙ ap (λ n. max n 1) count;
-    })
+tests_found steps store place way to at levels found needed is here (condition, there, held, count) needs fits = (
+  fits,
+  record {
+    condition = Some condition;
+    tested = subst (λ end. IsTested steps place way end (Some condition)) (sym is) (ap (condition_of steps) (sym here) ∙ there);
+    held = held;
+    levels = needs ∙ ap (λ n. max n 1) count;
+  },
+)
 
 pub no_condition : (steps : List Step) (store : Store) (place : ℕ) (way : Way) (to : ℕ) (at : ConditionAt) (levels : ℕ) → way.tests_end ≡ Some to → at ≡ way_condition place way to → ConditionFound steps store at None → TestAnswer place way levels None steps store
 no_condition steps store place way to at levels is here none condition tested =
@@ -82,24 +84,36 @@ pub arm_found : (steps : List Step) (store after : Store) (at : BranchesAt) (pla
     → ArmAnswer at place way levels (Some found) steps after
 arm_found steps store after at place way levels behind test body found is_way is_behind fits (fits_test, is_test) (fits_body, is_body) is grows kept =
     let number = ap (λ (one : Found). one.number) is in
-    let needed = ap (λ (one : Found). one.levels) is in
-    (omega (arith, needed, fits, fits_test, fits_body), record {
-      arms = and_arm is_test.condition is_body.body is_behind.arms;
-      stand = (way, is_way, is_test.tested, is_body.stands, is_behind.stand);
-      held = (test.condition, body.number, behind.number, kept, omega (arith, number, arms_below steps store behind.number is_behind.arms is_behind.held), condition_grows grows test.condition is_test.condition is_test.held,
-          body_grows steps grows body.number is_body.body is_body.held, arms_grow steps grows behind.number is_behind.arms is_behind.held);
-      levels = omega (arith, needed, is_test.levels, is_body.levels, is_behind.levels);
-    })
+    let needed = ap (λ (one : Found). one.levels) is in (
+      omega (arith, needed, fits, fits_test, fits_body),
+      record {
+        arms = and_arm is_test.condition is_body.body is_behind.arms;
+        stand = (way, is_way, is_test.tested, is_body.stands, is_behind.stand);
+        held = (
+          test.condition,
+          body.number,
+          behind.number,
+          kept,
+          omega (arith, number, arms_below steps store behind.number is_behind.arms is_behind.held),
+          condition_grows grows test.condition is_test.condition is_test.held,
+          body_grows steps grows body.number is_body.body is_body.held,
+          arms_grow steps grows behind.number is_behind.arms is_behind.held,
+        );
+        levels = omega (arith, needed, is_test.levels, is_body.levels, is_behind.levels);
+      },
+    )
 
 pub last_found : (steps : List Step) (store after : Store) (at : BranchesAt) (place levels : ℕ) (body found : Found) → (place ≡ at.from → ⊥) → IsStart (arm_starts steps at) place → BlockAnswer (block_at steps place at.to at.exit) levels (Some body) steps store
     → found.levels ≡ body.levels → Grows store after → RestKept found.number (Rest.Last body.number) steps after → LastAnswer at place levels (Some found) steps after
-last_found steps store after at place levels body found apart start (fits, is) needed grows kept =
-    (omega (arith, needed, fits), record {
-      arms = last_arm is.body;
-      stand = (apart, start, is.stands);
-      held = (body.number, kept, body_grows steps grows body.number is.body is.held);
-      levels = needed ∙ is.levels;
-    })
+last_found steps store after at place levels body found apart start (fits, is) needed grows kept = (
+  omega (arith, needed, fits),
+  record {
+    arms = last_arm is.body;
+    stand = (apart, start, is.stands);
+    held = (body.number, kept, body_grows steps grows body.number is.body is.held);
+    levels = needed ∙ is.levels;
+  },
+)
 
 -- ---- what stands behind an arm
 
@@ -155,6 +169,7 @@ behind_answer steps memory at levels place found (Some begin) within right rests
       where
         apart : begin ≡ at.to → ⊥
         apart same = grind (arith, nat_tests)
+
         none : (arms : ArmPlans) → ArmsBehind steps at place (Some begin) arms → levels < arm_levels steps arms
         none arms behind = absurd (not_past (beyond steps at place begin apart arms behind))
           where

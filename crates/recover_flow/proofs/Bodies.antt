@@ -41,6 +41,7 @@ recalled_found is_found is_none levels (Some one) found right is = by_found one.
         by_test : {X : Type 0} (b : Bool) → (if b then Recalled.Failed else Recalled.Unknown) ≡ Recalled.Found found → X
         by_test true e = absurd (none-some found (ap found_in e))
         by_test false e = absurd (none-some found (ap found_in e))
+
     by_found : (before : Option Found) → KnownFound is_found before → recall_found levels one before ≡ Recalled.Found found → (found.levels ≤ levels) × is_found found
     by_found None known e = by_failed one.failed e
     by_found (Some other) known e = by_fits (nat_le other.levels levels) refl e
@@ -63,6 +64,7 @@ recalled_failed is_found is_none levels (Some one) right is = by_found one.found
         by_test : (b : Bool) → nat_le levels n ≡ b → (if b then Recalled.Failed else Recalled.Unknown) ≡ Recalled.Failed → (n : ℕ) × (levels ≤ n) × is_none n
         by_test true within e = (n, grind (arith, nat_tests), known)
         by_test false within e = absurd (true≢false (sym (ap has_failed e)))
+
     by_found : (before : Option Found) → recall_found levels one before ≡ Recalled.Failed → (n : ℕ) × (levels ≤ n) × is_none n
     by_found None e = by_failed one.failed (right one refl).failed e
     by_found (Some other) e = by_fits (nat_le other.levels levels) e

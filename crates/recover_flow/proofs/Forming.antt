@@ -90,9 +90,10 @@ form_too_high steps form levels (inr over) body stands = omega (arith, over)
 
 pub form_found : (steps : List Step) (store : Store) (form : Form) (levels : ℕ) (found : Found) (planned : Planned) → 0 < levels → levels < 2 ^ 32 → form.levels ≤ levels → found.levels ≤ levels - 1 → BlockFound steps store form.inner found
     → planned.plan ≡ plan_around form.shape found.number → planned.levels ≡ max form.levels (one_more found.levels) → FormAnswer (Some form) levels (Some planned) steps store
-form_found steps store form levels found planned some few fits within is plan needed =
-    (omega (arith, some, few, fits, within, needed),
-    record { body = is.body; number = found.number; stands = is.stands; held = is.held; plan = plan; levels = omega (arith, some, few, within, needed, is.levels) })
+form_found steps store form levels found planned some few fits within is plan needed = (
+  omega (arith, some, few, fits, within, needed),
+  record { body = is.body; number = found.number; stands = is.stands; held = is.held; plan = plan; levels = omega (arith, some, few, within, needed, is.levels) },
+)
 
 -- ---- choices apart
 
@@ -140,6 +141,7 @@ straight_alone steps at piece step planned there is = by step.kind is
     by_jump : (b : Bool) → (if b then Choice.Settled (Some (ending at piece End.Break 1)) else Choice.Jumps) ≡ Choice.Settled (Some planned) → IsAlone steps planned
     by_jump true e = break_alone steps at piece planned (same_Some _ planned (ap settled_in e))
     by_jump false e = absurd (none-some planned (ap settled_in e))
+
     by : (kind : StepKind) → choice_of_kind steps at piece step kind ≡ Choice.Settled (Some planned) → IsAlone steps planned
     by StepKind.Act e = absurd (none-some planned (ap settled_in e))
     by StepKind.Return e = returning_alone steps at piece step planned there (ap settled_in e)
@@ -156,9 +158,11 @@ settled_alone steps at piece planned is = by_step (slice_get steps piece.from) r
     by_last : (step : Step) → slice_get steps piece.from ≡ Some step → (last : Option ℕ) → loop_or_straight steps at piece step last ≡ Choice.Settled (Some planned) → IsAlone steps planned
     by_last step there None e = straight_alone steps at piece step planned there e
     by_last step there (Some last) e = absurd (none-some planned (ap settled_in e))
+
     by_own : (step : Step) → slice_get steps piece.from ≡ Some step → (b : Bool) → (if b then Choice.Settled (own_statement at step piece.from) else loop_or_straight steps at piece step (last_back steps piece.from piece.to)) ≡ Choice.Settled (Some planned) → IsAlone steps planned
     by_own step there true e = own_alone steps at step piece.from planned there (ap settled_in e)
     by_own step there false e = by_last step there (last_back steps piece.from piece.to) e
+
     by_step : (found : Option Step) → slice_get steps piece.from ≡ found → choice_of_step steps at piece found ≡ Choice.Settled (Some planned) → IsAlone steps planned
     by_step None there e = absurd (none-some planned (ap settled_in e))
     by_step (Some step) there e = by_own step there (is_single piece && is_own at step.kind) e
@@ -190,13 +194,15 @@ for_found steps store at piece levels planned is answer = by (counted_form steps
     by : (form : Option Form) → counted_form steps piece ≡ form → FormAnswer form levels (Some planned) steps store → PlanAnswer at piece levels (Some planned) steps store
     by None e answer = absurd answer
     by (Some form) e (fits, found) =
-        let known = counted_is steps piece form e in
-        (fits, record {
-          tree = for_plan piece.from known.0 found.body;
-          stands = (is, (form, e, known.1, found.stands));
-          held = (found.number, found.plan ∙ ap (λ shape. plan_around shape found.number) known.1, found.held);
-          levels = found.levels ∙ ap (λ own. around_block own (body_levels steps found.body)) known.2;
-        })
+        let known = counted_is steps piece form e in (
+          fits,
+          record {
+            tree = for_plan piece.from known.0 found.body;
+            stands = (is, (form, e, known.1, found.stands));
+            held = (found.number, found.plan ∙ ap (λ shape. plan_around shape found.number) known.1, found.held);
+            levels = found.levels ∙ ap (λ own. around_block own (body_levels steps found.body)) known.2;
+          },
+        )
 
 pub for_none : (steps : List Step) (store : Store) (at : BodyAt) (piece : Piece) (levels : ℕ) → choice_at steps at piece ≡ Choice.For → FormAnswer (counted_form steps piece) levels None steps store → NoPlan steps at piece levels
 for_none steps store at piece levels is none (step_plan step) stands = absurd (apart Choice.For (Choice.Settled (Some (record { plan = Plan.Step step; levels = plan_levels steps (step_plan step) }))) (λ e. omega (arith, e)) is stands)
@@ -225,13 +231,15 @@ scope_found steps store at piece levels planned is answer = by (scope_form steps
     by : (form : Option Form) → scope_form steps at.exit piece ≡ form → FormAnswer form levels (Some planned) steps store → PlanAnswer at piece levels (Some planned) steps store
     by None e answer = absurd answer
     by (Some form) e (fits, found) =
-        let known = scope_is steps at.exit piece form e in
-        (fits, record {
-          tree = do_plan piece.from found.body;
-          stands = (is, (form, e, known.0, found.stands));
-          held = (found.number, found.plan ∙ ap (λ shape. plan_around shape found.number) known.0, found.held);
-          levels = found.levels ∙ ap (λ own. around_block own (body_levels steps found.body)) known.1;
-        })
+        let known = scope_is steps at.exit piece form e in (
+          fits,
+          record {
+            tree = do_plan piece.from found.body;
+            stands = (is, (form, e, known.0, found.stands));
+            held = (found.number, found.plan ∙ ap (λ shape. plan_around shape found.number) known.0, found.held);
+            levels = found.levels ∙ ap (λ own. around_block own (body_levels steps found.body)) known.1;
+          },
+        )
 
 pub once_found : (steps : List Step) (store : Store) (at : BodyAt) (piece : Piece) (levels : ℕ) (planned : Planned) → (choice_at steps at piece ≡ Choice.Locals) ⊎ (choice_at steps at piece ≡ Choice.Jumps) → FormAnswer (once_form steps at.exit piece) levels (Some planned) steps store
     → PlanAnswer at piece levels (Some planned) steps store
@@ -240,13 +248,15 @@ once_found steps store at piece levels planned is answer = by (once_form steps a
     by : (form : Option Form) → once_form steps at.exit piece ≡ form → FormAnswer form levels (Some planned) steps store → PlanAnswer at piece levels (Some planned) steps store
     by None e answer = absurd answer
     by (Some form) e (fits, found) =
-        let known = once_is steps at.exit piece form e in
-        (fits, record {
-          tree = repeat_plan found.body None;
-          stands = (is, (form, e, found.stands));
-          held = (None, found.number, found.plan ∙ ap (λ shape. plan_around shape found.number) known.0, tt, found.held);
-          levels = found.levels ∙ ap (λ own. around_block own (body_levels steps found.body)) known.1;
-        })
+        let known = once_is steps at.exit piece form e in (
+          fits,
+          record {
+            tree = repeat_plan found.body None;
+            stands = (is, (form, e, found.stands));
+            held = (None, found.number, found.plan ∙ ap (λ shape. plan_around shape found.number) known.0, tt, found.held);
+            levels = found.levels ∙ ap (λ own. around_block own (body_levels steps found.body)) known.1;
+          },
+        )
 
 -- a loop for its breaks alone needs more levels, where its form was tried
 once_over : (steps : List Step) (store : Store) (exit : Option Exit) (piece : Piece) (levels : ℕ) (body : Plans) → FormAnswer (once_form steps exit piece) levels None steps store → (form : Form) → once_form steps exit piece ≡ Some form → BlockStands steps form.inner body

@@ -77,20 +77,22 @@ pub turn_found : (steps : List Step) (store later : Store) (loop : LoopAt) (leve
 turn_found steps store later loop levels turn length None planned is answer still found = absurd found
 turn_found steps store later loop levels turn None (Some form) planned is answer still found = absurd answer
 turn_found steps store later loop levels turn (Some length) (Some form) planned is answer still (fits, found) =
-    let shape = ap (λ (one : Form). one.shape) answer.form_is in
-    (fits, record {
-      condition = answer.condition;
-      parts = answer.parts;
-      body = found.body;
-      test = answer.test;
-      number = found.number;
-      parted = record { turn = turn; length = length; turned = sym is; parted = answer.parted; tested = answer.is_condition };
-      stands = subst (λ block. BlockStands steps block found.body) (ap (λ (one : Form). one.inner) answer.form_is) found.stands;
-      tested = still answer.test answer.condition answer.tested;
-      held = found.held;
-      plan = found.plan ∙ ap (λ one. plan_around one found.number) shape;
-      levels = found.levels ∙ ap (λ (one : Form). around_block one.levels (body_levels steps found.body)) answer.form_is;
-    })
+    let shape = ap (λ (one : Form). one.shape) answer.form_is in (
+      fits,
+      record {
+        condition = answer.condition;
+        parts = answer.parts;
+        body = found.body;
+        test = answer.test;
+        number = found.number;
+        parted = record { turn = turn; length = length; turned = sym is; parted = answer.parted; tested = answer.is_condition };
+        stands = subst (λ block. BlockStands steps block found.body) (ap (λ (one : Form). one.inner) answer.form_is) found.stands;
+        tested = still answer.test answer.condition answer.tested;
+        held = found.held;
+        plan = found.plan ∙ ap (λ one. plan_around one found.number) shape;
+        levels = found.levels ∙ ap (λ (one : Form). around_block one.levels (body_levels steps found.body)) answer.form_is;
+      },
+    )
 
 -- a length is that of an early turn
 pub turn_within : (lengths : Lengths) (turn length : ℕ) → length_at lengths turn ≡ Some length → turn < max lengths.tests lengths.jumps + 1
@@ -113,23 +115,27 @@ while_found steps store at piece last levels planned is answer = by (while_loop_
   where
     by : (loop : Option LoopAt) → while_loop_at steps piece last ≡ loop → LoopAnswer loop levels (Some planned) steps store → PlanAnswer at piece levels (Some planned) steps store
     by None e answer = absurd answer
-    by (Some loop) e (fits, found) =
-        (fits, record {
-          tree = while_plan found.condition found.body;
-          stands = (last, loop, found.parts, is, e, found.parted, found.stands);
-          held = (found.test, found.number, found.plan ∙ ap (λ shape. plan_around shape found.number) (while_is steps piece last loop found.test e), found.tested, found.held);
-          levels = found.levels;
-        })
+    by (Some loop) e (fits, found) = (
+      fits,
+      record {
+        tree = while_plan found.condition found.body;
+        stands = (last, loop, found.parts, is, e, found.parted, found.stands);
+        held = (found.test, found.number, found.plan ∙ ap (λ shape. plan_around shape found.number) (while_is steps piece last loop found.test e), found.tested, found.held);
+        levels = found.levels;
+      },
+    )
 
 repeat_found : (steps : List Step) (store : Store) (at : BodyAt) (piece : Piece) (last levels : ℕ) (planned : Planned) (loop : LoopAt) → choice_at steps at piece ≡ Choice.Loop last → (closed_loop_at steps piece last ≡ Some loop) ⊎ (open_loop_at steps piece last ≡ Some loop)
     → ((test : ℕ) → loop_shape loop test ≡ Shape.Repeat (Some test)) → LoopAnswer (Some loop) levels (Some planned) steps store → PlanAnswer at piece levels (Some planned) steps store
-repeat_found steps store at piece last levels planned loop is which shape (fits, found) =
-    (fits, record {
-      tree = repeat_plan found.body (Some found.condition);
-      stands = (last, loop, found.parts, is, which, found.parted, found.stands);
-      held = (Some found.test, found.number, found.plan ∙ ap (λ one. plan_around one found.number) (shape found.test), found.tested, found.held);
-      levels = found.levels;
-    })
+repeat_found steps store at piece last levels planned loop is which shape (fits, found) = (
+  fits,
+  record {
+    tree = repeat_plan found.body (Some found.condition);
+    stands = (last, loop, found.parts, is, which, found.parted, found.stands);
+    held = (Some found.test, found.number, found.plan ∙ ap (λ one. plan_around one found.number) (shape found.test), found.tested, found.held);
+    levels = found.levels;
+  },
+)
 
 pub closed_found : (steps : List Step) (store : Store) (at : BodyAt) (piece : Piece) (last levels : ℕ) (planned : Planned) → choice_at steps at piece ≡ Choice.Loop last → LoopAnswer (closed_loop_at steps piece last) levels (Some planned) steps store → PlanAnswer at piece levels (Some planned) steps store
 closed_found steps store at piece last levels planned is answer = by (closed_loop_at steps piece last) refl answer
@@ -165,6 +171,7 @@ loops_none steps first second third at piece last levels is closed whiles other 
   where
     same : last ≡ stands.0
     same = ap last_in (sym is ∙ stands.3)
+
     by : (closed_loop_at steps piece stands.0 ≡ Some stands.1) ⊎ (open_loop_at steps piece stands.0 ≡ Some stands.1) → levels < plan_levels steps (repeat_plan body (Some condition))
     by (inl one) = loop_over steps first (closed_loop_at steps piece last) stands.1 levels condition stands.2 body (ap (closed_loop_at steps piece) same ∙ one) closed stands.5 stands.6
     by (inr one) = loop_over steps third (open_loop_at steps piece last) stands.1 levels condition stands.2 body (ap (open_loop_at steps piece) same ∙ one) other stands.5 stands.6

@@ -168,11 +168,12 @@ body_kept steps before pushed after at levels statements found others are is rig
     } in
     let there : slice_get (view_store pushed).bodies found.number ≡ Some statements.items = ap (λ (one : Found). slice_get (view_store pushed).bodies one.number) is ∙ one_viewed (λ (one : Vec Planned). one.items) before.bodies.items pushed.bodies.items statements are in
     let highest : found.levels ≡ body_levels steps (and_plan these.first these.rest) =
-        ap (λ (one : Found). one.levels) is ∙ highest_held steps (view_store before) statements.items (and_plan these.first these.rest) 1 (omega arith) these.held ∙ omega arith in
+    ap (λ (one : Found). one.levels) is ∙ highest_held steps (view_store before) statements.items (and_plan these.first these.rest) 1 (omega arith) these.held ∙ omega arith in
     let kept = keep
-        (right_grows steps before pushed grows (ap (λ (memory : Memory). memory.known_bodies) others) (ap (λ (memory : Memory). memory.known_branches) others) (ap (λ (memory : Memory). memory.known_conditions) others) right)
-        (omega (arith, highest, these.fits),
-        record { body = and_plan these.first these.rest; stands = these.stands; held = held_body steps (view_store pushed) found.number statements.items (and_plan these.first these.rest) there (plans_grow steps grows statements.items (and_plan these.first these.rest) these.held); levels = highest }) in
+    (right_grows steps before pushed grows (ap (λ (memory : Memory). memory.known_bodies) others) (ap (λ (memory : Memory). memory.known_branches) others) (ap (λ (memory : Memory). memory.known_conditions) others) right) (
+      omega (arith, highest, these.fits),
+      record { body = and_plan these.first these.rest; stands = these.stands; held = held_body steps (view_store pushed) found.number statements.items (and_plan these.first these.rest) there (plans_grow steps grows statements.items (and_plan these.first these.rest) these.held); levels = highest },
+    ) in
     record { right = kept.right; grows = grows_both grows kept.grows; gives = kept.gives }
 
 -- a condition that was looked for, where it is one

@@ -152,10 +152,13 @@ are_rests steps store at levels before current done found are rests = record { b
   where
     ordered : AreInOrder (before ++ current ∷ done)
     ordered = subst AreInOrder (sym are) (starts_in_order steps at)
+
     current_first : AreInOrder (current ∷ done)
     current_first = later_in_order before (current ∷ done) ordered
+
     not_done : (begin : ℕ) → begin ≤ current.place → IsStart done begin → ⊥
     not_done begin within start = omega (arith, within, start_behind current.place begin done current_first.0 start)
+
     behind : (begin : ℕ) → current.place < begin → RestAnswer at begin levels (found begin) steps store
     behind begin past = by (is_start done begin)
       where
@@ -165,6 +168,7 @@ are_rests steps store at levels before current done found are rests = record { b
             by_part : (begin ≤ current.place) ⊎ IsStart done begin → ⊥
             by_part (inl within) = omega (arith, within, past)
             by_part (inr later) = none later
+
         by : IsStart done begin ⊎ (IsStart done begin → ⊥) → RestAnswer at begin levels (found begin) steps store
         by (inl start) = rests.here begin start
         by (inr none) = subst (λ answer. RestAnswer at begin levels answer steps store) (sym (rests.elsewhere begin none)) (no_start_no_rest steps at begin levels (nowhere none))
@@ -176,6 +180,7 @@ rests_more steps store at levels before current done found after answer are rest
   where
     ordered : AreInOrder (current ∷ done)
     ordered = later_in_order before (current ∷ done) (subst AreInOrder (sym are) (starts_in_order steps at))
+
     here : (begin : ℕ) → IsStart (current ∷ done) begin → RestAnswer at begin levels (after begin) steps store
     here begin (inl same) = subst (λ b. RestAnswer at b levels (after b) steps store) same (subst (λ one. RestAnswer at current.place levels one steps store) (sym at_place) is)
     here begin (inr start) = subst (λ one. RestAnswer at begin levels one steps store) (sym (others begin apart)) (rests.here begin start)
@@ -190,6 +195,7 @@ rests_noted steps store at levels before current done found after None are rests
   where
     ordered : AreInOrder (current ∷ done)
     ordered = later_in_order before (current ∷ done) (subst AreInOrder (sym are) (starts_in_order steps at))
+
     not_done : IsStart done current.place → ⊥
     not_done start = omega (arith, start_behind current.place current.place done ordered.0 start)
 rests_noted steps store at levels before current done found after (Some one) are rests is noted = rests_more steps store at levels before current done found after (Some one) are rests is noted.0 noted.1

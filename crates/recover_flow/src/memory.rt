@@ -210,12 +210,7 @@ impl Memory {
         Ok(found)
     }
 
-    fn know_body(
-        &mut self,
-        at: BodyAt,
-        levels: u32,
-        found: Option<Found>,
-    ) -> Result<(), AllocError>
+    fn know_body(&mut self, at: BodyAt, levels: u32, found: Option<Found>) -> Result<(), AllocError>
         ensures { OnOk result ((steps : List Step) → IsRight steps self.old → BodyAnswer at levels found steps (view_store self.old)
             → Keeping steps self.old self.new (BodyAnswer at levels found)) }
     {

@@ -35,7 +35,7 @@ statement-returns-in-Settled t c =
     let search = c.args.self.now in
     answers_same search (PlanAnswer c.args.at c.args.piece c.args.levels c.fitting.result) c.requires.ready
     (subst (λ one. PlanAnswer c.args.at c.args.piece c.args.levels one (steps_of search) (store_of search)) (sym c.fitting.ensures)
-        (settled_answer (steps_of search) (store_of search) c.args.at c.args.piece c.args.levels c.in-Settled.planned (sym c.choice_of.ensures ∙ c.in-Settled.is)))
+    (settled_answer (steps_of search) (store_of search) c.args.at c.args.piece c.args.levels c.in-Settled.planned (sym c.choice_of.ensures ∙ c.in-Settled.is)))
 
 pub for_of-returns : goal.for_of-returns
 for_of-returns t c =
@@ -50,7 +50,7 @@ pub locals-returns : goal.locals-returns
 locals-returns t c =
     if_ok_as c.filled-2.result _ _ c.filled-2.ensures
     (λ planned. locals_answer c.args.self.now c.filled.new.self c.filled-2.new.self c.args.at c.args.piece c.args.levels c.scope-form.result c.once-form.result c.in_ok-planned.planned planned c.requires.choice c.scope-form.ensures c.once-form.ensures
-        (sym c.is_some.ensures ∙ c.if-is_some.false) c.in_ok-planned.ensures)
+    (sym c.is_some.ensures ∙ c.if-is_some.false) c.in_ok-planned.ensures)
 
 pub jumps-returns-then-is_some : goal.jumps-returns-then-is_some
 jumps-returns-then-is_some t c =
@@ -64,7 +64,7 @@ pub jumps-returns : goal.jumps-returns
 jumps-returns t c =
     if_ok_as c.if_of-2.result _ _ c.if_of-2.ensures
     (λ planned. jumps_answer c.args.self.now c.if_of.new.self c.filled.new.self c.if_of-2.new.self c.args.at c.args.piece c.args.levels c.once-form.result c.in_ok-planned.planned c.in_ok-planned-2.planned planned c.requires.choice
-        (sym c.is_some.ensures ∙ c.if-is_some.false) c.in_ok-planned.ensures c.once-form.ensures (sym c.is_some-2.ensures ∙ c.if-is_some-2.false) c.in_ok-planned-2.ensures)
+    (sym c.is_some.ensures ∙ c.if-is_some.false) c.in_ok-planned.ensures c.once-form.ensures (sym c.is_some-2.ensures ∙ c.if-is_some-2.false) c.in_ok-planned-2.ensures)
 
 pub loop_of-returns-then-is_some : goal.loop_of-returns-then-is_some
 loop_of-returns-then-is_some t c =
@@ -79,29 +79,30 @@ pub loop_of-returns : goal.loop_of-returns
 loop_of-returns t c =
     if_ok_as c.tested_loop-3.result _ _ c.tested_loop-3.ensures
     (λ planned. loops_answer c.args.self.now c.tested_loop.new.self c.tested_loop-2.new.self c.tested_loop-3.new.self c.args.at c.args.piece c.args.last c.args.levels c.closed_loop-closed.result c.while_loop-tested_first.result c.open_loop-open.result
-        c.in_ok-planned.planned c.in_ok-planned-2.planned planned c.requires.choice c.closed_loop-closed.ensures (sym c.is_some.ensures ∙ c.if-is_some.false) c.in_ok-planned.ensures c.while_loop-tested_first.ensures
-        (sym c.is_some-2.ensures ∙ c.if-is_some-2.false) c.in_ok-planned-2.ensures c.open_loop-open.ensures)
+    c.in_ok-planned.planned c.in_ok-planned-2.planned planned c.requires.choice c.closed_loop-closed.ensures (sym c.is_some.ensures ∙ c.if-is_some.false) c.in_ok-planned.ensures c.while_loop-tested_first.ensures
+    (sym c.is_some-2.ensures ∙ c.if-is_some-2.false) c.in_ok-planned-2.ensures c.open_loop-open.ensures)
 
 pub tested_loop-returns-then-is_some : goal.tested_loop-returns-then-is_some
 tested_loop-returns-then-is_some t c =
     elim c.then-is_some.branch [
-      tested_loop-then-is_some-via-then-is_some w ↦
-        subst (λ loop. Answers c.args.self.now c.filled.new.self (LoopAnswer loop c.args.levels c.in_ok-planned.planned)) (sym c.in-Some.is)
-        (turn_behind c.args.self.now c.loop-form.self c.loop_form.new.self c.filled.new.self c.in-Some.at c.args.levels c.loop-form.turn c.at.result c.in_ok-form.form c.in_ok-planned.planned c.loop-form.invariant.0
-            (c.at.ensures ∙ ap (λ lengths. length_at lengths c.loop-form.turn) c.lengths-lengths.ensures) (sym c.is_some.ensures ∙ w.if-is_some.true) c.in_ok-form.ensures c.in_ok-planned.ensures)
-    | tested_loop-then-is_some-via-else-is_some+then-turn-most w ↦
-        subst (λ loop. Answers c.args.self.now c.filled.new.self (LoopAnswer loop c.args.levels c.in_ok-planned.planned)) (sym c.in-Some.is)
-        (loop_in_vain c.args.self.now c.loop-form.self c.loop_form.new.self c.filled.new.self c.in-Some.at c.args.levels c.loop-form.turn c.at.result c.in_ok-form.form c.in_ok-planned.planned c.loop-form.invariant.0
-            (c.at.ensures ∙ ap (λ lengths. length_at lengths c.loop-form.turn) c.lengths-lengths.ensures) (sym c.is_some.ensures ∙ w.if-is_some.false) c.in_ok-form.ensures c.in_ok-planned.ensures c.loop-form.invariant.2
-            (omega (arith, w.if-turn-most.true, c.max-most.ensures, ap (λ (lengths : Lengths). max lengths.tests lengths.jumps) c.lengths-lengths.ensures)))
+      | tested_loop-then-is_some-via-then-is_some w ↦
+          subst (λ loop. Answers c.args.self.now c.filled.new.self (LoopAnswer loop c.args.levels c.in_ok-planned.planned)) (sym c.in-Some.is)
+          (turn_behind c.args.self.now c.loop-form.self c.loop_form.new.self c.filled.new.self c.in-Some.at c.args.levels c.loop-form.turn c.at.result c.in_ok-form.form c.in_ok-planned.planned c.loop-form.invariant.0
+          (c.at.ensures ∙ ap (λ lengths. length_at lengths c.loop-form.turn) c.lengths-lengths.ensures) (sym c.is_some.ensures ∙ w.if-is_some.true) c.in_ok-form.ensures c.in_ok-planned.ensures)
+      | tested_loop-then-is_some-via-else-is_some+then-turn-most w ↦
+          subst (λ loop. Answers c.args.self.now c.filled.new.self (LoopAnswer loop c.args.levels c.in_ok-planned.planned)) (sym c.in-Some.is)
+          (loop_in_vain c.args.self.now c.loop-form.self c.loop_form.new.self c.filled.new.self c.in-Some.at c.args.levels c.loop-form.turn c.at.result c.in_ok-form.form c.in_ok-planned.planned c.loop-form.invariant.0
+          (c.at.ensures ∙ ap (λ lengths. length_at lengths c.loop-form.turn) c.lengths-lengths.ensures) (sym c.is_some.ensures ∙ w.if-is_some.false) c.in_ok-form.ensures c.in_ok-planned.ensures c.loop-form.invariant.2
+          (omega (arith, w.if-turn-most.true, c.max-most.ensures, ap (λ (lengths : Lengths). max lengths.tests lengths.jumps) c.lengths-lengths.ensures)))
     ]
 
 pub tested_loop-loop-form-preserved : goal.tested_loop-loop-form-preserved
-tested_loop-loop-form-preserved t c =
-    (keeps_both c.args.self.now c.loop-form.self c.filled.new.self c.loop-form.invariant.0 (keeps_both c.loop-form.self c.loop_form.new.self c.filled.new.self c.in_ok-form.ensures.keeps c.in_ok-planned.ensures.keeps),
-    omega (arith, c.if-turn-most.false),
-    turns_tried c.args.self.now c.loop-form.self c.loop_form.new.self c.filled.new.self c.in-Some.at c.args.levels c.loop-form.turn c.at.result c.in_ok-form.form c.in_ok-planned.planned c.loop-form.invariant.0
-        (c.at.ensures ∙ ap (λ lengths. length_at lengths c.loop-form.turn) c.lengths-lengths.ensures) (sym c.is_some.ensures ∙ c.if-is_some.false) c.in_ok-form.ensures c.in_ok-planned.ensures c.loop-form.invariant.2)
+tested_loop-loop-form-preserved t c = (
+  keeps_both c.args.self.now c.loop-form.self c.filled.new.self c.loop-form.invariant.0 (keeps_both c.loop-form.self c.loop_form.new.self c.filled.new.self c.in_ok-form.ensures.keeps c.in_ok-planned.ensures.keeps),
+  omega (arith, c.if-turn-most.false),
+  turns_tried c.args.self.now c.loop-form.self c.loop_form.new.self c.filled.new.self c.in-Some.at c.args.levels c.loop-form.turn c.at.result c.in_ok-form.form c.in_ok-planned.planned c.loop-form.invariant.0
+      (c.at.ensures ∙ ap (λ lengths. length_at lengths c.loop-form.turn) c.lengths-lengths.ensures) (sym c.is_some.ensures ∙ c.if-is_some.false) c.in_ok-form.ensures c.in_ok-planned.ensures c.loop-form.invariant.2,
+)
 
 pub last_if-returns-then-is_some : goal.last_if-returns-then-is_some
 last_if-returns-then-is_some t c =
@@ -124,7 +125,7 @@ last_branches-returns-in-Some t c =
     let there = piece_there pieces c.loop-statements.number c.requires.stuck.piece (length c.args.statements.items) (omega (arith, inv.2, ap (λ (list : Vec Planned). length list.items) inv.1)) c.requires.stuck.next in
     subst (λ list. Answers c.args.self.now c.last_if.new.self (StatementsAnswer c.args.at c.args.levels (Some list))) (sym (c.in_ok-push.ensures.items ∙ ap (λ list. list ++ c.in-Some.last ∷ []) c.truncate.ensures.items))
     (last_answer c.args.self.now c.loop-statements.self c.last_if.new.self c.args.at c.args.levels c.loop-statements.number pieces c.loop-statements.statements.items piece c.in-Some.last c.requires.some c.requires.apart c.requires.pieces inv.2 inv.0 inv.3 (there (record { from = 0; to = 0 }))
-        (subst (λ one. Answers c.loop-statements.self c.last_if.new.self (LastIfAnswer c.args.at piece c.args.levels one)) c.in-Some.is c.in_ok-last.ensures))
+    (subst (λ one. Answers c.loop-statements.self c.last_if.new.self (LastIfAnswer c.args.at piece c.args.levels one)) c.in-Some.is c.in_ok-last.ensures))
 
 pub last_branches-returns-then-number-eq0 : goal.last_branches-returns-then-number-eq0
 last_branches-returns-then-number-eq0 t c =
@@ -140,12 +141,15 @@ pub last_branches-loop-statements-preserved : goal.last_branches-loop-statements
 last_branches-loop-statements-preserved t c =
     let inv = c.loop-statements.invariant in
     let piece = get_or c.args.pieces.now c.loop-statements.number (record { from = 0; to = 0 }) in
-    let same = ap (λ (list : Vec Planned). list.items) inv.1 in
-    (keeps_both c.args.self.now c.loop-statements.self c.last_if.new.self inv.0 c.in_ok-last.ensures.keeps, inv.1, omega (arith, inv.2),
-    sofar_grows (steps_of c.args.self.now) c.in_ok-last.ensures.keeps.grows c.args.at c.args.levels c.args.pieces.now c.loop-statements.statements.items inv.3,
-    ifs_tried c.args.self.now c.loop-statements.self c.last_if.new.self c.args.at c.args.levels c.loop-statements.number (length c.loop-statements.statements.items) c.args.pieces.now piece inv.0 (omega (arith, c.if-number-eq0.false)) inv.4
-        (piece_there c.args.pieces.now c.loop-statements.number c.requires.stuck.piece (length c.args.statements.items) (omega (arith, inv.2, ap length same)) c.requires.stuck.next (record { from = 0; to = 0 }))
-        (subst (λ one. Answers c.loop-statements.self c.last_if.new.self (LastIfAnswer c.args.at piece c.args.levels one)) c.in_default.is c.in_ok-last.ensures))
+    let same = ap (λ (list : Vec Planned). list.items) inv.1 in (
+      keeps_both c.args.self.now c.loop-statements.self c.last_if.new.self inv.0 c.in_ok-last.ensures.keeps,
+      inv.1,
+      omega (arith, inv.2),
+      sofar_grows (steps_of c.args.self.now) c.in_ok-last.ensures.keeps.grows c.args.at c.args.levels c.args.pieces.now c.loop-statements.statements.items inv.3,
+      ifs_tried c.args.self.now c.loop-statements.self c.last_if.new.self c.args.at c.args.levels c.loop-statements.number (length c.loop-statements.statements.items) c.args.pieces.now piece inv.0 (omega (arith, c.if-number-eq0.false)) inv.4
+          (piece_there c.args.pieces.now c.loop-statements.number c.requires.stuck.piece (length c.args.statements.items) (omega (arith, inv.2, ap length same)) c.requires.stuck.next (record { from = 0; to = 0 }))
+          (subst (λ one. Answers c.loop-statements.self c.last_if.new.self (LastIfAnswer c.args.at piece c.args.levels one)) c.in_default.is c.in_ok-last.ensures),
+    )
 
 pub statements-last_branches-requires : goal.statements-last_branches-requires
 statements-last_branches-requires t c =
@@ -157,12 +161,24 @@ statements-last_branches-requires t c =
     let keeps = keeps_both before now after inv.0 c.in_ok-statement.ensures.keeps in
     let same = same_steps before after keeps in
     let pieces = c.in-Some.pieces.items in
-    let are : pieces_of (steps_of before) c.args.at ≡ Some pieces = sym c.in_ok-pieces.ensures ∙ ap (option_map (λ list. list.items)) c.in-Some.is in
-    (omega arith, (ready_behind before after c.requires.ready keeps, (c.requires.apart, (c.requires.some,
-    (ap (λ s. pieces_of s c.args.at) same ∙ are ∙ ap (λ list. Some list) (sym c.deref.ensures.value),
-    stuck_now before now after c.args.at c.args.levels c.deref.result.now c.loop-piece.statements.items c.loop-piece.piece-index piece inv.0 (subst (λ list. SoFar (steps_of before) (store_of now) c.args.at c.args.levels list c.loop-piece.statements.items) (c.deref-piece-items.ensures.value ∙ sym c.deref.ensures.value) inv.1) inv.2
-        (subst (λ one. Answers now after (PlanAnswer c.args.at piece c.args.levels one)) c.in_default-2.is c.in_ok-statement.ensures)
-        (ap (λ list. slice_get list c.loop-piece.piece-index) (c.deref.ensures.value ∙ sym c.deref-piece-items.ensures.value) ∙ slice_get-get_or c.deref-piece-items.result.now c.loop-piece.piece-index (record { from = 0; to = 0 }) (omega (arith, c.loop-piece-test.true))))))))
+    let are : pieces_of (steps_of before) c.args.at ≡ Some pieces = sym c.in_ok-pieces.ensures ∙ ap (option_map (λ list. list.items)) c.in-Some.is in (
+      omega arith,
+      (
+        ready_behind before after c.requires.ready keeps,
+        (
+          c.requires.apart,
+          (
+            c.requires.some,
+            (
+              ap (λ s. pieces_of s c.args.at) same ∙ are ∙ ap (λ list. Some list) (sym c.deref.ensures.value),
+              stuck_now before now after c.args.at c.args.levels c.deref.result.now c.loop-piece.statements.items c.loop-piece.piece-index piece inv.0 (subst (λ list. SoFar (steps_of before) (store_of now) c.args.at c.args.levels list c.loop-piece.statements.items) (c.deref-piece-items.ensures.value ∙ sym c.deref.ensures.value) inv.1) inv.2
+                  (subst (λ one. Answers now after (PlanAnswer c.args.at piece c.args.levels one)) c.in_default-2.is c.in_ok-statement.ensures)
+                  (ap (λ list. slice_get list c.loop-piece.piece-index) (c.deref.ensures.value ∙ sym c.deref-piece-items.ensures.value) ∙ slice_get-get_or c.deref-piece-items.result.now c.loop-piece.piece-index (record { from = 0; to = 0 }) (omega (arith, c.loop-piece-test.true))),
+            ),
+          ),
+        ),
+      ),
+    )
 
 pub statements-returns-in_default-2 : goal.statements-returns-in_default-2
 statements-returns-in_default-2 t c =
@@ -177,12 +193,13 @@ statements-loop-piece-preserved t c =
     let now = c.loop-piece.self in
     let after = c.next_statement.new.self in
     let piece = get_or c.deref-piece-items.result.now c.loop-piece.piece-index (record { from = 0; to = 0 }) in
-    let inv = c.loop-piece.invariant in
-    (keeps_both before now after inv.0 c.in_ok-statement.ensures.keeps,
-    subst (λ list. SoFar (steps_of before) (store_of after) c.args.at c.args.levels c.deref-piece-items.result.now list) (sym c.in_ok-push.ensures.items)
-        (sofar_next before now after c.args.at c.args.levels c.deref-piece-items.result.now c.loop-piece.statements.items c.loop-piece.piece-index piece c.in-Some-2.statement inv.0 inv.1 inv.2 (slice_get-get_or c.deref-piece-items.result.now c.loop-piece.piece-index (record { from = 0; to = 0 }) (omega (arith, c.loop-piece-test.true)))
-            (subst (λ one. Answers now after (PlanAnswer c.args.at piece c.args.levels one)) c.in-Some-2.is c.in_ok-statement.ensures)),
-    omega (arith, ap length c.in_ok-push.ensures.items, length-append c.loop-piece.statements.items (c.in-Some-2.statement ∷ []), inv.2))
+    let inv = c.loop-piece.invariant in (
+      keeps_both before now after inv.0 c.in_ok-statement.ensures.keeps,
+      subst (λ list. SoFar (steps_of before) (store_of after) c.args.at c.args.levels c.deref-piece-items.result.now list) (sym c.in_ok-push.ensures.items)
+          (sofar_next before now after c.args.at c.args.levels c.deref-piece-items.result.now c.loop-piece.statements.items c.loop-piece.piece-index piece c.in-Some-2.statement inv.0 inv.1 inv.2 (slice_get-get_or c.deref-piece-items.result.now c.loop-piece.piece-index (record { from = 0; to = 0 }) (omega (arith, c.loop-piece-test.true)))
+          (subst (λ one. Answers now after (PlanAnswer c.args.at piece c.args.levels one)) c.in-Some-2.is c.in_ok-statement.ensures)),
+      omega (arith, ap length c.in_ok-push.ensures.items, length-append c.loop-piece.statements.items (c.in-Some-2.statement ∷ []), inv.2),
+    )
 
 pub statements-returns : goal.statements-returns
 statements-returns t c =
@@ -201,11 +218,20 @@ arms-rest-requires t c =
     let same = same_steps c.args.self.now now keeps in
     let done = c.loop-start.invariant.1.0 in
     let are = popped (map view_start c.pop.new.self.items) (map view_start c.loop-start.starts.items) (view_start c.in-Some.start) done (arm_starts steps c.args.at)
-        (ap (map view_start) (c.pop.ensures.items ∙ ap (λ one. c.pop.new.self.items ++ option_to_list one) c.in-Some.is) ∙ map-append view_start c.pop.new.self.items (c.in-Some.start ∷ [])) c.loop-start.invariant.1.1 in
-    (omega arith, (ready_behind c.args.self.now now c.requires.ready keeps, (c.requires.some,
-    (subst (λ s. IsStartOf s c.args.at c.in-Some.start.place c.in-Some.start.ways.items) (sym same) (start_is steps c.args.at (map view_start c.pop.new.self.items) (view_start c.in-Some.start) done are),
-    subst (λ s. AreRests s (store_of now) c.args.at c.args.levels c.in-Some.start.place (rest_at c.loop-start.rests)) (sym same)
-        (are_rests steps (store_of now) c.args.at c.args.levels (map view_start c.pop.new.self.items) (view_start c.in-Some.start) done (rest_at c.loop-start.rests) are c.loop-start.invariant.1.2)))))
+    (ap (map view_start) (c.pop.ensures.items ∙ ap (λ one. c.pop.new.self.items ++ option_to_list one) c.in-Some.is) ∙ map-append view_start c.pop.new.self.items (c.in-Some.start ∷ [])) c.loop-start.invariant.1.1 in (
+      omega arith,
+      (
+        ready_behind c.args.self.now now c.requires.ready keeps,
+        (
+          c.requires.some,
+          (
+            subst (λ s. IsStartOf s c.args.at c.in-Some.start.place c.in-Some.start.ways.items) (sym same) (start_is steps c.args.at (map view_start c.pop.new.self.items) (view_start c.in-Some.start) done are),
+            subst (λ s. AreRests s (store_of now) c.args.at c.args.levels c.in-Some.start.place (rest_at c.loop-start.rests)) (sym same)
+                (are_rests steps (store_of now) c.args.at c.args.levels (map view_start c.pop.new.self.items) (view_start c.in-Some.start) done (rest_at c.loop-start.rests) are c.loop-start.invariant.1.2),
+          ),
+        ),
+      ),
+    )
 
 pub arms-loop-start-preserved : goal.arms-loop-start-preserved
 arms-loop-start-preserved t c =
@@ -218,11 +244,16 @@ arms-loop-start-preserved t c =
     let done = inv.1.0 in
     let answers = c.in_ok-found.ensures in
     let are = popped (map view_start c.pop.new.self.items) (map view_start c.loop-start.starts.items) (view_start c.in-Some.start) done (arm_starts steps c.args.at)
-        (ap (map view_start) (c.pop.ensures.items ∙ ap (λ one. c.pop.new.self.items ++ option_to_list one) c.in-Some.is) ∙ map-append view_start c.pop.new.self.items (c.in-Some.start ∷ [])) inv.1.1 in
-    (keeps_both before now after inv.0 answers.keeps, (view_start c.in-Some.start ∷ done, are,
-    rests_noted steps (store_of after) c.args.at c.args.levels (map view_start c.pop.new.self.items) (view_start c.in-Some.start) done (rest_at c.loop-start.rests) (rest_at c.note.new.rests) c.in_ok-found.found are
-        (rests_of_grow steps answers.keeps.grows c.args.at c.args.levels done (rest_at c.loop-start.rests) inv.1.2)
-        (subst (λ s. RestAnswer c.args.at c.in-Some.start.place c.args.levels c.in_ok-found.found s (store_of after)) same answers.gives) c.in_ok-note.ensures))
+    (ap (map view_start) (c.pop.ensures.items ∙ ap (λ one. c.pop.new.self.items ++ option_to_list one) c.in-Some.is) ∙ map-append view_start c.pop.new.self.items (c.in-Some.start ∷ [])) inv.1.1 in (
+      keeps_both before now after inv.0 answers.keeps,
+      (
+        view_start c.in-Some.start ∷ done,
+        are,
+        rests_noted steps (store_of after) c.args.at c.args.levels (map view_start c.pop.new.self.items) (view_start c.in-Some.start) done (rest_at c.loop-start.rests) (rest_at c.note.new.rests) c.in_ok-found.found are
+            (rests_of_grow steps answers.keeps.grows c.args.at c.args.levels done (rest_at c.loop-start.rests) inv.1.2)
+            (subst (λ s. RestAnswer c.args.at c.in-Some.start.place c.args.levels c.in_ok-found.found s (store_of after)) same answers.gives) c.in_ok-note.ensures,
+      ),
+    )
 
 pub arms-returns : goal.arms-returns
 arms-returns t c =
@@ -255,10 +286,22 @@ rest-way-requires t c =
     let now = c.loop-way.self in
     let keeps = c.loop-way.invariant.0 in
     let way = get_or c.deref-way-items.result.now c.loop-way.way-index (record { tests_end = None; block_end = 0; next = None }) in
-    let there = subst (λ list. slice_get list c.loop-way.way-index ≡ Some way) c.deref-way-items.ensures.value (slice_get-get_or c.deref-way-items.result.now c.loop-way.way-index (record { tests_end = None; block_end = 0; next = None }) (omega (arith, c.loop-way-test.true))) in
-    (omega arith, (ready_behind before now c.requires.ready keeps, (c.requires.some, (c.requires.start.within,
-    (way_at before now c.args.at c.args.start.now.place c.args.start.now.ways.items c.loop-way.way-index way keeps c.requires.start there,
-    rests_now before now c.args.at c.args.levels c.args.start.now.place (rest_at c.args.rests.now) keeps c.requires.rests)))))
+    let there = subst (λ list. slice_get list c.loop-way.way-index ≡ Some way) c.deref-way-items.ensures.value (slice_get-get_or c.deref-way-items.result.now c.loop-way.way-index (record { tests_end = None; block_end = 0; next = None }) (omega (arith, c.loop-way-test.true))) in (
+      omega arith,
+      (
+        ready_behind before now c.requires.ready keeps,
+        (
+          c.requires.some,
+          (
+            c.requires.start.within,
+            (
+              way_at before now c.args.at c.args.start.now.place c.args.start.now.ways.items c.loop-way.way-index way keeps c.requires.start there,
+              rests_now before now c.args.at c.args.levels c.args.start.now.place (rest_at c.args.rests.now) keeps c.requires.rests,
+            ),
+          ),
+        ),
+      ),
+    )
 
 pub rest-loop-way-preserved : goal.rest-loop-way-preserved
 rest-loop-way-preserved t c =
@@ -266,9 +309,10 @@ rest-loop-way-preserved t c =
     let now = c.loop-way.self in
     let keeps = c.loop-way.invariant.0 in
     let way = get_or c.deref-way-items.result.now c.loop-way.way-index (record { tests_end = None; block_end = 0; next = None }) in
-    let there = subst (λ list. slice_get list c.loop-way.way-index ≡ Some way) c.deref-way-items.ensures.value (slice_get-get_or c.deref-way-items.result.now c.loop-way.way-index (record { tests_end = None; block_end = 0; next = None }) (omega (arith, c.loop-way-test.true))) in
-    (keeps_both before now c.way.new.self keeps c.in_ok-found.ensures.keeps,
-    ways_tried before now c.way.new.self c.args.at c.args.start.now.place c.args.levels c.args.start.now.ways.items c.loop-way.way-index way c.in_ok-found.found keeps c.loop-way.invariant.1 there (is_none c.in_ok-found.found (sym c.is_some.ensures ∙ c.if-is_some.false)) c.in_ok-found.ensures)
+    let there = subst (λ list. slice_get list c.loop-way.way-index ≡ Some way) c.deref-way-items.ensures.value (slice_get-get_or c.deref-way-items.result.now c.loop-way.way-index (record { tests_end = None; block_end = 0; next = None }) (omega (arith, c.loop-way-test.true))) in (
+      keeps_both before now c.way.new.self keeps c.in_ok-found.ensures.keeps,
+      ways_tried before now c.way.new.self c.args.at c.args.start.now.place c.args.levels c.args.start.now.ways.items c.loop-way.way-index way c.in_ok-found.found keeps c.loop-way.invariant.1 there (is_none c.in_ok-found.found (sym c.is_some.ensures ∙ c.if-is_some.false)) c.in_ok-found.ensures,
+    )
 
 pub rest-returns-then-is_some : goal.rest-returns-then-is_some
 rest-returns-then-is_some t c =
@@ -288,14 +332,14 @@ pub arm-returns-in_default-2 : goal.arm-returns-in_default-2
 arm-returns-in_default-2 t c =
     arm_no_block c.args.self.now c.way_test.new.self c.block.new.self c.args.at c.args.place c.args.way c.args.levels c.in_ok-test.ensures.keeps
     (subst (λ one. Answers c.way_test.new.self c.block.new.self (BlockAnswer one c.args.levels None)) (c.block-block.ensures ∙ ap (λ begin. block_at (steps_of c.way_test.new.self) begin c.args.way.block_end c.args.at.exit) c.unwrap_or-begin.ensures)
-        (subst (λ found. Answers c.way_test.new.self c.block.new.self (BlockAnswer c.block-block.result c.args.levels found)) c.in_default-2.is c.in_ok-body.ensures))
+    (subst (λ found. Answers c.way_test.new.self c.block.new.self (BlockAnswer c.block-block.result c.args.levels found)) c.in_default-2.is c.in_ok-body.ensures))
 
 pub arm-returns : goal.arm-returns
 arm-returns t c =
     arm_answer c.args.self.now c.way_test.new.self c.block.new.self c.keep_rest.new.self c.args.at c.args.place c.args.way c.args.levels c.args.behind c.in-Some.test c.in-Some-2.body c.in_ok-keep_rest.field-0 c.requires.way c.requires.behind c.requires.fits
     (subst (λ one. Answers c.args.self.now c.way_test.new.self (TestAnswer c.args.place c.args.way c.args.levels one)) c.in-Some.is c.in_ok-test.ensures)
     (subst (λ one. Answers c.way_test.new.self c.block.new.self (BlockAnswer one c.args.levels (Some c.in-Some-2.body))) (c.block-block.ensures ∙ ap (λ begin. block_at (steps_of c.way_test.new.self) begin c.args.way.block_end c.args.at.exit) c.unwrap_or-begin.ensures)
-        (subst (λ found. Answers c.way_test.new.self c.block.new.self (BlockAnswer c.block-block.result c.args.levels found)) c.in-Some-2.is c.in_ok-body.ensures))
+    (subst (λ found. Answers c.way_test.new.self c.block.new.self (BlockAnswer c.block-block.result c.args.levels found)) c.in-Some-2.is c.in_ok-body.ensures))
     (c.in_ok-keep_rest.ensures.found ∙ ap (λ n. record { number = length (store_of c.block.new.self).rests; levels = n }) (c.max-needed.ensures ∙ ap (λ n. max n c.args.behind.levels) c.max.ensures))
     (c.in_ok-keep_rest.ensures.kept (steps_of c.block.new.self) (ready_behind c.way_test.new.self c.block.new.self (ready_behind c.args.self.now c.way_test.new.self c.requires.ready c.in_ok-test.ensures.keeps) c.in_ok-body.ensures.keeps).right)
 
@@ -303,5 +347,5 @@ pub last-returns : goal.last-returns
 last-returns t c =
     last_arm_answer c.args.self.now c.block.new.self c.keep_rest.new.self c.args.at c.args.place c.args.levels c.in-Some.body c.in_ok-keep_rest.field-0 c.requires.apart c.requires.start
     (subst (λ one. Answers c.args.self.now c.block.new.self (BlockAnswer one c.args.levels (Some c.in-Some.body))) c.block-block.ensures
-        (subst (λ found. Answers c.args.self.now c.block.new.self (BlockAnswer c.block-block.result c.args.levels found)) c.in-Some.is c.in_ok-body.ensures))
+    (subst (λ found. Answers c.args.self.now c.block.new.self (BlockAnswer c.block-block.result c.args.levels found)) c.in-Some.is c.in_ok-body.ensures))
     (ap (λ (one : Found). one.levels) c.in_ok-keep_rest.ensures.found) (c.in_ok-keep_rest.ensures.kept (steps_of c.block.new.self) (ready_behind c.args.self.now c.block.new.self c.requires.ready c.in_ok-body.ensures.keeps).right)

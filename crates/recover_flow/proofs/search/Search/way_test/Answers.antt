@@ -15,4 +15,4 @@ returns c =
     let here : at ≡ way_condition c.args.place c.args.way c.in-Some.to = ap (λ target. record { from = c.args.place; to = c.in-Some.to; target = target }) c.unwrap_or.ensures in
     answers_as before after (λ steps store. ConditionFound steps store at c.in_ok-found.field-0) _ c.in_ok-found.ensures
     (λ is. tests_found (steps_of before) (store_of after) c.args.place c.args.way c.in-Some.to at c.args.levels c.in-Some-2.found c.max-needed.result c.in-Some.is here
-        (subst (λ one. ConditionFound (steps_of before) (store_of after) at one) c.in-Some-2.is is) c.max-needed.ensures (omega (arith, c.if-needed-levels.false)))
+    (subst (λ one. ConditionFound (steps_of before) (store_of after) at one) c.in-Some-2.is is) c.max-needed.ensures (omega (arith, c.if-needed-levels.false)))
