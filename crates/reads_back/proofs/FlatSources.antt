@@ -1,13 +1,14 @@
 -- The chunk of a flat source is read as its statements.
-use Rattle.std.proofs.Common.{◌≡◌, ℕ, ◌-◌, ◌^◌, ◌<◌, true, false, Bool, List, [], length, Option, Some, None, refl, sym, ap, ◌∙◌, subst, arith, le-leb, if◌then◌else◌}
-use Rattle.std.specs.Prelude.{◌==◌, option_and_then, option_map, slice_get}
+use Rattle.std.proofs.Common.{◌≡◌, ℕ, ◌-◌, ◌^◌, ◌<◌, true, false, Bool, List, [], length, Option, Some, None, refl, sym, ap, ◌∙◌, subst, true≢false, arith, le-leb, if◌then◌else◌}
+use Rattle.std.proofs.lemmas.List.{length-map}
+use Rattle.std.specs.Prelude.{IsSome, ◌==◌, option_and_then, option_map, slice_get}
 use Rattle.lua_num.specs.Bytes.{Text}
 use Rattle.lua_tree.specs.Resolved.{resolved}
 use Rattle.lua_tree.specs.Scoping.{Scoped}
 use Rattle.lua_tree.specs.Syntax.{Source}
 use Rattle.lua_tree.specs.WellFormed.{WellFormed}
 use Rattle.opcode.specs.Reading.{instr_of}
-use Rattle.proto.specs.Chunk.{Own, Chunk, function, SameButLines, no_lines, own}
+use Rattle.proto.specs.Chunk.{Own, Chunk, function, Functions, functions, no_functions, and_function, each, SameButLines, no_lines, own}
 use Rattle.core_expr.specs.Values.{Inner}
 use Rattle.recover_expr.specs.Drafts.{Part}
 use Rattle.recover_expr.specs.Items.{is_so}
@@ -23,10 +24,10 @@ use Rattle.scheme.specs.declared.making.Local.{Local}
 use Rattle.scheme_stands.specs.Functions.{Activated, FunctionAt}
 use Rattle.scheme_stands.specs.Relation.{MainAt, StatementsAt}
 use Rattle.scheme_stands.specs.Words.{Names, Means, fn}
-use Rattle.reads_back.specs.Flat.{IsReadAs, FlatSourcesAreRead, flat_parts}
+use Rattle.reads_back.specs.Flat.{IsReadAs, FlatChunksAreAlone, FlatSourcesAreRead, flat_parts}
 use Rattle.reads_back.proofs.FlatBlocks.{block_read}
 use Rattle.reads_back.proofs.Names.{OnlyGlobals}
-use Rattle.reads_back.proofs.NoLocals.{no_locals}
+use Rattle.reads_back.proofs.NoLocals.{lines_told, no_functions_in, no_locals}
 use Rattle.reads_back.proofs.StepsPlaced.{as_many, acts_of, flat_placed, flat_steps, parts_of}
 use Rattle.reads_back.proofs.StepsRead.{StepsRead, none_start}
 use Rattle.reads_back.proofs.WordsRead.{IsFunction, abc_is_read}
@@ -140,3 +141,28 @@ pub flat_sources_read : NamesStand → FlatSourcesAreRead
 flat_sources_read stand source name chunk formed scoped fits flat same short =
     let stands = stand source name formed scoped fits in
     is_read source chunk (scheme source name) stands.0 flat formed same short (no_locals source name flat) stands.1
+
+-- what two chunks have in common that are the same but for lines
+no_functions_same : (c d : Chunk) → SameButLines c d → functions d ≡ no_functions → functions c ≡ no_functions
+no_functions_same (function f no_functions) d same none = refl
+no_functions_same (function f (and_function c rest)) (function g others) same none = absurd (some_is_none (ap functions same ∙ ap each_of none))
+  where
+    each_of : Functions → Functions
+    each_of inner = functions (each no_lines (function g inner))
+
+    some_is_none : {one : Chunk} {more : Functions} → and_function one more ≡ no_functions → ⊥
+    some_is_none e = true≢false (ap has_one e)
+      where
+        has_one : Functions → Bool
+        has_one no_functions = false
+        has_one (and_function c rest) = true
+
+pub flat_chunks_alone : FlatChunksAreAlone
+flat_chunks_alone source name chunk flat same =
+    let same_own = own_of_same chunk (scheme source name) same in
+    record {
+      none = no_functions_same chunk (scheme source name) same (no_functions_in source name flat);
+      named = subst IsSome (sym (ap (λ (own : Own). own.source) same_own)) refl;
+      lines = sym (length-map (own chunk).lines (λ line. 0)) ∙ ap (λ (own : Own). length own.lines) same_own ∙ length-map (own (scheme source name)).lines (λ line. 0) ∙ lines_told source name ∙ sym (ap (λ (own : Own). length own.code) same_own);
+      names = ap (λ (own : Own). length own.upvalue_names) same_own ∙ sym (ap (λ (own : Own). own.upvalues) same_own);
+    }

@@ -1,24 +1,25 @@
--- The chunk of a flat source lists no locals.
-use Rattle.std.proofs.Common.{◌≡◌, ℕ, Bool, true, false, cond, [], ◌∷◌, length, refl, sym, ap, ap₂, subst}
+-- The chunk of a flat source lists no locals, has no functions in it and no upvalues, and tells the line of each word.
+use Rattle.std.proofs.Common.{◌≡◌, ℕ, suc, Bool, true, false, cond, List, [], ◌∷◌, length, refl, sym, ap, ap₂, subst}
 use Rattle.std.specs.Prelude.{Option, None, Some}
 use Rattle.lua_num.specs.Bytes.{Text}
 use Rattle.lua_tree.specs.Resolved.{resolved}
 use Rattle.lua_tree.specs.Syntax as syntax
 use Rattle.lua_tree.specs.Syntax.{Source, Statements, no_statements, Statement, assignment, call_statement, Expressions, no_expressions, Expression, nil_literal, true_literal, false_literal, number_literal, text_literal, name_expression, call_expression, argument_list}
 use Rattle.opcode.specs.declared.op.Op.{Op}
-use Rattle.proto.specs.Chunk.{own}
+use Rattle.proto.specs.Chunk.{own, functions, functions_of, no_functions}
 use Rattle.scheme.specs.Making.{Maker, Part, Asks, Where, in_register, in_upvalue, in_globals, end_all, next_name, pass_name}
 use Rattle.scheme.specs.Expressions.{Want, Target, name_target, part_target, read_where, operand, operand_by, local_register, next_reg}
 use Rattle.scheme.specs.Lists.{all_next, all_multi, open_list, ends_open}
-use Rattle.scheme.specs.Functions.{empty_maker}
+use Rattle.scheme.specs.Functions.{empty_maker, lines_of, words_from}
 use Rattle.scheme.specs.Statements.{Loop, set_where, store_register, store, copies, each_stored}
 use Rattle.scheme.specs.Scheme.{scheme, ahead_of, statements_made, statement_made, coded, all_coded}
+use Rattle.scheme.specs.declared.making.Item.{Item}
 use Rattle.scheme.specs.Shapes.{Flat, is_bare_name, is_simple, are_simple, is_flat_call, is_flat_statement, are_flat}
 use Rattle.reads_back.proofs.Tests.{first_of_both, second_of_both, not_so}
 
--- nothing is active or listed
+-- nothing is active or listed, no function is in it, and it has no upvalues
 abbrev Bare : Maker → Type 0
-Bare m = (m.active ≡ []) × (m.locals ≡ [])
+Bare m = (m.active ≡ []) × (m.locals ≡ []) × (m.functions ≡ []) × (m.upvalue_names ≡ [])
 
 abbrev Keeps : Part → Type 0
 Keeps part = (m : Maker) → Bare m → Bare (part m)
@@ -131,5 +132,18 @@ statements_keep (syntax.statement line semi s rest) flat loop m bare =
 pub no_locals : (source : Source) (name : Text) → Flat source → (own (scheme source name)).locals ≡ []
 no_locals source name flat =
     let made = statements_made source.body None (empty_maker (ahead_of (resolved source)) []) in
-    let bare = statements_keep source.body flat None (empty_maker (ahead_of (resolved source)) []) (refl, refl) in
+    let bare = statements_keep source.body flat None (empty_maker (ahead_of (resolved source)) []) (refl, refl, refl, refl) in
     ap₂ (λ active locals. end_all (length made.items) active locals) bare.0 bare.1
+
+pub no_functions_in : (source : Source) (name : Text) → Flat source → functions (scheme source name) ≡ no_functions
+no_functions_in source name flat =
+    let bare = statements_keep source.body flat None (empty_maker (ahead_of (resolved source)) []) (refl, refl, refl, refl) in
+    ap functions_of bare.2
+
+-- a word for each line
+as_many_lines : (labels : List ℕ) (pc : ℕ) (items : List Item) → length (lines_of items) ≡ length (words_from labels pc items)
+as_many_lines labels pc [] = refl
+as_many_lines labels pc (item ∷ items) = ap suc (as_many_lines labels (suc pc) items)
+
+pub lines_told : (source : Source) (name : Text) → length (own (scheme source name)).lines ≡ length (own (scheme source name)).code
+lines_told source name = as_many_lines _ 0 _
