@@ -6,7 +6,6 @@ use Rattle.lua_num.specs.Bytes.{Text}
 use Rattle.lua_tree.specs.declared.tree.BinaryOp.{BinaryOp}
 use Rattle.lua_tree.specs.declared.tree.UnaryOp.{UnaryOp}
 use Rattle.lua_tree.specs.Syntax.{Expression, name_expression}
-use Rattle.lua_tree.specs.OneLine.{one_line_expression}
 use Rattle.lua_tree.specs.WellFormed.{is_call}
 use Rattle.opcode.specs.declared.op.Op.{Op}
 use Rattle.opcode.specs.Word.{truth_field}
@@ -14,12 +13,13 @@ use Rattle.proto.specs.declared.parts.Constant.{Constant}
 use Rattle.scheme.specs.Making.{Maker, Part, Got, Asks, nothing, read, take_registers, freeing, Where, in_register, in_upvalue, in_globals, next_name, pass_name}
 use Rattle.scheme.specs.Expressions.{fold, literal, is_name, is_vararg, is_multiple, Want, Target, name_target, part_target, Coded, next_reg, in_next_reg, register_of, local_register, is_local, operand_by, operand, is_small, small_constant, rk_by, rk, load, next_text, rk_text, comparison_word, compare, test, is_true_constant, test_by, plain_multi, no_target, single, read_where, name_value, coded_name, indexed_value, indexed_target, coded_index, coded_field, coded_paren, load_or, arithmetic, concat, truth_value, binary_value, is_comparison, binary_spine, coded_binary, unary_word, unary_value, unary_jump, coded_unary, decide, logic_here, logic_jump, logic_moved, logic_value, coded_logic}
 use Rattle.scheme.specs.declared.making.Piece.{Piece}
+use Rattle.scheme_lines.specs.Bare.{bare_expression}
 use Rattle.scheme_lines.proofs.Makers.{one_line, one_line_got, SamePart, SameAsks, bind, ◌then◌, no_part, either, either_asks, for_equal, asks_for_equal, if_so, same_answer, same_free, same_put, same_label, same_place, same_jump, same_take, same_freeing, same_constant, same_pass, same_name}
 use Rattle.scheme_lines.proofs.Trees.{fold_same, literal_same, name_same, call_same, vararg_same}
 
 -- an expression, and that expression on one line: the second makes on line 1 what the first makes, with every line 1
 pub record Same (c d : Coded) : Type 0 where
-  pub e : one_line_expression c.e ≡ d.e
+  pub e : bare_expression c.e ≡ d.e
   pub to_reg : (r : ℕ) → SamePart (c.to_reg r) (d.to_reg r)
   pub jump_if : (truth : Bool) (label : ℕ) → SamePart (c.jump_if truth label) (d.jump_if truth label)
   pub spine : SamePart c.spine d.spine
@@ -102,7 +102,7 @@ same_test_by c d None line truth label s = same_freeing (same_test c d line trut
 abbrev alone : Expression → (ℕ → Part) → Coded
 alone e to = record { e = e; to_reg = λ r. freeing (to r); jump_if = λ truth label. nothing; spine = nothing; multi = plain_multi; target = no_target }
 
-pub same_single : (line : ℕ) (e f : Expression) (to other : ℕ → Part) → one_line_expression e ≡ f → ((r : ℕ) → SamePart (to r) (other r)) → Same (single line e to) (single 1 f other)
+pub same_single : (line : ℕ) (e f : Expression) (to other : ℕ → Part) → bare_expression e ≡ f → ((r : ℕ) → SamePart (to r) (other r)) → Same (single line e to) (single 1 f other)
 same_single line e f to other is s =
     let value = λ (r : ℕ). same_freeing (s r) in
     let one : Same (alone e to) (alone f other) = record { e = is; to_reg = value; jump_if = λ truth label. no_part; spine = no_part; multi = λ op want. no_part; target = same_answer _ } in
@@ -172,14 +172,14 @@ same_indexed_target {on} {table} key other key_local other_local s k l = record 
       ∙ ap (λ (u : Got ℕ). target_by u (other u.after) (is_local table.e (one_line m)) (other_local u.after)) ((same_operand s).same m);
 }
 
-pub same_index : {on key table other : Coded} (line : ℕ) (e f : Expression) → one_line_expression e ≡ f → Same on table → Same key other →
+pub same_index : {on key table other : Coded} (line : ℕ) (e f : Expression) → bare_expression e ≡ f → Same on table → Same key other →
     Same (coded_index line e on key) (coded_index 1 f table other)
 same_index {on} {key} {table} {other} line e f is s k =
     with_target
     (same_single line e f (indexed_value line on (rk key)) (indexed_value 1 table (rk other)) is (same_indexed line (rk key) (rk other) s (same_rk k)))
     (same_indexed_target (rk key) (rk other) (is_local key.e) (is_local other.e) s (same_rk k) (same_is_local k))
 
-pub same_field : {on table : Coded} (line : ℕ) (e f : Expression) (text : Text) → one_line_expression e ≡ f → Same on table → Same (coded_field line e on text) (coded_field 1 f table text)
+pub same_field : {on table : Coded} (line : ℕ) (e f : Expression) (text : Text) → bare_expression e ≡ f → Same on table → Same (coded_field line e on text) (coded_field 1 f table text)
 same_field {on} {table} line e f text is s =
     let key = rk_text line text in
     let other = rk_text 1 text in
@@ -187,7 +187,7 @@ same_field {on} {table} line e f text is s =
     (same_single line e f (indexed_value line on key) (indexed_value 1 table other) is (same_indexed line key other s (same_rk_text line text)))
     (same_indexed_target key other (λ m. false) (λ m. false) s (same_rk_text line text) (λ m. refl))
 
-pub same_paren : {c d : Coded} (e f : Expression) → one_line_expression e ≡ f → Same c d → Same (coded_paren e c) (coded_paren f d)
+pub same_paren : {c d : Coded} (e f : Expression) → bare_expression e ≡ f → Same c d → Same (coded_paren e c) (coded_paren f d)
 same_paren e f is s = record { e = is; to_reg = s.to_reg; jump_if = s.jump_if; spine = same_next s; multi = λ op want. no_part; target = same_answer _ }
 
 -- ---- operators
@@ -226,11 +226,11 @@ same_binary_spine BinaryOp.Concat p q = p
 same_binary_spine op p q = q
 
 -- a value that is loaded where the expression is folded
-same_folded : (e f : Expression) (line : ℕ) (to other : ℕ → Part) → one_line_expression e ≡ f → ((r : ℕ) → SamePart (to r) (other r)) → (r : ℕ) →
+same_folded : (e f : Expression) (line : ℕ) (to other : ℕ → Part) → bare_expression e ≡ f → ((r : ℕ) → SamePart (to r) (other r)) → (r : ℕ) →
     SamePart (load_or (fold e) line to r) (load_or (fold f) 1 other r)
 same_folded e f line to other is s r = for_equal (λ o. load_or o 1 other r) (fold_same e ∙ ap fold is) (same_load_or (fold e) line to other s r)
 
-pub same_binary : {left right more other : Coded} (line : ℕ) (op : BinaryOp) (e f : Expression) → one_line_expression e ≡ f → Same left more → Same right other →
+pub same_binary : {left right more other : Coded} (line : ℕ) (op : BinaryOp) (e f : Expression) → bare_expression e ≡ f → Same left more → Same right other →
     Same (coded_binary line op e left right) (coded_binary 1 op f more other)
 same_binary {left} {right} {more} {other} line op e f is s t =
     let value = binary_value line op left right in
@@ -248,7 +248,7 @@ same_unary_jump UnaryOp.Not two more s q = λ truth label. s.jump_if (not truth)
 same_unary_jump UnaryOp.Neg two more s q = q
 same_unary_jump UnaryOp.Len two more s q = q
 
-pub same_unary : {c d : Coded} (line : ℕ) (op : UnaryOp) (e f : Expression) → one_line_expression e ≡ f → Same c d → Same (coded_unary line op e c) (coded_unary 1 op f d)
+pub same_unary : {c d : Coded} (line : ℕ) (op : UnaryOp) (e f : Expression) → bare_expression e ≡ f → Same c d → Same (coded_unary line op e c) (coded_unary 1 op f d)
 same_unary {c} {d} line op e f is s =
     let value = unary_value line op c in
     let again = unary_value 1 op d in
@@ -281,7 +281,7 @@ same_logic_value : {left right more other : Coded} (line : ℕ) (decides : Bool)
     SamePart (logic_value line decides left right r) (logic_value 1 decides more other r)
 same_logic_value line decides s t r = record { same = λ m. (either (r == m.free) (same_here line decides s t r) (same_moved line decides s t r)).same m }
 
-pub same_logic : {left right more other : Coded} (line : ℕ) (decides : Bool) (e f : Expression) → one_line_expression e ≡ f → Same left more → Same right other →
+pub same_logic : {left right more other : Coded} (line : ℕ) (decides : Bool) (e f : Expression) → bare_expression e ≡ f → Same left more → Same right other →
     Same (coded_logic line decides e left right) (coded_logic 1 decides f more other)
 same_logic {left} {right} {more} {other} line decides e f is s t =
     with_jumps _ _ (same_single line e f (logic_value line decides left right) (logic_value 1 decides more other) is (same_logic_value line decides s t)) (same_logic_jump decides s t)

@@ -5,13 +5,13 @@ use Rattle.std.proofs.lemmas.List.{length-map, map-append}
 use Rattle.lua_num.specs.Bytes.{Text}
 use Rattle.lua_tree.specs.Scoping.{Use}
 use Rattle.lua_tree.specs.Syntax.{FunctionBody, function_expression}
-use Rattle.lua_tree.specs.OneLine.{one_line_body}
 use Rattle.opcode.specs.declared.op.Op.{Op}
 use Rattle.proto.specs.Chunk.{Chunk, Functions, functions_of, and_function, function, each_of}
 use Rattle.scheme.specs.Making.{Misfit, too_many_registers, too_many_constants, jump_too_far, too_many_functions, Ahead, Maker, Part, put, where_is}
 use Rattle.scheme.specs.Functions.{word_at, words_from, lines_of, reach_at, reach_from, Heading, register_count, vararg_flags, chunk_of, unless_within, misfits_of, empty_maker, with_params, whole_function, Finished, finished, function_from, source_names, further_word, further_words, Inner, next_sources, without_sources, with_function, closure, coded_function}
 use Rattle.scheme.specs.declared.making.Piece.{Piece}
 use Rattle.scheme.specs.declared.making.Item.{Item}
+use Rattle.scheme_lines.specs.Bare.{bare_body}
 use Rattle.scheme_lines.proofs.Makers.{one_line_item, one_line_own, one_line_chunk, one_line_misfit, one_line, SamePart, bind, ◌then◌, no_part, same_put, same_take, same_declare, same_activate, same_end}
 use Rattle.scheme_lines.proofs.Expressions.{Same, same_single}
 
@@ -140,6 +140,6 @@ same_closure {inner} {other} line s r = record {
       (s.same names behind) (sym (length-map m.functions one_line_chunk));
 }
 
-pub same_coded_function : {inner other : Inner} (line : ℕ) (body : FunctionBody) → SameInner inner other → Same (coded_function line body inner) (coded_function 1 (one_line_body body) other)
+pub same_coded_function : {inner other : Inner} (line : ℕ) (body : FunctionBody) → SameInner inner other → Same (coded_function line body inner) (coded_function 1 (bare_body body) other)
 same_coded_function {inner} {other} line body s =
-    same_single line (function_expression line body) (function_expression 1 (one_line_body body)) (closure line inner) (closure 1 other) refl (same_closure line s)
+    same_single line (function_expression line body) (function_expression 1 (bare_body body)) (closure line inner) (closure 1 other) refl (same_closure line s)

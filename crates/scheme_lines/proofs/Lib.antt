@@ -7,4 +7,5 @@ pub mod Statements
 pub mod Every
 pub mod Marks
 pub mod Scopes
+pub mod Again
 pub mod Whole

@@ -3,12 +3,12 @@ use Rattle.std.proofs.Common.{◌≡◌, ℕ, suc, ◌+◌, ◌-◌, cond, not, 
 use Rattle.std.specs.Prelude.{Some, None, nat_lt, nat_le, ◌==◌, ◌&&◌, ◌/◌}
 use Rattle.lua_num.specs.Bytes.{Text}
 use Rattle.lua_tree.specs.Syntax.{Expression, vararg_expression, constructor, Fields}
-use Rattle.lua_tree.specs.OneLine.{one_line_expression, one_line_fields}
 use Rattle.opcode.specs.declared.op.Op.{Op}
 use Rattle.scheme.specs.Making.{Part, Asks, ◌>>◌, put, free_from}
 use Rattle.scheme.specs.Expressions.{Want, count_field, Coded, is_multiple, rk_text}
 use Rattle.scheme.specs.Lists.{all_next, ends_open, all_multi, open_list, list_count, Given, given_list, given_one, results_at, call_at, method_at, moved, by_base, coded_call, vararg_at, coded_vararg, Entry, positional_entry, named_entry, keyed_entry, is_last, positional_count, other_count, size_hint, set_list, open_entry, keyed_item, full_end, pending_after, entries_from, table_at, coded_table, nils, filled, adjust}
 use Rattle.scheme.specs.declared.making.Piece.{Piece}
+use Rattle.scheme_lines.specs.Bare.{bare_expression, bare_fields}
 use Rattle.scheme_lines.proofs.Makers.{one_line, SamePart, SameAsks, bind, ◌then◌, no_part, either, asks_for_equal, chosen, if_so, same_free, same_put, put_equal, same_take, same_free_from, same_freeing}
 use Rattle.scheme_lines.proofs.Expressions.{Same, AllSame, same_multiple, same_next, same_operand, same_rk, same_rk_text, same_single, SameMulti, with_multi}
 
@@ -82,7 +82,7 @@ same_moved line base r = if_so (not (base == r)) (same_put line (Piece.Abc Op.Mo
 same_by_base : {part other : Part} (line : ℕ) → SamePart part other → (r : ℕ) → SamePart (by_base line part r) (by_base 1 other r)
 same_by_base line p r = bind same_free (λ base. p then same_moved line base r)
 
-pub same_call : (line : ℕ) (e f : Expression) (at other : Op → Want → Part) → one_line_expression e ≡ f → SameMulti at other → Same (coded_call line e at) (coded_call 1 f other)
+pub same_call : (line : ℕ) (e f : Expression) (at other : Op → Want → Part) → bare_expression e ≡ f → SameMulti at other → Same (coded_call line e at) (coded_call 1 f other)
 same_call line e f at other is s =
     with_multi at other (same_single line e f (by_base line (at Op.Call (Some 1))) (by_base 1 (other Op.Call (Some 1))) is (same_by_base line (s Op.Call (Some 1)))) s
 
@@ -163,9 +163,9 @@ same_table_at line entries others s =
     put_equal line (ap₂ (λ n k. Piece.Abc Op.NewTable t (size_hint n) (size_hint k)) (same_positional entries others s) (same_other entries others s)) then same_take 1
     then same_entries line t 0 0 entries others s then same_free_from (t + 1))
 
-pub same_table : (line : ℕ) (fields : Fields) (entries others : List Entry) → SameEntries entries others → Same (coded_table line fields entries) (coded_table 1 (one_line_fields fields) others)
+pub same_table : (line : ℕ) (fields : Fields) (entries others : List Entry) → SameEntries entries others → Same (coded_table line fields entries) (coded_table 1 (bare_fields fields) others)
 same_table line fields entries others s =
-    same_single line (constructor line fields) (constructor 1 (one_line_fields fields)) (by_base line (table_at line entries)) (by_base 1 (table_at 1 others)) refl
+    same_single line (constructor line fields) (constructor 1 (bare_fields fields)) (by_base line (table_at line entries)) (by_base 1 (table_at 1 others)) refl
     (same_by_base line (same_table_at line entries others s))
 
 -- ---- so many values

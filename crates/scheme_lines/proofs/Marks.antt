@@ -1,12 +1,12 @@
--- The marks of a source on one line are those of the source, with every line 1.
+-- The marks of the bare form of a source are those of the source, with every line 1.
 use Rattle.std.proofs.Common.{◌≡◌, ℕ, zero, suc, ◌+◌, Bool, false, List, [], ◌∷◌, ◌++◌, length, map, refl, ap, ap₂, ◌∙◌}
 use Rattle.std.specs.Prelude.{is_some}
 use Rattle.std.proofs.lemmas.List.{map-append}
 use Rattle.lua_num.specs.Bytes.{Text}
 use Rattle.lua_tree.specs.Syntax as syntax
 use Rattle.lua_tree.specs.Syntax.{Statements, no_statements, Statement, assignment, call_statement, do_block, while_loop, repeat_loop, if_statement, numeric_for, generic_for, function_statement, local_function, local_statement, return_statement, break_statement, Branches, no_branches, branch, Otherwise, no_otherwise, otherwise, ForStep, no_step, by_step, FunctionBody, function_body, Expressions, no_expressions, Expression, nil_literal, true_literal, false_literal, vararg_expression, number_literal, text_literal, name_expression, function_expression, index_expression, field_expression, call_expression, method_call, and_expression, or_expression, binary_expression, unary_expression, constructor, parenthesized, Arguments, argument_list, text_argument, table_argument, Fields, no_fields, positional, named, keyed, Source}
-use Rattle.lua_tree.specs.OneLine.{one_line_statements, one_line_statement, one_line_branches, one_line_otherwise, one_line_step, one_line_body, one_line_expressions, one_line_expression, one_line_arguments, one_line_fields, on_one_line}
 use Rattle.lua_tree.specs.Outline.{Place, Mark, mention, local_name, hidden_local, dots, leave, opened, Walk, Part, nothing, both, within, stay, innermost, with_locals, come, in_loop, in_function, reaching, declares, mentions, marked, path_part, all_params, statements_part, statement_part, branches_part, otherwise_part, step_part, body_part, expressions_part, expression_part, arguments_part, fields_part, beginning, outline}
+use Rattle.scheme_lines.specs.Bare.{bare_statements, bare_statement, bare_branches, bare_otherwise, bare_step, bare_body, bare_expressions, bare_expression, bare_arguments, bare_fields, bare}
 
 abbrev pub one_line_mark : Mark → Mark
 one_line_mark (mention line name means around) = mention 1 name means around
@@ -72,11 +72,11 @@ same_path line [] = no_marks
 same_path line (name ∷ fields) = same_mentions line name
 
 mutual
-  statements_same : (block : Statements) → SameMarks (statements_part block) (statements_part (one_line_statements block))
+  statements_same : (block : Statements) → SameMarks (statements_part block) (statements_part (bare_statements block))
   statements_same no_statements = no_marks
   statements_same (syntax.statement line semi s rest) = statement_same line s then statements_same rest
 
-  statement_same : (line : ℕ) (s : Statement) → SameMarks (statement_part line s) (statement_part 1 (one_line_statement s))
+  statement_same : (line : ℕ) (s : Statement) → SameMarks (statement_part line s) (statement_part 1 (bare_statement s))
   statement_same line (assignment targets es) = expressions_same targets then expressions_same es
   statement_same line (call_statement e) = same e
   statement_same line (do_block block) = inside stay (statements_same block)
@@ -101,30 +101,30 @@ mutual
   statement_same line (return_statement es) = expressions_same es
   statement_same line break_statement = record { same = λ place. refl }
 
-  branches_same : (branches : Branches) → SameMarks (branches_part branches) (branches_part (one_line_branches branches))
+  branches_same : (branches : Branches) → SameMarks (branches_part branches) (branches_part (bare_branches branches))
   branches_same no_branches = no_marks
   branches_same (branch cond block rest) = same cond then (inside stay (statements_same block) then branches_same rest)
 
-  otherwise_same : (last : Otherwise) → SameMarks (otherwise_part last) (otherwise_part (one_line_otherwise last))
+  otherwise_same : (last : Otherwise) → SameMarks (otherwise_part last) (otherwise_part (bare_otherwise last))
   otherwise_same no_otherwise = no_marks
   otherwise_same (otherwise block) = inside stay (statements_same block)
 
-  step_same : (step : ForStep) → SameMarks (step_part step) (step_part (one_line_step step))
+  step_same : (step : ForStep) → SameMarks (step_part step) (step_part (bare_step step))
   step_same no_step = no_marks
   step_same (by_step e) = same e
 
-  body_same : (method : Bool) (body : FunctionBody) → SameMarks (body_part method body) (body_part method (one_line_body body))
+  body_same : (method : Bool) (body : FunctionBody) → SameMarks (body_part method body) (body_part method (bare_body body))
   body_same method (function_body params vararg block first last) =
       opens then inside (in_function vararg) (record {
         same = λ place.
             (same_declares first 0 (all_params method params) then (same_come 0 (all_params method params) place.declarations then statements_same block)).same place;
       })
 
-  expressions_same : (es : Expressions) → SameMarks (expressions_part es) (expressions_part (one_line_expressions es))
+  expressions_same : (es : Expressions) → SameMarks (expressions_part es) (expressions_part (bare_expressions es))
   expressions_same no_expressions = no_marks
   expressions_same (syntax.expression e rest) = same e then expressions_same rest
 
-  same : (e : Expression) → SameMarks (expression_part e) (expression_part (one_line_expression e))
+  same : (e : Expression) → SameMarks (expression_part e) (expression_part (bare_expression e))
   same (vararg_expression line) = record { same = λ place. refl }
   same (name_expression line name) = same_mentions line name
   same (function_expression line body) = body_same false body
@@ -140,16 +140,16 @@ mutual
   same (parenthesized line e) = same e
   same e = no_marks
 
-  arguments_same : (args : Arguments) → SameMarks (arguments_part args) (arguments_part (one_line_arguments args))
+  arguments_same : (args : Arguments) → SameMarks (arguments_part args) (arguments_part (bare_arguments args))
   arguments_same (argument_list es) = expressions_same es
   arguments_same (text_argument text) = no_marks
   arguments_same (table_argument fields) = fields_same fields
 
-  fields_same : (fields : Fields) → SameMarks (fields_part fields) (fields_part (one_line_fields fields))
+  fields_same : (fields : Fields) → SameMarks (fields_part fields) (fields_part (bare_fields fields))
   fields_same no_fields = no_marks
   fields_same (positional e separator rest) = same e then fields_same rest
   fields_same (named name e separator rest) = same e then fields_same rest
   fields_same (keyed key e separator rest) = (same key then same e) then fields_same rest
 
-pub outline_same : (source : Source) → map one_line_mark (outline source) ≡ outline (on_one_line source)
+pub outline_same : (source : Source) → map one_line_mark (outline source) ≡ outline (bare source)
 outline_same source = ap (λ (walk : Walk). walk.marks) ((statements_same source.body).same beginning)

@@ -4,10 +4,10 @@ use Rattle.std.specs.Prelude.{Option, Some, None, nat_lt, ◌==◌, ◌&&◌, �
 use Rattle.std.specs.Option.{option_or, option_map}
 use Rattle.std.proofs.lemmas.List.{map-append}
 use Rattle.lua_tree.specs.Syntax.{Source}
-use Rattle.lua_tree.specs.OneLine.{on_one_line}
 use Rattle.lua_tree.specs.Outline.{Binding, Mark, mention, local_name, hidden_local, dots, leave, opened, innermost, outline}
 use Rattle.lua_tree.specs.Resolved.{declarations_in, functions_in, captured_below, upvalues_below, resolved_by, resolved}
 use Rattle.lua_tree.specs.Scoping.{inside_of, with_mention, upvalues_behind, upvalues_of, slot_of, Use, local_use, upvalue_use, use_in, uses_among, uses_of, is_captured, outer_functions, outer_of, uses_by, sources_of, Breach, no_loop, no_vararg, too_many_locals, too_many_upvalues, above, upvalue_breach, breach_at, first_breach, breach_of, Scoped}
+use Rattle.scheme_lines.specs.Bare.{bare}
 use Rattle.scheme_lines.proofs.Marks.{one_line_mark, outline_same}
 
 abbrev flat : List Mark → List Mark
@@ -78,7 +78,7 @@ resolved_by_same marks =
     ap (λ (l : List Use). record { names = l; captured = captured_below (declarations_in marks) marks; upvalues = upvalues_below (functions_in marks) marks }) (among_same marks marks)
     ∙ ap₂ (λ (l : List Bool) (k : List (List Use)). record { names = uses_of (flat marks); captured = l; upvalues = k }) captured upvalues
 
-pub resolved_same : (source : Source) → resolved source ≡ resolved (on_one_line source)
+pub resolved_same : (source : Source) → resolved source ≡ resolved (bare source)
 resolved_same source = resolved_by_same (outline source) ∙ ap resolved_by (outline_same source)
 
 -- ---- rules that are broken
@@ -129,14 +129,14 @@ first_same before (mark ∷ marks) =
     ∙ ap₂ option_or (at_same before mark)
     (first_same (before ++ mark ∷ []) marks ∙ ap (λ past. first_breach past (flat marks)) (map-append one_line_mark before (mark ∷ [])))
 
-breach_same : (source : Source) → told (breach_of source) ≡ breach_of (on_one_line source)
+breach_same : (source : Source) → told (breach_of source) ≡ breach_of (bare source)
 breach_same source = first_same [] (outline source) ∙ ap (first_breach []) (outline_same source)
 
-pub scoped_on_one_line : (source : Source) → Scoped source → Scoped (on_one_line source)
-scoped_on_one_line source scoped = sym (breach_same source) ∙ ap told scoped
+pub scoped_to_bare : (source : Source) → Scoped source → Scoped (bare source)
+scoped_to_bare source scoped = sym (breach_same source) ∙ ap told scoped
 
-pub scoped_from_one_line : (source : Source) → Scoped (on_one_line source) → Scoped source
-scoped_from_one_line source scoped = by (breach_of source) (breach_same source ∙ scoped)
+pub scoped_from_bare : (source : Source) → Scoped (bare source) → Scoped source
+scoped_from_bare source scoped = by (breach_of source) (breach_same source ∙ scoped)
   where
     by : (o : Option Breach) → told o ≡ None → o ≡ None
     by None e = refl
