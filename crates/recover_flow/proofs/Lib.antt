@@ -1,3 +1,4 @@
+mod ActsFound
 mod Answered
 mod Arming
 mod Arms
@@ -10,6 +11,7 @@ mod ConditionJoins
 mod ConditionParts
 mod ConditionViews
 mod Failing
+mod FlatBuilt
 mod Forming
 mod Growing
 mod Joinings

@@ -1,3 +1,4 @@
+pub mod Acts
 pub mod Arms
 pub mod Asked
 pub mod Built

@@ -1,6 +1,7 @@
 //! From a chunk back to the tree of a source.
 #![tactic(auto)]
 
+mod acts;
 mod branches;
 mod building;
 mod conditions;
@@ -20,5 +21,6 @@ mod search;
 mod separating;
 mod tables;
 
+pub use acts::acts_are_found;
 pub use lost::Lost;
 pub use recovering::recover;
