@@ -21,6 +21,7 @@ mod Numbers
 mod Paths
 mod PieceTurns
 mod Pieces
+mod Recovered
 mod Remembered
 mod Resting
 mod Rows

@@ -12,6 +12,7 @@ pub mod Loops
 pub mod Lost
 pub mod Parts
 pub mod Plans
+pub mod Recovering
 pub mod Searching
 pub mod Standing
 pub mod Stops

@@ -6,6 +6,7 @@ use Rattle.recover_expr.specs.declared.fault.Fault.{Fault}
 use Rattle.recover_expr.specs.declared.fault.Reason.{Reason}
 use Rattle.recover_flow.specs.declared.function.Stop.{Stop}
 use Rattle.recover_flow.specs.declared.lost.Lost.{Lost}
+use Rattle.recover_flow.specs.declared.parts.Unbuilt.{Unbuilt}
 use Rattle.recover_flow.specs.declared.recovering.Failure.{Failure}
 use Rattle.recover_flow.specs.Lost.{HasReasonAt}
 
@@ -14,10 +15,10 @@ abbrev pub StopsBy : Own → Stop → Type 0
 StopsBy f (Stop.At pc reason) = HasReason f pc reason
 StopsBy f Stop.OutOfMemory = Unit {0}
 
--- it tells of no word
-abbrev pub SaysNothing : Stop → Type 0
-SaysNothing (Stop.At pc reason) = reason ≡ Reason.NotScheme
-SaysNothing Stop.OutOfMemory = Unit {0}
+-- it tells of no word where a part is gone
+abbrev pub TellsUnbuilt : Unbuilt → Stop → Type 0
+TellsUnbuilt Unbuilt.Gone stop = stop ≡ Stop.At 0 Reason.NotScheme
+TellsUnbuilt Unbuilt.OutOfMemory stop = stop ≡ Stop.OutOfMemory
 
 -- it tells what a fault tells
 abbrev pub TellsFault : Fault → Stop → Type 0

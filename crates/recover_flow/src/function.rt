@@ -1,8 +1,12 @@
 // A function, whose functions' bodies are given.
-ghost use Rattle.std.specs.Prelude.{IfErr};
+ghost use Rattle.std.specs.Prelude.{IfErr, IfOk, Some};
+ghost use Rattle.core_expr.specs.Values.{view_bodies, view_recovered};
 ghost use Rattle.proto.specs.Chunk.{own};
 ghost use Rattle.proto.specs.Short.{HasShortLists};
 ghost use Rattle.proto.specs.View.{view_proto};
+ghost use Rattle.recover_flow.specs.Held.{BodyFound};
+ghost use Rattle.recover_flow.specs.Recovering.{IsFunctionFound, IsRefusedOnlyWhere};
+ghost use Rattle.recover_flow.specs.Searching.{Answers, BodyAnswer, IsReady, steps_of, store_of, whole_body};
 ghost use Rattle.recover_flow.specs.Stops.{StopsBy};
 
 use crate::building::Builder;
@@ -37,9 +41,9 @@ impl From<AllocError> for Stop {
 }
 
 impl From<Unbuilt> for Stop {
-    ghost use Rattle.recover_flow.specs.Stops.{SaysNothing};
+    ghost use Rattle.recover_flow.specs.Stops.{TellsUnbuilt};
 
-    ghost from_gives = { λ _ stop. SaysNothing stop };
+    ghost from_gives = { λ unbuilt stop. TellsUnbuilt unbuilt stop };
 
     fn from(error: Unbuilt) -> Self {
         match error {
@@ -72,8 +76,10 @@ pub fn recover_function(
     bodies: Bodies,
     short: bool,
 ) -> Result<Recovered, Stop>
-    requires { HasShortLists (own (view_proto proto.now)) }
-    ensures { IfErr result (StopsBy (own (view_proto proto.now))) }
+    requires lists { HasShortLists (own (view_proto proto.now)) }
+    ensures found { IfOk result (λ found. IsFunctionFound (view_proto proto.now) (view_bodies bodies) short (view_recovered found)) }
+    ensures refused { IfErr result (IsRefusedOnlyWhere (view_proto proto.now) (view_bodies bodies) short) }
+    ensures stopped { IfErr result (StopsBy (own (view_proto proto.now))) }
 {
     let Reading {
         params,
@@ -87,11 +93,7 @@ pub fn recover_function(
             reason: Reason::NotScheme,
         });
     };
-    let found = if short {
-        least(&mut search, found)?
-    } else {
-        found
-    };
+    let found = fitting(&mut search, found, short)?;
     let mut builder = Builder::new(alloc, &search.memory, Parts::new(parts));
     let block = builder.block(found.number, LIMIT)?;
     Ok(Recovered {
@@ -106,8 +108,25 @@ pub fn recover_function(
     })
 }
 
+// A body that was found, or one of the fewest levels where it is to be short.
+fn fitting(search: &mut Search, found: Found, short: bool) -> Result<Found, AllocError>
+    requires ready { IsReady search.old }
+    requires found { BodyFound (steps_of search.old) (store_of search.old) (whole_body (steps_of search.old)) found }
+    ensures { IfOk result (λ best. Answers search.old search.new (BodyAnswer (whole_body (steps_of search.old)) found.levels (Some best))) }
+{
+    if !short {
+        return Ok(found);
+    }
+    let best = least(search, found)?;
+    Ok(best)
+}
+
 // The body of the fewest levels, where this one is found.
-fn least(search: &mut Search, found: Found) -> Result<Found, AllocError> {
+fn least(search: &mut Search, found: Found) -> Result<Found, AllocError>
+    requires ready { IsReady search.old }
+    requires found { BodyFound (steps_of search.old) (store_of search.old) (whole_body (steps_of search.old)) found }
+    ensures { IfOk result (λ best. Answers search.old search.new (BodyAnswer (whole_body (steps_of search.old)) found.levels (Some best))) }
+{
     let mut best = found;
     let mut low = 0;
     let mut high = found.levels;
