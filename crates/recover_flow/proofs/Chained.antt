@@ -1,10 +1,13 @@
 -- Calls of the search one behind the other.
-use Rattle.std.proofs.Common.{◌≡◌, ◌∙◌, refl, sym, ap, subst, List}
+use Rattle.std.proofs.Common.{◌≡◌, ◌∙◌, refl, sym, ap, subst, List, Option}
 use Rattle.recover_expr.specs.declared.steps.Step.{Step}
-use Rattle.recover_flow.specs.Held.{Store}
+use Rattle.recover_flow.specs.Conditions.{ConditionTree, condition_of}
+use Rattle.recover_flow.specs.Held.{Store, ConditionFound}
 use Rattle.recover_flow.specs.Searching.{Answers, Grows, IsReady, IsRight, Keeping, Keeps, steps_of, store_of}
 use Rattle.recover_flow.specs.Tabled.{AreTables}
 use Rattle.recover_flow.specs.declared.memory.Memory.{Memory}
+use Rattle.recover_flow.specs.declared.plan.Found.{Found}
+use Rattle.recover_flow.specs.declared.regions.ConditionAt.{ConditionAt}
 use Rattle.recover_flow.specs.declared.search.Search.{Search}
 use Rattle.recover_flow.specs.declared.tables.Tables.{Tables}
 use Rattle.recover_flow.proofs.Growing.{grows_same, grows_both}
@@ -47,3 +50,10 @@ answers_same search answer ready gives = record { keeps = keeps_same search read
 -- only the memory is another
 pub memory_keeps : (search : Search) (memory : Memory) (answer : List Step → Store → Type 0) → Keeping (steps_of search) search.memory memory answer → Answers search (record search { memory = memory }) answer
 memory_keeps search memory answer keeping = record { keeps = record { tables = refl; right = keeping.right; grows = keeping.grows }; gives = keeping.gives }
+
+-- what was kept of a condition
+pub condition_keeps : (search : Search) (memory : Memory) (steps : List Step) (at : ConditionAt) (known : Option ConditionTree) (found : Option Found) → IsReady search → steps ≡ steps_of search → known ≡ condition_of steps at
+    → (IsRight steps search.memory → known ≡ condition_of steps at → Keeping steps search.memory memory (λ those store. ConditionFound those store at found)) → Answers search (record search { memory = memory }) (λ those store. ConditionFound those store at found)
+condition_keeps search memory steps at known found ready same is keeps =
+    memory_keeps search memory (λ those store. ConditionFound those store at found)
+    (subst (λ now. Keeping now search.memory memory (λ those store. ConditionFound those store at found)) same (keeps (subst (λ now. IsRight now search.memory) (sym same) ready.right) is))

@@ -176,3 +176,11 @@ loops_none steps first second third at piece last levels is closed whiles other 
     by (inl one) = loop_over steps first (closed_loop_at steps piece last) stands.1 levels condition stands.2 body (ap (closed_loop_at steps piece) same ∙ one) closed stands.5 stands.6
     by (inr one) = loop_over steps third (open_loop_at steps piece last) stands.1 levels condition stands.2 body (ap (open_loop_at steps piece) same ∙ one) other stands.5 stands.6
 loops_none steps first second third at piece last levels is closed whiles other (if_plan arms) stands = absurd (apart (Choice.Loop last) Choice.Jumps (λ e. omega (arith, e)) is stands.0)
+
+-- no loop has a condition that is none
+pub no_loop_form : (steps : List Step) (store : Store) (loop : LoopAt) (length : Option ℕ) (count : ℕ) (parts : LoopParts) → length ≡ Some count → loop_parts steps loop count ≡ Some parts → condition_of steps parts.condition ≡ None → LoopFormAnswer loop length None steps store
+no_loop_form steps store loop length count parts is there none =
+    subst (λ (one : Option ℕ). LoopFormAnswer loop one None steps store) (sym is)
+    (λ condition other parted found.
+      let same : parts ≡ other = same_Some parts other (sym there ∙ parted) in
+      none-some condition (sym none ∙ ap (λ (p : LoopParts). condition_of steps p.condition) same ∙ found))

@@ -1,5 +1,5 @@
 -- What each part of the search answers, by the calls in it.
-use Rattle.std.proofs.Common.{◌≡◌, ◌∙◌, sym, ap, subst, arith, max, map, ◌++◌, ◌∷◌, [], length, get_or, slice_get, None, Some, option_map}
+use Rattle.std.proofs.Common.{◌≡◌, ◌∙◌, sym, ap, subst, arith, max, map, ◌++◌, ◌∷◌, [], append-nil, length, get_or, slice_get, Option, None, Some, option_map}
 use Rattle.std.specs.Global.{Vec}
 use Rattle.std.specs.Prelude.{option_to_list}
 use Rattle.std.proofs.lemmas.List.{length-append, map-append}
@@ -7,18 +7,33 @@ use Rattle.std.proofs.lemmas.Option.{slice_get-get_or}
 use Rattle.recover_flow.specs.Arms.{arm_starts, view_start}
 use Rattle.recover_flow.specs.Asked.{block_at, length_at}
 use Rattle.recover_flow.specs.Cutting.{pieces_of}
-use Rattle.recover_flow.specs.Searching.{Answers, AreRests, BlockAnswer, BranchesAnswer, IsStartOf, LastIfAnswer, LoopAnswer, PlanAnswer, RestAnswer, SoFar, StatementsAnswer, TestAnswer, rest_at, steps_of, store_of}
+use Rattle.recover_flow.specs.Searching.{Answers, AreRests, BlockAnswer, BodyAnswer, BranchesAnswer, IsStartOf, LastIfAnswer, LoopAnswer, PlanAnswer, RestAnswer, SoFar, StatementsAnswer, TestAnswer, rest_at, steps_of, store_of}
 use Rattle.recover_flow.specs.Standing.{with_used}
 use Rattle.recover_flow.specs.declared.plan.Found.{Found}
 use Rattle.recover_flow.specs.declared.plan.Planned.{Planned}
+use Rattle.recover_flow.specs.declared.regions.Exit.{Exit}
 use Rattle.recover_flow.specs.declared.tables.Lengths.{Lengths}
 use Rattle.recover_flow.proofs.Answered.{arm_answer, arm_no_block, block_answer, closed_given, for_answer, if_given, if_ok_as, ifs_tried, is_none, jumps_answer, jumps_once, last_answer, last_arm_answer, last_if_answer, last_if_given, last_in_vain, locals_answer, loop_in_vain, loops_answer, no_items, not_zero, piece_there, rest_first, rest_in_way, rest_last, rests_now, scope_answer, settled_answer, sofar_next, statements_answer, stopped, stuck_now, turn_behind, turns_tried, way_answer, way_at, way_behind, way_none, ways_tried, while_given}
-use Rattle.recover_flow.proofs.Bodies.{empty_found}
-use Rattle.recover_flow.proofs.Chained.{answers_behind, answers_same, keeps_both, ready_behind, same_steps}
+use Rattle.recover_flow.proofs.Bodies.{body_failed, branches_failed, empty_found}
+use Rattle.recover_flow.proofs.Chained.{answers_behind, answers_same, keeps_both, keeps_same, ready_behind, same_steps}
 use Rattle.recover_flow.proofs.Growing.{sofar_grows}
-use Rattle.recover_flow.proofs.Resting.{are_rests, branches_answer, popped, rests_noted, rests_of_grow, start_is}
+use Rattle.recover_flow.proofs.Resting.{are_rests, branches_answer, nothing_done, popped, rests_noted, rests_of_grow, start_is}
 use Rattle.recover_flow.proofs.search.Search.+search.Goals.{tested_loop-then-is_some-via-then-is_some, tested_loop-then-is_some-via-else-is_some+then-turn-most}
 use Rattle.recover_flow.proofs.search.Search.+search.Goals as goal
+
+pub body-returns-in-Failed : goal.body-returns-in-Failed
+body-returns-in-Failed t c =
+    let search = c.args.self.now in
+    let at = record c.args.at { exit = c.used.result } in
+    subst (λ (exit : Option Exit). Answers search search (BodyAnswer (record c.args.at { exit = exit }) c.args.levels None)) c.used.ensures
+    (answers_same search (BodyAnswer at c.args.levels None) c.requires.ready (body_failed (steps_of search) search.memory at c.args.levels c.requires.ready.right (sym c.recall_body.ensures ∙ c.in-Failed.is)))
+
+pub branches-returns-in-Failed : goal.branches-returns-in-Failed
+branches-returns-in-Failed t c =
+    let search = c.args.self.now in
+    let at = record c.args.at { exit = c.used.result } in
+    subst (λ (exit : Option Exit). Answers search search (BranchesAnswer (record c.args.at { exit = exit }) c.args.levels None)) c.used.ensures
+    (answers_same search (BranchesAnswer at c.args.levels None) c.requires.ready (branches_failed (steps_of search) search.memory at c.args.levels c.requires.ready.right (sym c.recall_branches.ensures ∙ c.in-Failed.is)))
 
 pub body-returns-then-at : goal.body-returns-then-at
 body-returns-then-at t c =
@@ -232,6 +247,14 @@ arms-rest-requires t c =
         ),
       ),
     )
+
+pub arms-loop-start-init : goal.arms-loop-start-init
+arms-loop-start-init t c = (
+  keeps_same c.args.self.now c.requires.ready,
+  [],
+  append-nil (map view_start c.in_ok-starts.starts.items) ∙ c.in_ok-starts.ensures,
+  nothing_done (steps_of c.args.self.now) (store_of c.args.self.now) c.args.at c.args.levels (rest_at c.new-rests.result) (λ begin. c.new-rests.ensures.empty begin),
+)
 
 pub arms-loop-start-preserved : goal.arms-loop-start-preserved
 arms-loop-start-preserved t c =
