@@ -1,16 +1,18 @@
--- What is recovered of a function, from what the calls on the way give.
-use Rattle.std.proofs.Common.{◌≡◌, ◌∙◌, ◌==◌, ◌≤◌, ◌<◌, ◌⊎◌, inl, inr, refl, sym, ap, subst, not, ℕ, Bool, List, map, Option, None, Some, Result, Ok, Err, IfErr, arith}
+-- What is recovered of a function and of a chunk, from what the calls on the way give.
+use Rattle.std.proofs.Common.{◌≡◌, ◌∙◌, ◌==◌, ◌≤◌, ◌<◌, ◌⊎◌, inl, inr, refl, sym, ap, subst, true≢false, not, ℕ, Bool, false, IsTrue, ◌↔◌, List, [], ◌∷◌, map, Option, None, Some, Result, Ok, Err, IfErr, arith}
 use Rattle.std.specs.Result.{IsErrAnd}
 use Rattle.lua_num.specs.declared.names.Names.{Names}
-use Rattle.lua_tree.specs.Syntax.{function_body}
+use Rattle.lua_tree.specs.Syntax.{function_body, Source}
+use Rattle.lua_tree.specs.WellFormed.{WellFormed}
 use Rattle.lua_tree.specs.View.{view_block, view_body}
 use Rattle.lua_tree.specs.declared.tree.Block.{Block}
-use Rattle.lua_tree.specs.declared.tree.Body.{roll-Body}
-use Rattle.proto.specs.Chunk.{Chunk, own}
+use Rattle.lua_tree.specs.declared.tree.Body.{Body, Body', out-Body, roll-Body}
+use Rattle.proto.specs.Chunk.{Chunk, own, functions, functions_of, no_functions}
 use Rattle.proto.specs.View.{view_proto}
 use Rattle.proto.specs.declared.proto.Proto.{Proto, out-Proto}
 use Rattle.proto.proofs.Views.{view_proto_fields}
 use Rattle.core_expr.specs.Values.{Inner, view_recovered}
+use Rattle.core_expr.specs.declared.bodies.Recovered.{Recovered}
 use Rattle.recover_expr.specs.Drafts.{Part, view_part}
 use Rattle.recover_expr.specs.Placing.{Steps, view_reading}
 use Rattle.recover_expr.specs.Reading.{read_steps}
@@ -20,7 +22,8 @@ use Rattle.recover_flow.specs.Built.{built_body}
 use Rattle.recover_flow.specs.Held.{BodyFound, BodyHeld, Store, view_store}
 use Rattle.recover_flow.specs.Parts.{IsGoneOnlyWhere}
 use Rattle.recover_flow.specs.Plans.{Plans, body_levels}
-use Rattle.recover_flow.specs.Recovering.{IsFunctionFound, IsRefusedOnlyWhere, is_vararg}
+use Rattle.recover_flow.specs.Debug.{HasDebug}
+use Rattle.recover_flow.specs.Recovering.{IsFunctionFound, IsLostOnlyWhere, IsMainFound, IsRefusedOnlyWhere, IsSourceFound, IsUnrecovered, is_vararg, main_of}
 use Rattle.recover_flow.specs.Searching.{Answers, BodyAnswer, Keeps, steps_of, store_of, whole_body}
 use Rattle.recover_flow.specs.Stops.{TellsUnbuilt}
 use Rattle.recover_flow.specs.declared.function.Stop.{Stop}
@@ -115,3 +118,20 @@ function_found proto left short reading store parts behind best block read same 
       body = body_made reading.params _ block ∙ ap (λ vararg. function_body reading.params vararg (view_block block) 1 1) (vararg_is proto);
       levels = found.1.levels;
     }
+
+-- ---- a chunk with no functions in it
+
+pub no_protos : (chunk : Chunk) (protos : List Proto) → functions chunk ≡ functions_of (map view_proto protos) → functions chunk ≡ no_functions → protos ≡ []
+no_protos chunk [] same none = refl
+no_protos chunk (first ∷ protos) same none = cc (same, none)
+
+main_made : (body : Body) → main_of (view_body body) ≡ record { body = view_block (out-Body body).block; last_line = 1 }
+unfolding out-Body denote.Hole.Carrier.out
+main_made (Body' params vararg block first last) = refl
+
+-- the tree has the block of the function
+pub source_found : (chunk : Chunk) (found : Recovered) → IsMainFound chunk (view_recovered found) → IsSourceFound chunk (record { body = view_block (out-Body found.body).block; last_line = 1 })
+source_found chunk found is = record { found = view_recovered found; function = is; is_main = sym (main_made found.body) }
+
+pub not_formed : (result : Bool) (source : Source) → IsTrue result ↔ WellFormed source → result ≡ false → WellFormed source → ⊥
+not_formed result source formed is holds = true≢false (sym (formed.1 holds) ∙ is)

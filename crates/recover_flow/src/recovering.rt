@@ -1,13 +1,16 @@
 // From a chunk to a tree.
-ghost use Rattle.std.specs.Prelude.{◌≡◌, ◌∷◌, ◌<◌, ◌^◌, OnOk, IfOk, IfErr, Some, length, map};
+ghost use Rattle.std.specs.Prelude.{◌≡◌, ◌∷◌, [], ◌<◌, ◌≤◌, ◌^◌, OnOk, IfOk, IfErr, Some, length, map};
+ghost use Rattle.core_expr.specs.Values.{view_bodies, view_recovered};
 ghost use Rattle.lua_tree.specs.View.{view_tree};
 ghost use Rattle.lua_tree.specs.WellFormed.{WellFormed};
-ghost use Rattle.proto.specs.Chunk.{Chunk, Functions, functions_of, function_at};
+ghost use Rattle.proto.specs.Chunk.{Chunk, Functions, functions, functions_of, function_at, no_functions};
 ghost use Rattle.proto.specs.Short.{IsShort, AreShort};
 ghost use Rattle.proto.specs.View.{view_proto};
 ghost use Rattle.recover_flow.specs.Debug.{HasDebug};
 ghost use Rattle.recover_flow.specs.Lost.{IsLostBy};
+ghost use Rattle.recover_flow.specs.Recovering.{IsFailedOnlyWhere, IsFunctionFound, IsLostOnlyWhere, IsMainFound, IsSourceFound};
 ghost use Rattle.recover_flow.specs.Stops.{FailsBy, FailsAmong, IsUnfound};
+ghost use Rattle.recover_flow.specs.declared.recovering.Failure.TheVariants.{OutOfMemory};
 
 use crate::debug::untold;
 use crate::function::{LIMIT, Stop, recover_function};
@@ -25,6 +28,8 @@ pub fn recover(alloc: Global, proto: &Proto) -> Result<Tree, Lost>
     ensures told { OnOk result (HasDebug (view_proto proto.now)) }
     ensures formed { IfOk result (λ tree. WellFormed (view_tree tree)) }
     ensures lost { IfErr result (IsLostBy (view_proto proto.now)) }
+    ensures alone { functions (view_proto proto.now) ≡ no_functions → IfOk result (λ tree. IsSourceFound (view_proto proto.now) (view_tree tree)) }
+    ensures never { functions (view_proto proto.now) ≡ no_functions → IfErr result (IsLostOnlyWhere (view_proto proto.now)) }
 {
     if let Some(path) = untold(alloc, proto)? {
         return Err(Lost::NoDebug { path });
@@ -63,18 +68,15 @@ impl From<Failure> for Lost {
     }
 }
 
-// The tree of a chunk that tells what its source is recovered by: in natural forms, or in those of fewest levels where none is found with these, which may be for want of levels. It is refused where it is not well formed.
+// The tree of a chunk that tells what its source is recovered by. It is refused where it is not well formed.
 fn recovered(alloc: Global, proto: &Proto) -> Result<Tree, Lost>
     requires short { IsShort (view_proto proto.now) }
     ensures formed { IfOk result (λ tree. WellFormed (view_tree tree)) }
     ensures lost { IfErr result (IsUnfound (view_proto proto.now)) }
+    ensures alone { functions (view_proto proto.now) ≡ no_functions → IfOk result (λ tree. IsSourceFound (view_proto proto.now) (view_tree tree)) }
+    ensures never { functions (view_proto proto.now) ≡ no_functions → IfErr result (IsLostOnlyWhere (view_proto proto.now)) }
 {
-    let found = match inner_function(alloc, proto, 0, false) {
-        Ok(found) if found.levels <= LIMIT => found,
-        Err(Failure::OutOfMemory) => return Err(Lost::OutOfMemory),
-        Ok(_) | Err(Failure::At { .. }) => inner_function(alloc, proto, 0, true)?,
-    };
-    let Recovered { body, .. } = found;
+    let Recovered { body, .. } = main_function(alloc, proto)?;
     let Body { block, .. } = body;
     let tree = Tree {
         body: block,
@@ -90,6 +92,23 @@ fn recovered(alloc: Global, proto: &Proto) -> Result<Tree, Lost>
     Ok(tree)
 }
 
+// The main function, in natural forms, or in those of fewest levels where none is found with these, which may be for want of levels.
+fn main_function(alloc: Global, proto: &Proto) -> Result<Recovered, Lost>
+    requires short { IsShort (view_proto proto.now) }
+    ensures lost { IfErr result (IsUnfound (view_proto proto.now)) }
+    ensures alone { functions (view_proto proto.now) ≡ no_functions → IfOk result (λ found. IsMainFound (view_proto proto.now) (view_recovered found)) }
+    ensures never { functions (view_proto proto.now) ≡ no_functions → IfErr result (IsLostOnlyWhere (view_proto proto.now)) }
+{
+    match inner_function(alloc, proto, 0, false) {
+        Ok(found) => Ok(found),
+        Err(Failure::OutOfMemory) => Err(Lost::OutOfMemory),
+        Err(Failure::At { .. }) => {
+            let found = inner_function(alloc, proto, 0, true)?;
+            Ok(found)
+        }
+    }
+}
+
 // A function that stands so deep in others, behind those in it.
 #[cycle(recovering)]
 fn inner_function(
@@ -99,7 +118,9 @@ fn inner_function(
     short: bool,
 ) -> Result<Recovered, Failure>
     requires short { IsShort (view_proto proto.now) }
-    ensures { IfErr result (FailsBy (view_proto proto.now)) }
+    ensures failed { IfErr result (FailsBy (view_proto proto.now)) }
+    ensures alone { functions (view_proto proto.now) ≡ no_functions → IfOk result (λ found. IsFunctionFound (view_proto proto.now) [] short (view_recovered found)) }
+    ensures never { functions (view_proto proto.now) ≡ no_functions → depth ≤ 200 → IfErr result (IsFailedOnlyWhere (view_proto proto.now) short) }
 {
     if depth > LIMIT {
         return Err(Failure::At {
@@ -129,7 +150,9 @@ fn inner_functions(
 ) -> Result<Bodies, Failure>
     requires few { length protos.now < 2 ^ 32 }
     requires short { AreShort (functions_of (map view_proto protos.now)) }
-    ensures { IfErr result (FailsAmong (functions_of (map view_proto protos.now))) }
+    ensures failed { IfErr result (FailsAmong (functions_of (map view_proto protos.now))) }
+    ensures none { protos.now ≡ [] → IfOk result (λ bodies. view_bodies bodies ≡ []) }
+    ensures never { protos.now ≡ [] → IfErr result (λ failure. failure ≡ OutOfMemory) }
 {
     let mut bodies = Bodies::new(alloc);
     for (number, proto) in protos.iter().enumerate() {

@@ -1,5 +1,6 @@
 -- Functions are recovered down to so many levels.
-use Rattle.std.proofs.Common.{◌+◌, ◌-◌, ◌*◌}
+use Rattle.std.proofs.Common.{◌≡◌, ◌+◌, ◌-◌, ◌*◌, []}
+use Rattle.core_expr.specs.Values.{view_bodies}
 use Rattle.recover_flow.proofs.recovering.+recovering.Given as goal
 
 abbrev pub decreases-inner_function : goal.decreases-inner_function
@@ -7,3 +8,7 @@ decreases-inner_function l = 2 * (201 - l.depth)
 
 abbrev pub decreases-inner_functions : goal.decreases-inner_functions
 decreases-inner_functions l = 2 * (201 - l.depth) + 1
+
+-- no bodies of no functions
+abbrev pub invariant-inner_functions-loop-number : goal.invariant-inner_functions-loop-number
+invariant-inner_functions-loop-number l = l.protos ≡ [] → view_bodies l.bodies ≡ []
