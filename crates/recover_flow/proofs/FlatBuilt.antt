@@ -4,7 +4,7 @@ use Rattle.std.specs.Prelude.{option_map, option_and_then}
 use Rattle.lua_tree.specs.Joins.{join_statements}
 use Rattle.lua_tree.specs.Syntax.{Statements, no_statements, statement, Statement}
 use Rattle.recover_expr.specs.Drafts.{Part, nothing_part, statement_part}
-use Rattle.recover_flow.specs.Acts.{act_plans, NoneOpen, parts_of_statements, bare, ActsAreBuilt}
+use Rattle.recover_flow.specs.Acts.{act_plans, NoneOpen, parts_of_statements, without_semicolons, ActsAreBuilt}
 use Rattle.recover_flow.specs.Built.{built_from}
 use Rattle.recover_flow.specs.Parts.{begins_open, separated, appended, left_without, part_or_nothing, statement_in, take_statement}
 use Rattle.recover_flow.specs.Plans.{Plans}
@@ -52,7 +52,7 @@ none_behind (statement line semicolon first rest) = ap (statement line semicolon
 
 -- statements behind others
 pub built_behind : (statements before : Statements) (step : ℕ) (parts : List Part) → NoneOpen statements → StandFrom step statements parts
-    → (behind : List Part) × (built_from before (act_plans step (length (parts_of_statements statements))) parts ≡ Some (join_statements before (bare statements), behind))
+    → (behind : List Part) × (built_from before (act_plans step (length (parts_of_statements statements))) parts ≡ Some (join_statements before (without_semicolons statements), behind))
 built_behind no_statements before step parts closed stand = (parts, ap (λ s. Some (s, parts)) (sym (none_behind before)))
 built_behind (statement line semicolon kind rest) before step parts closed stand =
     let later : Plans = act_plans (step + 1) (length (parts_of_statements rest)) in
@@ -61,7 +61,7 @@ built_behind (statement line semicolon kind rest) before step parts closed stand
       ap (λ o. option_and_then (λ taken. built_from (appended before taken.0) later taken.1) o) (taken_there kind step parts stand.0)
           ∙ ap (λ s. built_from s later (left_without step parts)) (plainly_appended before kind closed.0)
           ∙ made.1
-          ∙ ap (λ s. Some (s, made.0)) (one_more_behind before (bare rest) kind),
+          ∙ ap (λ s. Some (s, made.0)) (one_more_behind before (without_semicolons rest) kind),
     )
 
 pub acts_built : ActsAreBuilt

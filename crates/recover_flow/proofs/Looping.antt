@@ -182,5 +182,5 @@ pub no_loop_form : (steps : List Step) (store : Store) (loop : LoopAt) (length :
 no_loop_form steps store loop length count parts is there none =
     subst (λ (one : Option ℕ). LoopFormAnswer loop one None steps store) (sym is)
     (λ condition other parted found.
-      let same : parts ≡ other = same_Some parts other (sym there ∙ parted) in
-      none-some condition (sym none ∙ ap (λ (p : LoopParts). condition_of steps p.condition) same ∙ found))
+    let same : parts ≡ other = same_Some parts other (sym there ∙ parted) in
+    none-some condition (sym none ∙ ap (λ (p : LoopParts). condition_of steps p.condition) same ∙ found))

@@ -36,9 +36,9 @@ parts_of_statements no_statements = []
 parts_of_statements (statement line semicolon kind rest) = statement_part kind ∷ parts_of_statements rest
 
 -- these statements on line 1, with no semicolons
-abbrev pub bare : Statements → Statements
-bare no_statements = no_statements
-bare (statement line semicolon kind rest) = statement 1 false kind (bare rest)
+abbrev pub without_semicolons : Statements → Statements
+without_semicolons no_statements = no_statements
+without_semicolons (statement line semicolon kind rest) = statement 1 false kind (without_semicolons rest)
 
 -- one body stands there, of these acts
 abbrev pub ActsAreFound : Type 0
@@ -50,7 +50,7 @@ ActsAreFound =
 abbrev pub ActsAreBuilt : Type 0
 ActsAreBuilt =
     (statements : Statements) → NoneOpen statements
-    → (behind : List Part) × (built_body (act_plans 0 (length (parts_of_statements statements))) (parts_of_statements statements) ≡ Some (bare statements, behind))
+    → (behind : List Part) × (built_body (act_plans 0 (length (parts_of_statements statements))) (parts_of_statements statements) ≡ Some (without_semicolons statements, behind))
 
 -- acts need no more levels than their steps, and one at least
 abbrev pub ActsAreLow : Type 0
