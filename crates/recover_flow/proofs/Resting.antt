@@ -2,6 +2,7 @@
 use Rattle.std.proofs.Common.{◌≡◌, ◌∙◌, ◌≤◌, ◌<◌, ◌⊎◌, inl, inr, refl, sym, ap, subst, ℕ, Bool, true, false, cond, nat_eq, nat_lt, List, [], ◌∷◌, ◌++◌, length, map, Option, None, Some, arith}
 use Rattle.std.specs.Prelude.{◌==◌, if◌then◌else◌}
 use Rattle.std.specs.HashMap.{HashMap, Updates}
+use Rattle.std.specs.Map.{lookup}
 use Rattle.std.proofs.lemmas.Bool.Decides.{nat_tests}
 use Rattle.std.proofs.lemmas.Option.{none-some, same_Some}
 use Rattle.recover_expr.specs.declared.steps.Step.{Step}
@@ -120,6 +121,10 @@ nothing_done steps store at levels found none = record { here = λ begin start. 
 
 pub rests_of_grow : (steps : List Step) {before after : Store} → Grows before after → (at : BranchesAt) (levels : ℕ) (done : List Starting) (found : ℕ → Option Found) → RestsOf steps before at levels done found → RestsOf steps after at levels done found
 rests_of_grow steps grows at levels done found rests = record { here = λ begin start. rest_answer_grows steps grows at begin levels (found begin) (rests.here begin start); elsewhere = rests.elsewhere }
+
+-- of a map with no entries
+pub none_yet : {S : Type 0} (rests : HashMap ℕ Found S) → rests.entries ≡ [] → (begin : ℕ) → rest_at rests begin ≡ None
+none_yet rests none begin = ap (λ entries. lookup (λ place. begin == place) entries) none
 
 -- a place is one of these, or not
 is_start : (starts : List Starting) (begin : ℕ) → IsStart starts begin ⊎ (IsStart starts begin → ⊥)

@@ -17,7 +17,7 @@ use Rattle.recover_flow.proofs.Answered.{arm_answer, arm_no_block, block_answer,
 use Rattle.recover_flow.proofs.Bodies.{body_failed, branches_failed, empty_found}
 use Rattle.recover_flow.proofs.Chained.{answers_behind, answers_same, keeps_both, keeps_same, ready_behind, same_steps}
 use Rattle.recover_flow.proofs.Growing.{sofar_grows}
-use Rattle.recover_flow.proofs.Resting.{are_rests, branches_answer, nothing_done, popped, rests_noted, rests_of_grow, start_is}
+use Rattle.recover_flow.proofs.Resting.{are_rests, branches_answer, none_yet, nothing_done, popped, rests_noted, rests_of_grow, start_is}
 use Rattle.recover_flow.proofs.search.Search.+search.Goals.{tested_loop-then-is_some-via-then-is_some, tested_loop-then-is_some-via-else-is_some+then-turn-most}
 use Rattle.recover_flow.proofs.search.Search.+search.Goals as goal
 
@@ -251,9 +251,11 @@ arms-rest-requires t c =
 pub arms-loop-start-init : goal.arms-loop-start-init
 arms-loop-start-init t c = (
   keeps_same c.args.self.now c.requires.ready,
-  [],
-  append-nil (map view_start c.in_ok-starts.starts.items) ∙ c.in_ok-starts.ensures,
-  nothing_done (steps_of c.args.self.now) (store_of c.args.self.now) c.args.at c.args.levels (rest_at c.new-rests.result) (λ begin. c.new-rests.ensures.empty begin),
+  (
+    [],
+    append-nil (map view_start c.in_ok-starts.starts.items) ∙ c.in_ok-starts.ensures,
+    nothing_done (steps_of c.args.self.now) (store_of c.args.self.now) c.args.at c.args.levels (rest_at c.new-rests.result) (none_yet c.new-rests.result c.new-rests.ensures.empty),
+  ),
 )
 
 pub arms-loop-start-preserved : goal.arms-loop-start-preserved
