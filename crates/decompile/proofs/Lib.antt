@@ -1,2 +1,4 @@
+mod FlatChunks
+mod FlatTrees
 mod Given
 mod Unfound

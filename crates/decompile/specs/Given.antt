@@ -1,13 +1,11 @@
--- Serves a body. Which trees are those of a source of a chunk, and what is answered where one is recovered.
-use Rattle.std.specs.Prelude.{◌≡◌, Result, Ok, Err, Some}
+-- Serves a body. Which trees are those of a source of a chunk.
+use Rattle.std.specs.Prelude.{◌≡◌, Some}
 use Rattle.lua_num.specs.Bytes.{Text}
-use Rattle.lua_num.specs.declared.byte_text.ByteText.{ByteText}
 use Rattle.lua_tree.specs.Scoping.{Scoped}
 use Rattle.lua_tree.specs.Syntax.{Source}
 use Rattle.lua_tree.specs.WellFormed.{WellFormed}
 use Rattle.proto.specs.Chunk.{Chunk, own, SameButLines}
 use Rattle.scheme.specs.Scheme.{scheme, Fits}
-use Rattle.decompile.specs.declared.refused.Refused.{Refused}
 
 -- it keeps every rule, and its chunk under the chunk's own source name is this, but for the numbers of lines
 pub record IsTreeFor (chunk : Chunk) (source : Source) : Type 0 where
@@ -17,9 +15,3 @@ pub record IsTreeFor (chunk : Chunk) (source : Source) : Type 0 where
   pub name : Text
   pub named : (own chunk).source ≡ Some name
   pub same : SameButLines chunk (scheme source name)
-
--- a text, or want of memory
-abbrev pub IsGiven : Result ByteText Refused → Type 0
-IsGiven (Ok text) = Unit {0}
-IsGiven (Err Refused.OutOfMemory) = Unit {0}
-IsGiven (Err refused) = ⊥

@@ -1,3 +1,4 @@
+pub mod Flat
 pub mod Given
 pub mod Sources
 pub mod Texts
