@@ -1,7 +1,8 @@
 -- What is recovered of the chunk of a flat source: its statements, one after the other.
-use Rattle.std.proofs.Common.{◌≡◌, ◌∙◌, ℕ, ◌≤◌, ◌<◌, ◌^◌, Bool, true, false, List, [], ◌∷◌, length, Option, Some, None, Err, refl, sym, ap, ap₂, subst, arith, inl, inr}
-use Rattle.std.specs.Prelude.{◌⊎◌, ◌&&◌, IsSome}
+use Rattle.std.proofs.Common.{◌≡◌, ◌∙◌, ℕ, ◌≤◌, ◌<◌, ◌^◌, true, false, List, [], ◌∷◌, length, Option, Some, None, Err, refl, sym, ap, ap₂, subst, arith, inl, inr}
+use Rattle.std.specs.Prelude.{IsSome}
 use Rattle.std.proofs.lemmas.Bool.Decides.{nat_tests}
+use Rattle.std.proofs.lemmas.Option.{none-some, same_Some}
 use Rattle.std.specs.List.{AllByRecursion}
 use Rattle.core_expr.specs.Values.{Inner}
 use Rattle.lua_num.specs.Bytes.{Text}
@@ -17,17 +18,17 @@ use Rattle.recover_expr.specs.Reading.{read_steps}
 use Rattle.recover_expr.specs.declared.steps.Step.{Step}
 use Rattle.recover_flow.specs.Acts.{AreActs, AreLow, act_plans, without_semicolons, parts_of_statements, NoneOpen, ActsAreFound, ActsAreBuilt, ActsAreLow}
 use Rattle.recover_flow.specs.Built.{built_body}
-use Rattle.recover_flow.specs.Debug.{HasDebug, LacksDebug, Tells}
+use Rattle.recover_flow.specs.Debug.{LacksDebug}
 use Rattle.recover_flow.specs.Parts.{begins_open}
 use Rattle.recover_flow.specs.Plans.{Plans, body_levels}
-use Rattle.recover_flow.specs.Recovering.{IsFunctionFound, IsMainFound, IsLostOnlyWhere, IsSourceFound, IsSourceless, IsUnrecovered, StandsNowhere, IsUnbuilt, is_vararg, main_of}
+use Rattle.recover_flow.specs.Recovering.{IsFunctionFound, IsMainFound, IsLostOnlyWhere, IsSourceFound, IsSourceless, IsUnrecovered, StandsNowhere, is_vararg, main_of}
 use Rattle.recover_flow.specs.declared.lost.Lost.{Lost}
 use Rattle.recover_flow.specs.Searching.{whole_body}
 use Rattle.recover_flow.specs.Standing.{BodyStands}
-use Rattle.reads_back.specs.Flat.{FlatChunksAreAlone, IsAlone, FlatSourcesAreRead, IsFlatStep, IsReadAs, flat_parts}
+use Rattle.reads_back.specs.Flat.{FlatChunksAreAlone, IsAlone, FlatSourcesAreRead, IsFlatStep, flat_parts}
 use Rattle.scheme.specs.Scheme.{scheme}
 use Rattle.scheme_lines.specs.Alike.{SemicolonsDoNotMatter}
-use Rattle.scheme.specs.Shapes.{is_bare_name, is_simple, is_flat_call, is_flat_statement, are_flat}
+use Rattle.scheme.specs.Shapes.{is_bare_name, is_flat_statement, are_flat}
 use Rattle.decompile.specs.Flat.{IsFlatChunk, IsGiven}
 use Rattle.decompile.specs.Given.{IsTreeFor}
 use Rattle.decompile.specs.Refusals.{refused_by}
@@ -69,17 +70,17 @@ flat_low (step ∷ steps) flat = (flat.0.levels, flat_low steps flat.1)
 -- ---- what is recovered
 
 -- the laws, of one chunk
-pub record IsFlatRead (chunk : Chunk) (source : Source) : Type 0 where
-  pub steps : Steps
-  pub read : read_steps chunk [] false ≡ Some steps
-  pub params : steps.params ≡ []
-  pub behind : List Part
-  pub stands : BodyStands steps.steps (whole_body steps.steps) (act_plans 0 (length steps.steps))
-  pub only : (plans : Plans) → BodyStands steps.steps (whole_body steps.steps) plans → plans ≡ act_plans 0 (length steps.steps)
-  pub low : body_levels steps.steps (act_plans 0 (length steps.steps)) ≤ 3
-  pub built : built_body (act_plans 0 (length steps.steps)) steps.parts ≡ Some (without_semicolons (one_line_statements source.body), behind)
+record IsFlatRead (chunk : Chunk) (source : Source) : Type 0 where
+  steps : Steps
+  read : read_steps chunk [] false ≡ Some steps
+  params : steps.params ≡ []
+  behind : List Part
+  stands : BodyStands steps.steps (whole_body steps.steps) (act_plans 0 (length steps.steps))
+  only : (plans : Plans) → BodyStands steps.steps (whole_body steps.steps) plans → plans ≡ act_plans 0 (length steps.steps)
+  low : body_levels steps.steps (act_plans 0 (length steps.steps)) ≤ 3
+  built : built_body (act_plans 0 (length steps.steps)) steps.parts ≡ Some (without_semicolons (one_line_statements source.body), behind)
 
-pub flat_read : FlatSourcesAreRead → ActsAreFound → ActsAreBuilt → ActsAreLow → {chunk : Chunk} (flat : IsFlatChunk chunk) → length (own chunk).code < 2 ^ 32 → IsFlatRead chunk flat.source
+flat_read : FlatSourcesAreRead → ActsAreFound → ActsAreBuilt → ActsAreLow → {chunk : Chunk} (flat : IsFlatChunk chunk) → length (own chunk).code < 2 ^ 32 → IsFlatRead chunk flat.source
 flat_read sources found built low {chunk} flat short =
     let read = sources flat.source flat.name chunk flat.formed flat.scoped flat.fits flat.flat flat.same short in
     let steps = read.0 in
@@ -105,12 +106,6 @@ same_first {A} {B} {first} {other} {second} {behind} same =
     let pair : ◌≡◌ {A = A × B} (first, second) (other, behind) = cc in
     ap (λ (p : A × B). p.0) pair
 
-some_is_one : {A : Type 0} {first other : A} {found : Option A} → found ≡ Some first → found ≡ Some other → first ≡ other
-some_is_one first other = cc
-
-none_is_none : {A B : Type 0} {some : A} {found : Option A} → found ≡ None → found ≡ Some some → B
-none_is_none none some = absurd cc
-
 module _ {chunk : Chunk} {source : Source} (flat : IsFlatRead chunk source) where
   -- what is built of the one body that stands there
   built_of : (steps : Steps) (plans : Plans) → steps ≡ flat.steps → BodyStands steps.steps (whole_body steps.steps) plans →
@@ -120,21 +115,21 @@ module _ {chunk : Chunk} {source : Source} (flat : IsFlatRead chunk source) wher
       ap₂ (λ body (s : Steps). built_body body s.parts) one same ∙ flat.built
 
   -- a function that is found is this
-  pub flat_found : (found : Inner) → IsFunctionFound chunk [] false found → found.body ≡ function_body [] (is_vararg chunk) (without_semicolons (one_line_statements source.body)) 1 1
+  flat_found : (found : Inner) → IsFunctionFound chunk [] false found → found.body ≡ function_body [] (is_vararg chunk) (without_semicolons (one_line_statements source.body)) 1 1
   flat_found found is =
-      let same : is.steps ≡ flat.steps = some_is_one is.read flat.read in
+      let same : is.steps ≡ flat.steps = same_Some is.steps flat.steps (sym is.read ∙ flat.read) in
       is.body
       ∙ ap₂ (λ params block. function_body params (is_vararg chunk) block 1 1) (ap (λ (s : Steps). s.params) same ∙ flat.params)
       (same_first (sym is.built ∙ built_of is.steps is.plans same is.stands))
 
   -- and one is found
-  pub flat_recovered : IsUnrecovered chunk [] false → ⊥
-  flat_recovered (inl unread) = none_is_none unread flat.read
+  flat_recovered : IsUnrecovered chunk [] false → ⊥
+  flat_recovered (inl unread) = none-some flat.steps (sym unread ∙ flat.read)
   flat_recovered (inr (steps, read, inl nowhere)) =
-      let none = subst (λ (s : Steps). StandsNowhere s) (some_is_one read flat.read) nowhere in
+      let none = subst (λ (s : Steps). StandsNowhere s) (same_Some steps flat.steps (sym read ∙ flat.read)) nowhere in
       let few = flat.low in let many = none (act_plans 0 (length flat.steps.steps)) flat.stands in grind (arith, nat_tests)
   flat_recovered (inr (steps, read, inr unbuilt)) =
-      none_is_none unbuilt.3 (built_of steps unbuilt.0 (some_is_one read flat.read) unbuilt.1)
+      none-some _ (sym unbuilt.3 ∙ built_of steps unbuilt.0 (same_Some steps flat.steps (sym read ∙ flat.read)) unbuilt.1)
 
 some_named : {A : Type 0} (found : Option A) → IsSome found → found ≡ None → ⊥
 some_named None some none = not_so some
@@ -153,13 +148,13 @@ tree_is {chunk} {source} flat {tree} is = ap (λ (t : Source). t.body) is.is_mai
 source_stays : (c : Chunk) → (own (each no_lines c)).source ≡ (own c).source
 source_stays (function f inner) = refl
 
-pub named_as : (chunk : Chunk) (source : Source) (name : Text) → SameButLines chunk (scheme source name) → (own chunk).source ≡ Some name
+named_as : (chunk : Chunk) (source : Source) (name : Text) → SameButLines chunk (scheme source name) → (own chunk).source ≡ Some name
 named_as chunk source name same = sym (source_stays chunk) ∙ ap (λ c. (own c).source) same ∙ source_stays (scheme source name)
 
 -- ---- why none is recovered
 
 -- it tells what is asked of it
-pub lacks_nothing : (chunk : Chunk) → IsAlone chunk → (path : List ℕ) → LacksDebug chunk path → ⊥
+lacks_nothing : (chunk : Chunk) → IsAlone chunk → (path : List ℕ) → LacksDebug chunk path → ⊥
 lacks_nothing chunk alone path (inl (unnamed, top)) = some_named (own chunk).source alone.named unnamed
 lacks_nothing (function f no_functions) alone [] (inr (named, untold)) = untold (record { lines = alone.lines; names = alone.names })
 lacks_nothing (function f no_functions) alone (n ∷ path) (inr (named, untold)) = untold.1
@@ -169,12 +164,12 @@ lacks_nothing (function f (and_function c rest)) alone path (inr lacks) = absurd
     no_more c rest same = cc
 
 -- none of a flat source is without a source
-pub has_source : {chunk : Chunk} (flat : IsFlatChunk chunk) → IsFlatRead chunk flat.source → IsSourceless chunk → ⊥
+has_source : {chunk : Chunk} (flat : IsFlatChunk chunk) → IsFlatRead chunk flat.source → IsSourceless chunk → ⊥
 has_source flat read (inl (unrecovered, shortest)) = flat_recovered read unrecovered
 has_source flat read (inr (source, found, misformed)) = misformed (flat_tree_formed flat.source source flat.formed flat.flat (tree_is read found))
 
 -- and it is one of the chunk
-pub is_tree_for : SemicolonsDoNotMatter → {chunk : Chunk} (flat : IsFlatChunk chunk) → IsFlatRead chunk flat.source → (tree : Source) → WellFormed tree → IsSourceFound chunk tree → IsTreeFor chunk tree
+is_tree_for : SemicolonsDoNotMatter → {chunk : Chunk} (flat : IsFlatChunk chunk) → IsFlatRead chunk flat.source → (tree : Source) → WellFormed tree → IsSourceFound chunk tree → IsTreeFor chunk tree
 is_tree_for semicolons {chunk} flat read tree formed found =
     let alike = semicolons flat.source tree (sym (flat_tree_alike flat.source tree flat.flat (tree_is read found))) in
     record {

@@ -1,8 +1,8 @@
 -- Flat trees on one line and without semicolons: they are well formed, and alike but for semicolons and lines.
-use Rattle.std.proofs.Common.{◌≡◌, ◌∙◌, ℕ, ◌≤◌, ◌+◌, max, Bool, true, false, refl, sym, ap, ap₂, subst, arith}
+use Rattle.std.proofs.Common.{◌≡◌, ◌∙◌, ℕ, ◌≤◌, max, Bool, true, false, refl, sym, ap, ap₂, subst, arith}
 use Rattle.std.proofs.lemmas.Bool.Decides.{nat_tests}
-use Rattle.std.specs.Prelude.{◌&&◌, ◌||◌, not}
-use Rattle.lua_tree.specs.OneLine.{one_line_statements, one_line_statement, one_line_expression, one_line_expressions, on_one_line}
+use Rattle.std.specs.Prelude.{◌&&◌, not}
+use Rattle.lua_tree.specs.OneLine.{one_line_statements, one_line_statement, one_line_expression, one_line_expressions}
 use Rattle.lua_tree.specs.Syntax as syntax
 use Rattle.lua_tree.specs.Syntax.{Statements, no_statements, Statement, assignment, call_statement, Expressions, no_expressions, Expression, nil_literal, true_literal, false_literal, number_literal, text_literal, name_expression, call_expression, argument_list, Source}
 use Rattle.lua_tree.specs.WellFormed.{WellFormed, formed_statements, formed_statement, formed_expressions, formed_expression, may_follow, statement_takes_arguments, statement_begins_with_paren, ends_block, depth_of_statements, depth_of_statement, depth_of_expressions, depth_of_expression}
