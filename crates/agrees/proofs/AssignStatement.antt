@@ -60,11 +60,11 @@ operand_room f None active c free i free1 p q w l = let e = w.at_free in let r =
 rk_room : (f : Fn) (lit : Option Constant) (active : List Active) (c : Rel) (free i free1 : ℕ) (p q : Spot) → RkBy lit f active c free i free1 p q → free ≤ f.size → free1 ≤ f.size
 rk_room f None active c free i free1 p q w l = operand_room f (local_at c.form active p) active c free i free1 p q w l
 rk_room f (Some k) active c free i free1 p q (inl w) l = let e = w.at_free in omega (arith, e, l)
-rk_room f (Some k) active c free i free1 p q (inr w) l = operand_room f (local_at c.form active p) active c free i free1 p q w l
+rk_room f (Some k) active c free i free1 p q (inr (large, w)) l = operand_room f (local_at c.form active p) active c free i free1 p q w l
 
 text_room : (f : Fn) (name : Text) (free i free1 : ℕ) (p q : Spot) → RkTextAt f name free i free1 p q → free ≤ f.size → free1 ≤ f.size
 text_room f name free i free1 p q (inl w) l = let e = w.at_free in omega (arith, e, l)
-text_room f name free i free1 p q (inr w) l = let e = w.at_free in let r = w.room in omega (arith, e, r)
+text_room f name free i free1 p q (inr (large, w)) l = let e = w.at_free in let r = w.room in omega (arith, e, r)
 
 target_room : (x : Site) (e : Expression) (free : ℕ) (d : scheme.Target) (free1 : ℕ) (p q : Spot) → (related (code_of x.a) e).target x.a.active free d free1 p q → free ≤ (own x.a.chunk).registers → free1 ≤ (own x.a.chunk).registers
 target_room x (name_expression line name) free d free1 p q w l = let e = w.at_free in omega (arith, e, l)

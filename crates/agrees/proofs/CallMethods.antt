@@ -69,7 +69,7 @@ module _ (z : Setup) (self : Self) (ih : Simulates z self) where
   name_kept x s g name k free y free2 p q high k1 object ok fr (inl w) (inl op) =
       let m = within high op.0 (text name) op.3 in
       let e = w.at_x in let f = op.2 in let r = ok.acts.1 in let few = ok.acts.0.limits.registers in absurd (omega (arith, m, e, f, r, few))
-  name_kept x s g name k free y free2 p q high k1 object ok fr (inr w) (inl op) =
+  name_kept x s g name k free y free2 p q high k1 object ok fr (inr (large, w)) (inl op) =
       let e = w.at_x in let f = op.2 in
       inl (op.0, op.1, op.2, get_set_other high (suc k) op.0 object (λ i. omega (arith, e, f, fr, i)) ∙ op.3)
 

@@ -93,7 +93,7 @@ module _ (z : Setup) where
         (subst (λ i. ValuePost z x k i q.pc vs s1 o1 (Now (at s1 o1 l.g (raised x l.high) q.pc))) h.0
         (value_here x k free q.pc vs s1 o1 l.g l.high fr l.keeps l.ok (first_row l.high k vs l.held.0))))
         (given q h.1))
-    one_of x k free r part p q j S o place prog fr lr (inr w) given =
+    one_of x k free r part p q j S o place prog fr lr (inr (other, w)) given =
         goes_more z.bound self (fail_of z x) j 1 S o place (ListPost z x (Some 1) k free w.mid.pc) (ValuePost z x k r q.pc) prog (given w.mid w.first_at)
         (λ vs s1 o1 p1 l t.
         subst (λ y. Arrive z.bound 1 0 t y t (ValuePost z x k r q.pc vs s1 o1)) (sym l.held.1)

@@ -165,7 +165,7 @@ module _ (z : Setup) (self : Self) (ih : Simulates z self) where
 
       by : (l : Option Constant) → literal e ≡ l → RkBy l (code_of x.a) x.a.active (related (code_of x.a) e) free i free1 p q → Goes z.bound self (fail_of z x) j (size_e e + S) o (Now (at s o g x p.pc)) P (with_late (scope x) e s go)
       by None el h = in_register h
-      by (Some c) el (inr h) = in_register h
+      by (Some c) el (inr (large, h)) = in_register h
       by (Some c) el (inl h) =
           goes_is z.bound self (fail_of z x) j (size_e e + S) o (Now (at s o g x p.pc)) P _ (with_value (scope x) e s (λ v s1. go (taken v) s1)) (no_local e (scope x) s go (literal_no_local (scope x) e c el))
           (known_value z self ih e c (scope x) s o x.a.landing x.a.protections x.below (Now (at s o g x p.pc)) j S P (λ v s1. go (taken v) s1) el refl
@@ -182,7 +182,7 @@ module _ (z : Setup) (self : Self) (ih : Simulates z self) where
 
       by : (l : Option Constant) → literal e ≡ l → RkBy l (code_of x.a) x.a.active (related (code_of x.a) e) free i free1 p q → Goes z.bound self (fail_of z x) j (size_e e + S) o (Now (at s o g x p.pc)) P (with_value (scope x) e s go)
       by None el h = in_register h
-      by (Some c) el (inr h) = in_register h
+      by (Some c) el (inr (large, h)) = in_register h
       by (Some c) el (inl h) =
           known_value z self ih e c (scope x) s o x.a.landing x.a.protections x.below (Now (at s o g x p.pc)) j S P go el refl
           (subst (λ pc. Goes z.bound self (fail_of z x) j S o (Now (at s o g x pc)) P (go (value_of c) s)) h.same.pc
@@ -198,7 +198,7 @@ module _ (z : Setup) (self : Self) (ih : Simulates z self) where
 
       by : (l : Option Constant) → literal e ≡ l → RkBy l (code_of x.a) x.a.active (related (code_of x.a) e) free i free1 p q → Goes z.bound self (fail_of z x) j (suc (size_e e) + S) o (Now (at s o g x p.pc)) P (ask (item (scope x) e) s go)
       by None el h = in_register h
-      by (Some c) el (inr h) = in_register h
+      by (Some c) el (inr (large, h)) = in_register h
       by (Some c) el (inl h) =
           goes_staying z.bound self (fail_of z x) j (suc (size_e e)) S o (Now (at s o g x p.pc)) (item (scope x) e) s (value_of c ∷ []) P go (ih.literal_items e c (scope x) s o x.a.landing x.a.protections x.below (Now (at s o g x p.pc)) el refl)
           (subst (λ pc. Goes z.bound self (fail_of z x) j S o (Now (at s o g x pc)) P (go (value_of c ∷ []) s)) h.same.pc
@@ -240,7 +240,7 @@ module _ (z : Setup) (self : Self) (ih : Simulates z self) where
       goes_weaken z.bound self (fail_of z x) j S (suc j) S o _ P prog (omega arith) (omega arith)
       (subst (λ pc. Goes z.bound self (fail_of z x) j S o (Now (at s o g x pc)) P prog) w.same.pc
       (after x.high (record { k1 = k; ok = ok; at_free = w.at_free ∙ fr; more = omega arith; keeps = keeps_self k x.high; holds = inr (w.number, Constant.Text name, w.at_x, w.is, refl) })))
-  text_rk name s o g x k free i free1 p q j S P prog ok fr (inr w) after =
+  text_rk name s o g x k free i free1 p q j S P prog ok fr (inr (large, w)) after =
       let l = load_next x s o g k free (Constant.Text name) p q ok fr w.room w.value_at in
       goes_word z.bound self (fail_of z x) j S o _ (at s o g (raised x (slice_set x.high k (text name))) q.pc) P prog l.0
       (after (slice_set x.high k (text name)) (record { k1 = suc k; ok = l.3; at_free = (let b = w.at_free in omega (arith, b, fr)); more = omega arith; keeps = l.1; holds = inl (k, omega arith, w.at_x ∙ fr, l.2) }))

@@ -248,10 +248,10 @@ mutual
       let lk = links z key in
       let ask = rk (coded key) in
       let rel = λ (active : List Active). RkAt (fn_of z) active (related (fn_of z) key) in
-      let g1 = keyed_grows z line t pending ask rel (coded e) (related (fn_of z) e) (grows_rk (coded key) (grows calm key)) (rk_at z (coded key) (related (fn_of z) key) lk.to) (grows calm e) (links z e) m in
+      let g1 = keyed_grows z line t pending ask rel (coded e) (related (fn_of z) e) (grows_rk (coded key) (grows calm key)) (rk_at z (coded key) (related (fn_of z) key) (grows calm key) lk.to) (grows calm e) (links z e) m in
       let m1 = freeing (keyed_item line t ask (coded e)) m in
       record {
         mid = spot m1;
-        first_at = keyed_at z line t pending ask rel (coded e) (related (fn_of z) e) (grows_rk (coded key) (grows calm key)) (rk_at z (coded key) (related (fn_of z) key) lk.to) (grows calm e) (links z e) m s (before (grows_entries {v = calm} line t done pending (entries rest) (grow_entries calm rest) m1) f);
+        first_at = keyed_at z line t pending ask rel (coded e) (related (fn_of z) e) (grows_rk (coded key) (grows calm key)) (rk_at z (coded key) (related (fn_of z) key) (grows calm key) lk.to) (grows calm e) (links z e) m s (before (grows_entries {v = calm} line t done pending (entries rest) (grow_entries calm rest) m1) f);
         second_at = subst (λ a. ItemsAt (fn_of z) rest a t done pending (spot m1) (spot (entries_from line t done pending (entries rest) m1))) g1.active (items_at z rest line t done pending m1 s (later g1.more f));
       }

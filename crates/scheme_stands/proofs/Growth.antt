@@ -123,7 +123,7 @@ free_step {v} r n = record { items = λ i x e. e; constants = λ i x e. e; funct
 pass_step : {v : Mode} (n : Maker) → Grown v n (pass_name n)
 pass_step {v} n = record { items = λ i x e. e; constants = λ i x e. e; functions = λ i x e. e; labels = λ i l. refl; more = omega arith; high = omega arith; fine = λ e. e; upvalues = refl; active = actives_same v n.active }
 
-with_kept : (b : Bool) (k : Constant) (ks : List Constant) → Kept ks (if b then ks else ks ++ k ∷ [])
+pub with_kept : (b : Bool) (k : Constant) (ks : List Constant) → Kept ks (if b then ks else ks ++ k ∷ [])
 with_kept true k ks = λ i x e. e
 with_kept false k ks = kept_end ks (k ∷ [])
 

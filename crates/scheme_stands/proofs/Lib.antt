@@ -1,4 +1,5 @@
 pub mod Growth
+pub mod Large
 pub mod Parts
 pub mod Links
 pub mod Functions

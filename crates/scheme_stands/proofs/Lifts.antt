@@ -113,8 +113,8 @@ module _ (all : List Mark) (n : Names) (f : Fn) where
       rk_by : (o : Option Constant) (active : List Active) (free x free1 : ℕ) → Lift part active (RkBy o f active weak free x free1) (RkBy o (asking n f) active strong free x free1)
       rk_by (Some k) active free x free1 place rest p q s (inl t) =
           let w = same_lift n f p q s.plain t.same in
-          record { is = inl (record { number = t.number; is = t.is; small = t.small; at_x = t.at_x; at_free = t.at_free; same = w.is }); plain = w.plain }
-      rk_by (Some k) active free x free1 place rest p q s (inr t) = let w = operand_lift active free x free1 place rest p q s t in record { is = inr w.is; plain = w.plain }
+          record { is = inl (record { number = t.number; is = t.is; first = t.first; small = t.small; at_x = t.at_x; at_free = t.at_free; same = w.is }); plain = w.plain }
+      rk_by (Some k) active free x free1 place rest p q s (inr (large, t)) = let w = operand_lift active free x free1 place rest p q s t in record { is = inr (large, w.is); plain = w.plain }
       rk_by None active free x free1 place rest p q s t = operand_lift active free x free1 place rest p q s t
 
       pub rk_lift : (active : List Active) (free x free1 : ℕ) → Lift part active (RkAt f active weak free x free1) (RkAt (asking n f) active strong free x free1)
@@ -165,11 +165,11 @@ module _ (all : List Mark) (n : Names) (f : Fn) where
     pub text_lift : (text : Text) (free x free1 : ℕ) → WordLift (RkTextAt f text free x free1) (RkTextAt (asking n f) text free x free1)
     text_lift text free x free1 p q plain (inl t) =
         let w = same_lift n f p q plain t.same in
-        record { is = inl (record { number = t.number; is = t.is; small = t.small; at_x = t.at_x; at_free = t.at_free; same = w.is }); plain = w.plain }
-    text_lift text free x free1 p q plain (inr t) =
+        record { is = inl (record { number = t.number; is = t.is; first = t.first; small = t.small; at_x = t.at_x; at_free = t.at_free; same = w.is }); plain = w.plain }
+    text_lift text free x free1 p q plain (inr (large, t)) =
         let room = t.room in
         let w = constant_lift n f Op.LoadK free (Constant.Text text) (record { is = refl; none = λ inner i. refl }) setting.limits (field_a n f free setting (omega (arith, room))) p q plain t.value_at in
-        record { is = inr (record { room = t.room; at_x = t.at_x; at_free = t.at_free; value_at = w.is }); plain = w.plain }
+        record { is = inr (large, record { room = t.room; at_x = t.at_x; at_free = t.at_free; value_at = w.is }); plain = w.plain }
 
     -- ---- an expression by its value alone
 
@@ -582,11 +582,11 @@ module _ (all : List Mark) (n : Names) (f : Fn) where
     -- what comes in F goes to the register
     pub moved_lift : (part : outline.Part) (active : List Active) (weak strong : Stretch) (free r : ℕ) → Lift part active weak strong → ((p q : Spot) → weak p q → free < f.size) → r < f.size → Lift part active (MovedFrom f weak free r) (MovedFrom (asking n f) strong free r)
     moved_lift part active weak strong free r l room h place rest p q s (inl t) = let w = l place rest p q s t.1 in record { is = inl (t.0, w.is); plain = w.plain }
-    moved_lift part active weak strong free r l room h place rest p q s (inr t) =
+    moved_lift part active weak strong free r l room h place rest p q s (inr (other, t)) =
         let at_free = room p t.mid t.first_at in
         let one = l place rest p t.mid s t.first_at in
         let w = abc_lift n f Op.Move r free 0 (alone Op.Move refl) (field_a n f r setting (omega (arith, h))) (field_b n f free setting (omega (arith, at_free))) (omega arith) t.mid q one.plain t.second_at in
-        record { is = inr (record { mid = t.mid; first_at = one.is; second_at = w.is }); plain = w.plain }
+        record { is = inr (other, record { mid = t.mid; first_at = one.is; second_at = w.is }); plain = w.plain }
 
     pub call_lifts : (part : outline.Part) (form : Form) (weak strong : List Active → (free : ℕ) → Op → Want → Stretch) → MultiLifts part weak strong → RelLifts part false (rel_call f form weak) (rel_call (asking n f) form strong)
     call_lifts part form weak strong m =

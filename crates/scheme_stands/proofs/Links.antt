@@ -2,7 +2,7 @@
 use Rattle.std.proofs.Common.{◌≡◌, ◌<◌, ◌⊎◌, inl, inr, ℕ, suc, ◌+◌, ◌-◌, Bool, true, false, cond, not, List, [], ◌∷◌, length, get_or, refl, ap, ◌∙◌, subst, arith}
 use Rattle.std.specs.Prelude.{Option, Some, None, ℤ, ◌==◌, is_some}
 use Rattle.std.specs.Bool.{beq}
-use Rattle.std.proofs.lemmas.Bool.{leb-true, eqb-true}
+use Rattle.std.proofs.lemmas.Bool.{leb-true, eqb-true, eqb-false}
 use Rattle.lua_num.specs.Bytes.{Text}
 use Rattle.lua_tree.specs.declared.tree.BinaryOp.{BinaryOp}
 use Rattle.lua_tree.specs.declared.tree.UnaryOp.{UnaryOp}
@@ -16,9 +16,10 @@ use Rattle.scheme.specs.Lists.{method_at, all_next, all_multi, ends_open, open_l
 use Rattle.scheme.specs.declared.making.Piece.{Piece}
 use Rattle.scheme.specs.declared.making.Active.{Active}
 use Rattle.scheme_stands.specs.Words.{Spot, Stretch, Passed, WordAt, ConstantWord, JumpOn}
-use Rattle.scheme_stands.specs.Expressions.{Form, form_of, several, NextAt, rel_alone, SpineAt, ConcatAt, BinarySpine, RkTextAt, IndexAt, PartTargetAt, BareAt, Rel, OperandBy, OperandAt, local_at, SmallAt, RkBy, RkAt, OneAt, TwoAt, TestAt, TestBy, CompareAt, NameBy, NameAt, rel_single, rel_name, rel_index, rel_field, rel_paren, ArithmeticAt, TruthAt, BinaryAt, LoadOr, BinaryJump, rel_binary, UnaryAt, UnaryJump, rel_unary, DecideBy, HereAt, LogicAt, LogicJump, rel_logic}
+use Rattle.scheme_stands.specs.Expressions.{Form, form_of, several, NextAt, rel_alone, SpineAt, ConcatAt, BinarySpine, RkTextAt, IndexAt, PartTargetAt, BareAt, Rel, OperandBy, OperandAt, local_at, SmallAt, IsLarge, RkBy, RkAt, OneAt, TwoAt, TestAt, TestBy, CompareAt, NameBy, NameAt, rel_single, rel_name, rel_index, rel_field, rel_paren, ArithmeticAt, TruthAt, BinaryAt, LoadOr, BinaryJump, rel_binary, UnaryAt, UnaryJump, rel_unary, DecideBy, HereAt, LogicAt, LogicJump, rel_logic}
 use Rattle.scheme_stands.specs.Lists.{MethodAt, AllNextAt, AllMultiAt, rels_open, OpenBy, OpenListAt, rels_count, GivenRel, ResultRoom, CallAt, MovedFrom, rel_call, VarargAt, rel_vararg, FirstAt}
 use Rattle.scheme_stands.proofs.Growth.{length_end, calm, Grown, start, on_part, on_put, on_new, on_place, Final, before, later, unplaced, placed, spot, fn_of, resolved, put_at, constant_at, before_put, before_take, before_free, room_at}
+use Rattle.scheme_stands.proofs.Large.{constant_first, large_at}
 use Rattle.scheme_stands.proofs.Parts.{grows_when, grows_next, grows_rk_text, grows_all, grows_multi, grows_results, AllGrow, Grows, alone, grows_operand, grows_rk, grows_compare, grows_decide, decide_free}
 
 module _ (z : Maker) where
@@ -55,29 +56,30 @@ module _ (z : Maker) where
       subst (λ x. OperandBy (local_at x m.active (spot m)) (fn_of z) m.active e m.free (operand c m).value (operand c m).after.free (spot m) (spot (operand c m).after)) l.is_form
       (operand_by_at (local_register c.e m) c e l m f)
 
-  small_or : (b : Bool) (k : Constant) (c : Coded) (e : Rel) → ToAt c e → (m : Maker) → is_small k m ≡ b → Final (length m.labels) (cond b (small_constant k) (operand c) m).after z →
+  small_or : (b : Bool) (k : Constant) (c : Coded) (e : Rel) → ToAt c e → (m : Maker) → is_small k m ≡ b → Grown calm m (cond b (small_constant k) (operand c) m).after → Final (length m.labels) (cond b (small_constant k) (operand c) m).after z →
       SmallAt (fn_of z) k m.free (cond b (small_constant k) (operand c) m).value (cond b (small_constant k) (operand c) m).after.free (spot m) (spot (cond b (small_constant k) (operand c) m).after)
-      ⊎ OperandAt (fn_of z) m.active e m.free (cond b (small_constant k) (operand c) m).value (cond b (small_constant k) (operand c) m).after.free (spot m) (spot (cond b (small_constant k) (operand c) m).after)
-  small_or true k c e l m h f = inl (record {
+      ⊎ (IsLarge (fn_of z) k × OperandAt (fn_of z) m.active e m.free (cond b (small_constant k) (operand c) m).value (cond b (small_constant k) (operand c) m).after.free (spot m) (spot (cond b (small_constant k) (operand c) m).after))
+  small_or true k c e l m h g f = inl (record {
     number = (constant k m).value;
     is = constant_at k m f;
+    first = constant_first k m f;
     small = leb-true _ _ h;
     at_x = refl;
     at_free = refl;
     same = record { pc = refl; ahead = refl };
   })
-  small_or false k c e l m h f = inr (operand_at c e l m f)
+  small_or false k c e l m h g f = inr (large_at k m h (before g f), operand_at c e l m f)
 
-  rk_by_at : (o : Option Constant) (c : Coded) (e : Rel) → ToAt c e → (m : Maker) → Final (length m.labels) (rk_by o c m).after z →
+  rk_by_at : (o : Option Constant) (c : Coded) (e : Rel) → ToAt c e → (m : Maker) → Grown calm m (rk_by o c m).after → Final (length m.labels) (rk_by o c m).after z →
       RkBy o (fn_of z) m.active e m.free (rk_by o c m).value (rk_by o c m).after.free (spot m) (spot (rk_by o c m).after)
-  rk_by_at (Some k) c e l m f = small_or (is_small k m) k c e l m refl f
-  rk_by_at None c e l m f = operand_at c e l m f
+  rk_by_at (Some k) c e l m g f = small_or (is_small k m) k c e l m refl g f
+  rk_by_at None c e l m g f = operand_at c e l m f
 
-  pub rk_at : (c : Coded) (e : Rel) → ToAt c e → (m : Maker) → Final (length m.labels) (rk c m).after z →
+  pub rk_at : (c : Coded) (e : Rel) → Grows calm c → ToAt c e → (m : Maker) → Final (length m.labels) (rk c m).after z →
       RkAt (fn_of z) m.active e m.free (rk c m).value (rk c m).after.free (spot m) (spot (rk c m).after)
-  rk_at c e l m f =
+  rk_at c e g l m f =
       subst (λ x. RkBy x.literal (fn_of z) m.active e m.free (rk c m).value (rk c m).after.free (spot m) (spot (rk c m).after)) l.is_form
-      (rk_by_at (literal c.e) c e l m f)
+      (rk_by_at (literal c.e) c e l m (grows_rk c g m) f)
 
   -- one operand, and the words that follow it
   pub one_at : (c : Coded) (e : Rel) → ToAt c e → (m : Maker) (after : ℕ → Stretch) (q : Spot) → Final (length m.labels) (operand c m).after z →
@@ -110,12 +112,12 @@ module _ (z : Maker) where
   pub two_at : (left right : Coded) (d e : Rel) → Grows calm left → Grows calm right → ToAt left d → ToAt right e → (m : Maker) (after : ℕ → ℕ → Stretch) (q : Spot) →
       Final (length m.labels) (rk right (rk left m).after).after z → after (rk left m).value (rk right (rk left m).after).value (spot (rk right (rk left m).after).after) q →
       TwoAt (RkAt (fn_of z) m.active d) (RkAt (fn_of z) m.active e) m.free after (spot m) q
-  two_at left right d e g h l r = two_parts (rk left) (rk right) (λ a. RkAt (fn_of z) a d) (λ a. RkAt (fn_of z) a e) (grows_rk left g) (grows_rk right h) (rk_at left d l) (rk_at right e r)
+  two_at left right d e g h l r = two_parts (rk left) (rk right) (λ a. RkAt (fn_of z) a d) (λ a. RkAt (fn_of z) a e) (grows_rk left g) (grows_rk right h) (rk_at left d g l) (rk_at right e h r)
 
   -- ---- words
 
   pub load_at : (line r : ℕ) (k : Constant) (m : Maker) → Final (length m.labels) (load line r k m) z → ConstantWord (fn_of z) Op.LoadK r k (spot m) (spot (load line r k m))
-  load_at line r k m f = record { number = (constant k m).value; is = constant_at k m (before_put line _ (constant k m).after f); word = put_at line _ (constant k m).after f }
+  load_at line r k m f = record { number = (constant k m).value; is = constant_at k m (before_put line _ (constant k m).after f); first = constant_first k m (before_put line _ (constant k m).after f); word = put_at line _ (constant k m).after f }
 
   comparison_is : (labels : List ℕ) (op : BinaryOp) (truth : Bool) (x y : ℕ) → resolved labels (comparison_word op truth x y) ≡ comparison_word op truth x y
   comparison_is labels BinaryOp.Add truth x y = refl
@@ -193,7 +195,7 @@ module _ (z : Maker) where
   name_by_at line r text (in_upvalue slot) m f = put_at line _ m f
   name_by_at line r text in_globals m f =
       let k = constant (Constant.Text text) m in
-      record { number = k.value; is = constant_at (Constant.Text text) m (before_put line (Piece.Abx Op.GetGlobal r k.value) k.after f); word = put_at line (Piece.Abx Op.GetGlobal r k.value) k.after f }
+      record { number = k.value; is = constant_at (Constant.Text text) m (before_put line (Piece.Abx Op.GetGlobal r k.value) k.after f); first = constant_first (Constant.Text text) m (before_put line (Piece.Abx Op.GetGlobal r k.value) k.after f); word = put_at line (Piece.Abx Op.GetGlobal r k.value) k.after f }
 
   name_at : (line : ℕ) (text : Text) (r : ℕ) (m : Maker) → Final (length m.labels) (name_value line text r m) z → NameAt (fn_of z) text m.active m.free r (spot m) (spot (name_value line text r m))
   name_at line text r m f = (tt, record { mid = spot (pass_name m); first_at = record { pc = refl; ahead = refl }; second_at = name_by_at line r text (next_name m) (pass_name m) f })
@@ -425,26 +427,30 @@ module _ (z : Maker) where
 
   -- ---- indexing
 
-  text_or : (b : Bool) (line : ℕ) (text : Text) (m : Maker) → is_small (Constant.Text text) m ≡ b → Final (length m.labels) (cond b (small_constant (Constant.Text text)) (λ n. record { value = n.free; after = next_text line text n }) m).after z →
+  text_or : (b : Bool) (line : ℕ) (text : Text) (m : Maker) → is_small (Constant.Text text) m ≡ b → Grown calm m (cond b (small_constant (Constant.Text text)) (λ n. record { value = n.free; after = next_text line text n }) m).after → Final (length m.labels) (cond b (small_constant (Constant.Text text)) (λ n. record { value = n.free; after = next_text line text n }) m).after z →
       RkTextAt (fn_of z) text m.free (cond b (small_constant (Constant.Text text)) (λ n. record { value = n.free; after = next_text line text n }) m).value (cond b (small_constant (Constant.Text text)) (λ n. record { value = n.free; after = next_text line text n }) m).after.free
       (spot m) (spot (cond b (small_constant (Constant.Text text)) (λ n. record { value = n.free; after = next_text line text n }) m).after)
-  text_or true line text m h f = inl (record {
+  text_or true line text m h g f = inl (record {
     number = (constant (Constant.Text text) m).value;
     is = constant_at (Constant.Text text) m f;
+    first = constant_first (Constant.Text text) m f;
     small = leb-true _ _ h;
     at_x = refl;
     at_free = refl;
     same = record { pc = refl; ahead = refl };
   })
-  text_or false line text m h f = inr (record {
-    room = room_at (load line m.free (Constant.Text text) m) f;
-    at_x = refl;
-    at_free = refl;
-    value_at = load_at line m.free (Constant.Text text) m (before_take 1 (load line m.free (Constant.Text text) m) f);
-  })
+  text_or false line text m h g f = inr (
+    large_at (Constant.Text text) m h (before g f),
+    record {
+      room = room_at (load line m.free (Constant.Text text) m) f;
+      at_x = refl;
+      at_free = refl;
+      value_at = load_at line m.free (Constant.Text text) m (before_take 1 (load line m.free (Constant.Text text) m) f);
+    },
+  )
 
   pub rk_text_at : (line : ℕ) (text : Text) → AsksAt (rk_text line text) (λ active. RkTextAt (fn_of z) text)
-  rk_text_at line text m f = text_or (is_small (Constant.Text text) m) line text m refl f
+  rk_text_at line text m f = text_or (is_small (Constant.Text text) m) line text m refl (grows_rk_text line text m) f
 
   index_at : (line : ℕ) (on : Coded) (d : Rel) (key : Asks ℕ) (e : List Active → (free x free1 : ℕ) → Stretch) → Grows calm on → ToAt on d → ((m : Maker) → Grown calm m (key m).after) → AsksAt key e →
       (r : ℕ) (m : Maker) → Final (length m.labels) (indexed_value line on key r m) z → IndexAt (fn_of z) d e m.active m.free r (spot m) (spot (indexed_value line on key r m))
@@ -476,13 +482,13 @@ module _ (z : Maker) where
 
   pub links_index : (line : ℕ) (x : Expression) (form : Form) (on key : Coded) (d e : Rel) → form_of x ≡ form → Grows calm on → Grows calm key → ToAt on d → ToAt key e → Links (coded_index line x on key) (rel_index (fn_of z) form d e)
   links_index line x form on key d e q g h l k =
-      let s = single_at line x form (indexed_value line on (rk key)) (IndexAt (fn_of z) d (λ a. RkAt (fn_of z) a e)) q (index_at line on d (rk key) (λ a. RkAt (fn_of z) a e) g l (grows_rk key h) (rk_at key e k)) in
+      let s = single_at line x form (indexed_value line on (rk key)) (IndexAt (fn_of z) d (λ a. RkAt (fn_of z) a e)) q (index_at line on d (rk key) (λ a. RkAt (fn_of z) a e) g l (grows_rk key h) (rk_at key e h k)) in
       record {
         to = record { is_form = q; bare = λ active p q a. a; to_free = λ r m. refl; to_reg = s.to.to_reg };
         jump_if = s.jump_if;
         spine = s.spine;
         multi = s.multi;
-        target = index_target_at on d (rk key) (is_local key.e) (λ a. RkAt (fn_of z) a e) (λ active p. is_some (local_at e.form active p)) g l (grows_rk key h) (rk_at key e k) (λ m. ap (λ x. is_some (local_at x m.active (spot m))) k.is_form);
+        target = index_target_at on d (rk key) (is_local key.e) (λ a. RkAt (fn_of z) a e) (λ active p. is_some (local_at e.form active p)) g l (grows_rk key h) (rk_at key e h k) (λ m. ap (λ x. is_some (local_at x m.active (spot m))) k.is_form);
       }
 
   pub links_field : (line : ℕ) (x : Expression) (on : Coded) (d : Rel) (text : Text) → form_of x ≡ form_of (field_expression 0 (nil_literal 0) text) → Grows calm on → ToAt on d → Links (coded_field line x on text) (rel_field (fn_of z) d text)
@@ -657,7 +663,7 @@ module _ (z : Maker) where
   moved_at : (b : Bool) (line base r : ℕ) (m m1 : Maker) (part : Stretch) → (base == r) ≡ b → part (spot m) (spot m1) → Final (length m1.labels) (when (not b) (put line (Piece.Abc Op.Move r base 0)) m1) z →
       MovedFrom (fn_of z) part base r (spot m) (spot (when (not b) (put line (Piece.Abc Op.Move r base 0)) m1))
   moved_at true line base r m m1 part h l f = inl (eqb-true _ _ h, l)
-  moved_at false line base r m m1 part h l f = inr (record { mid = spot m1; first_at = l; second_at = put_at line (Piece.Abc Op.Move r base 0) m1 f })
+  moved_at false line base r m m1 part h l f = inr (λ same. let no = eqb-false base r h in no same, record { mid = spot m1; first_at = l; second_at = put_at line (Piece.Abc Op.Move r base 0) m1 f })
 
   pub by_base_at : (line : ℕ) (one : Part) (rel : List Active → (free : ℕ) → Stretch) → ((m : Maker) → Grown calm m (one m)) → ((m : Maker) → Final (length m.labels) (one m) z → rel m.active m.free (spot m) (spot (one m))) →
       (r : ℕ) (m : Maker) → Final (length m.labels) (by_base line one r m) z → MovedFrom (fn_of z) (rel m.active m.free) m.free r (spot m) (spot (by_base line one r m))

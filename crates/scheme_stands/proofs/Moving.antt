@@ -158,7 +158,7 @@ module _ (all : List Mark) (f : Fn) where
 
     rk_by : (o : Option Constant) (active : List Active) (free x free1 : ℕ) (p q : Spot) → c.form.literal ≡ o → RkBy o f active c free x free1 p q → Moves all part p q
     rk_by (Some k) active free x free1 p q h (inl a) = v.quiet k h p q (a.same).ahead
-    rk_by (Some k) active free x free1 p q h (inr a) = operand_moves active free x free1 p q a
+    rk_by (Some k) active free x free1 p q h (inr (large, a)) = operand_moves active free x free1 p q a
     rk_by None active free x free1 p q h a = operand_moves active free x free1 p q a
 
     pub rk_moves : (active : List Active) (free x free1 : ℕ) (p q : Spot) → RkAt f active c free x free1 p q → Moves all part p q
@@ -184,7 +184,7 @@ module _ (all : List Mark) (f : Fn) where
 
   pub text_same : (text : Text) (free x free1 : ℕ) (p q : Spot) → RkTextAt f text free x free1 p q → q.ahead ≡ p.ahead
   text_same text free x free1 p q (inl a) = (a.same).ahead
-  text_same text free x free1 p q (inr a) = let v = a.value_at in let w = v.word in w.ahead
+  text_same text free x free1 p q (inr (large, a)) = let v = a.value_at in let w = v.word in w.ahead
 
   -- an expression by its value alone, which gives one value
   pub single_moves : (part : outline.Part) (form : Form) (to : List Active → (free r : ℕ) → Stretch) → several form ≡ false → ValueMoves all part (rel_alone f form to) → RelMoves all part false (rel_single f form to)
@@ -396,7 +396,7 @@ module _ (all : List Mark) (f : Fn) where
 
   moved_moves : (part : outline.Part) (at_base : Stretch) (free r : ℕ) (p q : Spot) → ((m : Spot) → at_base p m → Moves all part p m) → MovedFrom f at_base free r p q → Moves all part p q
   moved_moves part at_base free r p q g (inl t) = g q t.1
-  moved_moves part at_base free r p q g (inr t) = let w = t.second_at in behind all part p t.mid q (g t.mid t.first_at) w.ahead
+  moved_moves part at_base free r p q g (inr (other, t)) = let w = t.second_at in behind all part p t.mid q (g t.mid t.first_at) w.ahead
 
   pub moved_value : (part : outline.Part) (at_base : List Active → (free : ℕ) → Stretch) → ((active : List Active) (free : ℕ) (p q : Spot) → at_base active free p q → Moves all part p q) →
       (active : List Active) (free r : ℕ) (p q : Spot) → MovedFrom f (at_base active free) free r p q → Moves all part p q

@@ -97,7 +97,7 @@ operand_low f c active free x free1 p q room t = operand_by (local_at c.form act
 module _ (n : Names) (f : Fn) (s : Setting n f) where
   rk_by : (o : Option Constant) (c : Rel) (active : List Active) (free x free1 : ℕ) (p q : Spot) → length active ≤ f.size → RkBy o f active c free x free1 p q → x < 512
   rk_by (Some k) c active free x free1 p q room (inl t) = let l = t.small in let e = t.at_x in omega (arith, l, e)
-  rk_by (Some k) c active free x free1 p q room (inr t) = field_b n f x s (operand_low f c active free x free1 p q room t)
+  rk_by (Some k) c active free x free1 p q room (inr (large, t)) = field_b n f x s (operand_low f c active free x free1 p q room t)
   rk_by None c active free x free1 p q room t = field_b n f x s (operand_low f c active free x free1 p q room t)
 
   pub rk_low : (c : Rel) (active : List Active) (free x free1 : ℕ) (p q : Spot) → length active ≤ f.size → RkAt f active c free x free1 p q → x < 512
@@ -105,7 +105,7 @@ module _ (n : Names) (f : Fn) (s : Setting n f) where
 
   pub text_low : (text : Text) (free x free1 : ℕ) (p q : Spot) → RkTextAt f text free x free1 p q → x < 512
   text_low text free x free1 p q (inl t) = let l = t.small in let e = t.at_x in omega (arith, l, e)
-  text_low text free x free1 p q (inr t) = let l = t.room in let e = t.at_x in field_b n f x s (omega (arith, l, e))
+  text_low text free x free1 p q (inr (large, t)) = let l = t.room in let e = t.at_x in field_b n f x s (omega (arith, l, e))
 
 -- ---- counts
 

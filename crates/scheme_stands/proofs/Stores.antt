@@ -12,6 +12,7 @@ use Rattle.scheme.specs.Statements.{set_where, store_register, store_operand, st
 use Rattle.scheme.specs.declared.making.Piece.{Piece}
 use Rattle.scheme_stands.specs.Expressions.{Rel, rel_name, rel_field}
 use Rattle.scheme_stands.specs.Statements.{SetAt, StoreRegisterAt, StoreAt, EachStoredAt, StoredFromAt, TargetsAt, CopyBy, CopiesAt, StoresBy, AssignAt, rel_fields, rel_path, rel_method}
+use Rattle.scheme_stands.proofs.Large.{constant_first}
 use Rattle.scheme_stands.proofs.Growth.{calm, Grown, start, on_part, on_put, on_take, on_constant, Final, before, later, spot, fn_of, put_at, before_put, constant_at, room_at}
 use Rattle.scheme_stands.proofs.Parts.{Grows, AllGrow, asks_cond, grows_cond, grows_operand, grows_rk, grows_next, grows_name, grows_field}
 use Rattle.scheme_stands.proofs.Links.{Links, AllLinks, all_grow, lengths_same, one_at, rk_at, next_at, links_name, links_field}
@@ -89,7 +90,7 @@ module _ (z : Maker) where
   set_at line r text (in_upvalue slot) m f = put_at line _ m f
   set_at line r text in_globals m f =
       let k = constant (Constant.Text text) m in
-      record { number = k.value; is = constant_at (Constant.Text text) m (before_put line (Piece.Abx Op.SetGlobal r k.value) k.after f); word = put_at line (Piece.Abx Op.SetGlobal r k.value) k.after f }
+      record { number = k.value; is = constant_at (Constant.Text text) m (before_put line (Piece.Abx Op.SetGlobal r k.value) k.after f); first = constant_first (Constant.Text text) m (before_put line (Piece.Abx Op.SetGlobal r k.value) k.after f); word = put_at line (Piece.Abx Op.SetGlobal r k.value) k.after f }
 
   store_register_at : (line : ℕ) (target : Target) (r : ℕ) (m : Maker) {k : ℕ} → Final k (store_register line target r m) z → StoreRegisterAt (fn_of z) target r (spot m) (spot (store_register line target r m))
   store_register_at line (name_target text w) r m f = set_at line r text w m f
@@ -108,7 +109,7 @@ module _ (z : Maker) where
   store_at line (part_target on key on_local key_local) c e g l m f =
       let v = rk c m in
       let word = Piece.Abc Op.SetTable on key v.value in
-      record { x = v.value; free1 = v.after.free; mid = spot v.after; operand_at = rk_at z c e l.to m (before_put line word v.after f); words_at = put_at line word v.after f }
+      record { x = v.value; free1 = v.after.free; mid = spot v.after; operand_at = rk_at z c e g l.to m (before_put line word v.after f); words_at = put_at line word v.after f }
 
   each_at : (line : ℕ) (targets : List Target) (cs : List Coded) (es : List Rel) → AllLinks z cs es → (m : Maker) → Final (length m.labels) (each_stored line targets cs m) z → EachStoredAt (fn_of z) targets es m.active m.free (spot m) (spot (each_stored line targets cs m))
   each_at line [] cs es l m f = record { pc = refl; ahead = refl }

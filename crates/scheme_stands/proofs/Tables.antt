@@ -90,7 +90,7 @@ module _ (z : Maker) where
         let word = Piece.Abc Op.SetTable t (key m).value (rk c m1).value in
         let f3 = before_free m.free (put line word m2) f in
         subst (λ n. TwoAt (d m.active) (RkAt (fn_of z) m.active e) n (λ k v. WordAt (fn_of z) (Piece.Abc Op.SetTable t k v)) (spot m) (spot (put line word m2))) s
-        (two_parts z key (rk c) d (λ a. RkAt (fn_of z) a e) kg (grows_rk c g) kl (rk_at z c e l.to) m _ _ (before_put line word m2 f3) (put_at line word m2 f3))
+        (two_parts z key (rk c) d (λ a. RkAt (fn_of z) a e) kg (grows_rk c g) kl (rk_at z c e g l.to) m _ _ (before_put line word m2 f3) (put_at line word m2 f3))
 
   pub table_stands : (line : ℕ) (items : List Entry) (rel : List Active → (t : ℕ) → Stretch) → ((t : ℕ) → ItemGrows (entries_from line t 0 0 items)) → ((t : ℕ) → RestAt (entries_from line t 0 0 items) (λ active. rel active t) t 0) →
       (m : Maker) → Final (length m.labels) (table_at line items m) z → TableAt (fn_of z) (rel m.active) m.free (spot m) (spot (table_at line items m))

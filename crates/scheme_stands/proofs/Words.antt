@@ -184,7 +184,7 @@ module _ (n : Names) (f : Fn) where
       let m = l.constants in
       let inside = inside_of_list f.constants t.number k t.is in
       let w = abx_lift op a t.number alone ha (omega (arith, m, inside)) p q plain t.word in
-      record { is = record { number = t.number; is = t.is; word = w.is }; plain = w.plain }
+      record { is = record { number = t.number; is = t.is; first = t.first; word = w.is }; plain = w.plain }
 
   -- a comparison of two operands
   pub comparison_lift : (op : BinaryOp) (truth : Bool) (x y : ℕ) → x < 512 → y < 512 → (p q : Spot) → Plain f p.pc → WordAt f (comparison_word op truth x y) p q → Lifted f (WordAt (asking n f) (comparison_word op truth x y) p q) q

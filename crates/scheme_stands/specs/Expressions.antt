@@ -8,6 +8,7 @@ use Rattle.lua_tree.specs.Syntax.{Expression, nil_literal, name_expression, fiel
 use Rattle.lua_tree.specs.WellFormed.{is_call}
 use Rattle.opcode.specs.declared.op.Op.{Op}
 use Rattle.opcode.specs.Word.{truth_field}
+use Rattle.proto.specs.Constants.{constant_number}
 use Rattle.proto.specs.declared.parts.Constant.{Constant}
 use Rattle.scheme.specs.Making.{Where, in_register, in_upvalue, in_globals}
 use Rattle.scheme.specs.Expressions.{is_vararg, Want, fold, literal, is_name, register_of, comparison_word, is_true_constant, unary_word, is_comparison, Target, name_target, part_target}
@@ -79,23 +80,29 @@ OperandAt f active c free x free1 p q = OperandBy (local_at c.form active p) f a
 pub record SmallAt (f : Fn) (k : Constant) (free x free1 : ℕ) (p q : Spot) : Type 0 where
   pub number : ℕ
   pub is : slice_get f.constants number ≡ Some k
+  pub first : constant_number k f.constants ≡ number
   pub small : number ≤ 255
   pub at_x : x ≡ number + 256
   pub at_free : free1 ≡ free
   pub same : Same p q
 
+-- it has no small number
+abbrev pub IsLarge : Fn → Constant → Type 0
+IsLarge f k = (number : ℕ) → slice_get f.constants number ≡ Some k → 255 < number
+
 abbrev pub RkBy : Option Constant → Fn → List Active → Rel → (free x free1 : ℕ) → Stretch
-RkBy (Some k) f active c free x free1 p q = SmallAt f k free x free1 p q ⊎ OperandAt f active c free x free1 p q
+RkBy (Some k) f active c free x free1 p q = SmallAt f k free x free1 p q ⊎ (IsLarge f k × OperandAt f active c free x free1 p q)
 RkBy None f active c free x free1 p q = OperandAt f active c free x free1 p q
 
--- RK: a literal may be a constant, else it is an operand
+-- RK: a literal is a constant where its number is small, else it is an operand
 abbrev pub RkAt : Fn → List Active → Rel → (free x free1 : ℕ) → Stretch
 RkAt f active c = RkBy c.form.literal f active c
 
 -- a string that is no expression of its own: a small constant, or in the next register
 abbrev pub RkTextAt : Fn → Text → (free x free1 : ℕ) → Stretch
 RkTextAt f text free x free1 p q =
-    SmallAt f (Constant.Text text) free x free1 p q ⊎ NextAt f (ConstantWord f Op.LoadK free (Constant.Text text)) free x free1 p q
+    SmallAt f (Constant.Text text) free x free1 p q
+    ⊎ (IsLarge f (Constant.Text text) × NextAt f (ConstantWord f Op.LoadK free (Constant.Text text)) free x free1 p q)
 
 -- an operand, and the words that follow it
 pub record OneAt (operand : (free x free1 : ℕ) → Stretch) (free : ℕ) (words : (x : ℕ) → Stretch) (p q : Spot) : Type 0 where

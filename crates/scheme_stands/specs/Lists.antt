@@ -100,9 +100,9 @@ pub record MethodAt (f : Fn) (on : Rel) (text : Text) (given : GivenRel) (active
   pub word : WordAt f (Piece.Abc op free (count_field 2 given.count) (count_field 1 want)) last q
   pub results : ResultRoom f free want
 
--- a value that comes in F goes to the register
+-- a value that comes in F goes to the register, where that is another
 abbrev pub MovedFrom : Fn → Stretch → (free r : ℕ) → Stretch
-MovedFrom f part free r p q = ((free ≡ r) × part p q) ⊎ Seq part (WordAt f (Piece.Abc Op.Move r free 0)) p q
+MovedFrom f part free r p q = ((free ≡ r) × part p q) ⊎ ((free ≡ r → ⊥) × Seq part (WordAt f (Piece.Abc Op.Move r free 0)) p q)
 
 abbrev pub rel_call : Fn → Form → (List Active → (free : ℕ) → Op → Want → Stretch) → Rel
 rel_call f form part = record (rel_single f form (λ active free r. MovedFrom f (part active free Op.Call (Some 1)) free r)) { multi = part }

@@ -20,6 +20,7 @@ use Rattle.opcode.specs.Reading.{instr_of}
 use Rattle.opcode.specs.declared.word.Instr.{Instr}
 use Rattle.rules.specs.Places.{further_from}
 use Rattle.proto.specs.Chunk.{Chunk, Functions, own, functions}
+use Rattle.proto.specs.Constants.{constant_number}
 use Rattle.proto.specs.declared.parts.Constant.{Constant}
 use Rattle.scheme.specs.Making.{Ahead, head_or, Where, in_register, in_upvalue, in_globals, where_is}
 use Rattle.scheme.specs.Functions.{distance}
@@ -138,10 +139,11 @@ pub record Seq (first second : Stretch) (p q : Spot) : Type 0 where
   pub first_at : first p mid
   pub second_at : second mid q
 
--- a word that names a constant of the function
+-- a word that names a constant of the function, by the first number that it has
 pub record ConstantWord (f : Fn) (op : Op) (a : ℕ) (k : Constant) (p q : Spot) : Type 0 where
   pub number : ℕ
   pub is : slice_get f.constants number ≡ Some k
+  pub first : constant_number k f.constants ≡ number
   pub word : WordAt f (Piece.Abx op a number) p q
 
 -- a jump, where there is one
