@@ -1,4 +1,3 @@
-mod FlatChunks
-mod FlatTrees
 mod Given
 mod Unfound
+mod StraightChunks

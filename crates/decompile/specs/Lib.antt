@@ -1,4 +1,4 @@
-pub mod Flat
+pub mod Recoverable
 pub mod Given
 pub mod Sources
 pub mod Texts

@@ -6,7 +6,7 @@ ghost use Rattle.proto.specs.Chunk.{Chunk};
 ghost use Rattle.recover_flow.specs.Debug.{HasDebug};
 ghost use Rattle.lua_tree.specs.View.{view_tree};
 ghost use Rattle.lua_tree.specs.WellFormed.{WellFormed};
-ghost use Rattle.decompile.specs.Flat.{IsFlatChunk, IsGiven};
+ghost use Rattle.decompile.specs.Recoverable.{IsRecoverable, IsGiven};
 ghost use Rattle.decompile.specs.Sources.{IsSourceOf, IsRefusedBy};
 ghost use Rattle.decompile.specs.Given.{IsTreeFor};
 
@@ -22,15 +22,15 @@ use recover_flow::recover;
 use std::alloc::Global;
 
 /// The text of a source of a chunk: an accepted source whose chunk, under the chunk's own source name, is this one but for the numbers of lines. It is recovered and printed, and then
-/// compiled again and compared, so what it gives is a source of the chunk whatever the chunk is. Its refusals say why none was found; a chunk that no source has is always refused. The chunk of a flat source, whose
-/// statements assign one literal or name to one name or call a name with literals and names, is always given one, where memory does not run out. The time is about linear in a chunk of ordinary code.
+/// compiled again and compared, so what it gives is a source of the chunk whatever the chunk is. Its refusals say why none was found; a chunk that no source has is always refused. The chunk of a straight source, whose
+/// statements are calls and assignments of one value to one global or part of a table, is always given one, where memory does not run out; so are those of flat sources, which are straight. The time is about linear in a chunk of ordinary code.
 pub fn decompile(alloc: Global, proto: &Proto) -> Result<ByteText, Refused>
     requires short { IsShort (view_proto proto.now) }
     ensures text { IfOk result (IsSourceOf (view_proto proto.now)) }
     ensures refused { IfErr result (IsRefusedBy (view_proto proto.now)) }
-    ensures flat { IsFlatChunk (view_proto proto.now) → IsGiven result }
+    ensures recoverable { IsRecoverable (view_proto proto.now) → IsGiven result }
 {
-    reads_back::flat_sources_are_read();
+    reads_back::straight_sources_are_read();
     recover_flow::acts_are_found();
     scheme_lines::lines_do_not_matter();
     let tree = recover(alloc, proto)?;

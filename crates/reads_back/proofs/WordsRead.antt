@@ -20,6 +20,7 @@ pub record IsFunction (f : Function) (g : Fn) : Type 0 where
   pub constants : f.of.constants ≡ g.constants
   pub natural : f.short ≡ false
   pub short : f.last < 2 ^ 32
+  pub few : g.size ≤ 250
 
 -- no listed local starts at these pcs, and the last word stands behind them
 pub record IsQuiet (f : Function) (scope : Scope) (first last : ℕ) : Type 0 where
@@ -46,7 +47,7 @@ abc_is_read {g = g} is_function at = (lawful g.law is_function.names _ is_functi
 pub abx_is_read : {f : Function} {g : Fn} {op : Op} {a bx : ℕ} {p q : Spot} → IsFunction f g → WordAt g (Piece.Abx op a bx) p q → IsRead p.pc (Piece.Abx op a bx)
 abx_is_read {g = g} is_function at = (lawful g.law is_function.names _ is_function.law at.reads).is
 
-instr_there : (code : List ℕ) (pc : ℕ) (w : Piece) → slice_get code pc ≡ Some (number_at pc w) → IsRead pc w → option_and_then instr_of (slice_get code pc) ≡ Some (instr_by pc w)
+pub instr_there : (code : List ℕ) (pc : ℕ) (w : Piece) → slice_get code pc ≡ Some (number_at pc w) → IsRead pc w → option_and_then instr_of (slice_get code pc) ≡ Some (instr_by pc w)
 instr_there code pc w has read = ap (option_and_then instr_of) has ∙ read
 
 pub word_there : {f : Function} {g : Fn} {w : Piece} {p q : Spot} → IsFunction f g → WordAt g w p q → IsRead p.pc w → p.pc < f.last → word_at f p.pc ≡ Some (word_of p.pc w)

@@ -1,1 +1,4 @@
-pub mod Flat
+pub mod Cores
+pub mod Acted
+pub mod Straight
+pub mod ReadAs

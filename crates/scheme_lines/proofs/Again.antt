@@ -10,7 +10,7 @@ mutual
   statements_again no_statements = refl
   statements_again (syntax.statement line semi s rest) = ap₂ (syntax.statement 1 false) (statement_again s) (statements_again rest)
 
-  statement_again : (s : Statement) → bare_statement (one_line_statement s) ≡ bare_statement s
+  pub statement_again : (s : Statement) → bare_statement (one_line_statement s) ≡ bare_statement s
   statement_again (assignment targets es) = ap₂ assignment (expressions_again targets) (expressions_again es)
   statement_again (call_statement e) = ap call_statement (again e)
   statement_again (do_block block) = ap do_block (statements_again block)

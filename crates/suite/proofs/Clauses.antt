@@ -12,6 +12,7 @@ use Rattle.proto.specs.Chunk.{Chunk}
 use Rattle.chunk_io.specs.Items.{IsChunkOf}
 use Rattle.lua_num.specs.Bytes.{Text}
 use Rattle.decompile.specs.declared.refused.Refused.{Refused}
+use Rattle.decompile.specs.Recoverable.{IsRecoverable}
 use Rattle.asm_text.specs.declared.fault.ListFault.{ListFault}
 use Rattle.suite.specs.declared.product.Product.{Product}
 use Rattle.suite_io.proofs.TakenPieces.{takes_none}
@@ -26,7 +27,7 @@ use Rattle.suite.specs.Jobs.{End, stored, put, failed, unfinished, bad_source, b
 use Rattle.suite.specs.Work.{IsStore, IsRun, MayAsk, MayPut, StopsSo, Fetches, first_calls, fetched, FilesStay, CarriesOut, Carried, Does, DoesFetched, Works, out_of}
 use Rattle.suite.specs.Causes.{Becomes, Fetched, StoreFailed, FilesFor, NoFault, Leaves, HasNoOutput, IsOnlyEnd, IsRefusal, status_at}
 use Rattle.suite.proofs.Facts.{Laws, count_snoc, same_bytes, whole_part, settled_is, becomes, put_becomes, no_memory_is, quiet_is, write_cause}
-use Rattle.suite.proofs.Ends.{Alike, alike, alike_status, alike_leaves, alike_none, decompiled_at, refused_not_run, put_may, failed_may, unfinished_may, refused_put}
+use Rattle.suite.proofs.Ends.{Alike, alike, alike_status, alike_leaves, alike_none, decompiled_at, recoverable_at, refused_not_run, put_may, failed_may, unfinished_may, refused_put}
 
 -- the list of calls behind two others is not told apart by what comes later
 later_both : (calls : List FileCall) (a b : FileCall) (xs ys : List FileCall) → (calls ++ a ∷ []) ++ xs ≡ (calls ++ b ∷ []) ++ ys → a ≡ b
@@ -558,6 +559,15 @@ module _ (laws : Laws) (words : Words) (job : Job) (reads : Reads words job) (w 
           | inl e ↦ inl (is ∙ e)
           | inr e ↦ inr (inl (is ∙ e))
         ]
+
+    pub recovered_clause : (file out : Text) (bytes : List ℕ) (chunk : Chunk) → Asks words old.contents (store_product Product.Source file out) bytes → IsChunkOf bytes chunk → IsRecoverable chunk → NoFault old.calls new.calls → (Rises old.faults new.faults → ⊥) → (Rises err_old err_new → ⊥) → (result ≡ Status.Done) ⊎ (result ≡ Status.OutOfMemory)
+    recovered_clause file out bytes chunk asks of is files quiet err = elim (ended bytes (told_job (store_product Product.Source file out) bytes asks) files quiet err) [
+      | inl e ↦ inl (e.2 ∙ recoverable_at laws file out bytes w chunk e.0 of is (subst (λ j. Comes j bytes w e.0) (sym same) e.1))
+      | inr e ↦ inr e
+    ]
+      where
+        same : store_product Product.Source file out ≡ job
+        same = asked (store_product Product.Source file out) asks.reads
 
     pub done_clause : result ≡ Status.Done → Fetched words false old.calls new.calls × Takes err_before err_later [] × ((other : Job) (bytes : List ℕ) → Asks words old.contents other bytes → (end : End) × Comes other bytes w end × (status_at end ≡ Status.Done) × Leaves other end old new)
     done_clause e = (

@@ -12,6 +12,7 @@ use Rattle.rules.specs.Sound.{Sound}
 use Rattle.front.specs.declared.fault.Fault.{Fault}
 use Rattle.front.specs.Sources.{IsFaultIn}
 use Rattle.decompile.specs.declared.refused.Refused.{Refused}
+use Rattle.decompile.specs.Recoverable.{IsRecoverable}
 use Rattle.asm_text.specs.declared.fault.ListFault.{ListFault}
 use Rattle.asm_text.specs.Faults as listings
 use Rattle.suite_io.specs.Taken.{Takes}
@@ -371,6 +372,17 @@ module _ (laws : Laws) where
   decompiled_at file out bytes w chunk (rejected r) of comes = absurd comes.wants
   decompiled_at file out bytes w chunk (bad_listing fault) of comes = absurd comes.0
   decompiled_at file out bytes w chunk end of comes = absurd comes
+
+  -- and a recoverable one is given one
+  pub recoverable_at : (file out : Text) (bytes : List ℕ) (w : World) (chunk : Chunk) (end : End) → IsChunkOf bytes chunk → IsRecoverable chunk → Comes (store_product Product.Source file out) bytes w end → status_at end ≡ Status.Done
+  recoverable_at file out bytes w chunk (stored text) of is comes = refl
+  recoverable_at file out bytes w chunk (not_decompiled why text) of is comes =
+      absurd (comes.0.refused.1 (subst IsRecoverable (laws.spelled_are_one bytes chunk comes.0.chunk of comes.0.of) is))
+  recoverable_at file out bytes w chunk (bad_source fault) of is comes = absurd comes.0
+  recoverable_at file out bytes w chunk (bad_chunk fault) of is comes = absurd (laws.chunk_or_fault bytes chunk fault of comes.1)
+  recoverable_at file out bytes w chunk (rejected r) of is comes = absurd comes.wants
+  recoverable_at file out bytes w chunk (bad_listing fault) of is comes = absurd comes.0
+  recoverable_at file out bytes w chunk end of is comes = absurd comes
 
   -- what is refused is not run
   run_refused : (file : Text) (steps : ℕ) (bytes : List ℕ) (w : World) (end : End) → Comes (run_file file steps) bytes w end → HasNoOutput end → Refuses Product.Verdict file bytes end

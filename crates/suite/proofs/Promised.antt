@@ -51,6 +51,7 @@ module _ (laws : Laws) (words : Words) (asked : Job) (reads : Reads words asked)
         not_decompiled = job.not_decompiled_clause laws words asked reads w old new outcome works before.err_taken behind.err_taken before.err_faults behind.err_faults result reported;
         bad_listing = job.bad_listing_clause laws words asked reads w old new outcome works before.err_taken behind.err_taken before.err_faults behind.err_faults result reported;
         decompiled = λ file out bytes chunk asks of quiet. job.decompiled_clause laws words asked reads w old new outcome works before.err_taken behind.err_taken before.err_faults behind.err_faults result reported file out bytes chunk asks of quiet.files quiet.out quiet.err;
+        recovered = λ file out bytes chunk asks of is quiet. job.recovered_clause laws words asked reads w old new outcome works before.err_taken behind.err_taken before.err_faults behind.err_faults result reported file out bytes chunk asks of is quiet.files quiet.out quiet.err;
         write_fault = job.write_fault_clause laws words asked reads w old new outcome works before.err_taken behind.err_taken before.err_faults behind.err_faults result reported;
         taken = λ other bytes source asks as_source accepts. is_taken laws words before behind result other bytes source (of_job other bytes asks) as_source accepts;
         meant = λ file steps bytes source asks as_source accepts. is_meant laws words before behind result file steps bytes source (of_job _ bytes asks) as_source accepts;
@@ -131,6 +132,7 @@ module _ (words : Words) (none : NoCommand words) (before behind : Seen) (same :
     not_decompiled = λ e. absurd (other Status.NotDecompiled (λ d. cc) (λ d. cc) (λ d. cc) e);
     bad_listing = λ e. absurd (other Status.BadListing (λ d. cc) (λ d. cc) (λ d. cc) e);
     decompiled = λ file out bytes chunk asks of quiet. absurd (no_job _ asks.reads);
+    recovered = λ file out bytes chunk asks of is quiet. absurd (no_job _ asks.reads);
     write_fault = λ e. inr (inl (by_cause e));
     taken = λ asked bytes source asks as_source accepts. absurd (no_job asked asks.reads);
     meant = λ file steps bytes source asks as_source accepts. absurd (no_job _ asks.reads);
@@ -168,6 +170,7 @@ module _ (words : Words) (before behind : Seen) (same : behind.outside ≡ befor
     not_decompiled = λ e. let w = wants in absurd (cc);
     bad_listing = λ e. let w = wants in absurd (cc);
     decompiled = λ file out bytes chunk asks of quiet. inr (inr wants);
+    recovered = λ file out bytes chunk asks of is quiet. inr wants;
     write_fault = λ e. let w = wants in absurd (cc);
     taken = λ asked bytes source asks as_source accepts. absurd (no_asked asked asks.reads);
     meant = λ file steps bytes source asks as_source accepts. absurd (no_asked _ asks.reads);

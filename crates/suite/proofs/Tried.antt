@@ -18,9 +18,9 @@ use Rattle.suite.specs.declared.outcome.Outcome.{Outcome}
 use Rattle.suite.specs.Words.{make_source, made_name, default_steps}
 use Rattle.suite.specs.Worlds.{World, world}
 use Rattle.suite.specs.Seen.{outside}
-use Rattle.suite.specs.Jobs.{HasChunk, HasRun, HasMade, HasNoSource, IsTold, put, failed, unfinished, not_decompiled}
+use Rattle.suite.specs.Jobs.{HasChunk, HasRun, HasMade, HasNoSource, IsTold, IsUnfound, put, failed, unfinished, not_decompiled}
 use Rattle.decompile.specs.declared.refused.Refused.{Refused}
-use Rattle.decompile.specs.Sources.{IsSourceOf, IsRefusedBy}
+use Rattle.decompile.specs.Sources.{IsSourceOf}
 use Rattle.made_source.specs.Made.{account}
 use Rattle.suite.specs.Work.{Does}
 use Rattle.suite.specs.Trying.{HasAccount, IsTried}
@@ -49,8 +49,8 @@ with_account bytes chunk w out text (ran, same) has = record {
   is = ap (λ (t : List ℕ). out ++ t) (subst (λ (c : Chunk). text ≡ account bytes c) (sym same) has.is);
 }
 
-without_source : (bytes : List ℕ) (chunk : Chunk) (w : World) (out : List ℕ) (why : Refused) → (r : HasRun made_name bytes w default_steps Ended out) × (r.chunk ≡ chunk) → IsTold why → IsRefusedBy chunk why → HasNoSource bytes w why out
-without_source bytes chunk w out why (ran, same) told refused = record { ran = ran; told = told; refused = subst (λ (c : Chunk). IsRefusedBy c why) (sym same) refused }
+without_source : (bytes : List ℕ) (chunk : Chunk) (w : World) (out : List ℕ) (why : Refused) → (r : HasRun made_name bytes w default_steps Ended out) × (r.chunk ≡ chunk) → IsTold why → IsUnfound chunk why → HasNoSource bytes w why out
+without_source bytes chunk w out why (ran, same) told refused = record { ran = ran; told = told; refused = subst (λ (c : Chunk). IsUnfound c why) (sym same) refused }
 
 module _ (bytes : List ℕ) (chunk : Chunk) (has : HasChunk made_name bytes chunk) (sound : Sound chunk) (before behind : HostSetState) (count : ℕ) (contents : Option Contents) (calls : List FileCall) (taken : Option (List ℕ)) (faults : ℕ) where
   ended_so : (mid : Option (List ℕ)) (between : ℕ) (runs : Runs chunk default_steps (surroundings before taken faults) (surroundings behind mid between) RunEnd.Done) → (r : HasRun made_name bytes (world before behind) default_steps Ended (output runs.es)) × (r.chunk ≡ chunk)

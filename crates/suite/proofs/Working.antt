@@ -1,5 +1,5 @@
 -- What is refused, and for which memory ran out, is carried out by putting and storing nothing.
-use Rattle.std.proofs.Common.{◌≡◌, ◌≢◌, ℕ, Bool, true, false, List, [], ◌∷◌, ◌++◌, append-nil, Option, Some, IfSome, inl, inr, refl, sym, ap, ap₂, subst, ◌∙◌}
+use Rattle.std.proofs.Common.{◌≡◌, ◌≢◌, ℕ, Bool, true, false, List, [], ◌∷◌, ◌++◌, append-nil, Option, Some, Err, IfSome, inl, inr, refl, sym, ap, ap₂, subst, ◌∙◌}
 use Rattle.std.specs.FinMap.{get}
 use Rattle.lua_num.specs.Bytes.{Text}
 use Rattle.proto.specs.Chunk.{Chunk}
@@ -14,6 +14,7 @@ use Rattle.front.specs.declared.fault.Fault.{Fault}
 use Rattle.decompile.specs.declared.refused.Refused.{Refused}
 use Rattle.asm_text.specs.declared.fault.ListFault.{ListFault}
 use Rattle.asm_text.specs.Faults.{StopsBy}
+use Rattle.decompile.specs.Recoverable.{IsRecoverable, IsGiven}
 use Rattle.decompile.specs.Sources.{IsRefusedBy}
 use Rattle.suite_io.specs.declared.calls.FileCall.{FileCall}
 use Rattle.suite_io.specs.Calls.{call_of}
@@ -27,7 +28,8 @@ use Rattle.made_source.specs.Made.{made}
 use Rattle.suite.specs.Worlds.{World, Unasked}
 use Rattle.suite.specs.Seen.{Outside, outside}
 use Rattle.front.specs.Laws.{CompiledIsSound}
-use Rattle.suite.specs.Jobs.{put, stored, bad_source, bad_chunk, rejected, not_decompiled, bad_listing, source_name, HasChunk, Makes, IsTold, Refuses, Comes}
+use Rattle.suite.specs.Jobs.{put, stored, bad_source, bad_chunk, rejected, not_decompiled, bad_listing, source_name, HasChunk, Makes, IsTold, IsUnfound, Refuses, Comes}
+use Rattle.suite.specs.Trying.{IsTried}
 use Rattle.suite.specs.Refusing.{IsBadSource, IsBadChunk, HasNone, IsRefused, IsRefusal}
 use Rattle.suite.proofs.Facts.{SoundOrRejected}
 use Rattle.suite.specs.Work.{Nothing, Does, DoesAlone, PutsText, StoresText, Works, HasBytes, Fetches, first_calls, fetched}
@@ -116,8 +118,19 @@ is_told : (r : Refused) → r ≢ Refused.OutOfMemory → IsTold r
 is_told Refused.OutOfMemory other = other refl
 is_told r other = tt
 
-pub not_decompiled_for : (file : Text) (bytes : List ℕ) (chunk : Chunk) (r : Refused) → r ≢ Refused.OutOfMemory → IsChunkOf bytes chunk → IsRefusedBy chunk r → IsRefusal Product.Source file bytes (Outcome.NotDecompiled r)
-not_decompiled_for file bytes chunk r other of refused = (record { wants = tt; told = is_told r other; chunk = chunk; of = of; refused = refused }, refl)
+not_given : (r : Refused) → r ≢ Refused.OutOfMemory → IsGiven (Err r) → ⊥
+not_given Refused.OutOfMemory other given = other refl
+not_given r other given = given
+
+unfound : (chunk : Chunk) (r : Refused) → r ≢ Refused.OutOfMemory → IsRefusedBy chunk r → (IsRecoverable chunk → IsGiven (Err r)) → IsUnfound chunk r
+unfound chunk r other refused given = (refused, λ is. not_given r other (given is))
+
+pub not_decompiled_for : (file : Text) (bytes : List ℕ) (chunk : Chunk) (r : Refused) → r ≢ Refused.OutOfMemory → IsChunkOf bytes chunk → IsRefusedBy chunk r → (IsRecoverable chunk → IsGiven (Err r)) → IsRefusal Product.Source file bytes (Outcome.NotDecompiled r)
+not_decompiled_for file bytes chunk r other of refused given = (record { wants = tt; told = is_told r other; chunk = chunk; of = of; refused = unfound chunk r other refused given }, refl)
+
+-- nothing is put where no source is found
+pub tried_in_vain : (bytes : List ℕ) (chunk : Chunk) (r : Refused) (taken : Option (List ℕ)) (faults : ℕ) → r ≢ Refused.OutOfMemory → IsRefusedBy chunk r → (IsRecoverable chunk → IsGiven (Err r)) → IsTried bytes chunk (Outcome.NotDecompiled r) taken taken faults faults
+tried_in_vain bytes chunk r taken faults other refused given = (is_told r other, unfound chunk r other refused given, takes_none taken)
 
 -- what is no listing is not assembled
 pub not_assembled : (file : Text) (bytes : List ℕ) (fault : ListFault) → fault ≢ ListFault.OutOfMemory → StopsBy bytes fault → IsRefusal Product.Assembly file bytes (Outcome.BadListing fault)

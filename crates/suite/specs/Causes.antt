@@ -74,7 +74,7 @@ HasNoOutput (rejected rejection) = Unit {0}
 HasNoOutput (bad_listing fault) = Unit {0}
 HasNoOutput end = ⊥
 
--- A job with these bytes comes to one end alone; but a chunk may have several sources, and it is not said which chunks are given one.
+-- A job with these bytes comes to one end alone; but a chunk may have several sources, and that a chunk is given one is said of recoverable ones alone (`recovered`).
 abbrev pub IsOnlyFor : Product → End → Type 0
 IsOnlyFor Product.Source (stored text) = ⊥
 IsOnlyFor Product.Source (put text) = ⊥

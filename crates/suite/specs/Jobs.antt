@@ -16,6 +16,7 @@ use Rattle.machine.specs.Outside.{calls_in}
 use Rattle.front.specs.declared.fault.Fault.{Fault}
 use Rattle.front.specs.Sources.{IsCompiled, IsFaultIn}
 use Rattle.decompile.specs.declared.refused.Refused.{Refused}
+use Rattle.decompile.specs.Recoverable.{IsRecoverable}
 use Rattle.decompile.specs.Sources.{IsSourceOf, IsRefusedBy}
 use Rattle.global_use.specs.Uses.{IsUseText}
 use Rattle.asm_text.specs.declared.fault.ListFault.{ListFault}
@@ -121,12 +122,16 @@ abbrev pub IsTold : Refused → Type 0
 IsTold Refused.OutOfMemory = ⊥
 IsTold refused = Unit {0}
 
+-- a chunk is refused so, which is no recoverable one: those are given a source
+abbrev pub IsUnfound : Chunk → Refused → Type 0
+IsUnfound chunk why = IsRefusedBy chunk why × (IsRecoverable chunk → ⊥)
+
 pub record IsNotDecompiledFor (product : Product) (bytes : List ℕ) (why : Refused) : Type 0 where
   pub wants : WantsSource product
   pub told : IsTold why
   pub chunk : Chunk
   pub of : IsChunkOf bytes chunk
-  pub refused : IsRefusedBy chunk why
+  pub refused : IsUnfound chunk why
 
 abbrev pub Refuses : Product → Text → List ℕ → End → Type 0
 Refuses product file bytes (bad_source fault) = IsSourceFor product bytes × IsFaultIn bytes fault
@@ -196,7 +201,7 @@ pub record HasMade (bytes : List ℕ) (w : World) (text : List ℕ) : Type 0 whe
 pub record HasNoSource (bytes : List ℕ) (w : World) (why : Refused) (text : List ℕ) : Type 0 where
   pub ran : HasRun made_name bytes w default_steps Ended text
   pub told : IsTold why
-  pub refused : IsRefusedBy ran.chunk why
+  pub refused : IsUnfound ran.chunk why
 
 -- ---- jobs
 

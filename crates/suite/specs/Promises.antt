@@ -9,6 +9,7 @@ use Rattle.front.specs.declared.fault.Fault.{Fault}
 use Rattle.proto.specs.Chunk.{Chunk}
 use Rattle.chunk_io.specs.Items.{IsChunkOf}
 use Rattle.decompile.specs.declared.refused.Refused.{Refused}
+use Rattle.decompile.specs.Recoverable.{IsRecoverable}
 use Rattle.asm_text.specs.declared.fault.ListFault.{ListFault}
 use Rattle.suite.specs.declared.product.Product.{Product}
 use Rattle.suite.specs.declared.outcome.Outcome.{Outcome}
@@ -100,6 +101,8 @@ module _ (words : Words) (before behind : Seen) (result : Status) where
     pub bad_listing : result ≡ Status.BadListing → Fetched × (fault : ListFault) × ((job : Job) (bytes : List ℕ) → Asks job bytes → Comes job bytes (jobs.bad_listing fault)) × Says (Outcome.BadListing fault)
     -- A chunk that is to be decompiled is given a source or refused, where no count of faults rose.
     pub decompiled : (file out : Text) (bytes : List ℕ) (chunk : Chunk) → Asks (store_product Product.Source file out) bytes → IsChunkOf bytes chunk → IsQuiet → (result ≡ Status.Done) ⊎ (result ≡ Status.NotDecompiled) ⊎ (result ≡ Status.OutOfMemory)
+    -- That of a straight or flat source is given one, where no count of faults rose.
+    pub recovered : (file out : Text) (bytes : List ℕ) (chunk : Chunk) → Asks (store_product Product.Source file out) bytes → IsChunkOf bytes chunk → IsRecoverable chunk → IsQuiet → (result ≡ Status.Done) ⊎ (result ≡ Status.OutOfMemory)
     pub write_fault : result ≡ Status.WriteFault → Rises before.outside.faults behind.outside.faults ⊎ Rises before.err_faults behind.err_faults ⊎ StoreFailed words before.outside.calls behind.outside.calls
     -- Accepted source is taken for every job: a text is made of it, and it is run; and its run does what it means.
     pub taken : (job : Job) (bytes : List ℕ) (source : Source) → Asks job bytes → IsReadAsSource job bytes → Accepts bytes source → IsTaken job IsQuiet result

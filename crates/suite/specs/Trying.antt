@@ -3,14 +3,14 @@ use Rattle.std.specs.Prelude.{◌≡◌, ◌≤◌, ◌⊎◌, ℕ, List, [], Op
 use Rattle.std.specs.String.{string_bytes}
 use Rattle.proto.specs.Chunk.{Chunk}
 use Rattle.made_source.specs.Made.{account}
-use Rattle.decompile.specs.Sources.{IsSourceOf, IsRefusedBy}
+use Rattle.decompile.specs.Sources.{IsSourceOf}
 use Rattle.suite_io.specs.Parts.{TakesPart}
 use Rattle.suite_io.specs.Taken.{Takes, Rises}
 use Rattle.suite.specs.declared.outcome.Outcome.{Outcome}
 use Rattle.suite.specs.declared.words.Origin.{Origin}
 use Rattle.suite.specs.Words.{Job, make_source, file_of}
 use Rattle.suite.specs.Work.{Fetches}
-use Rattle.suite.specs.Jobs.{IsTold}
+use Rattle.suite.specs.Jobs.{IsTold, IsUnfound}
 
 -- the file that a job fetches, or how many functions its source has
 abbrev pub HasOrigin : Job → Origin → Type 0
@@ -28,5 +28,5 @@ abbrev pub IsTried : List ℕ → Chunk → Outcome → Option (List ℕ) → Op
 IsTried bytes chunk Outcome.Done taken later faults now = (text : List ℕ) × HasAccount bytes chunk text × Takes taken later text
 IsTried bytes chunk Outcome.WriteFault taken later faults now = (text : List ℕ) × HasAccount bytes chunk text × TakesPart taken later text × (faults ≤ now) × Rises faults now
 IsTried bytes chunk Outcome.OutOfMemory taken later faults now = Takes taken later [] ⊎ ((text : List ℕ) × HasAccount bytes chunk text × TakesPart taken later text)
-IsTried bytes chunk (Outcome.NotDecompiled why) taken later faults now = IsTold why × IsRefusedBy chunk why × Takes taken later []
+IsTried bytes chunk (Outcome.NotDecompiled why) taken later faults now = IsTold why × IsUnfound chunk why × Takes taken later []
 IsTried bytes chunk outcome taken later faults now = ⊥

@@ -1,0 +1,241 @@
+-- What is recovered of the chunk of a straight source: the statements that are read of its words, one after the other.
+use Rattle.std.proofs.Common.{◌≡◌, ◌∙◌, ℕ, ◌≤◌, ◌<◌, ◌^◌, false, List, [], ◌∷◌, length, Option, Some, None, Err, refl, sym, ap, ap₂, subst, arith, inl, inr}
+use Rattle.std.specs.Prelude.{IsSome}
+use Rattle.std.proofs.lemmas.Bool.Decides.{nat_tests}
+use Rattle.std.proofs.lemmas.Option.{none-some, same_Some}
+use Rattle.std.specs.List.{AllByRecursion}
+use Rattle.core_expr.specs.Values.{Inner}
+use Rattle.lua_num.specs.Bytes.{Text}
+use Rattle.lua_tree.specs.Syntax as syntax
+use Rattle.lua_tree.specs.WellFormed.{WellFormed, formed_statements, depth_of_statements, begins_with_paren, statement_begins_with_paren}
+use Rattle.lua_tree.specs.Syntax.{Statements, no_statements, Statement, assignment, call_statement, no_expressions, Expression, index_expression, field_expression, call_expression, method_call, function_body, Source}
+use Rattle.proto.specs.Short.{IsShort}
+use Rattle.proto.specs.Chunk.{Chunk, Functions, function, and_function, own, each, no_lines, no_functions, functions, SameButLines}
+use Rattle.recover_expr.specs.Drafts.{Part, statement_part}
+use Rattle.recover_expr.specs.Placing.{Steps}
+use Rattle.recover_expr.specs.Reading.{read_steps}
+use Rattle.recover_expr.specs.declared.steps.Step.{Step}
+use Rattle.recover_flow.specs.Acts.{AreActs, AreLow, act_plans, without_semicolons, parts_of_statements, NoneOpen, ActsAreFound, ActsAreBuilt, ActsAreLow}
+use Rattle.recover_flow.specs.Built.{built_body}
+use Rattle.recover_flow.specs.Debug.{LacksDebug}
+use Rattle.recover_flow.specs.Parts.{begins_open, is_open}
+use Rattle.recover_flow.specs.Plans.{Plans, body_levels}
+use Rattle.recover_flow.specs.Recovering.{IsFunctionFound, IsMainFound, IsLostOnlyWhere, IsSourceFound, IsSourceless, IsUnrecovered, StandsNowhere, is_vararg, main_of}
+use Rattle.recover_flow.specs.declared.lost.Lost.{Lost}
+use Rattle.recover_flow.specs.Searching.{whole_body}
+use Rattle.recover_flow.specs.Standing.{BodyStands}
+use Rattle.reads_back.specs.ReadAs.{IsStraightChunk, IsActStep, parts_of, ArePlain, IsReadBack, StraightSourcesAreRead, IsAlone, StraightChunksAreAlone, FlatSourcesAreStraight}
+use Rattle.scheme.specs.Scheme.{scheme}
+use Rattle.scheme_lines.specs.Alike.{SemicolonsDoNotMatter}
+use Rattle.scheme_lines.specs.Bare.{bare_statements}
+use Rattle.decompile.specs.Recoverable.{IsFlatChunk, IsGiven, IsRecoverable}
+use Rattle.decompile.specs.Given.{IsTreeFor}
+use Rattle.decompile.specs.Refusals.{refused_by}
+
+-- ---- statements
+
+open_is : (e : Expression) → is_open e ≡ begins_with_paren e
+open_is (index_expression line on key) = open_is on
+open_is (field_expression line on name) = open_is on
+open_is (call_expression line on args on_line) = open_is on
+open_is (method_call line on name args on_line) = open_is on
+open_is e = refl
+
+begins_is : (s : Statement) → begins_open s ≡ statement_begins_with_paren s
+begins_is (assignment no_expressions es) = refl
+begins_is (assignment (syntax.expression target rest) es) = open_is target
+begins_is (call_statement e) = open_is e
+begins_is s = refl
+
+none_open : (block : Statements) → ArePlain block → NoneOpen block
+none_open no_statements plain = tt
+none_open (syntax.statement line semi s rest) plain = (begins_is s ∙ plain.2, none_open rest plain.3)
+
+-- what is plain has no semicolons, and every line is 1
+stays : (block : Statements) → ArePlain block → without_semicolons block ≡ block
+stays no_statements plain = refl
+stays (syntax.statement line semi s rest) plain = let others = stays rest plain.3 in let first = plain.0 in let second = plain.1 in cc
+
+parts_are : (block : Statements) → parts_of block ≡ parts_of_statements block
+parts_are no_statements = refl
+parts_are (syntax.statement line semi s rest) = ap (λ others. statement_part s ∷ others) (parts_are rest)
+
+-- ---- steps
+
+all_acts : (steps : List Step) → AllByRecursion IsActStep steps → AreActs steps
+all_acts [] acts = tt
+all_acts (step ∷ steps) acts = (acts.0.kind, all_acts steps acts.1)
+
+all_low : (steps : List Step) → AllByRecursion IsActStep steps → AreLow 200 steps
+all_low [] acts = tt
+all_low (step ∷ steps) acts = (acts.0.levels, all_low steps acts.1)
+
+-- ---- what is recovered
+
+-- the laws, of one chunk
+record IsChunkRead (chunk : Chunk) (of : Source) : Type 0 where
+  steps : Steps
+  read : read_steps chunk [] false ≡ Some steps
+  params : steps.params ≡ []
+  behind : List Part
+  stands : BodyStands steps.steps (whole_body steps.steps) (act_plans 0 (length steps.steps))
+  only : (plans : Plans) → BodyStands steps.steps (whole_body steps.steps) plans → plans ≡ act_plans 0 (length steps.steps)
+  low : body_levels steps.steps (act_plans 0 (length steps.steps)) ≤ 200
+  built : built_body (act_plans 0 (length steps.steps)) steps.parts ≡ Some (of.body, behind)
+
+as_read : ActsAreFound → ActsAreBuilt → ActsAreLow → {chunk : Chunk} {source : Source} (steps : Steps) → read_steps chunk [] false ≡ Some steps → (back : IsReadBack source steps) →
+    IsChunkRead chunk back.tree
+as_read found built low steps read back =
+    let acts = found steps.steps (all_acts steps.steps back.read.acts) in
+    let block = back.tree.body in
+    let made = built block (none_open block back.plain) in
+    let parts : steps.parts ≡ parts_of_statements block = back.read.parts ∙ parts_are block in
+    let count : length steps.steps ≡ length (parts_of_statements block) = back.read.same_length ∙ ap length parts in
+    record {
+      steps = steps;
+      read = read;
+      params = back.read.params;
+      behind = made.0;
+      stands = acts.0;
+      only = acts.1;
+      low = low 200 steps.steps (grind arith) (all_low steps.steps back.read.acts);
+      built = ap₂ (λ n others. built_body (act_plans 0 n) others) count parts ∙ made.1 ∙ ap (λ body. Some (body, made.0)) (stays block back.plain);
+    }
+
+same_first : {A B : Type 0} {first other : A} {second behind : B} → ◌≡◌ {A = Option (A × B)} (Some (first, second)) (Some (other, behind)) → first ≡ other
+same_first {A} {B} {first} {other} {second} {behind} same =
+    let pair : ◌≡◌ {A = A × B} (first, second) (other, behind) = cc in
+    ap (λ (p : A × B). p.0) pair
+
+module _ {chunk : Chunk} {of : Source} (is_read : IsChunkRead chunk of) where
+  -- what is built of the one body that stands there
+  built_of : (steps : Steps) (plans : Plans) → steps ≡ is_read.steps → BodyStands steps.steps (whole_body steps.steps) plans → built_body plans steps.parts ≡ Some (of.body, is_read.behind)
+  built_of steps plans same stands =
+      let one = is_read.only plans (subst (λ (s : Steps). BodyStands s.steps (whole_body s.steps) plans) same stands) in
+      ap₂ (λ body (s : Steps). built_body body s.parts) one same ∙ is_read.built
+
+  -- a function that is found is this
+  found_is : (found : Inner) → IsFunctionFound chunk [] false found → found.body ≡ function_body [] (is_vararg chunk) of.body 1 1
+  found_is found is =
+      let same : is.steps ≡ is_read.steps = same_Some is.steps is_read.steps (sym is.read ∙ is_read.read) in
+      is.body
+      ∙ ap₂ (λ params block. function_body params (is_vararg chunk) block 1 1) (ap (λ (s : Steps). s.params) same ∙ is_read.params)
+      (same_first (sym is.built ∙ built_of is.steps is.plans same is.stands))
+
+  -- and one is found
+  is_recovered : IsUnrecovered chunk [] false → ⊥
+  is_recovered (inl unread) = none-some is_read.steps (sym unread ∙ is_read.read)
+  is_recovered (inr (steps, read, inl nowhere)) =
+      let none = subst (λ (s : Steps). StandsNowhere s) (same_Some steps is_read.steps (sym read ∙ is_read.read)) nowhere in
+      let few = is_read.low in let many = none (act_plans 0 (length is_read.steps.steps)) is_read.stands in grind (arith, nat_tests)
+  is_recovered (inr (steps, read, inr unbuilt)) =
+      none-some _ (sym unbuilt.3 ∙ built_of steps unbuilt.0 (same_Some steps is_read.steps (sym read ∙ is_read.read)) unbuilt.1)
+
+  -- a tree that is found has these statements
+  tree_is : {tree : Source} → IsSourceFound chunk tree → tree.body ≡ of.body
+  tree_is {tree} is = ap (λ (t : Source). t.body) is.is_main ∙ ap (λ body. (main_of body).body) (main_is is.function)
+    where
+      main_is : IsMainFound chunk is.found → is.found.body ≡ function_body [] (is_vararg chunk) of.body 1 1
+      main_is (inl found) = found_is is.found found
+      main_is (inr (unrecovered, found)) = absurd (is_recovered unrecovered)
+
+-- a tree with the statements of one that is well formed is so too
+formed_again : (of tree : Source) → WellFormed of → tree.body ≡ of.body → WellFormed tree
+formed_again of tree well is = record {
+  formed = ap formed_statements is ∙ well.formed;
+  shallow = subst (λ block. depth_of_statements block ≤ 200) (sym is) well.shallow;
+}
+
+-- ---- the chunk
+
+source_stays : (c : Chunk) → (own (each no_lines c)).source ≡ (own c).source
+source_stays (function f inner) = refl
+
+named_as : (chunk : Chunk) (source : Source) (name : Text) → SameButLines chunk (scheme source name) → (own chunk).source ≡ Some name
+named_as chunk source name same = sym (source_stays chunk) ∙ ap (λ c. (own c).source) same ∙ source_stays (scheme source name)
+
+code_short : (chunk : Chunk) → IsShort chunk → length (own chunk).code < 2 ^ 32
+code_short (function f inner) short = short.0.code
+
+-- ---- why none is recovered
+
+some_named : {A : Type 0} (found : Option A) → IsSome found → found ≡ None → ⊥
+some_named None some none = cc
+some_named (Some it) some none = cc
+
+-- it tells what is asked of it
+lacks_nothing : (chunk : Chunk) → IsAlone chunk → (path : List ℕ) → LacksDebug chunk path → ⊥
+lacks_nothing chunk alone path (inl (unnamed, top)) = some_named (own chunk).source alone.named unnamed
+lacks_nothing (function f no_functions) alone [] (inr (named, untold)) = untold (record { lines = alone.lines; names = alone.names })
+lacks_nothing (function f no_functions) alone (n ∷ path) (inr (named, untold)) = untold.1
+lacks_nothing (function f (and_function c rest)) alone path (inr lacks) = absurd (no_more c rest alone.none)
+  where
+    no_more : (c : Chunk) (rest : Functions) → and_function c rest ≡ no_functions → ⊥
+    no_more c rest same = cc
+
+-- none is without a source
+has_source : {chunk : Chunk} {of : Source} → WellFormed of → IsChunkRead chunk of → IsSourceless chunk → ⊥
+has_source well is_read (inl (unrecovered, shortest)) = is_recovered is_read unrecovered
+has_source {of = of} well is_read (inr (source, found, misformed)) = misformed (formed_again of source well (tree_is is_read found))
+
+-- and it is one of the chunk
+is_tree_for : SemicolonsDoNotMatter → {chunk : Chunk} (straight : IsStraightChunk chunk) (steps : Steps) (back : IsReadBack straight.source steps) (tree : Source) → WellFormed tree → tree.body ≡ back.tree.body →
+    IsTreeFor chunk tree
+is_tree_for semicolons {chunk} straight steps back tree formed is =
+    let again = semicolons back.tree tree (ap (λ (body : Statements). record { body = bare_statements body; last_line = 1 }) (sym is)) in
+    record {
+      formed = formed;
+      scoped = again.scoped (back.alike.scoped straight.scoped);
+      fits = again.fits (back.alike.fits straight.fits);
+      name = straight.name;
+      named = named_as chunk straight.source straight.name straight.same;
+      same = straight.same ∙ back.alike.same straight.name ∙ again.same straight.name;
+    }
+
+-- ---- with the laws of what is below
+
+pub record StraightLaws : Type 0 where
+  pub read : StraightSourcesAreRead
+  pub alone : StraightChunksAreAlone
+  pub found : ActsAreFound
+  pub built : ActsAreBuilt
+  pub low : ActsAreLow
+  pub semicolons : SemicolonsDoNotMatter
+
+pub laws_of : StraightSourcesAreRead → StraightChunksAreAlone → ActsAreFound → ActsAreBuilt → ActsAreLow → SemicolonsDoNotMatter → StraightLaws
+laws_of read alone found built low semicolons = record { read = read; alone = alone; found = found; built = built; low = low; semicolons = semicolons }
+
+module _ (laws : StraightLaws) (chunk : Chunk) (short : IsShort chunk) (straight : IsStraightChunk chunk) where
+  steps_read : (steps : Steps) × (read_steps chunk [] false ≡ Some steps) × IsReadBack straight.source steps
+  steps_read = laws.read chunk straight (code_short chunk short)
+
+  chunk_read : IsChunkRead chunk steps_read.2.tree
+  chunk_read = as_read laws.found laws.built laws.low steps_read.0 steps_read.1 steps_read.2
+
+  -- what is recovered of it is a tree of it
+  pub straight_given : (tree : Source) → WellFormed tree → (functions chunk ≡ no_functions → IsSourceFound chunk tree) → IsTreeFor chunk tree
+  straight_given tree formed found =
+      is_tree_for laws.semicolons straight steps_read.0 steps_read.2 tree formed (tree_is chunk_read (found (laws.alone chunk straight).none))
+
+  -- and nothing is lost but for want of memory
+  pub straight_lost : (lost : Lost) → (functions chunk ≡ no_functions → IsLostOnlyWhere chunk lost) → IsGiven (Err (refused_by lost))
+  straight_lost (Lost.NoDebug path) why = let alone = laws.alone chunk straight in absurd (lacks_nothing chunk alone path (why alone.none))
+  straight_lost (Lost.At path pc reason) why = absurd (has_source steps_read.2.formed chunk_read (why (laws.alone chunk straight).none))
+  straight_lost Lost.OutOfMemory why = tt
+
+-- ---- flat sources
+
+flat_as_straight : FlatSourcesAreStraight → {chunk : Chunk} → IsFlatChunk chunk → IsStraightChunk chunk
+flat_as_straight flats flat = record {
+  source = flat.source;
+  name = flat.name;
+  formed = flat.formed;
+  scoped = flat.scoped;
+  fits = flat.fits;
+  straight = flats flat.source flat.formed flat.flat;
+  same = flat.same;
+}
+
+pub as_straight : FlatSourcesAreStraight → {chunk : Chunk} → IsRecoverable chunk → IsStraightChunk chunk
+as_straight flats (inl straight) = straight
+as_straight flats (inr flat) = flat_as_straight flats flat

@@ -1,0 +1,115 @@
+-- The words of an act are read as one step, with what is written of it: calls as statements.
+use Rattle.std.proofs.Common.{◌≡◌, ℕ, suc, ◌+◌, ◌<◌, ◌≤◌, true, List, [], length, Option, None, Some, refl, sym, ap, ◌∙◌, subst, arith, inl}
+use Rattle.std.specs.Prelude.{◌==◌, option_and_then, option_map, if◌then◌else◌}
+use Rattle.lua_tree.specs.Syntax.{Expression, Statement, call_statement}
+use Rattle.opcode.specs.declared.op.Op.{Op}
+use Rattle.core_expr.specs.Counting.{taken_behind}
+use Rattle.core_expr.specs.Places.{place}
+use Rattle.core_expr.specs.Values.{Value, Inner}
+use Rattle.core_expr.specs.Writing.{Wording, can_write, word}
+use Rattle.recover_expr.specs.Drafts.{Drafted, drafted, ends, statement_part}
+use Rattle.recover_expr.specs.Entries.{Entries}
+use Rattle.recover_expr.specs.Reading.{over, read_word, turned, turn_of, words_from}
+use Rattle.recover_expr.specs.Situation.{Function, Situation, place_in_step, see, with_left}
+use Rattle.recover_expr.specs.Words.{as_end, call_ended, call_made, call_written}
+use Rattle.recover_expr.specs.declared.draft.DraftKind.{DraftKind}
+use Rattle.recover_expr.specs.declared.function.Word.{Word}
+use Rattle.scheme.specs.declared.making.Active.{Active}
+use Rattle.scheme.specs.declared.making.Piece.{Piece}
+use Rattle.scheme_stands.specs.Relation.{related}
+use Rattle.scheme_stands.specs.Words.{Fn, Spot, WordAt, IsRead}
+use Rattle.reads_back.specs.Acted.{Acted, called, IsActed, act_levels, act_statement, can_act, left_by_act, taken_behind_act}
+use Rattle.reads_back.specs.Cores.{IsCore}
+use Rattle.reads_back.proofs.Comes.{CallComes, ReadsCall}
+use Rattle.reads_back.proofs.BehindWords.{HasLocals, SameLocals, behind_words}
+use Rattle.reads_back.proofs.Reaches.{reaches_on, step_ends, Reaches}
+use Rattle.reads_back.proofs.ValueWords.{next_free}
+use Rattle.reads_back.proofs.WordsRead.{IsFunction, IsQuiet, word_of, word_there, turn_there}
+
+-- ---- what is known of an act that is read
+
+-- the words from one pc up to another are one step, an act that the statement is, and so it is written
+pub record ActRead (f : Function) (g : Fn) (active : List Active) (statement : Statement) (s : Situation) (first last : ℕ) : Type 0 where
+  pub acted : Acted
+  pub is : IsActed g active statement acted
+  pub draft : Drafted
+  pub behind : Situation
+  pub reads : (count : ℕ) → last ≤ count + first → words_from f count first s ≡ Some (draft, behind)
+  pub kind : draft.kind ≡ DraftKind.Act
+  pub pc : draft.pc ≡ s.pc
+  pub next : draft.next ≡ last
+  pub base : draft.base ≡ s.base
+  pub innermost : draft.innermost ≡ s.inside
+  pub part : draft.part ≡ statement_part (act_statement (place_in_step f s) s.taken s.left acted)
+  pub levels : draft.levels ≡ act_levels (place_in_step f s) s.taken s.left acted
+  pub same : SameLocals s.scope behind.scope
+  pub left : behind.left ≡ left_by_act acted s.left
+  pub seen : behind.seen ≡ taken_behind_act acted s.seen
+  pub later : first < last
+
+-- whatever act the statement is, it can be written
+pub record CanAct (f : Function) (g : Fn) (active : List Active) (listed : List ℕ) (statement : Statement) : Type 0 where
+  pub can : (acted : Acted) → IsActed g active statement acted → (left : List (Option Inner)) → can_act (place f.of listed f.short) left acted ≡ true
+
+-- the step of an act, and what is known behind it
+abbrev pub act_draft : (f : Function) → (next : ℕ) → Acted → Situation → Drafted
+act_draft f next acted s = drafted DraftKind.Act next (act_levels (place_in_step f s) s.taken s.left acted) (statement_part (act_statement (place_in_step f s) s.taken s.left acted)) s
+
+abbrev pub after_act : Acted → Situation → Situation
+after_act acted s = with_left (left_by_act acted s.left) s
+
+-- the last word of the step ends it
+ends_turn : (f : Function) (w : Word) (draft : Drafted) (s behind : Situation) → read_word f w (see w.instr s) ≡ Some (ends draft, behind) → turn_of f s w ≡ Some (over draft, behind)
+ends_turn f w draft s behind does = ap (option_and_then (λ p. turned f w p.1 p.0)) does
+
+-- the last word of a step
+pub last_word : {f : Function} {g : Fn} {w : Piece} {p q : Spot} {first : ℕ} {s t behind : Situation} (draft : Drafted) → IsFunction f g → Reaches f first s p.pc t → IsQuiet f t.scope first q.pc → WordAt g w p q → IsRead p.pc w →
+    read_word f (word_of p.pc w) (see (word_of p.pc w).instr t) ≡ Some (ends draft, behind) → (count : ℕ) → q.pc ≤ count + first → words_from f count first s ≡ Some (draft, behind)
+last_word {f} {g} {w} {p} {q} {first} {s} {t} {behind} draft is_function reaches quiet at read does count few =
+    let later : p.pc < q.pc = omega (arith, at.next) in
+    let turn = turn_there p.pc t quiet (reaches_on reaches) later (word_there is_function at read (omega (arith, quiet.within))) in
+    step_ends draft count reaches (turn ∙ ends_turn f (word_of p.pc w) draft t behind does) (omega (arith, at.next))
+
+-- ---- calls
+
+call_is_written : (f : Function) (w : Word) (v : Value) (s : Situation) → can_write (place_in_step f s) s.left v ≡ true → s.entries ≡ [] → call_written f w (v, s) ≡ Some (act_draft f w.next (called v) s, after_act (called v) s)
+call_is_written f w v s can empty =
+    let wrote : Wording × ℕ × Situation = (word (place_in_step f s) s.taken s.left v, taken_behind v s.taken, after_act (called v) s) in
+    ap (λ (entries : Entries). if length entries == 0 then option_map (call_ended w) (if can_write (place_in_step f s) s.left v then Some wrote else None) else None) empty
+    ∙ ap (λ can. option_map (call_ended w) (if can then Some wrote else None)) can
+
+module _ {f : Function} {g : Fn} {active : List Active} {listed : List ℕ} (e : Expression) {deep : ℕ} (can : CanAct f g active listed (call_statement e)) where
+  call_acts : (free : ℕ) (p q : Spot) (s : Situation) → HasLocals active listed s → s.entries ≡ [] → CallComes f (IsCore g active e) deep s Op.Call free 1 p.pc q.pc → ActRead f g active (call_statement e) s p.pc q.pc
+  call_acts free p q s locals empty comes =
+      let v = comes.value in
+      let w = word_of comes.pc (Piece.Abc Op.Call free comes.b 1) in
+      let t = behind_words comes.scope comes.seen comes.more s in
+      let u = record s { scope = comes.scope; seen = comes.seen } in
+      let there : can_write (place_in_step f u) s.left v ≡ true = subst (λ (listed : List ℕ). can_write (place f.of listed f.short) s.left v ≡ true) (sym (comes.same.active ∙ locals.places)) (can.can (called v) comes.is s.left) in
+      let does : read_word f w (see w.instr t) ≡ Some (ends (act_draft f (suc comes.pc) (called v) u), after_act (called v) u) =
+      ap (option_and_then (call_made f w)) comes.makes ∙ ap (option_map as_end) (call_is_written f w v u there empty) in
+      record {
+        acted = called v;
+        is = comes.is;
+        draft = act_draft f (suc comes.pc) (called v) u;
+        behind = after_act (called v) u;
+        reads = λ count few. step_ends (act_draft f (suc comes.pc) (called v) u) count comes.reaches (comes.turn ∙ ends_turn f w (act_draft f (suc comes.pc) (called v) u) t (after_act (called v) u) does) (omega (arith, comes.next, few));
+        kind = refl;
+        pc = refl;
+        next = sym comes.next;
+        base = refl;
+        innermost = refl;
+        part = ap (λ (listed : List ℕ). statement_part (act_statement (place f.of listed f.short) s.taken s.left (called v))) comes.same.active;
+        levels = ap (λ (listed : List ℕ). act_levels (place f.of listed f.short) s.taken s.left (called v)) comes.same.active;
+        same = comes.same;
+        left = refl;
+        seen = sym comes.taken;
+        later = omega (arith, comes.next, reaches_on comes.reaches);
+      }
+
+pub call_statement_read : {f : Function} {g : Fn} {active : List Active} {listed : List ℕ} → IsFunction f g → (e : Expression) (deep : ℕ) → ReadsCall f g active listed (IsCore g active e) deep ((related g e).multi active) →
+    CanAct f g active listed (call_statement e) →
+    (p q : Spot) (s : Situation) → HasLocals active listed s → s.entries ≡ [] → s.taken ≡ s.seen → IsQuiet f s.scope p.pc q.pc → (related g e).multi active (length active) Op.Call (Some 0) p q → ActRead f g active (call_statement e) s p.pc q.pc
+call_statement_read {active = active} is_function e deep reads can p q s locals empty taken quiet at =
+    let next : length active ≡ next_free s = omega (arith, locals.base, ap length empty) in
+    call_acts e can (length active) p q s locals empty (reads.comes (length active) Op.Call (Some 0) p q s locals next quiet (inl refl) at)

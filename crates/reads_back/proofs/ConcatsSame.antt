@@ -1,0 +1,194 @@
+-- What is written of the operands of a `..` has the same code as they have along its right spine.
+use Rattle.std.proofs.Common.{◌≡◌, ℕ, ◌+◌, ◌-◌, ◌*◌, ◌≤◌, Bool, true, false, List, ◌∷◌, length, max, refl, sym, ap, ◌∙◌, subst, arith, nat_lt}
+use Rattle.std.specs.Prelude.{Option, Some}
+use Rattle.std.proofs.lemmas.Bool.{and_from}
+use Rattle.lua_tree.specs.declared.tree.BinaryOp.{BinaryOp}
+use Rattle.lua_tree.specs.OneLine.{one_line_expression}
+use Rattle.lua_tree.specs.Precedence.{left_binds, right_binds}
+use Rattle.lua_tree.specs.Syntax.{Expression, nil_literal, binary_expression}
+use Rattle.lua_tree.specs.WellFormed.{depth_of_expression}
+use Rattle.opcode.specs.declared.op.Op.{Op}
+use Rattle.core_expr.specs.Counting.{taken_behind, taken_behind_values, left_by, left_by_values}
+use Rattle.core_expr.specs.Making.{deepest, made_concat}
+use Rattle.core_expr.specs.Places.{Place, place}
+use Rattle.core_expr.specs.Values.{Value, Values, no_values, and_value, Inner}
+use Rattle.core_expr.specs.Writing.{Wording, can_write_values, chain, ends_values, on_left, on_right, unless, with_binary, word_each}
+use Rattle.recover_expr.specs.Situation.{Function}
+use Rattle.scheme.specs.Making.{Maker, free_from, put, take_registers}
+use Rattle.scheme.specs.Expressions.{fold, is_multiple, is_name, next_reg}
+use Rattle.scheme.specs.Scheme.{coded}
+use Rattle.scheme.specs.declared.making.Piece.{Piece}
+use Rattle.scheme_stands.proofs.Growth.{calm, Final, before, before_free, before_put, before_take, later}
+use Rattle.scheme_stands.proofs.Parts.{grows, grows_next}
+use Rattle.reads_back.proofs.BareMakers.{KeepsBare, next_keeps}
+use Rattle.reads_back.proofs.OperatorsSame.{few_more, made_is}
+use Rattle.reads_back.proofs.WordsSame.{levels_wrapped, next_wrapped}
+use Rattle.reads_back.proofs.Rewriting.{IsBare, Rewritten, RewrittenSpine, code, wording}
+
+-- ---- the spine of what is no `..`
+
+abbrev pub is_joined : Expression → Bool
+is_joined (binary_expression line BinaryOp.Concat l r) = true
+is_joined e = false
+
+-- its value goes to the next register
+binary_alone : (line : ℕ) (op : BinaryOp) (l r : Expression) → is_joined (binary_expression line op l r) ≡ false → (m : Maker) → (coded (binary_expression line op l r)).spine m ≡ next_reg (coded (binary_expression line op l r)) m
+binary_alone line BinaryOp.Add l r other m = refl
+binary_alone line BinaryOp.Concat l r other m = absurd cc
+binary_alone line op l r other m = refl
+
+spine_alone : (e : Expression) → is_joined e ≡ false → (m : Maker) → (coded e).spine m ≡ next_reg (coded e) m
+spine_alone (binary_expression line op l r) other m = binary_alone line op l r other m
+spine_alone (nil_literal line) other m = refl
+spine_alone e other m = refl
+
+joined_on_one_line : (e : Expression) → is_joined (one_line_expression e) ≡ is_joined e
+joined_on_one_line (binary_expression line BinaryOp.Concat l r) = refl
+joined_on_one_line (binary_expression line op l r) = refl
+joined_on_one_line e = refl
+
+pub code_alone : (e : Expression) → is_joined e ≡ false → (m : Maker) → (code e).spine m ≡ next_reg (code e) m
+code_alone e other m = spine_alone (one_line_expression e) (joined_on_one_line e ∙ other) m
+
+-- what binds on the right of a `..` is none
+bare_alone : (e : Expression) → right_binds 4 false e ≡ true → is_joined e ≡ false
+bare_alone (binary_expression line BinaryOp.Concat l r) bare = absurd cc
+bare_alone (binary_expression line op l r) bare = refl
+bare_alone e bare = refl
+
+-- in parentheses too
+last_alone : (bare : Bool) (w : Wording) → (bare ≡ true → is_joined w.words ≡ false) → (m : Maker) → (coded (unless bare w).words).spine m ≡ next_reg (coded w.words) m
+last_alone true w other m = spine_alone w.words (other refl) m
+last_alone false w other m = refl
+
+-- ---- the last operand
+
+module _ {f : Function} {listed : List ℕ} {z : Maker} {left : List (Option Inner)} {e : Expression} {v : Value} (value : Rewritten f listed z left e v) (alone : (m : Maker) → (code e).spine m ≡ next_reg (code e) m) where
+  alone_few : (n : ℕ) → (on_right BinaryOp.Concat (wording f listed z left n v)).levels ≤ 3 * depth_of_expression e + 3
+  alone_few n =
+      let w = wording f listed z left n v in
+      let one = levels_wrapped (right_binds 4 false w.words) w in
+      omega (arith, value.few n, one)
+
+  module _ (m : Maker) (ahead : IsBare m) (final : Final (length m.labels) ((code e).spine m) z) where
+    alone_final : Final (length m.labels) ((code e).to_reg m.free m) z
+    alone_final = before_take 1 ((code e).to_reg m.free m) (subst (λ n. Final (length m.labels) n z) (alone m) final)
+
+    alone_spine : (coded (on_right BinaryOp.Concat (wording f listed z left (length m.constants) v)).words).spine m ≡ (code e).spine m
+    alone_spine =
+        let w = wording f listed z left (length m.constants) v in
+        last_alone (right_binds 4 false w.words) w (bare_alone w.words) m ∙ ap (take_registers 1) (value.to_reg m.free m ahead alone_final) ∙ sym (alone m)
+
+    alone_taken : length ((code e).spine m).constants ≡ taken_behind v (length m.constants)
+    alone_taken = ap (λ n. length n.constants) (alone m) ∙ value.taken m.free m ahead alone_final
+
+module _ {f : Function} {listed : List ℕ} {z : Maker} {left : List (Option Inner)} where
+  pub spine_of_one : (e : Expression) (v : Value) → Rewritten f listed z left e v → ((m : Maker) → (code e).spine m ≡ next_reg (code e) m) → RewrittenSpine f listed z left e (and_value v no_values)
+  spine_of_one e v value alone = record {
+    can = and_from _ _ value.can refl;
+    unused = value.unused;
+    few = alone_few value alone;
+    spine = alone_spine value alone;
+    taken = alone_taken value alone;
+  }
+
+-- ---- an operand, and those behind it
+
+-- a value with others behind it is joined to them
+chain_is : (at : Place) (n : ℕ) (fs : List (Option Inner)) (w : Wording) (rest : Values) → ends_values rest ≡ false → chain (w ∷ word_each at n fs rest) ≡ with_binary BinaryOp.Concat (on_left BinaryOp.Concat w) (chain (word_each at n fs rest))
+chain_is at n fs w no_values some = absurd cc
+chain_is at n fs w (and_value v rest) some = refl
+
+module _ {f : Function} {listed : List ℕ} {z : Maker} {left : List (Option Inner)} {l r : Expression} {v : Value} {rest : Values}
+    (first : Rewritten f listed z left l v) (others : RewrittenSpine f listed z left r rest) (some : ends_values rest ≡ false) where
+  -- what is written, where so many constants are taken behind the first
+  joined_is : (n m : ℕ) → taken_behind v n ≡ m →
+      chain (word_each (place f.of listed f.short) n left (and_value v rest)) ≡ with_binary BinaryOp.Concat (on_left BinaryOp.Concat (wording f listed z left n v)) (chain (word_each (place f.of listed f.short) m left rest))
+  joined_is n m taken =
+      let at = place f.of listed f.short in
+      let w = wording f listed z left n v in
+      chain_is at (taken_behind v n) (left_by v left) w rest some
+      ∙ ap (λ fs. with_binary BinaryOp.Concat (on_left BinaryOp.Concat w) (chain (word_each at (taken_behind v n) fs rest))) first.unused
+      ∙ ap (λ n. with_binary BinaryOp.Concat (on_left BinaryOp.Concat w) (chain (word_each at n left rest))) taken
+
+  joined_few : (n : ℕ) → (chain (word_each (place f.of listed f.short) n left (and_value v rest))).levels ≤ 3 * (1 + max (depth_of_expression l) (depth_of_expression r)) + 2
+  joined_few n =
+      let w = wording f listed z left n v in
+      let n' = taken_behind v n in
+      let u = chain (word_each (place f.of listed f.short) n' left rest) in
+      let same : (chain (word_each (place f.of listed f.short) n left (and_value v rest))).levels ≡ (with_binary BinaryOp.Concat (on_left BinaryOp.Concat w) u).levels = ap (λ w. w.levels) (joined_is n n' refl) in
+      let one = levels_wrapped (left_binds 4 true w.words) w in
+      let all = few_more (max (on_left BinaryOp.Concat w).levels u.levels) in
+      omega (arith, first.few n, others.few n', same, one, all)
+
+  module _ (kept : KeepsBare (code l)) (m : Maker) (ahead : IsBare m) (final : Final (length m.labels) ((code r).spine (next_reg (code l) m)) z) where
+    first_final : Final (length m.labels) ((code l).to_reg m.free m) z
+    first_final =
+        let grown = grows calm (one_line_expression r) in
+        before_take 1 ((code l).to_reg m.free m) (before (grown.spine (next_reg (code l) m)) final)
+
+    others_final : Final (length (next_reg (code l) m).labels) ((code r).spine (next_reg (code l) m)) z
+    others_final = let grown = grows_next {v = calm} (code l) (grows calm (one_line_expression l)) m in later grown.more final
+
+    joined_here : chain (word_each (place f.of listed f.short) (length m.constants) left (and_value v rest)) ≡
+        with_binary BinaryOp.Concat (on_left BinaryOp.Concat (wording f listed z left (length m.constants) v)) (chain (word_each (place f.of listed f.short) (length (next_reg (code l) m).constants) left rest))
+    joined_here = joined_is (length m.constants) (length (next_reg (code l) m).constants) (sym (first.taken m.free m ahead first_final))
+
+    parts_same : (coded (chain (word_each (place f.of listed f.short) (length (next_reg (code l) m).constants) left rest)).words).spine
+        (next_reg (coded (on_left BinaryOp.Concat (wording f listed z left (length m.constants) v)).words) m) ≡ (code r).spine (next_reg (code l) m)
+    parts_same =
+        let w = wording f listed z left (length m.constants) v in
+        let u = chain (word_each (place f.of listed f.short) (length (next_reg (code l) m).constants) left rest) in
+        ap (coded u.words).spine (next_wrapped (left_binds 4 true w.words) w m ∙ ap (take_registers 1) (first.to_reg m.free m ahead first_final))
+        ∙ others.spine (next_reg (code l) m) (next_keeps (code l) kept m ahead) others_final
+
+    joined_taken : length ((code r).spine (next_reg (code l) m)).constants ≡ taken_behind_values rest (taken_behind v (length m.constants))
+    joined_taken = others.taken (next_reg (code l) m) (next_keeps (code l) kept m ahead) others_final ∙ ap (taken_behind_values rest) (first.taken m.free m ahead first_final)
+
+  joined_can : can_write_values (place f.of listed f.short) left (and_value v rest) ≡ true
+  joined_can = and_from _ _ first.can (ap (λ fs. can_write_values (place f.of listed f.short) fs rest) first.unused ∙ others.can)
+
+-- ---- the CONCAT
+
+-- the word behind the operands
+abbrev behind_operands : (to : ℕ) → Maker → Maker → Maker
+behind_operands to m n = free_from m.free (put 1 (Piece.Abc Op.Concat to m.free (n.free - 1)) n)
+
+concat_to : (l r : Expression) (to : ℕ) (m : Maker) → (coded (binary_expression 1 BinaryOp.Concat l r)).to_reg to m ≡ behind_operands to m ((coded r).spine (next_reg (coded l) m))
+concat_to l r to m = refl
+
+module _ {f : Function} {listed : List ℕ} {z : Maker} {left : List (Option Inner)} where
+  pub spine_of_first : (line : ℕ) (l r : Expression) (v : Value) (rest : Values) → Rewritten f listed z left l v → RewrittenSpine f listed z left r rest → ends_values rest ≡ false → KeepsBare (code l) →
+      RewrittenSpine f listed z left (binary_expression line BinaryOp.Concat l r) (and_value v rest)
+  spine_of_first line l r v rest first others some kept = record {
+    can = joined_can first others some;
+    unused = ap (left_by_values rest) first.unused ∙ others.unused;
+    few = λ n. let few = joined_few first others some n in omega (arith, few);
+    spine = λ m ahead final. ap (λ w. (coded w.words).spine m) (joined_here first others some kept m ahead final) ∙ parts_same first others some kept m ahead final;
+    taken = λ m ahead final. joined_taken first others some kept m ahead final;
+  }
+
+  pub concat_rewritten : (line : ℕ) (l r : Expression) (first : Value) (rest : Values) (v : Value) → Rewritten f listed z left l first → RewrittenSpine f listed z left r rest → ends_values rest ≡ false → KeepsBare (code l) →
+      made_concat (and_value first rest) ≡ Some v → Rewritten f listed z left (binary_expression line BinaryOp.Concat l r) v
+  concat_rewritten line l r of rest v first others some kept made = subst (Rewritten f listed z left (binary_expression line BinaryOp.Concat l r)) (made_is (nat_lt (deepest (and_value of rest)) 400) _ v made) (record {
+    can = joined_can first others some;
+    unused = ap (left_by_values rest) first.unused ∙ others.unused;
+    named = λ n. ap (λ w. is_name w.words) (joined_is first others some n (taken_behind of n) refl);
+    folded = λ n. ap (λ w. fold w.words) (joined_is first others some n (taken_behind of n) refl);
+    several = λ n. ap (λ w. is_multiple w.words) (joined_is first others some n (taken_behind of n) refl);
+    gives = λ is. cc;
+    few = joined_few first others some;
+    keys = omega arith;
+    to_reg = λ to m ahead final.
+        let final = operands_final to m final in
+        ap (λ w. (coded w.words).to_reg to m) (joined_here first others some kept m ahead final) ∙ ap (behind_operands to m) (parts_same first others some kept m ahead final);
+    taken = λ to m ahead final. joined_taken first others some kept m ahead (operands_final to m final);
+    multi = λ is. cc;
+    multi_taken = λ is. cc;
+  })
+    where
+      operands_final : (to : ℕ) (m : Maker) → Final (length m.labels) ((code (binary_expression line BinaryOp.Concat l r)).to_reg to m) z → Final (length m.labels) ((code r).spine (next_reg (code l) m)) z
+      operands_final to m final =
+          let n = (code r).spine (next_reg (code l) m) in
+          let word = Piece.Abc Op.Concat to m.free (n.free - 1) in
+          before_put 1 word n (before_free m.free (put 1 word n) final)

@@ -1,0 +1,223 @@
+-- What is written of arguments has the code of the arguments: lists, of which the last one gives all its values or one, and a string alone.
+use Rattle.std.proofs.Common.{◌≡◌, ℕ, suc, Bool, true, false, cond, not, List, [], ◌∷◌, length, Option, Some, None, refl, sym, ap, ◌∙◌, subst, arith}
+use Rattle.std.specs.Prelude.{◌&&◌, slice_get, is_some, option_map}
+use Rattle.lua_num.specs.Bytes.{Text}
+use Rattle.lua_tree.specs.OneLine.{one_line_expression, one_line_expressions}
+use Rattle.lua_tree.specs.Syntax as syntax
+use Rattle.lua_tree.specs.Syntax.{Expressions, no_expressions, Expression, argument_list, text_argument}
+use Rattle.lua_tree.specs.WellFormed.{depth_of_expressions}
+use Rattle.opcode.specs.declared.op.Op.{Op}
+use Rattle.proto.specs.declared.parts.Constant.{Constant}
+use Rattle.core_expr.specs.Counting.{taken_behind, taken_behind_values, left_by, left_by_values}
+use Rattle.core_expr.specs.Places.{place}
+use Rattle.core_expr.specs.Values.{Value, constant_value, Values, no_values, and_value, Inner}
+use Rattle.core_expr.specs.Writing.{Wording, constant_word, can_write_values, as_value, ends_values, is_multiple as can_be_several, unless, word, word_values}
+use Rattle.recover_expr.specs.Situation.{Function}
+use Rattle.scheme.specs.Expressions.{Coded, is_multiple, load, next_reg}
+use Rattle.scheme.specs.Lists.{all_multi, all_next, ends_open as opens, list_count, open_list}
+use Rattle.scheme.specs.Making.{Maker, constant}
+use Rattle.scheme.specs.Scheme.{all_coded, coded}
+use Rattle.scheme.specs.declared.making.Active.{Active}
+use Rattle.scheme_stands.proofs.Growth.{Final, before, before_put, before_take, calm, later}
+use Rattle.scheme_stands.proofs.Parts.{grow_all, grows, grows_next, grows_open}
+use Rattle.scheme_stands.specs.Words.{Fn}
+use Rattle.reads_back.specs.Cores.{AllHaveCores, AreCores, HasCore, HasNumber, IsCore, IsTextGiven, ends_open}
+use Rattle.reads_back.proofs.ConstantsSame.{constant_taken}
+use Rattle.reads_back.proofs.BareMakers.{bare_kept, next_keeps}
+use Rattle.reads_back.proofs.LiteralReads.{constant_there}
+use Rattle.reads_back.proofs.Rewriting.{IsBare, IsMadeBy, Rewritten, RewrittenGiven, code, wording}
+use Rattle.reads_back.proofs.Tests.{both_hold}
+use Rattle.reads_back.proofs.WordsSame.{coded_is, levels_wrapped, next_same, next_taken, next_wrapped, same_multiple}
+
+-- ---- lists
+
+-- one value is wanted
+pub closed_unless : (several : Bool) (w : Wording) → is_multiple w.words ≡ several → is_multiple (unless (not (true && several)) w).words ≡ false
+closed_unless true w is = refl
+closed_unless false w is = is
+
+open_by : (cs : List Coded) (b : Bool) (m : Maker) → opens cs ≡ b → open_list cs m ≡ cond b (all_multi Op.Call None cs) (all_next cs) m
+open_by cs b m is = ap (λ b. cond b (all_multi Op.Call None cs) (all_next cs) m) is
+
+count_by : (cs : List Coded) (b : Bool) → opens cs ≡ b → list_count cs ≡ cond b None (Some (length cs))
+count_by cs b is = ap (λ (b : Bool). cond b None (Some (length cs))) is
+
+open_more : (c d : Coded) (cs : List Coded) (m : Maker) → open_list (c ∷ d ∷ cs) m ≡ open_list (d ∷ cs) (next_reg c m)
+open_more c d cs m = by (opens (d ∷ cs))
+  where
+    by : (b : Bool) → cond b (all_multi Op.Call None (c ∷ d ∷ cs)) (all_next (c ∷ d ∷ cs)) m ≡ cond b (all_multi Op.Call None (d ∷ cs)) (all_next (d ∷ cs)) (next_reg c m)
+    by true = refl
+    by false = refl
+
+count_more : (c d : Coded) (cs : List Coded) → list_count (c ∷ d ∷ cs) ≡ option_map suc (list_count (d ∷ cs))
+count_more c d cs = by (opens (d ∷ cs))
+  where
+    by : (b : Bool) → cond b None (Some (length (c ∷ d ∷ cs))) ≡ option_map suc (cond b None (Some (length (d ∷ cs))))
+    by true = refl
+    by false = refl
+
+opens_one : (w : Wording) (b : Bool) → is_multiple w.words ≡ b → opens (coded w.words ∷ []) ≡ b
+opens_one w b is = ap is_multiple (coded_is w.words) ∙ is
+
+opens_last : (e : Expression) (b : Bool) → b ≡ is_multiple e → opens (code e ∷ []) ≡ b
+opens_last e b is = ap is_multiple (coded_is (one_line_expression e)) ∙ same_multiple e ∙ sym is
+
+-- ---- what is asked of a list
+
+-- the values of each expression are rewritten
+abbrev pub AllRewritten : Function → Fn → List Active → (listed : List ℕ) → Maker → List (Option Inner) → Expressions → Type 0
+AllRewritten f g active listed z left no_expressions = Unit {0}
+AllRewritten f g active listed z left (syntax.expression e es) = ((v : Value) → IsCore g active e v → Rewritten f listed z left e v) × AllRewritten f g active listed z left es
+
+abbrev ListGiven : Function → (listed : List ℕ) → Maker → List (Option Inner) → Expressions → (all : Bool) → Values → Type 0
+ListGiven f listed z left es all values = RewrittenGiven f listed z left (argument_list es) (depth_of_expressions es) values all
+
+module _ {f : Function} {listed : List ℕ} {z : Maker} {left : List (Option Inner)} where
+  none_given : (all : Bool) → ListGiven f listed z left no_expressions all no_values
+  none_given all = record {
+    can = refl;
+    unused = refl;
+    few = λ n. omega arith;
+    counts = λ n. refl;
+    part = λ m ahead final. refl;
+    taken = λ m ahead final. refl;
+  }
+
+  -- ---- the last one
+
+  last_open : (e : Expression) (v : Value) → Rewritten f listed z left e v → true ≡ is_multiple e → ListGiven f listed z left (syntax.expression e no_expressions) true (and_value v no_values)
+  last_open e v written is = record {
+    can = both_hold _ true written.can refl;
+    unused = written.unused;
+    few = λ n. omega (arith, written.few n);
+    counts = λ n. count_by (coded (wording f listed z left n v).words ∷ []) true (written_opens n) ∙ sym (count_by (code e ∷ []) true (opens_last e true is));
+    part = λ m ahead final.
+        open_by (coded (wording f listed z left (length m.constants) v).words ∷ []) true m (written_opens (length m.constants))
+        ∙ written.multi (sym is) Op.Call None m ahead (inner m final)
+        ∙ sym (open_by (code e ∷ []) true m (opens_last e true is));
+    taken = λ m ahead final. ap (λ (m : Maker). length m.constants) (open_by (code e ∷ []) true m (opens_last e true is)) ∙ written.multi_taken (sym is) Op.Call None m ahead (inner m final);
+  }
+    where
+      written_opens : (n : ℕ) → opens (coded (wording f listed z left n v).words ∷ []) ≡ true
+      written_opens n = opens_one (wording f listed z left n v) true (written.several n ∙ written.gives (sym is))
+
+      inner : (m : Maker) → Final (length m.labels) (open_list (code e ∷ []) m) z → Final (length m.labels) ((code e).multi Op.Call None m) z
+      inner m final = subst (λ n. Final (length m.labels) n z) (open_by (code e ∷ []) true m (opens_last e true is)) final
+
+  last_closed : (e : Expression) (v : Value) → Rewritten f listed z left e v → false ≡ is_multiple e → ListGiven f listed z left (syntax.expression e no_expressions) false (and_value v no_values)
+  last_closed e v written is = record {
+    can = both_hold _ true written.can refl;
+    unused = written.unused;
+    few = λ n. omega (arith, written.few n, levels_wrapped (not (true && can_be_several v)) (wording f listed z left n v));
+    counts = λ n. count_by (coded (last n).words ∷ []) false (written_closed n) ∙ sym (count_by (code e ∷ []) false (opens_last e false is));
+    part = λ m ahead final.
+        open_by (coded (last (length m.constants)).words ∷ []) false m (written_closed (length m.constants))
+        ∙ next_wrapped (not (true && can_be_several v)) (wording f listed z left (length m.constants) v) m
+        ∙ next_same written m ahead (inner m final)
+        ∙ sym (open_by (code e ∷ []) false m (opens_last e false is));
+    taken = λ m ahead final. ap (λ (m : Maker). length m.constants) (open_by (code e ∷ []) false m (opens_last e false is)) ∙ next_taken written m ahead (inner m final);
+  }
+    where
+      last : (n : ℕ) → Wording
+      last n = unless (not (true && can_be_several v)) (wording f listed z left n v)
+
+      written_closed : (n : ℕ) → opens (coded (last n).words ∷ []) ≡ false
+      written_closed n = opens_one (last n) false (closed_unless (can_be_several v) (wording f listed z left n v) (written.several n))
+
+      inner : (m : Maker) → Final (length m.labels) (open_list (code e ∷ []) m) z → Final (length m.labels) (next_reg (code e) m) z
+      inner m final = subst (λ n. Final (length m.labels) n z) (open_by (code e ∷ []) false m (opens_last e false is)) final
+
+  last_given : (e : Expression) (v : Value) (all : Bool) → Rewritten f listed z left e v → all ≡ is_multiple e → ListGiven f listed z left (syntax.expression e no_expressions) all (and_value v no_values)
+  last_given e v true written is = last_open e v written is
+  last_given e v false written is = last_closed e v written is
+
+  -- ---- one, and others behind it
+
+  more_given : (e d : Expression) (es : Expressions) (v w : Value) (rest : Values) (all : Bool) → HasCore e → Rewritten f listed z left e v → ListGiven f listed z left (syntax.expression d es) all (and_value w rest) →
+      ListGiven f listed z left (syntax.expression e (syntax.expression d es)) all (and_value v (and_value w rest))
+  more_given e d es v w rest all has first others = record {
+    can = both_hold _ _ first.can (ap (λ fs. can_write_values (place f.of listed f.short) fs (and_value w rest)) first.unused ∙ others.can);
+    unused = ap (left_by_values (and_value w rest)) first.unused ∙ others.unused;
+    few = λ n.
+        let same = ap (λ fs. (word_values (place f.of listed f.short) (taken_behind v n) fs (and_value w rest) all).levels) first.unused in
+        omega (arith, same, first.few n, others.few (taken_behind v n));
+    counts = λ n.
+        count_more (coded (wording f listed z left n v).words) (second (taken_behind v n) (left_by v left)) (others_behind (taken_behind v n) (left_by v left))
+        ∙ ap (λ fs. option_map suc (list_count (written (taken_behind v n) fs))) first.unused
+        ∙ ap (option_map suc) (others.counts (taken_behind v n))
+        ∙ sym (count_more (code e) (code d) (all_coded (one_line_expressions es)));
+    part = λ m ahead final.
+        let c = coded (wording f listed z left (length m.constants) v).words in
+        let mid = next_reg (code e) m in
+        let before_rest = here m final in
+        open_more c (second (taken_behind v (length m.constants)) (left_by v left)) (others_behind (taken_behind v (length m.constants)) (left_by v left)) m
+        ∙ ap (open_list (written (taken_behind v (length m.constants)) (left_by v left))) (next_same first m ahead before_rest)
+        ∙ ap (λ n. open_list (written n (left_by v left)) mid) (sym (next_taken first m ahead before_rest))
+        ∙ ap (λ fs. open_list (written (length mid.constants) fs) mid) first.unused
+        ∙ others.part mid (ahead_behind m ahead) (behind m final)
+        ∙ sym (open_more (code e) (code d) (all_coded (one_line_expressions es)) m);
+    taken = λ m ahead final.
+        let mid = next_reg (code e) m in
+        ap (λ (m : Maker). length m.constants) (open_more (code e) (code d) (all_coded (one_line_expressions es)) m)
+        ∙ others.taken mid (ahead_behind m ahead) (behind m final)
+        ∙ ap (taken_behind_values (and_value w rest)) (next_taken first m ahead (here m final));
+  }
+    where
+      second : (n : ℕ) → List (Option Inner) → Coded
+      second n fs = coded (as_value (ends_values rest && not all) w (word (place f.of listed f.short) n fs w)).words
+
+      others_behind : (n : ℕ) → List (Option Inner) → List Coded
+      others_behind n fs = all_coded (word_values (place f.of listed f.short) (taken_behind w n) (left_by w fs) rest all).words
+
+      written : (n : ℕ) → List (Option Inner) → List Coded
+      written n fs = all_coded (word_values (place f.of listed f.short) n fs (and_value w rest) all).words
+
+      behind_first : List Coded
+      behind_first = all_coded (one_line_expressions (syntax.expression d es))
+
+      inner : (m : Maker) → Final (length m.labels) (open_list (code e ∷ behind_first) m) z → Final (length m.labels) (open_list behind_first (next_reg (code e) m)) z
+      inner m final = subst (λ n. Final (length m.labels) n z) (open_more (code e) (code d) (all_coded (one_line_expressions es)) m) final
+
+      here : (m : Maker) → Final (length m.labels) (open_list (code e ∷ behind_first) m) z → Final (length m.labels) (next_reg (code e) m) z
+      here m final = before (grows_open {v = calm} behind_first (grow_all calm (one_line_expressions (syntax.expression d es))) (next_reg (code e) m)) (inner m final)
+
+      ahead_behind : (m : Maker) → IsBare m → IsBare (next_reg (code e) m)
+      ahead_behind m ahead = next_keeps (code e) (bare_kept e has) m ahead
+
+      behind : (m : Maker) → Final (length m.labels) (open_list (code e ∷ behind_first) m) z → Final (length (next_reg (code e) m).labels) (open_list behind_first (next_reg (code e) m)) z
+      behind m final = let grown = grows_next {v = calm} (code e) (grows calm (one_line_expression e)) m in later grown.more (inner m final)
+
+module _ {f : Function} {g : Fn} {active : List Active} {listed : List ℕ} {z : Maker} {left : List (Option Inner)} (made : IsMadeBy f g active listed z) where
+  -- a list, of which the last one gives all its values or one
+  pub list_rewritten : (es : Expressions) (values : Values) (all : Bool) → AllHaveCores es → AllRewritten f g active listed z left es → AreCores g active es values → all ≡ ends_open es →
+      RewrittenGiven f listed z left (argument_list es) (depth_of_expressions es) values all
+  list_rewritten no_expressions vs all have written are is = subst (ListGiven f listed z left no_expressions all) (sym are) (none_given all)
+  list_rewritten (syntax.expression e no_expressions) vs all have written are is =
+      subst (ListGiven f listed z left (syntax.expression e no_expressions) all) (sym (are.4 ∙ ap (and_value are.0) are.3)) (last_given e are.0 all (written.0 are.0 are.2) is)
+  list_rewritten (syntax.expression e (syntax.expression d es)) vs all have written are is =
+      let others = list_rewritten (syntax.expression d es) are.1 all have.1 written.1 are.3 is in
+      subst (ListGiven f listed z left (syntax.expression e (syntax.expression d es)) all) (sym (are.4 ∙ ap (and_value are.0) are.3.4))
+      (more_given e d es are.0 are.3.0 are.3.1 all have.0 (written.0 are.0 are.2) (subst (ListGiven f listed z left (syntax.expression d es) all) are.3.4 others))
+
+  -- the number of a string is the only value
+  text_given : (text : Text) (number : ℕ) → HasNumber g (Constant.Text text) number → RewrittenGiven f listed z left (text_argument text) 1 (and_value (constant_value number) no_values) false
+  text_given text number has = record {
+    can = both_hold _ true (ap is_some there) refl;
+    unused = refl;
+    few = λ n. let same = ap (λ k. (constant_word k).levels) there in omega (arith, same);
+    counts = λ n. ap (λ k. list_count (coded (constant_word k).words ∷ [])) there;
+    part = λ m ahead final. ap (λ k. open_list (coded (constant_word k).words ∷ []) m) there;
+    taken = λ m ahead final.
+        constant_taken made (Constant.Text text) number m has (before_put 1 _ (constant (Constant.Text text) m).after (before_take 1 (load 1 m.free (Constant.Text text) m) final));
+  }
+    where
+      there : slice_get f.of.constants number ≡ Some (Constant.Text text)
+      there = constant_there number (Constant.Text text) made.is_function has.is
+
+  -- a string alone, which is written as a list
+  pub text_rewritten_given : (text : Text) (values : Values) (all : Bool) → IsTextGiven g text values all → RewrittenGiven f listed z left (text_argument text) 1 values all
+  text_rewritten_given text values all are =
+      let known = are.0.1 in
+      subst (λ (all : Bool). RewrittenGiven f listed z left (text_argument text) 1 values all) (sym are.1)
+      (subst (λ (vs : Values). RewrittenGiven f listed z left (text_argument text) 1 vs false) (sym (are.0.2 ∙ ap (λ v. and_value v no_values) known.2))
+      (text_given text known.0 known.1))

@@ -1,0 +1,317 @@
+-- What is written of a value with a key behind it has the same code as the expression that is indexed.
+use Rattle.std.proofs.Common.{◌≡◌, ℕ, suc, ◌+◌, ◌*◌, ◌≤◌, Bool, true, false, cond, List, length, max, refl, sym, ap, ◌∙◌, subst, arith, le-leb, lt-ltb, nat_lt, nat_le}
+use Rattle.std.specs.Prelude.{Option, Some, None, ◌||◌, if◌then◌else◌}
+use Rattle.std.proofs.lemmas.Bool.{and_from, leb-false}
+use Rattle.lua_num.specs.Bytes.{Text}
+use Rattle.lua_tree.specs.Names.{is_name as is_good}
+use Rattle.lua_tree.specs.OneLine.{one_line_expression}
+use Rattle.lua_tree.specs.Syntax.{Expression, text_literal, index_expression, field_expression}
+use Rattle.lua_tree.specs.WellFormed.{depth_of_expression, is_prefix}
+use Rattle.opcode.specs.declared.op.Op.{Op}
+use Rattle.proto.specs.declared.parts.Constant.{Constant}
+use Rattle.core_expr.specs.Counting.{taken_behind, taken_behind_operand, taken_behind_operands, left_by, left_by_operand, left_by_operands}
+use Rattle.core_expr.specs.Making.{and_last, depth_of, depth_of_operand, made_index}
+use Rattle.core_expr.specs.Places.{Place, as_name, as_text, constant_at, constant_name, field_name, name_of_number, place}
+use Rattle.core_expr.specs.Values.{Value, index_value, constant_value, OperandValue, constant_operand, value_operand, OperandList, no_operands, and_operand, Inner}
+use Rattle.core_expr.specs.Writing.{Wording, as_prefix, can_write, can_write_operand, can_write_operands, constant_word, is_multiple as can_be_several, operand_count, unless, with_key, word, word_keys, word_operand}
+use Rattle.recover_expr.specs.Situation.{Function}
+use Rattle.scheme.specs.Expressions.{fold, indexed_value, is_multiple, is_name, is_small, next_text, operand, rk, rk_text, small_constant}
+use Rattle.scheme.specs.Making.{Asks, Got, Maker, free_from, freeing, put}
+use Rattle.scheme.specs.Scheme.{coded}
+use Rattle.scheme.specs.declared.making.Piece.{Piece}
+use Rattle.scheme_stands.proofs.Growth.{calm, Grown, Final, before, before_free, before_put, later}
+use Rattle.scheme_stands.proofs.Parts.{grows, grows_operand, grows_rk, grows_rk_text}
+use Rattle.reads_back.proofs.BareMakers.{KeepsBare, operand_keeps}
+use Rattle.reads_back.proofs.OperatorsSame.{few_more, made_is, some_depth}
+use Rattle.reads_back.proofs.Rewriting.{IsBare, Rewritten, RewrittenOperand, code, keys_of, operand_wording, wording}
+use Rattle.reads_back.proofs.WordsSame.{levels_wrapped, operand_same, operand_taken, operand_wrapped}
+use Rattle.reads_back.proofs.Tests.{first_of_both, second_of_both}
+
+-- ---- keys one behind the other, and one more
+
+words_last : (at : Place) (n : ℕ) (fs : List (Option Inner)) (on : Wording) (keys : OperandList) (key : OperandValue) →
+    word_keys at n fs on (and_last keys key) ≡ with_key (field_name at key) (word_keys at n fs on keys) (word_operand at (taken_behind_operands keys n) (left_by_operands keys fs) key)
+words_last at n fs on no_operands key = refl
+words_last at n fs on (and_operand o keys) key = words_last at (taken_behind_operand o n) (left_by_operand o fs) (with_key (field_name at o) on (word_operand at n fs o)) keys key
+
+taken_last : (keys : OperandList) (key : OperandValue) (n : ℕ) → taken_behind_operands (and_last keys key) n ≡ taken_behind_operand key (taken_behind_operands keys n)
+taken_last no_operands key n = refl
+taken_last (and_operand o keys) key n = taken_last keys key (taken_behind_operand o n)
+
+left_last : (keys : OperandList) (key : OperandValue) (fs : List (Option Inner)) → left_by_operands (and_last keys key) fs ≡ left_by_operand key (left_by_operands keys fs)
+left_last no_operands key fs = refl
+left_last (and_operand o keys) key fs = left_last keys key (left_by_operand o fs)
+
+count_last : (keys : OperandList) (key : OperandValue) → operand_count (and_last keys key) ≡ suc (operand_count keys)
+count_last no_operands key = refl
+count_last (and_operand o keys) key = ap suc (count_last keys key)
+
+can_last : (at : Place) (fs : List (Option Inner)) (keys : OperandList) (key : OperandValue) → can_write_operands at fs keys ≡ true → can_write_operand at (left_by_operands keys fs) key ≡ true → can_write_operands at fs (and_last keys key) ≡ true
+can_last at fs no_operands key can last = and_from _ _ last refl
+can_last at fs (and_operand o keys) key can last = and_from _ _ (first_of_both _ _ can) (can_last at (left_by_operand o fs) keys key (second_of_both _ _ can) last)
+
+-- ---- what a key stands behind
+
+key_behind : (name : Option Text) (on key : Wording) → is_prefix (with_key name on key).words ≡ true
+key_behind None on key = refl
+key_behind (Some name) on key = refl
+
+prefix_keys : (at : Place) (n : ℕ) (fs : List (Option Inner)) (on : Wording) (keys : OperandList) → is_prefix on.words ≡ true → is_prefix (word_keys at n fs on keys).words ≡ true
+prefix_keys at n fs on no_operands is = is
+prefix_keys at n fs on (and_operand o keys) is = prefix_keys at (taken_behind_operand o n) (left_by_operand o fs) (with_key (field_name at o) on (word_operand at n fs o)) keys (key_behind (field_name at o) on (word_operand at n fs o))
+
+wrapped_prefix : (bare : Bool) (w : Wording) → is_prefix w.words ≡ bare → is_prefix (unless bare w).words ≡ true
+wrapped_prefix true w is = is
+wrapped_prefix false w is = refl
+
+-- parentheses stand at most once
+prefix_once : (w : Wording) → is_prefix w.words ≡ true → w ≡ as_prefix w
+prefix_once w is = ap (λ bare. unless bare w) (sym is)
+
+-- ---- what is made of a value and a key
+
+-- what is known of it, whether the value has keys already or not
+record Indexes (at : Place) (on : Value) (key : OperandValue) (v : Value) : Type 0 where
+  words : (n : ℕ) (fs : List (Option Inner)) → word at n fs v ≡ with_key (field_name at key) (as_prefix (word at n fs on)) (word_operand at (taken_behind on n) (left_by on fs) key)
+  taken : (n : ℕ) → taken_behind v n ≡ taken_behind_operand key (taken_behind on n)
+  unused : (fs : List (Option Inner)) → left_by v fs ≡ left_by_operand key (left_by on fs)
+  keys : keys_of v ≡ suc (keys_of on)
+  can : (fs : List (Option Inner)) → suc (keys_of on) ≤ 200 → can_write at fs on ≡ true → can_write_operand at (left_by on fs) key ≡ true → can_write at fs v ≡ true
+  several : can_be_several v ≡ false
+
+first_key : (at : Place) (on : Value) (key : OperandValue) (depth : ℕ) → keys_of on ≡ 0 → Indexes at on key (index_value on (and_operand key no_operands) depth)
+first_key at on key depth none = record {
+  words = λ n fs. refl;
+  taken = λ n. refl;
+  unused = λ fs. refl;
+  keys = ap suc (sym none);
+  can = λ fs few first last. and_from _ _ first (and_from _ _ last refl);
+  several = refl;
+}
+
+next_key : (at : Place) (on : Value) (keys : OperandList) (key : OperandValue) (depth more : ℕ) → Indexes at (index_value on keys depth) key (index_value on (and_last keys key) more)
+next_key at on keys key depth more = record {
+  words = λ n fs.
+      let w = word at n fs (index_value on keys depth) in
+      let is = prefix_keys at (taken_behind on n) (left_by on fs) (as_prefix (word at n fs on)) keys (wrapped_prefix (is_prefix (word at n fs on).words) (word at n fs on) refl) in
+      words_last at (taken_behind on n) (left_by on fs) (as_prefix (word at n fs on)) keys key
+      ∙ ap (λ w. with_key (field_name at key) w (word_operand at (taken_behind (index_value on keys depth) n) (left_by (index_value on keys depth) fs) key)) (prefix_once w is);
+  taken = λ n. taken_last keys key (taken_behind on n);
+  unused = λ fs. left_last keys key (left_by on fs);
+  keys = count_last keys key;
+  can = λ fs few first last.
+      let count = count_last keys key in
+      let small : operand_count (and_last keys key) ≤ 200 = omega (arith, few, count) in
+      let both = second_of_both _ _ first in
+      and_from _ _ (le-leb _ _ small) (and_from _ _ (first_of_both _ _ both) (can_last at (left_by on fs) keys key (second_of_both _ _ both) last));
+  several = refl;
+}
+
+indexes : (at : Place) (on : Value) (key : OperandValue) (v : Value) → made_index on key ≡ Some v → Indexes at on key v
+indexes at (index_value on keys depth) key v made = subst (Indexes at (index_value on keys depth) key) (made_is (nat_lt (depth_of_operand key) 400) _ v made) (next_key at on keys key depth (max depth (suc (depth_of_operand key))))
+indexes at on key v made = subst (Indexes at on key) (made_is (nat_lt (max (depth_of on) (depth_of_operand key)) 400) _ v made) (first_key at on key (suc (max (depth_of on) (depth_of_operand key))) refl)
+
+-- ---- a key that is written as a field
+
+-- what a key asks for
+abbrev pub key_asks : Option Text → Wording → Asks ℕ
+key_asks None key = rk (coded key.words)
+key_asks (Some name) key = rk_text 1 name
+
+small_or : (b : Bool) (text : Text) (m : Maker) → cond b (small_constant (Constant.Text text)) (operand (coded (text_literal 1 text))) m ≡ cond b (small_constant (Constant.Text text)) (λ n. record { value = n.free; after = next_text 1 text n }) m
+small_or true text m = refl
+small_or false text m = refl
+
+-- a string that is no expression of its own is an operand as one that is
+text_asks : (text : Text) (m : Maker) → rk (coded (text_literal 1 text)) m ≡ rk_text 1 text m
+text_asks text m = small_or (is_small (Constant.Text text) m) text m
+
+good_name : (b : Bool) (text name : Text) → (if b then Some text else None) ≡ Some name → text ≡ name
+good_name true text name is = cc
+good_name false text name is = cc
+
+-- a constant that is a name is a string
+name_is : (k : Option Constant) (name : Text) → as_name (as_text k) ≡ Some name → (constant_word k).words ≡ text_literal 1 name
+name_is None name is = cc
+name_is (Some (Constant.Text text)) name is = ap (text_literal 1) (good_name (is_good text) text name is)
+name_is (Some Constant.Nil) name is = cc
+name_is (Some (Constant.Bool b)) name is = cc
+name_is (Some (Constant.Number n)) name is = cc
+
+-- a name in a register has a number that is no operand
+large_named : (at : Place) (c : ℕ) (small : Bool) (name : Text) → nat_le c 255 ≡ small → name_of_number at (if small then None else Some c) ≡ Some name → (nat_lt 255 c ≡ true) × (constant_name at c ≡ Some name)
+large_named at c true name is named = cc
+large_named at c false name is named = (lt-ltb 255 c (leb-false c 255 is), named)
+
+bare_words : (large other : Bool) (w : Wording) → large ≡ true → (unless (large || other) w).words ≡ w.words
+bare_words true other w is = refl
+bare_words false other w is = cc
+
+-- it is that string
+named_key : (at : Place) (n : ℕ) (fs : List (Option Inner)) (key : OperandValue) (name : Text) → field_name at key ≡ Some name → (word_operand at n fs key).words ≡ text_literal 1 name
+named_key at n fs (constant_operand c) name is = name_is (constant_at at c) name is
+named_key at n fs (value_operand (constant_value c)) name is =
+    let large = large_named at c (nat_le c 255) name refl is in
+    bare_words (nat_lt 255 c) _ (constant_word (constant_at at c)) large.0 ∙ name_is (constant_at at c) name large.1
+named_key at n fs (value_operand v) name is = cc
+
+asks_by : (name : Option Text) (key : Wording) (m : Maker) → ((text : Text) → name ≡ Some text → key.words ≡ text_literal 1 text) → key_asks name key m ≡ rk (coded key.words) m
+asks_by None key m is = refl
+asks_by (Some text) key m is = sym (text_asks text m) ∙ ap (λ e. rk (coded e) m) (sym (is text refl))
+
+pub key_asks_same : (at : Place) (n : ℕ) (fs : List (Option Inner)) (key : OperandValue) (m : Maker) → key_asks (field_name at key) (word_operand at n fs key) m ≡ rk (coded (word_operand at n fs key).words) m
+key_asks_same at n fs key m = asks_by (field_name at key) (word_operand at n fs key) m (named_key at n fs key)
+
+-- ---- the code of a value with a key behind it
+
+index_to : (name : Option Text) (on key : Wording) (to : ℕ) (m : Maker) → (coded (with_key name on key).words).to_reg to m ≡ freeing (indexed_value 1 (coded on.words) (key_asks name key) to) m
+index_to None on key to m = refl
+index_to (Some name) on key to m = refl
+
+key_plain : (name : Option Text) (on key : Wording) → is_name (with_key name on key).words ≡ false
+key_plain None on key = refl
+key_plain (Some name) on key = refl
+
+key_folded : (name : Option Text) (on key : Wording) → fold (with_key name on key).words ≡ None
+key_folded None on key = refl
+key_folded (Some name) on key = refl
+
+key_single : (name : Option Text) (on key : Wording) → is_multiple (with_key name on key).words ≡ false
+key_single None on key = refl
+key_single (Some name) on key = refl
+
+pub key_few : (name : Option Text) (on key : Wording) (deep more : ℕ) → on.levels ≤ deep → key.levels ≤ more → (with_key name on key).levels ≤ suc (max deep more)
+key_few None on key deep more first second = let all = few_more (max on.levels key.levels) in omega (arith, first, second, all)
+key_few (Some name) on key deep more first second = let all = few_more on.levels in omega (arith, first, all)
+
+-- what is known of a key that asks so
+pub record KeySame (f : Function) (listed : List ℕ) (z : Maker) (left : List (Option Inner)) (asked : Asks ℕ) (key : OperandValue) (deep : ℕ) : Type 0 where
+  pub can : can_write_operand (place f.of listed f.short) left key ≡ true
+  pub unused : left_by_operand key left ≡ left
+  pub few : (n : ℕ) → (operand_wording f listed z left n key).levels ≤ 3 * deep + 3
+  pub grown : (m : Maker) → Grown calm m (asked m).after
+  pub as_rk : (m : Maker) → IsBare m → Final (length m.labels) (asked m).after z → rk (coded (operand_wording f listed z left (length m.constants) key).words) m ≡ asked m
+  pub taken : (m : Maker) → IsBare m → Final (length m.labels) (asked m).after z → length (asked m).after.constants ≡ taken_behind_operand key (length m.constants)
+
+-- the word behind both
+abbrev behind_key : (to : ℕ) → Maker → ℕ → Got ℕ → Maker
+behind_key to m x y = free_from m.free (put 1 (Piece.Abc Op.GetTable to x y.value) y.after)
+
+module _ {f : Function} {listed : List ℕ} {z : Maker} {left : List (Option Inner)} {on : Expression} {o : Value} {asked : Asks ℕ} {key : OperandValue} {deep : ℕ} {v : Value}
+    (first : Rewritten f listed z left on o) (second : KeySame f listed z left asked key deep) (made : made_index o key ≡ Some v) where
+  is : Indexes (place f.of listed f.short) o key v
+  is = indexes (place f.of listed f.short) o key v made
+
+  -- what is written, where so many constants are taken behind the value
+  indexed_is : (n m : ℕ) → taken_behind o n ≡ m → wording f listed z left n v ≡ with_key (field_name (place f.of listed f.short) key) (as_prefix (wording f listed z left n o)) (operand_wording f listed z left m key)
+  indexed_is n m taken =
+      let at = place f.of listed f.short in
+      is.words n left
+      ∙ ap (λ fs. with_key (field_name at key) (as_prefix (wording f listed z left n o)) (word_operand at (taken_behind o n) fs key)) first.unused
+      ∙ ap (λ n'. with_key (field_name at key) (as_prefix (wording f listed z left n o)) (word_operand at n' left key)) taken
+
+  indexed_few : (n : ℕ) → (wording f listed z left n v).levels ≤ 3 * suc (max (depth_of_expression on) deep) + 2
+  indexed_few n =
+      let w = wording f listed z left n o in
+      let u = operand_wording f listed z left (taken_behind o n) key in
+      let same : (wording f listed z left n v).levels ≡ (with_key (field_name (place f.of listed f.short) key) (as_prefix w) u).levels = ap (λ w. w.levels) (indexed_is n (taken_behind o n) refl) in
+      let one = levels_wrapped (is_prefix w.words) w in
+      let all = key_few (field_name (place f.of listed f.short) key) (as_prefix w) u (3 * depth_of_expression on + 3) (3 * deep + 3) (omega (arith, first.few n, one)) (second.few (taken_behind o n)) in
+      omega (arith, same, all)
+
+  indexed_can : suc (depth_of_expression on) ≤ 200 → can_write (place f.of listed f.short) left v ≡ true
+  indexed_can few =
+      let more : suc (keys_of o) ≤ 200 = omega (arith, few, first.keys) in
+      is.can left more first.can (ap (λ fs. can_write_operand (place f.of listed f.short) fs key) first.unused ∙ second.can)
+
+  module _ (kept : KeepsBare (code on)) (to : ℕ) (m : Maker) (ahead : IsBare m) (final : Final (length m.labels) (freeing (indexed_value 1 (code on) asked to) m) z) where
+    both_final : Final (length m.labels) (asked (operand (code on) m).after).after z
+    both_final =
+        let x = operand (code on) m in
+        let y = asked x.after in
+        before_put 1 (Piece.Abc Op.GetTable to x.value y.value) y.after (before_free m.free (indexed_value 1 (code on) asked to m) final)
+
+    front_final : Final (length m.labels) (operand (code on) m).after z
+    front_final = before (second.grown (operand (code on) m).after) both_final
+
+    behind_final : Final (length (operand (code on) m).after.labels) (asked (operand (code on) m).after).after z
+    behind_final = let grown = grows_operand {v = calm} (code on) (grows calm (one_line_expression on)) m in later grown.more both_final
+
+    indexed_same : (coded (wording f listed z left (length m.constants) v).words).to_reg to m ≡ freeing (indexed_value 1 (code on) asked to) m
+    indexed_same =
+        let at = place f.of listed f.short in
+        let x = operand (code on) m in
+        let m1 = x.after in
+        let w = wording f listed z left (length m.constants) o in
+        let u = operand_wording f listed z left (length m1.constants) key in
+        ap (λ w. (coded w.words).to_reg to m) (indexed_is (length m.constants) (length m1.constants) (sym (operand_taken first m ahead front_final)))
+        ∙ index_to (field_name at key) (as_prefix w) u to m
+        ∙ ap (λ x. behind_key to m x.value (key_asks (field_name at key) u x.after)) (operand_wrapped (is_prefix w.words) w m ∙ operand_same first m ahead front_final)
+        ∙ ap (behind_key to m x.value) (key_asks_same at (length m1.constants) left key m1 ∙ second.as_rk m1 (operand_keeps (code on) kept m ahead) behind_final)
+
+    indexed_taken : length (freeing (indexed_value 1 (code on) asked to) m).constants ≡ taken_behind v (length m.constants)
+    indexed_taken =
+        second.taken (operand (code on) m).after (operand_keeps (code on) kept m ahead) behind_final
+        ∙ ap (taken_behind_operand key) (operand_taken first m ahead front_final)
+        ∙ sym (is.taken (length m.constants))
+
+  -- an expression whose code this is
+  indexed_rewritten : (e : Expression) → suc (max (depth_of_expression on) deep) ≤ depth_of_expression e → depth_of_expression e ≤ 200 → is_name e ≡ false → fold e ≡ None → is_multiple e ≡ false →
+      ((to : ℕ) (m : Maker) → (code e).to_reg to m ≡ freeing (indexed_value 1 (code on) asked to) m) → KeepsBare (code on) → Rewritten f listed z left e v
+  indexed_rewritten e deeper shallow plain none single code_is kept =
+      let name = field_name (place f.of listed f.short) key in
+      record {
+        can = indexed_can (omega (arith, deeper, shallow));
+        unused = is.unused left ∙ ap (left_by_operand key) first.unused ∙ second.unused;
+        named = λ n. ap (λ w. is_name w.words) (indexed_is n (taken_behind o n) refl) ∙ key_plain name _ _ ∙ sym plain;
+        folded = λ n. ap (λ w. fold w.words) (indexed_is n (taken_behind o n) refl) ∙ key_folded name _ _ ∙ sym none;
+        several = λ n. ap (λ w. is_multiple w.words) (indexed_is n (taken_behind o n) refl) ∙ key_single name _ _ ∙ sym is.several;
+        gives = λ several. absurd cc;
+        few = λ n. let few = indexed_few n in omega (arith, few, deeper);
+        keys = let keys = is.keys in omega (arith, keys, first.keys, deeper);
+        to_reg = λ to m ahead final. indexed_same kept to m ahead (subst (λ n. Final (length m.labels) n z) (code_is to m) final) ∙ sym (code_is to m);
+        taken = λ to m ahead final. ap (λ n. length n.constants) (code_is to m) ∙ indexed_taken kept to m ahead (subst (λ n. Final (length m.labels) n z) (code_is to m) final);
+        multi = λ several. absurd cc;
+        multi_taken = λ several. absurd cc;
+      }
+
+-- ---- expressions that are indexed
+
+module _ {f : Function} {listed : List ℕ} {z : Maker} {left : List (Option Inner)} where
+  -- a tree is no deeper than 200, so it has no more keys one behind the other
+  pub index_rewritten : (line : ℕ) (on key : Expression) (o : Value) (k : OperandValue) (v : Value) → depth_of_expression (index_expression line on key) ≤ 200 → KeepsBare (code on) →
+      Rewritten f listed z left on o → RewrittenOperand f listed z left key k → made_index o k ≡ Some v → Rewritten f listed z left (index_expression line on key) v
+  index_rewritten line on key o k v shallow kept first second made =
+      let asks : KeySame f listed z left (rk (code key)) k (depth_of_expression key) = record {
+        can = second.can;
+        unused = second.unused;
+        few = second.few;
+        grown = grows_rk (code key) (grows calm (one_line_expression key));
+        as_rk = second.as_rk;
+        taken = second.taken;
+      } in
+      indexed_rewritten first asks made (index_expression line on key) (omega arith) shallow refl refl refl (λ to m. refl) kept
+
+  pub field_rewritten : (line : ℕ) (on : Expression) (text : Text) (o : Value) (k : OperandValue) (v : Value) → depth_of_expression (field_expression line on text) ≤ 200 → KeepsBare (code on) →
+      Rewritten f listed z left on o → KeySame f listed z left (rk_text 1 text) k 1 → made_index o k ≡ Some v → Rewritten f listed z left (field_expression line on text) v
+  field_rewritten line on text o k v shallow kept first asks made = indexed_rewritten first asks made (field_expression line on text) (omega (arith, some_depth on)) shallow refl refl refl (λ to m. refl) kept
+
+  -- the name of a field is a string, which is an operand as one that is an expression of its own
+  -- a key that is an expression
+  pub expression_key : (key : Expression) (k : OperandValue) → RewrittenOperand f listed z left key k → KeySame f listed z left (rk (code key)) k (depth_of_expression key)
+  expression_key key k operand = record { can = operand.can; unused = operand.unused; few = operand.few; grown = grows_rk (code key) (grows calm (one_line_expression key)); as_rk = operand.as_rk; taken = operand.taken }
+
+  pub key_deeper : {asked : Asks ℕ} {k : OperandValue} {deep more : ℕ} → deep ≤ more → KeySame f listed z left asked k deep → KeySame f listed z left asked k more
+  key_deeper deeper key = record { can = key.can; unused = key.unused; few = λ n. omega (arith, key.few n, deeper); grown = key.grown; as_rk = key.as_rk; taken = key.taken }
+
+  pub text_key : (line : ℕ) (text : Text) (k : OperandValue) → RewrittenOperand f listed z left (text_literal line text) k → KeySame f listed z left (rk_text 1 text) k 1
+  text_key line text k operand =
+      let asked = text_asks text in
+      record {
+        can = operand.can;
+        unused = operand.unused;
+        few = operand.few;
+        grown = grows_rk_text 1 text;
+        as_rk = λ m ahead final. operand.as_rk m ahead (subst (λ got. Final (length m.labels) got.after z) (sym (asked m)) final) ∙ asked m;
+        taken = λ m ahead final. ap (λ got. length got.after.constants) (sym (asked m)) ∙ operand.taken m ahead (subst (λ got. Final (length m.labels) got.after z) (sym (asked m)) final);
+      }

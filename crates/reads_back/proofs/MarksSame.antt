@@ -1,0 +1,243 @@
+-- The value of an expression has the names that the expression mentions, in the same order.
+use Rattle.std.proofs.Common.{◌≡◌, ℕ, suc, Bool, true, false, ◌&&◌, List, length, max, Option, Some, None, refl, sym, ap, ◌∙◌, inl, inr}
+use Rattle.std.specs.Prelude.{ℤ, nat_lt, if◌then◌else◌}
+use Rattle.std.proofs.lemmas.Option.{same_Some}
+use Rattle.lua_num.specs.declared.arith.ArithOp.{ArithOp}
+use Rattle.lua_num.specs.Bytes.{Text}
+use Rattle.lua_tree.specs.OneLine.{one_line_arguments, one_line_expression, one_line_expressions, one_line_fields}
+use Rattle.lua_tree.specs.Outline.{Part, arguments_part, both, expression_part, expressions_part, fields_part, mentions, nothing}
+use Rattle.lua_tree.specs.Syntax as syntax
+use Rattle.lua_tree.specs.Syntax.{Arguments, Expression, Expressions, argument_list, binary_expression, call_expression, constructor, Fields, no_fields, positional, named, keyed, table_argument, false_literal, field_expression, index_expression, method_call, name_expression, nil_literal, no_expressions, number_literal, parenthesized, text_argument, text_literal, true_literal, unary_expression, vararg_expression}
+use Rattle.lua_tree.specs.Names.{is_name}
+use Rattle.lua_tree.specs.declared.tree.BinaryOp.{BinaryOp}
+use Rattle.lua_tree.specs.declared.tree.UnaryOp.{UnaryOp}
+use Rattle.proto.specs.declared.parts.Constant.{Constant}
+use Rattle.core_expr.specs.Making.{and_last, deepest, deepest_item, depth_of, depth_of_operand, made_binary, made_call, made_index, made_method, made_over, made_table}
+use Rattle.core_expr.specs.Places.{Place, as_name, as_text, constant_name, place}
+use Rattle.core_expr.specs.Values.{binary_value, call_value, concat_value, method_value, unary_value, table_value, ItemList, no_items, OperandList, OperandValue, Value, Values, and_operand, and_value, global_value, index_value, local_value, no_operands, no_values, upvalue_value, value_operand}
+use Rattle.recover_expr.specs.Situation.{Function}
+use Rattle.scheme.specs.Expressions.{number_or, plain_literal, arith_op, fold, fold_binary, fold_unary, is_multiple, literal}
+use Rattle.scheme.specs.Making.{Where, in_globals, in_register, in_upvalue}
+use Rattle.scheme.specs.declared.making.Active.{Active}
+use Rattle.scheme_stands.specs.Lists.{is_last_item}
+use Rattle.scheme_stands.specs.Words.{Fn}
+use Rattle.reads_back.specs.Cores.{HasNumber, IsKey, IsSmall, IsVariable, AllHaveCores, AreCores, AreGiven, HasCore, HaveCores, IsConstant, IsCore, IsFirst, IsFoldedOr, IsItem, IsKeyedItem, Items, AreItems, HaveItems, IsOnly, IsOperandBy, IsOperator, core}
+use Rattle.reads_back.proofs.LiteralReads.{constant_there}
+use Rattle.reads_back.proofs.Marks.{SamePart, both_assoc, both_same, name_mentioned, nothing_behind, part_back, part_of, part_of_operand, part_then, parts_of, parts_of_items, parts_of_operands, same_part}
+use Rattle.reads_back.proofs.NameReads.{AreListed, IsListed}
+use Rattle.reads_back.proofs.Tests.{not_so}
+use Rattle.reads_back.proofs.WordsRead.{IsFunction}
+
+-- ---- values from their parts
+
+pub over_made : (depth : ℕ) (make : ℕ → Value) (v : Value) → made_over depth make ≡ Some v → v ≡ make (suc depth)
+over_made depth make v is = by (nat_lt depth 400) is
+  where
+    by : (few : Bool) → (if few then Some (make (suc depth)) else None) ≡ Some v → v ≡ make (suc depth)
+    by true is = sym (same_Some _ v is)
+    by false is = cc
+
+module _ (at : Place) where
+  last_part : (keys : OperandList) (key : OperandValue) → SamePart (parts_of_operands at (and_last keys key)) (both (parts_of_operands at keys) (part_of_operand at key))
+  last_part no_operands key = nothing_behind (part_of_operand at key)
+  last_part (and_operand o rest) key = part_then (both_same (same_part (part_of_operand at o)) (last_part rest key)) (part_back (both_assoc (part_of_operand at o) (parts_of_operands at rest) (part_of_operand at key)))
+
+  is_part : (v w : Value) → v ≡ w → SamePart (part_of at v) (part_of at w)
+  is_part v w same place = ap (λ v. part_of at v place) same
+
+  index_part : (on : Value) (key : OperandValue) (v : Value) → made_index on key ≡ Some v → SamePart (part_of at v) (both (part_of at on) (part_of_operand at key))
+  index_part (index_value on keys depth) key v is =
+      part_then (is_part v _ (over_made (depth_of_operand key) (λ d. index_value on (and_last keys key) (max depth d)) v is)) (part_then (both_same (same_part (part_of at on)) (last_part keys key)) (part_back (both_assoc (part_of at on) (parts_of_operands at keys) (part_of_operand at key))))
+  index_part on key v is = part_then (is_part v _ (over_made (max (depth_of on) (depth_of_operand key)) (λ d. index_value on (and_operand key no_operands) d) v is)) (both_same (same_part (part_of at on)) (nothing_behind (part_of_operand at key)))
+
+-- ---- folded numbers mention nothing
+
+none_of_two : (a b : Part) → SamePart a nothing → SamePart b nothing → SamePart (both a b) nothing
+none_of_two a b first second = both_same first second
+
+folded_both : (op : Option ArithOp) (a b : Option ℤ) (n : ℤ) → fold_binary op a b ≡ Some n → ((k : ℤ) × (a ≡ Some k)) × ((k : ℤ) × (b ≡ Some k))
+folded_both (Some op) (Some a) (Some b) n is = ((a, refl), (b, refl))
+folded_both (Some op) (Some a) None n is = cc
+folded_both (Some op) None b n is = cc
+folded_both None a b n is = cc
+
+folded_one : (op : UnaryOp) (a : Option ℤ) (n : ℤ) → fold_unary op a ≡ Some n → (k : ℤ) × (a ≡ Some k)
+folded_one UnaryOp.Neg (Some a) n is = (a, refl)
+folded_one UnaryOp.Neg None n is = cc
+folded_one UnaryOp.Not a n is = cc
+folded_one UnaryOp.Len a n is = cc
+
+folded_part : (e : Expression) (n : ℤ) → fold e ≡ Some n → SamePart (expression_part (one_line_expression e)) nothing
+folded_part (number_literal line k) n is = same_part nothing
+folded_part (parenthesized line e) n is = folded_part e n is
+folded_part (unary_expression line op e) n is = let one = folded_one op (fold e) n is in folded_part e one.0 one.1
+folded_part (binary_expression line op left right) n is =
+    let two = folded_both (arith_op op) (fold left) (fold right) n is in both_same (folded_part left two.0.0 two.0.1) (folded_part right two.1.0 two.1.1)
+folded_part e n is = cc
+
+module _ {f : Function} {g : Fn} {active : List Active} {listed : List ℕ} (is_function : IsFunction f g) (all : AreListed f g active listed) where
+  abbrev at : Place
+  at = place f.of listed f.short
+
+  constant_value_part : (k : Constant) (v : Value) → IsConstant g k v → SamePart (part_of at v) nothing
+  constant_value_part k v is = is_part at v _ is.2
+
+  constant_text : (text : Text) (number : ℕ) → is_name text ≡ true → HasNumber g (Constant.Text text) number → constant_name at number ≡ Some text
+  constant_text text number good has =
+      ap (λ there. as_name (as_text there)) (constant_there number (Constant.Text text) is_function has.is) ∙ ap (λ good. if good then Some text else None) good
+
+  named_part : (text : Text) (v : Value) (w : Where) → is_name text ≡ true → IsListed f (length active) listed text w → IsVariable g text w v → SamePart (part_of at v) (mentions 1 text)
+  named_part text v (in_register r) good there is = part_then (is_part at v (local_value r) is) (λ place. ap (λ name. name_mentioned name place) there.1)
+  named_part text v (in_upvalue slot) good there is = part_then (is_part at v (upvalue_value slot) is) (λ place. ap (λ name. name_mentioned name place) there)
+  named_part text v in_globals good there is = part_then (is_part at v (global_value is.0) is.2) (λ place. ap (λ name. name_mentioned name place) (constant_text text is.0 good is.1))
+
+  operand_part : (o : OperandValue) (v : Value) (part : Part) → o ≡ value_operand v → SamePart (part_of at v) part → SamePart (part_of_operand at o) part
+  operand_part o v part is same place = ap (λ o. part_of_operand at o place) is ∙ same place
+
+  small_part : (o : OperandValue) (k : Constant) → IsSmall g k o → SamePart (part_of_operand at o) nothing
+  small_part o k is place = ap (λ o. part_of_operand at o place) is.3
+
+  first_part : (vs : Values) (first : Value) (rest : Values) (one others : Part) → vs ≡ and_value first rest → SamePart (part_of at first) one → SamePart (parts_of at rest) others → SamePart (parts_of at vs) (both one others)
+  first_part vs first rest one others is first_same rest_same = part_then (λ place. ap (λ vs. parts_of at vs place) is) (both_same first_same rest_same)
+
+  pub key_part : (text : Text) (o : OperandValue) → IsKey g text o → SamePart (part_of_operand at o) nothing
+  key_part text o (inl small) = small_part o (Constant.Text text) small
+  key_part text o (inr large) = operand_part o large.1 nothing large.3 (constant_value_part (Constant.Text text) large.1 large.2)
+
+  -- a literal mentions nothing
+  plain_part : (e : Expression) (k : Constant) → plain_literal e ≡ Some k → SamePart (expression_part (one_line_expression e)) nothing
+  plain_part (nil_literal line) k is = same_part nothing
+  plain_part (true_literal line) k is = same_part nothing
+  plain_part (false_literal line) k is = same_part nothing
+  plain_part (text_literal line text) k is = same_part nothing
+  plain_part e k is = cc
+
+  literal_by : (e : Expression) (k : Constant) (folded : Option ℤ) → fold e ≡ folded → number_or folded (plain_literal e) ≡ Some k → SamePart (expression_part (one_line_expression e)) nothing
+  literal_by e k (Some n) is literal = folded_part e n is
+  literal_by e k None is literal = plain_part e k literal
+
+  pub of_operand : (e : Expression) (o : OperandValue) (k : Option Constant) → literal e ≡ k → ((v : Value) → IsCore g active e v → SamePart (part_of at v) (expression_part (one_line_expression e))) → IsOperandBy k g (IsCore g active e) o → SamePart (part_of_operand at o) (expression_part (one_line_expression e))
+  of_operand e o (Some k) is same (inl small) = part_then (small_part o k small) (part_back (literal_by e k (fold e) refl is))
+  of_operand e o (Some k) is same (inr large) = operand_part o large.1 (expression_part (one_line_expression e)) large.3 (same large.1 large.2)
+  of_operand e o None is same one = operand_part o one.0 (expression_part (one_line_expression e)) one.2 (same one.0 one.1)
+
+  -- the value, and the values from it on in a `..`
+  pub record HasMarks (e : Expression) : Type 0 where
+    pub one : (v : Value) → IsCore g active e v → SamePart (part_of at v) (expression_part (one_line_expression e))
+    pub spine : (values : Values) → (core g active e).spine values → SamePart (parts_of at values) (expression_part (one_line_expression e))
+
+  only_part : (e : Expression) (values : Values) → ((v : Value) → IsCore g active e v → SamePart (part_of at v) (expression_part (one_line_expression e))) → IsOnly (IsCore g active e) values → SamePart (parts_of at values) (expression_part (one_line_expression e))
+  only_part e values one only = part_then (first_part values only.0 no_values (expression_part (one_line_expression e)) nothing only.2 (one only.0 only.1) (same_part nothing)) (nothing_behind (expression_part (one_line_expression e)))
+
+  binary_made_part : (op : BinaryOp) (x y : OperandValue) (v : Value) → made_binary op x y ≡ Some v → SamePart (part_of at v) (both (part_of_operand at x) (part_of_operand at y))
+  binary_made_part op x y v is = is_part at v _ (over_made (max (depth_of_operand x) (depth_of_operand y)) (λ d. binary_value op x y d) v is)
+
+  -- an operator on two operands, or a `..`
+  operator_part : (op : BinaryOp) (left right : Expression) (v : Value) → HasMarks left → HasMarks right →
+      IsOperator op (IsOperandBy (literal left) g (IsCore g active left)) (IsOperandBy (literal right) g (IsCore g active right)) (IsFirst (IsCore g active left) (core g active right).spine) v →
+      SamePart (part_of at v) (both (expression_part (one_line_expression left)) (expression_part (one_line_expression right)))
+  operator_part BinaryOp.Concat left right v first second is =
+      part_then (is_part at v _ (over_made (deepest is.0) (λ d. concat_value is.0 d) v is.2))
+      (first_part is.0 is.1.0 is.1.1 _ _ is.1.4 (first.one is.1.0 is.1.2) (second.spine is.1.1 is.1.3))
+  operator_part op left right v first second is =
+      part_then (binary_made_part op is.1 is.2 v is.5) (both_same (of_operand left is.1 (literal left) refl first.one is.3) (of_operand right is.2 (literal right) refl second.one is.4))
+
+  folded_or_part : (folded : Option ℤ) (e : Expression) (Is : Value → Type 0) (v : Value) → fold e ≡ folded → ((v : Value) → Is v → SamePart (part_of at v) (expression_part (one_line_expression e))) → IsFoldedOr folded g Is v → SamePart (part_of at v) (expression_part (one_line_expression e))
+  folded_or_part (Some n) e Is v same one is = part_then (constant_value_part (Constant.Number n) v is) (part_back (folded_part e n same))
+  folded_or_part None e Is v same one is = one v is
+
+  called_part : (on : Expression) (args : Arguments) (o v : Value) (vs : Values) (all : Bool) → made_call o vs all ≡ Some v → SamePart (part_of at o) (expression_part (one_line_expression on)) → SamePart (parts_of at vs) (arguments_part (one_line_arguments args)) →
+      SamePart (part_of at v) (both (expression_part (one_line_expression on)) (arguments_part (one_line_arguments args)))
+  called_part on args o v vs all is first rest = part_then (is_part at v _ (over_made (max (depth_of o) (deepest vs)) (λ d. call_value o vs all d) v is)) (both_same first rest)
+
+  method_part : (on : Expression) (args : Arguments) (o v : Value) (number : ℕ) (vs : Values) (all : Bool) → made_method o number vs all ≡ Some v → SamePart (part_of at o) (expression_part (one_line_expression on)) → SamePart (parts_of at vs) (arguments_part (one_line_arguments args)) →
+      SamePart (part_of at v) (both (expression_part (one_line_expression on)) (arguments_part (one_line_arguments args)))
+  method_part on args o v number vs all is first rest = part_then (is_part at v _ (over_made (max (depth_of o) (deepest vs)) (λ d. method_value o number vs all d) v is)) (both_same first rest)
+
+  spine_part : (op : BinaryOp) (line : ℕ) (left right : Expression) → HasMarks left → HasMarks right → ((v : Value) → IsCore g active (binary_expression line op left right) v → SamePart (part_of at v) (expression_part (one_line_expression (binary_expression line op left right)))) →
+      (vs : Values) → (core g active (binary_expression line op left right)).spine vs → SamePart (parts_of at vs) (expression_part (one_line_expression (binary_expression line op left right)))
+  spine_part BinaryOp.Concat line left right first second one vs is = first_part vs is.0 is.1 _ _ is.4 (first.one is.0 is.2) (second.spine is.1 is.3)
+  spine_part op line left right first second one vs is = only_part (binary_expression line op left right) vs one is
+
+  alone_marks : (e : Expression) → ((v : Value) → IsCore g active e v → SamePart (part_of at v) (expression_part (one_line_expression e))) → ((vs : Values) → (core g active e).spine vs → IsOnly (IsCore g active e) vs) → HasMarks e
+  alone_marks e one only = record { one = one; spine = λ vs is. only_part e vs one (only vs is) }
+
+  -- ---- constructors
+
+  table_part : (items : ItemList) (open_last : Bool) (v : Value) (part : Part) → made_table items open_last ≡ Some v → SamePart (parts_of_items at items) part → SamePart (part_of at v) part
+  table_part items open_last v part is same = part_then (is_part at v _ (over_made (deepest_item items) (λ d. table_value items open_last d) v is)) same
+
+  nothing_last : (rest : Fields) (several : Bool) → (is_last_item rest && several) ≡ true → SamePart nothing (fields_part (one_line_fields rest))
+  nothing_last no_fields several last = same_part nothing
+  nothing_last (positional e separator rest) several last = not_so last
+  nothing_last (named text e separator rest) several last = not_so last
+  nothing_last (keyed key e separator rest) several last = not_so last
+
+  are_items : (items others : ItemList) (part : Part) → items ≡ others → SamePart (parts_of_items at others) part → SamePart (parts_of_items at items) part
+  are_items items others part is same place = ap (λ items. parts_of_items at items place) is ∙ same place
+
+  item_part : (is_open : Bool) (Is : Value → Type 0) (Rest : Items) (value others : Part) → ((v : Value) → Is v → SamePart (part_of at v) value) → (is_open ≡ true → SamePart nothing others) →
+      ((rest : ItemList) (open_last : Bool) → Rest rest open_last → SamePart (parts_of_items at rest) others) → (items : ItemList) (open_last : Bool) → IsItem is_open Is Rest items open_last → SamePart (parts_of_items at items) (both value others)
+  item_part true Is Rest value others one none rest items open_last is = are_items items _ _ is.2 (both_same (one is.0 is.1) (none refl))
+  item_part false Is Rest value others one none rest items open_last is = are_items items _ _ is.4 (both_same (one is.0 is.2) (rest is.1 open_last is.3))
+
+  keyed_part : (Key Item : OperandValue → Type 0) (Rest : Items) (key value others : Part) → ((o : OperandValue) → Key o → SamePart (part_of_operand at o) key) → ((o : OperandValue) → Item o → SamePart (part_of_operand at o) value) →
+      ((rest : ItemList) (open_last : Bool) → Rest rest open_last → SamePart (parts_of_items at rest) others) → (items : ItemList) (open_last : Bool) → IsKeyedItem Key Item Rest items open_last → SamePart (parts_of_items at items) (both (both key value) others)
+  keyed_part Key Item Rest key value others first second rest items open_last is = are_items items _ _ is.6 (both_same (both_same (first is.0 is.3) (second is.1 is.4)) (rest is.2 open_last is.5))
+
+  mutual
+    pub marks_of : (e : Expression) → HasCore e → HasMarks e
+    marks_of (nil_literal line) has = alone_marks (nil_literal line) (λ v is. is_part at v _ is) (λ vs is. is)
+    marks_of (true_literal line) has = alone_marks (true_literal line) (λ v is. is_part at v _ is) (λ vs is. is)
+    marks_of (false_literal line) has = alone_marks (false_literal line) (λ v is. is_part at v _ is) (λ vs is. is)
+    marks_of (vararg_expression line) has = alone_marks (vararg_expression line) (λ v is. is_part at v _ is) (λ vs is. is)
+    marks_of (number_literal line n) has = alone_marks (number_literal line n) (λ v is. constant_value_part (Constant.Number n) v is) (λ vs is. is)
+    marks_of (text_literal line text) has = alone_marks (text_literal line text) (λ v is. constant_value_part (Constant.Text text) v is) (λ vs is. is)
+    marks_of (name_expression line text) has = alone_marks (name_expression line text) (λ v is. named_part text v is.0 has (all.listed_as text is.0 is.1) is.2) (λ vs is. is)
+    marks_of (index_expression line on key) has =
+        let first = marks_of on has.0 in
+        let second = marks_of key has.1 in
+        alone_marks (index_expression line on key) (λ v is. part_then (index_part at is.0 is.1 v is.4) (both_same (first.one is.0 is.2) (of_operand key is.1 (literal key) refl second.one is.3))) (λ vs is. is)
+    marks_of (field_expression line on text) has =
+        let first = marks_of on has in
+        alone_marks (field_expression line on text) (λ v is. part_then (index_part at is.0 is.1 v is.4) (part_then (both_same (first.one is.0 is.2) (key_part text is.1 is.3)) (nothing_behind (expression_part (one_line_expression on))))) (λ vs is. is)
+    marks_of (call_expression line on args on_line) has =
+        let first = marks_of on has.0 in
+        alone_marks (call_expression line on args on_line) (λ v is. called_part on args is.0 v is.1 is.2 is.5 (first.one is.0 is.3) (given_part args has.1 is.1 is.2 is.4)) (λ vs is. is)
+    marks_of (method_call line on name args on_line) has =
+        let first = marks_of on has.1 in
+        alone_marks (method_call line on name args on_line) (λ v is. method_part on args is.0 v is.1 is.2 is.3 is.7 (first.one is.0 is.4) (given_part args has.2 is.2 is.3 is.6)) (λ vs is. is)
+    marks_of (binary_expression line op left right) has =
+        let first = marks_of left has.1 in
+        let second = marks_of right has.2 in
+        let e = binary_expression line op left right in
+        let one : (v : Value) → IsCore g active e v → SamePart (part_of at v) (expression_part (one_line_expression e)) = λ v is. folded_or_part (fold e) e _ v refl (λ v is. operator_part op left right v first second is) is in
+        record { one = one; spine = spine_part op line left right first second one }
+    marks_of (unary_expression line op of) has =
+        let first = marks_of of has in
+        let e = unary_expression line op of in
+        alone_marks e (λ v is. folded_or_part (fold e) e _ v refl (λ v is. part_then (is_part at v _ (over_made (depth_of is.0) (λ d. unary_value op is.0 d) v is.2)) (first.one is.0 is.1)) is) (λ vs is. is)
+    marks_of (constructor line fields) has = alone_marks (constructor line fields) (λ v is. table_part is.0 is.1 v _ is.3 (items_marks fields has is.0 is.1 is.2)) (λ vs is. is)
+    marks_of (parenthesized line e) has = let first = marks_of e has in alone_marks (parenthesized line e) first.one (λ vs is. is)
+    marks_of e has = absurd has
+
+    given_part : (args : Arguments) → HaveCores args → (vs : Values) (open_last : Bool) → AreGiven g active args vs open_last → SamePart (parts_of at vs) (arguments_part (one_line_arguments args))
+    given_part (argument_list es) has vs open_last is = list_part es has vs is.0
+    given_part (text_argument text) has vs open_last is =
+        part_then (first_part vs is.0.0 no_values nothing nothing is.0.2 (constant_value_part (Constant.Text text) is.0.0 is.0.1) (same_part nothing)) (nothing_behind nothing)
+    given_part (table_argument fields) has vs open_last is =
+        let table = is.0.1 in
+        part_then (first_part vs is.0.0 no_values _ nothing is.0.2 (table_part table.0 table.1 is.0.0 _ table.3 (items_marks fields has table.0 table.1 table.2)) (same_part nothing)) (nothing_behind (fields_part (one_line_fields fields)))
+
+    items_marks : (fields : Fields) → HaveItems fields → (items : ItemList) (open_last : Bool) → AreItems g active fields items open_last → SamePart (parts_of_items at items) (fields_part (one_line_fields fields))
+    items_marks no_fields has items open_last is = are_items items no_items nothing is.0 (same_part nothing)
+    items_marks (positional e separator rest) has items open_last is =
+        item_part (is_last_item rest && is_multiple e) (IsCore g active e) (AreItems g active rest) _ _ (marks_of e has.0).one (nothing_last rest (is_multiple e)) (items_marks rest has.1) items open_last is
+    items_marks (named text e separator rest) has items open_last is =
+        part_then (keyed_part (IsKey g text) _ (AreItems g active rest) nothing (expression_part (one_line_expression e)) _ (key_part text) (λ o. of_operand e o (literal e) refl (marks_of e has.0).one) (items_marks rest has.1) items open_last is) (same_part _)
+    items_marks (keyed key e separator rest) has items open_last is =
+        keyed_part _ _ (AreItems g active rest) _ _ _ (λ o. of_operand key o (literal key) refl (marks_of key has.0).one) (λ o. of_operand e o (literal e) refl (marks_of e has.1).one) (items_marks rest has.2) items open_last is
+
+    list_part : (es : Expressions) → AllHaveCores es → (vs : Values) → AreCores g active es vs → SamePart (parts_of at vs) (expressions_part (one_line_expressions es))
+    list_part no_expressions has vs is = λ place. ap (λ vs. parts_of at vs place) is
+    list_part (syntax.expression e es) has vs is = let first = marks_of e has.0 in first_part vs is.0 is.1 _ _ is.4 (first.one is.0 is.2) (list_part es has.1 is.1 is.3)

@@ -1,0 +1,344 @@
+-- What is written of an operand has the same code: a constant with a small number, or a value, in parentheses where it would else be such a constant; and the name of a field as a key.
+use Rattle.std.proofs.Common.{◌≡◌, ℕ, ◌<◌, ◌≤◌, nat_le, nat_lt, not, Bool, true, false, cond, ℤ, List, length, Option, Some, None, is_some, refl, sym, ap, ◌∙◌, subst, arith, true≢false, inl, inr}
+use Rattle.std.proofs.lemmas.Bool.Decides.{nat_tests}
+use Rattle.std.proofs.lemmas.Option.{same_Some}
+use Rattle.std.specs.Prelude.{◌||◌, slice_get, if◌then◌else◌}
+use Rattle.lua_num.specs.Bytes.{Text}
+use Rattle.lua_tree.specs.Names.{is_name as is_good_name}
+use Rattle.lua_tree.specs.OneLine.{one_line_expression}
+use Rattle.lua_tree.specs.Syntax.{Expression, nil_literal, true_literal, false_literal, text_literal}
+use Rattle.proto.specs.Constants.{constant_number}
+use Rattle.proto.specs.declared.parts.Constant.{Constant}
+use Rattle.core_expr.specs.Places.{as_name, as_text, constant_name, field_name, name_of_number, place, text_at}
+use Rattle.core_expr.specs.Values.{Value, bool_value, constant_value, OperandValue, constant_operand, value_operand, Inner}
+use Rattle.core_expr.specs.Writing.{Wording, constant_word, has_no_number, is_bare, is_literal, literal as literal_word, numeral, single as single_word, truth, unless}
+use Rattle.recover_expr.specs.Situation.{Function}
+use Rattle.scheme.specs.Expressions.{fold, is_small, literal, number_or, next_text, operand, plain_literal, rk, rk_text, small_constant}
+use Rattle.scheme.specs.Making.{Got, Maker}
+use Rattle.scheme.specs.Scheme.{coded}
+use Rattle.scheme.specs.declared.making.Active.{Active}
+use Rattle.scheme_stands.proofs.Growth.{Final, before, calm}
+use Rattle.scheme_stands.proofs.Parts.{grows, grows_operand, grows_rk}
+use Rattle.scheme_stands.specs.Expressions.{IsLarge}
+use Rattle.scheme_stands.specs.Words.{Fn}
+use Rattle.reads_back.specs.Cores.{HasCore, HasNumber, IsConstant, IsCore, IsKey, IsOperand, IsOperandBy}
+use Rattle.reads_back.proofs.ConstantsSame.{before_load, constant_is, constant_taken, fold_numeral, large_there, loads, number_is, number_stands, numeral_few, numeral_folds, passes_among, small_there}
+use Rattle.reads_back.proofs.LeavesSame.{some_depth, text_rewritten}
+use Rattle.reads_back.proofs.PlainWords.{IsLoadable, IsShown, is_constant, is_nil, is_no_literal, is_truth, shown}
+use Rattle.reads_back.proofs.Rewriting.{IsBare, IsMadeBy, Rewritten, RewrittenOperand, code, operand_wording, wording}
+use Rattle.reads_back.proofs.Tests.{first_of_both, second_of_both}
+use Rattle.reads_back.proofs.WholeNumbers.{IsWhole, folded_whole}
+use Rattle.reads_back.proofs.WordsSame.{fold_wrapped, levels_wrapped, operand_final, operand_same, operand_taken, operand_wrapped, rk_large, rk_plain, rk_small, same_literal}
+
+-- ---- literals
+
+-- the number that a constant is
+abbrev number_in : Option Constant → Option ℤ
+number_in (Some (Constant.Number n)) = Some n
+number_in k = None
+
+plain_no_number : (e : Expression) → number_in (plain_literal e) ≡ None
+plain_no_number (nil_literal line) = refl
+plain_no_number e = refl
+
+number_is_folded : (folded : Option ℤ) (plain : Option Constant) → number_in plain ≡ None → number_in (number_or folded plain) ≡ folded
+number_is_folded (Some n) plain none = refl
+number_is_folded None plain none = none
+
+-- what is folded is known from the literal
+fold_by : (e : Expression) → fold e ≡ number_in (literal e)
+fold_by e = sym (number_is_folded (fold e) (plain_literal e) (plain_no_number e))
+
+plain_by : (folded : Option ℤ) (plain k : Option Constant) → folded ≡ None → number_or folded plain ≡ k → plain ≡ k
+plain_by (Some n) plain k none is = cc
+plain_by None plain k none is = is
+
+-- a number among constants is whole
+abbrev IsWholeConstant : Constant → Type 0
+IsWholeConstant k = (n : ℤ) → k ≡ Constant.Number n → IsWhole n
+
+literal_whole : (e : Expression) (k : Constant) → HasCore e → literal e ≡ Some k → IsWholeConstant k
+literal_whole e k has is n number = folded_whole e has n (fold_by e ∙ ap number_in (is ∙ ap Some number))
+
+word_is_literal : (k : Constant) → IsWholeConstant k → literal (literal_word k).words ≡ Some k
+word_is_literal Constant.Nil whole = refl
+word_is_literal (Constant.Bool true) whole = refl
+word_is_literal (Constant.Bool false) whole = refl
+word_is_literal (Constant.Number n) whole = ap (λ folded. number_or folded (plain_literal (numeral n).words)) (fold_numeral n (whole n refl))
+word_is_literal (Constant.Text text) whole = refl
+
+word_few : (k : Constant) → (literal_word k).levels ≤ 3
+word_few Constant.Nil = omega arith
+word_few (Constant.Bool true) = omega arith
+word_few (Constant.Bool false) = omega arith
+word_few (Constant.Number n) = numeral_few n
+word_few (Constant.Text text) = omega arith
+
+-- in parentheses only a number is a literal
+wrapped_literal : (bare : Bool) (w : Wording) (k other : Constant) → literal w.words ≡ Some k → literal (unless bare w).words ≡ Some other → other ≡ k
+wrapped_literal true w k other is wrapped = same_Some other k (sym wrapped ∙ is)
+wrapped_literal false w k other is wrapped = by (fold w.words) is wrapped
+  where
+    by : (folded : Option ℤ) → number_or folded (plain_literal w.words) ≡ Some k → number_or folded None ≡ Some other → other ≡ k
+    by (Some n) is wrapped = same_Some other k (sym wrapped ∙ is)
+    by None is wrapped = cc
+
+-- what is no small constant is an operand
+not_small : (x : Expression) (m : Maker) → ((k : Constant) → literal x ≡ Some k → is_small k m ≡ false) → rk (coded x) m ≡ operand (coded x) m
+not_small x m large = by (literal x) refl
+  where
+    by : (k : Option Constant) → literal x ≡ k → rk (coded x) m ≡ operand (coded x) m
+    by (Some k) is = rk_large x k m is (large k is)
+    by None is = rk_plain x m is
+
+-- ---- literals that are written as they are
+
+first_of_or : (a b : Bool) → (a || b) ≡ true → b ≡ false → a ≡ true
+first_of_or true b either none = refl
+first_of_or false b either none = sym none ∙ either
+
+below_255 : (n : ℕ) → nat_lt 255 n ≡ true → 255 < n
+below_255 n is = grind (arith, nat_tests)
+
+up_to_255 : (n : ℕ) → nat_le n 255 ≡ true → n ≤ 255
+up_to_255 n is = grind (arith, nat_tests)
+
+over_255 : (n : ℕ) → nat_le n 255 ≡ false → nat_lt 255 n ≡ true
+over_255 n is = grind (arith, nat_tests)
+
+not_up_to : (n : ℕ) → 255 < n → nat_le n 255 ≡ false
+not_up_to n more = grind (arith, nat_tests)
+
+-- whether a value is written without parentheses
+abbrev bare_at : Function → List ℕ → ℕ → Value → Bool
+bare_at f listed n v = is_bare (place f.of listed f.short) n v
+
+module _ {f : Function} {g : Fn} {active : List Active} {listed : List ℕ} {z : Maker} (made : IsMadeBy f g active listed z) where
+  same_constants : f.of.constants ≡ z.constants
+  same_constants = made.is_function.constants ∙ made.constants
+
+  -- a literal that is none of the first 256 constants, which are all taken, gets no small number
+  no_small_number : {j : ℕ} (k : Constant) (m : Maker) → is_literal k k ≡ true → has_no_number (place f.of listed f.short) (length m.constants) k ≡ true → Final j m z → is_small k m ≡ false
+  no_small_number k m own none final = by (is_small k m) refl
+    where
+      by : (small : Bool) → is_small k m ≡ small → is_small k m ≡ false
+      by true is =
+          let small = up_to_255 (constant_number k m.constants) is in
+          let many = below_255 (length m.constants) (first_of_both _ _ none) in
+          let there = number_stands k m.constants (omega (arith, small, many)) in
+          let known = ap (λ constants. slice_get constants (constant_number k m.constants)) same_constants ∙ final.constants _ k there in
+          let found = passes_among (is_literal k) k f.of.constants 256 (constant_number k m.constants) (omega (arith, small)) known own in
+          absurd (true≢false (sym (second_of_both _ _ none) ∙ ap not found))
+      by false is = is
+
+  truth_large : (b : Bool) (m : Maker) (k : Constant) → Final (length m.labels) m z → is_bare (place f.of listed f.short) (length m.constants) (bool_value b) ≡ true → plain_literal (truth b).words ≡ Some k → is_small k m ≡ false
+  truth_large true m k final bare plain = subst (λ (k : Constant). is_small k m ≡ false) (same_Some (Constant.Bool true) k plain) (no_small_number (Constant.Bool true) m refl bare final)
+  truth_large false m k final bare plain = subst (λ (k : Constant). is_small k m ≡ false) (same_Some (Constant.Bool false) k plain) (no_small_number (Constant.Bool false) m refl bare final)
+
+  -- ---- what is written of a literal
+
+  loaded_text : (left : List (Option Inner)) (text : Text) (v : Value) → IsConstant g (Constant.Text text) v → (n : ℕ) → literal (wording f listed z left n v).words ≡ Some (Constant.Text text)
+  loaded_text left text v (number, has, same) n =
+      ap (λ (v : Value). literal (wording f listed z left n v).words) same
+      ∙ ap (λ there. literal (constant_word there).words) (constant_is made (Constant.Text text) number has)
+
+  plain_written : (left : List (Option Inner)) (e : Expression) (k : Constant) (v : Value) → plain_literal e ≡ Some k → IsCore g active e v → (n : ℕ) → literal (wording f listed z left n v).words ≡ Some k
+  plain_written left (nil_literal line) k v is core n = ap (λ (v : Value). literal (wording f listed z left n v).words) core ∙ is
+  plain_written left (true_literal line) k v is core n = ap (λ (v : Value). literal (wording f listed z left n v).words) core ∙ is
+  plain_written left (false_literal line) k v is core n = ap (λ (v : Value). literal (wording f listed z left n v).words) core ∙ is
+  plain_written left (text_literal line text) k v is core n = loaded_text left text v core n ∙ is
+  plain_written left e k v is core n = cc
+
+module _ {f : Function} {g : Fn} {active : List Active} {listed : List ℕ} {z : Maker} {left : List (Option Inner)} (made : IsMadeBy f g active listed z) where
+  -- ---- a constant with a small number
+
+  small_rewritten : (e : Expression) (k : Constant) (number : ℕ) → HasCore e → literal e ≡ Some k → HasNumber g k number → number ≤ 255 → RewrittenOperand f listed z left e (constant_operand number)
+  small_rewritten e k number cored is has small = record {
+    can = ap is_some there;
+    unused = refl;
+    folded = λ n. fold_by (constant_word (slice_get f.of.constants number)).words ∙ ap number_in (word_literal ∙ sym is) ∙ sym (fold_by e);
+    few = λ n. omega (arith, ap (λ (w : Wording). w.levels) word_is, word_few k, some_depth e);
+    as_rk = λ m ahead final. rk_small (constant_word (slice_get f.of.constants number)).words k m word_literal (small_now m final) ∙ sym (is_small_constant m final);
+    taken = λ m ahead final. ap (λ (got : Got ℕ). length got.after.constants) (is_small_constant m final) ∙ constant_taken made k number m has (subst (λ (got : Got ℕ). Final (length m.labels) got.after z) (is_small_constant m final) final);
+  }
+    where
+      there : slice_get f.of.constants number ≡ Some k
+      there = constant_is made k number has
+
+      word_is : constant_word (slice_get f.of.constants number) ≡ literal_word k
+      word_is = ap constant_word there
+
+      word_literal : literal (constant_word (slice_get f.of.constants number)).words ≡ Some k
+      word_literal = ap (λ (w : Wording). literal w.words) word_is ∙ word_is_literal k (literal_whole e k cored is)
+
+      small_now : (m : Maker) → Final (length m.labels) (rk (code e) m).after z → is_small k m ≡ true
+      small_now m final = small_there made k number m has small (before (grows_rk {v = calm} (code e) (grows calm (one_line_expression e)) m) final)
+
+      is_small_constant : (m : Maker) → Final (length m.labels) (rk (code e) m).after z → rk (code e) m ≡ small_constant k m
+      is_small_constant m final = rk_small (one_line_expression e) k m (same_literal e ∙ is) (small_now m final)
+
+  -- ---- a value in a register
+
+  value_rewritten : (e : Expression) (v : Value) → Rewritten f listed z left e v → ((m : Maker) → Final (length m.labels) (rk (code e) m).after z → rk (code e) m ≡ operand (code e) m) →
+      ((m : Maker) (k : Constant) → IsBare m → Final (length m.labels) (rk (code e) m).after z → Final (length m.labels) (operand (code e) m).after z → literal (operand_wording f listed z left (length m.constants) (value_operand v)).words ≡ Some k → is_small k m ≡ false) →
+      RewrittenOperand f listed z left e (value_operand v)
+  value_rewritten e v rewritten own large = record {
+    can = rewritten.can;
+    unused = rewritten.unused;
+    folded = λ n. fold_wrapped (bare_at f listed n v) (wording f listed z left n v) ∙ rewritten.folded n;
+    few = λ n. omega (arith, levels_wrapped (bare_at f listed n v) (wording f listed z left n v), rewritten.few n);
+    as_rk = λ m ahead final.
+        let n = length m.constants in
+        let final' = subst (λ (got : Got ℕ). Final (length m.labels) got.after z) (own m final) final in
+        not_small (operand_wording f listed z left n (value_operand v)).words m (λ k is. large m k ahead final final' is)
+        ∙ operand_wrapped (bare_at f listed n v) (wording f listed z left n v) m
+        ∙ operand_same rewritten m ahead final'
+        ∙ sym (own m final);
+    taken = λ m ahead final.
+        let final' = subst (λ (got : Got ℕ). Final (length m.labels) got.after z) (own m final) final in
+        ap (λ (got : Got ℕ). length got.after.constants) (own m final) ∙ operand_taken rewritten m ahead final';
+  }
+
+  -- ---- a literal with no small number
+
+  -- where an expression is a literal, it is written as that literal
+  written_literal : (e : Expression) (k : Constant) (v : Value) → literal e ≡ Some k → IsCore g active e v → Rewritten f listed z left e v → (n : ℕ) → literal (wording f listed z left n v).words ≡ Some k
+  written_literal e k v is core rewritten n = by (fold e) refl
+    where
+      by : (folded : Option ℤ) → fold e ≡ folded → literal (wording f listed z left n v).words ≡ Some k
+      by (Some number) known =
+          ap (λ folded. number_or folded (plain_literal (wording f listed z left n v).words)) (rewritten.folded n ∙ known)
+          ∙ sym (ap (λ folded. number_or folded (plain_literal e)) known)
+          ∙ is
+      by None known = plain_written made left e k v (plain_by (fold e) (plain_literal e) (Some k) known is) core n
+
+  large_rewritten : (e : Expression) (k : Constant) (v : Value) → literal e ≡ Some k → IsLarge g k → IsCore g active e v → Rewritten f listed z left e v → RewrittenOperand f listed z left e (value_operand v)
+  large_rewritten e k v is large core rewritten =
+      value_rewritten e v rewritten
+      (λ m final. rk_large (one_line_expression e) k m (same_literal e ∙ is) (large_now m final))
+      (λ m other ahead final final' wrapped.
+      let n = length m.constants in
+      let same = wrapped_literal (bare_at f listed n v) (wording f listed z left n v) k other (written_literal e k v is core rewritten n) wrapped in
+      subst (λ (k : Constant). is_small k m ≡ false) (sym same) (large_now m final))
+    where
+      large_now : (m : Maker) → Final (length m.labels) (rk (code e) m).after z → is_small k m ≡ false
+      large_now m final = large_there made k m large (λ small. subst (λ (got : Got ℕ). Final (length m.labels) got.after z) (rk_small (one_line_expression e) k m (same_literal e ∙ is) small) final)
+
+  -- ---- what is no literal
+
+  -- a string with a large number
+  text_large : (e : Expression) (text : Text) (number : ℕ) (m : Maker) → HasNumber g (Constant.Text text) number → Rewritten f listed z left e (constant_value number) → IsBare m → Final (length m.labels) (operand (code e) m).after z →
+      is_bare (place f.of listed f.short) (length m.constants) (constant_value number) ≡ true → is_small (Constant.Text text) m ≡ false
+  text_large e text number m has rewritten ahead final bare =
+      not_up_to (constant_number (Constant.Text text) m.constants) (omega (arith, more, number_is made (Constant.Text text) number m has (before_load m.free (Constant.Text text) m (subst (λ (n : Maker). Final (length m.labels) n z) loaded (operand_final (one_line_expression e) m ahead final)))))
+    where
+      there : slice_get f.of.constants number ≡ Some (Constant.Text text)
+      there = constant_is made (Constant.Text text) number has
+
+      more : 255 < number
+      more = below_255 number (first_of_or (nat_lt 255 number) (not (is_some (text_at (place f.of listed f.short) number))) bare (ap (λ k. not (is_some (as_text k))) there))
+
+      loaded : (code e).to_reg m.free m ≡ loads m.free (Constant.Text text) m
+      loaded = sym (rewritten.to_reg m.free m ahead (operand_final (one_line_expression e) m ahead final)) ∙ ap (λ k. (coded (constant_word k).words).to_reg m.free m) there
+
+  constant_large : (e : Expression) (own : Constant) (number : ℕ) (m : Maker) (k : Constant) → IsLoadable own → HasNumber g own number → fold e ≡ None → Rewritten f listed z left e (constant_value number) → IsBare m → Final (length m.labels) (operand (code e) m).after z →
+      is_bare (place f.of listed f.short) (length m.constants) (constant_value number) ≡ true → plain_literal (wording f listed z left (length m.constants) (constant_value number)).words ≡ Some k → is_small k m ≡ false
+  constant_large e (Constant.Text text) number m k loadable has none rewritten ahead final bare plain =
+      let there = constant_is made (Constant.Text text) number has in
+      let same = same_Some (Constant.Text text) k (sym (ap (λ k. plain_literal (constant_word k).words) there) ∙ plain) in
+      subst (λ (k : Constant). is_small k m ≡ false) same (text_large e text number m has rewritten ahead final bare)
+  constant_large e (Constant.Number i) number m k loadable has none rewritten ahead final bare plain =
+      let there = constant_is made (Constant.Number i) number has in
+      absurd (true≢false (sym (numeral_folds i) ∙ ap (λ k. is_some (fold (constant_word k).words)) (sym there) ∙ ap is_some (rewritten.folded 0 ∙ none)))
+  constant_large e own number m k loadable has none rewritten ahead final bare plain = absurd loadable
+
+  -- how a value is written that could be one
+  shown_large : (e : Expression) (v : Value) (m : Maker) (k : Constant) → fold e ≡ None → Rewritten f listed z left e v → IsShown g (place f.of listed f.short) left v → IsBare m → Final (length m.labels) (operand (code e) m).after z →
+      is_bare (place f.of listed f.short) (length m.constants) v ≡ true → plain_literal (wording f listed z left (length m.constants) v).words ≡ Some k → is_small k m ≡ false
+  shown_large e v m k none rewritten (is_nil is) ahead final =
+      subst (λ (v : Value). is_bare (place f.of listed f.short) (length m.constants) v ≡ true → plain_literal (wording f listed z left (length m.constants) v).words ≡ Some k → is_small k m ≡ false) (sym is)
+      (λ bare plain. subst (λ (k : Constant). is_small k m ≡ false) (same_Some Constant.Nil k plain) (no_small_number made Constant.Nil m refl bare (before (grows_operand {v = calm} (code e) (grows calm (one_line_expression e)) m) final)))
+  shown_large e v m k none rewritten (is_truth b is) ahead final =
+      subst (λ (v : Value). is_bare (place f.of listed f.short) (length m.constants) v ≡ true → plain_literal (wording f listed z left (length m.constants) v).words ≡ Some k → is_small k m ≡ false) (sym is)
+      (truth_large made b m k (before (grows_operand {v = calm} (code e) (grows calm (one_line_expression e)) m) final))
+  shown_large e v m k none rewritten (is_constant own number loadable has is) ahead final =
+      subst (λ (v : Value). is_bare (place f.of listed f.short) (length m.constants) v ≡ true → plain_literal (wording f listed z left (length m.constants) v).words ≡ Some k → is_small k m ≡ false) (sym is)
+      (constant_large e own number m k loadable has none (subst (Rewritten f listed z left e) is rewritten) ahead final)
+  shown_large e v m k none rewritten (is_no_literal never) ahead final = λ bare plain. let words = sym (never (length m.constants)) ∙ plain in cc
+
+  plain_rewritten : (e : Expression) (v : Value) → literal e ≡ None → IsCore g active e v → Rewritten f listed z left e v → RewrittenOperand f listed z left e (value_operand v)
+  plain_rewritten e v is core rewritten =
+      value_rewritten e v rewritten
+      (λ m final. rk_plain (one_line_expression e) m (same_literal e ∙ is))
+      (λ m k ahead final final' wrapped. by m k ahead final' (is_bare (place f.of listed f.short) (length m.constants) v) refl wrapped)
+    where
+      none : fold e ≡ None
+      none = fold_by e ∙ ap number_in is
+
+      by : (m : Maker) (k : Constant) → IsBare m → Final (length m.labels) (operand (code e) m).after z → (bare : Bool) → is_bare (place f.of listed f.short) (length m.constants) v ≡ bare → literal (unless bare (wording f listed z left (length m.constants) v)).words ≡ Some k → is_small k m ≡ false
+      by m k ahead final true bare words =
+          let n = length m.constants in
+          shown_large e v m k none rewritten (shown g active (place f.of listed f.short) left e v core rewritten.can) ahead final bare (plain_by (fold (wording f listed z left n v).words) (plain_literal (wording f listed z left n v).words) (Some k) (rewritten.folded n ∙ none) words)
+      by m k ahead final false bare words =
+          let n = length m.constants in
+          absurd (none_some k (sym (ap (λ folded. number_or folded None) (rewritten.folded n ∙ none)) ∙ words))
+        where
+          none_some : (k : Constant) → None ≡ Some k → ⊥
+          none_some k is = cc
+
+  pub operand_rewritten : (e : Expression) (o : OperandValue) → HasCore e → IsOperand g active e o → ((v : Value) → IsCore g active e v → Rewritten f listed z left e v) → RewrittenOperand f listed z left e o
+  operand_rewritten e o has is written = by (literal e) refl is
+    where
+      by : (k : Option Constant) → literal e ≡ k → IsOperandBy k g (IsCore g active e) o → RewrittenOperand f listed z left e o
+      by (Some k) known (inl (number, numbered, small, same)) = subst (RewrittenOperand f listed z left e) (sym same) (small_rewritten e k number has known numbered small)
+      by (Some k) known (inr (large, v, core, same)) = subst (RewrittenOperand f listed z left e) (sym same) (large_rewritten e k v known large core (written v core))
+      by None known (v, core, same) = subst (RewrittenOperand f listed z left e) (sym same) (plain_rewritten e v known core (written v core))
+
+  -- the name of a field, as a string that is a key
+  pub key_rewritten : (line : ℕ) (text : Text) (o : OperandValue) → IsKey g text o → RewrittenOperand f listed z left (text_literal line text) o
+  key_rewritten line text o is = operand_rewritten (text_literal line text) o tt is (λ v core. text_rewritten made line text v core)
+
+-- ---- the name of a field, and a key that is written as one
+
+pub text_as_rk : (line : ℕ) (text : Text) (m : Maker) → rk (code (text_literal line text)) m ≡ rk_text 1 text m
+text_as_rk line text m = either (is_small (Constant.Text text) m)
+  where
+    either : (small : Bool) → cond small (small_constant (Constant.Text text)) (operand (code (text_literal line text))) m ≡ cond small (small_constant (Constant.Text text)) (λ n. record { value = n.free; after = next_text 1 text n }) m
+    either true = refl
+    either false = refl
+
+text_of_name : (text : Option Text) (name : Text) → as_name text ≡ Some name → text ≡ Some name
+text_of_name None name is = cc
+text_of_name (Some text) name is = by (is_good_name text) is
+  where
+    by : (good : Bool) → (if good then Some text else None) ≡ Some name → Some text ≡ Some name
+    by true is = is
+    by false is = cc
+
+constant_of_text : (k : Option Constant) (text : Text) → as_text k ≡ Some text → k ≡ Some (Constant.Text text)
+constant_of_text None text is = cc
+constant_of_text (Some (Constant.Text own)) text is = ap (λ (text : Text). Some (Constant.Text text)) (same_Some own text is)
+constant_of_text (Some k) text is = cc
+
+module _ (f : Function) (listed : List ℕ) (z : Maker) (left : List (Option Inner)) where
+  named_constant : (number : ℕ) (name : Text) → constant_name (place f.of listed f.short) number ≡ Some name → constant_word (slice_get f.of.constants number) ≡ single_word (text_literal 1 name)
+  named_constant number name is = ap constant_word (constant_of_text (slice_get f.of.constants number) name (text_of_name (as_text (slice_get f.of.constants number)) name is))
+
+  -- as an operand it is written as the string
+  pub field_words : (o : OperandValue) (name : Text) (n : ℕ) → field_name (place f.of listed f.short) o ≡ Some name → operand_wording f listed z left n o ≡ single_word (text_literal 1 name)
+  field_words (constant_operand number) name n is = named_constant number name is
+  field_words (value_operand (constant_value number)) name n is = by (nat_le number 255) refl is
+    where
+      by : (small : Bool) → nat_le number 255 ≡ small → name_of_number (place f.of listed f.short) (if small then None else Some number) ≡ Some name → operand_wording f listed z left n (value_operand (constant_value number)) ≡ single_word (text_literal 1 name)
+      by true known is = cc
+      by false known is =
+          ap (λ large. unless (large || not (is_some (text_at (place f.of listed f.short) number))) (constant_word (slice_get f.of.constants number))) (over_255 number known)
+          ∙ named_constant number name is
+  field_words o name n is = cc
+
+  -- a key that is written as a field has the same code as the name of that
+  pub field_as_rk : (e : Expression) (o : OperandValue) (name : Text) (m : Maker) → RewrittenOperand f listed z left e o → field_name (place f.of listed f.short) o ≡ Some name → IsBare m → Final (length m.labels) (rk (code e) m).after z → rk_text 1 name m ≡ rk (code e) m
+  field_as_rk e o name m rewritten is ahead final =
+      sym (text_as_rk 1 name m)
+      ∙ ap (λ (w : Wording). rk (coded w.words) m) (sym (field_words o name (length m.constants) is))
+      ∙ rewritten.as_rk m ahead final

@@ -1,0 +1,250 @@
+-- What is written of an operator on values has the same code as the operator on the expressions.
+use Rattle.std.proofs.Common.{◌≡◌, ℕ, suc, ◌+◌, ◌*◌, ◌≤◌, Bool, true, false, List, length, max, refl, sym, ap, ◌∙◌, subst, arith, nat_lt}
+use Rattle.std.specs.Prelude.{Option, Some, None, ℤ, pos, negsuc, ◌^◌, ◌-◌, ◌==◌, if◌then◌else◌}
+use Rattle.std.proofs.lemmas.Bool.{and_from}
+use Rattle.lua_num.specs.declared.arith.ArithOp.{ArithOp}
+use Rattle.lua_tree.specs.declared.tree.BinaryOp.{BinaryOp}
+use Rattle.lua_tree.specs.declared.tree.UnaryOp.{UnaryOp}
+use Rattle.lua_tree.specs.OneLine.{one_line_expression}
+use Rattle.lua_tree.specs.Precedence.{is_right_associative, left_binds, level_of_op, right_binds}
+use Rattle.lua_tree.specs.Syntax.{Expression, nil_literal, binary_expression, unary_expression}
+use Rattle.lua_tree.specs.WellFormed.{depth_of_expression}
+use Rattle.opcode.specs.declared.op.Op.{Op}
+use Rattle.proto.specs.declared.parts.Constant.{Constant}
+use Rattle.core_expr.specs.Counting.{one_more, taken_behind, taken_behind_operand, left_by_operand}
+use Rattle.core_expr.specs.Making.{depth_of, depth_of_operand, made_binary, made_unary}
+use Rattle.core_expr.specs.Places.{constant_at, place}
+use Rattle.core_expr.specs.Values as values
+use Rattle.core_expr.specs.Values.{Value, OperandValue, constant_operand, value_operand, Inner}
+use Rattle.core_expr.specs.Writing.{Wording, applied, constant_word, number_word, numeral, truth, with_binary, with_unary, can_write_operand, is_power, joined, on_left, on_right, unless, word, word_operand}
+use Rattle.recover_expr.specs.Situation.{Function}
+use Rattle.scheme.specs.Making.{Maker, free_from, freeing, put}
+use Rattle.scheme.specs.Expressions.{Coded, arith_op, arithmetic, binary_value, fold, fold_binary, fold_unary, load_or, operand, rk, unary_value, unary_word}
+use Rattle.scheme.specs.Scheme.{coded}
+use Rattle.scheme.specs.declared.making.Piece.{Piece}
+use Rattle.scheme_stands.proofs.Growth.{calm, Final, before, before_free, before_put, later}
+use Rattle.scheme_stands.proofs.Parts.{grows, grows_rk}
+use Rattle.reads_back.proofs.BareMakers.{KeepsBare, rk_keeps}
+use Rattle.reads_back.proofs.WordsSame.{fold_wrapped, levels_wrapped, operand_same, operand_taken, operand_wrapped, rk_on_left, rk_on_right, same_fold}
+use Rattle.reads_back.proofs.Rewriting.{IsBare, Rewritten, RewrittenOperand, code, operand_wording, wording}
+
+-- ---- what was made
+
+pub few_more : (n : ℕ) → one_more n ≤ suc n
+few_more n = omega arith
+
+pub made_is : (small : Bool) (v w : Value) → (if small then Some v else None) ≡ Some w → v ≡ w
+made_is true v w is = cc
+made_is false v w is = cc
+
+-- ---- an operand needs no more levels than a value: what stands in parentheses as an operand has few of its own
+
+pub some_depth : (e : Expression) → 1 ≤ depth_of_expression e
+some_depth (nil_literal line) = omega arith
+some_depth e = omega arith
+
+numeral_few : (n : ℤ) → (numeral n).levels ≤ 3
+numeral_few (pos n) = omega arith
+numeral_few (negsuc n) = either (n == 2 ^ 63 - 1)
+  where
+    either : (least : Bool) → (if least then with_binary BinaryOp.Sub (with_unary UnaryOp.Neg (number_word (pos (2 ^ 63 - 1)))) (number_word (pos 1)) else with_unary UnaryOp.Neg (number_word (pos (suc n)))).levels ≤ 3
+    either true = omega arith
+    either false = omega arith
+
+constant_few : (k : Option Constant) → (constant_word k).levels ≤ 3
+constant_few None = omega arith
+constant_few (Some Constant.Nil) = omega arith
+constant_few (Some (Constant.Bool true)) = omega arith
+constant_few (Some (Constant.Bool false)) = omega arith
+constant_few (Some (Constant.Number n)) = numeral_few n
+constant_few (Some (Constant.Text text)) = omega arith
+
+truth_few : (b : Bool) → (truth b).levels ≤ 3
+truth_few true = omega arith
+truth_few false = omega arith
+
+wrapped_few : (bare : Bool) (w : Wording) (e : Expression) → w.levels ≤ 3 → (unless bare w).levels ≤ 3 * depth_of_expression e + 2
+wrapped_few bare w e few = omega (arith, few, levels_wrapped bare w, some_depth e)
+
+pub constant_operand_few : (f : Function) (listed : List ℕ) (z : Maker) (left : List (Option Inner)) (e : Expression) (k n : ℕ) → (operand_wording f listed z left n (constant_operand k)).levels ≤ 3 * depth_of_expression e + 2
+constant_operand_few f listed z left e k n = wrapped_few true (constant_word (constant_at (place f.of listed f.short) k)) e (constant_few (constant_at (place f.of listed f.short) k))
+
+module _ {f : Function} {listed : List ℕ} {z : Maker} {left : List (Option Inner)} where
+  pub value_operand_few : (e : Expression) (v : Value) → Rewritten f listed z left e v → (n : ℕ) → (operand_wording f listed z left n (value_operand v)).levels ≤ 3 * depth_of_expression e + 2
+  value_operand_few e values.nil_value rewritten n = wrapped_few _ (wording f listed z left n values.nil_value) e (omega arith)
+  value_operand_few e (values.bool_value b) rewritten n = wrapped_few _ (wording f listed z left n (values.bool_value b)) e (truth_few b)
+  value_operand_few e (values.constant_value k) rewritten n = wrapped_few _ (wording f listed z left n (values.constant_value k)) e (constant_few (constant_at (place f.of listed f.short) k))
+  value_operand_few e v rewritten n = rewritten.few n
+
+-- ---- arithmetic
+
+arithmetic_same : (op : Op) (l r l' r' : Coded) (to : ℕ) (m : Maker) → rk l m ≡ rk l' m → rk r (rk l' m).after ≡ rk r' (rk l' m).after → arithmetic 1 op l r to m ≡ arithmetic 1 op l' r' to m
+arithmetic_same op l r l' r' to m first second =
+    ap (λ x. let y = rk r x.after in put 1 (Piece.Abc op to x.value y.value) y.after) first
+    ∙ ap (λ y. put 1 (Piece.Abc op to (rk l' m).value y.value) y.after) second
+
+-- an operator that is one word, where it is not folded
+arithmetic_to : (word : Op) (op : BinaryOp) (l r : Expression) (to : ℕ) (m : Maker) → binary_value 1 op ≡ arithmetic 1 word → fold (binary_expression 1 op l r) ≡ None →
+    (coded (binary_expression 1 op l r)).to_reg to m ≡ freeing (arithmetic 1 word (coded l) (coded r) to) m
+arithmetic_to word op l r to m is none =
+    ap (λ o. freeing (load_or o 1 (binary_value 1 op (coded l) (coded r)) to) m) none
+    ∙ ap (λ value. freeing (value (coded l) (coded r) to) m) is
+
+-- what is written of the second of two operands, behind the first
+abbrev second_wording : Function → List ℕ → List (Option Inner) → ℕ → OperandValue → OperandValue → Wording
+second_wording f listed left n x y = word_operand (place f.of listed f.short) (taken_behind_operand x n) (left_by_operand x left) y
+
+second_is : (f : Function) (listed : List ℕ) (z : Maker) (left : List (Option Inner)) (n m : ℕ) (x y : OperandValue) → left_by_operand x left ≡ left → taken_behind_operand x n ≡ m →
+    second_wording f listed left n x y ≡ operand_wording f listed z left m y
+second_is f listed z left n m x y unused taken =
+    ap (λ fs. word_operand (place f.of listed f.short) (taken_behind_operand x n) fs y) unused
+    ∙ ap (λ n. word_operand (place f.of listed f.short) n left y) taken
+
+module _ {f : Function} {listed : List ℕ} {z : Maker} {left : List (Option Inner)} {l r : Expression} {x y : OperandValue} (first : RewrittenOperand f listed z left l x) (second : RewrittenOperand f listed z left r y) (op : BinaryOp) where
+  binary_folded : (n : ℕ) → fold (joined op (operand_wording f listed z left n x) (second_wording f listed left n x y)).words ≡ fold_binary (arith_op op) (fold l) (fold r)
+  binary_folded n =
+      let w = operand_wording f listed z left n x in
+      let u = second_wording f listed left n x y in
+      let n' = taken_behind_operand x n in
+      ap (λ a. fold_binary (arith_op op) a (fold (on_right op u).words)) (fold_wrapped (left_binds (level_of_op op) (is_right_associative op) w.words) w ∙ first.folded n)
+      ∙ ap (fold_binary (arith_op op) (fold l)) (fold_wrapped (right_binds (level_of_op op) (is_power op) u.words) u ∙ ap (λ w. fold w.words) (second_is f listed z left n n' x y first.unused refl) ∙ second.folded n')
+
+  binary_few : ((n : ℕ) → (operand_wording f listed z left n x).levels ≤ 3 * depth_of_expression l + 2) → ((n : ℕ) → (operand_wording f listed z left n y).levels ≤ 3 * depth_of_expression r + 2) → (n : ℕ) →
+      (joined op (operand_wording f listed z left n x) (second_wording f listed left n x y)).levels ≤ 3 * (1 + max (depth_of_expression l) (depth_of_expression r)) + 2
+  binary_few few_first few_second n =
+      let w = operand_wording f listed z left n x in
+      let u = second_wording f listed left n x y in
+      let n' = taken_behind_operand x n in
+      let same : u.levels ≡ (operand_wording f listed z left n' y).levels = ap (λ w. w.levels) (second_is f listed z left n n' x y first.unused refl) in
+      let one = levels_wrapped (left_binds (level_of_op op) (is_right_associative op) w.words) w in
+      let other = levels_wrapped (right_binds (level_of_op op) (is_power op) u.words) u in
+      let all = few_more (max (on_left op w).levels (on_right op u).levels) in
+      omega (arith, few_first n, few_second n', same, one, other, all)
+
+  module _ (kept : KeepsBare (code l)) (word : Op) (is_word : binary_value 1 op ≡ arithmetic 1 word) (none : fold_binary (arith_op op) (fold l) (fold r) ≡ None) where
+    code_to : (line to : ℕ) (m : Maker) → (code (binary_expression line op l r)).to_reg to m ≡ freeing (arithmetic 1 word (code l) (code r) to) m
+    code_to line to m = arithmetic_to word op (one_line_expression l) (one_line_expression r) to m is_word (same_fold (binary_expression line op l r) ∙ none)
+
+    both_of : (line to : ℕ) (m : Maker) → Final (length m.labels) ((code (binary_expression line op l r)).to_reg to m) z → Final (length m.labels) (rk (code r) (rk (code l) m).after).after z
+    both_of line to m final =
+        let y = rk (code r) (rk (code l) m).after in
+        before_put 1 (Piece.Abc word to (rk (code l) m).value y.value) y.after (before_free m.free (arithmetic 1 word (code l) (code r) to m) (subst (λ n. Final (length m.labels) n z) (code_to line to m) final))
+
+    front_of : (line to : ℕ) (m : Maker) → Final (length m.labels) ((code (binary_expression line op l r)).to_reg to m) z → Final (length m.labels) (rk (code l) m).after z
+    front_of line to m final = before (grows_rk {v = calm} (code r) (grows calm (one_line_expression r)) (rk (code l) m).after) (both_of line to m final)
+
+    behind_of : (line to : ℕ) (m : Maker) → Final (length m.labels) ((code (binary_expression line op l r)).to_reg to m) z → Final (length (rk (code l) m).after.labels) (rk (code r) (rk (code l) m).after).after z
+    behind_of line to m final = let grown = grows_rk {v = calm} (code l) (grows calm (one_line_expression l)) m in later grown.more (both_of line to m final)
+
+    binary_to : (line to : ℕ) (m : Maker) → IsBare m → Final (length m.labels) ((code (binary_expression line op l r)).to_reg to m) z →
+        (coded (joined op (operand_wording f listed z left (length m.constants) x) (second_wording f listed left (length m.constants) x y)).words).to_reg to m ≡ (code (binary_expression line op l r)).to_reg to m
+    binary_to line to m ahead final =
+        let n = length m.constants in
+        let w = operand_wording f listed z left n x in
+        let u = second_wording f listed left n x y in
+        let m1 = (rk (code l) m).after in
+        let front = front_of line to m final in
+        let one = rk_on_left op w m ∙ first.as_rk m ahead front in
+        let other =
+        rk_on_right op u m1
+        ∙ ap (λ w. rk (coded w.words) m1) (second_is f listed z left n (length m1.constants) x y first.unused (sym (first.taken m ahead front)))
+        ∙ second.as_rk m1 (rk_keeps (code l) kept m ahead) (behind_of line to m final) in
+        arithmetic_to word op (on_left op w).words (on_right op u).words to m is_word (binary_folded n ∙ none)
+        ∙ ap (free_from m.free) (arithmetic_same word (coded (on_left op w).words) (coded (on_right op u).words) (code l) (code r) to m one other)
+        ∙ sym (code_to line to m)
+
+    binary_taken : (line to : ℕ) (m : Maker) → IsBare m → Final (length m.labels) ((code (binary_expression line op l r)).to_reg to m) z →
+        length ((code (binary_expression line op l r)).to_reg to m).constants ≡ taken_behind_operand y (taken_behind_operand x (length m.constants))
+    binary_taken line to m ahead final =
+        ap (λ n. length n.constants) (code_to line to m)
+        ∙ second.taken (rk (code l) m).after (rk_keeps (code l) kept m ahead) (behind_of line to m final)
+        ∙ ap (taken_behind_operand y) (first.taken m ahead (front_of line to m final))
+
+    binary_rewritten : (line depth : ℕ) → ((n : ℕ) → (operand_wording f listed z left n x).levels ≤ 3 * depth_of_expression l + 2) → ((n : ℕ) → (operand_wording f listed z left n y).levels ≤ 3 * depth_of_expression r + 2) →
+        Rewritten f listed z left (binary_expression line op l r) (values.binary_value op x y depth)
+    binary_rewritten line depth few_first few_second = record {
+      can = and_from _ _ first.can (ap (λ fs. can_write_operand (place f.of listed f.short) fs y) first.unused ∙ second.can);
+      unused = ap (left_by_operand y) first.unused ∙ second.unused;
+      named = λ n. refl;
+      folded = λ n. binary_folded n;
+      several = λ n. refl;
+      gives = λ is. cc;
+      few = binary_few few_first few_second;
+      keys = omega arith;
+      to_reg = binary_to line;
+      taken = binary_taken line;
+      multi = λ is. cc;
+      multi_taken = λ is. cc;
+    }
+
+module _ {f : Function} {listed : List ℕ} {z : Maker} {left : List (Option Inner)} where
+  -- operators of arithmetic that are not folded; an operand needs no more levels than a value, since what stands in parentheses as an operand has few of its own
+  pub arithmetic_rewritten : (line : ℕ) (op : BinaryOp) (kind : ArithOp) (l r : Expression) (x y : OperandValue) (v : Value) → arith_op op ≡ Some kind → fold (binary_expression line op l r) ≡ None → KeepsBare (code l) →
+      RewrittenOperand f listed z left l x → RewrittenOperand f listed z left r y →
+      ((n : ℕ) → (operand_wording f listed z left n x).levels ≤ 3 * depth_of_expression l + 2) → ((n : ℕ) → (operand_wording f listed z left n y).levels ≤ 3 * depth_of_expression r + 2) →
+      made_binary op x y ≡ Some v → Rewritten f listed z left (binary_expression line op l r) v
+  arithmetic_rewritten line op kind l r x y v is none kept first second few_first few_second made =
+      subst (Rewritten f listed z left (binary_expression line op l r)) (made_is (nat_lt (max (depth_of_operand x) (depth_of_operand y)) 400) _ v made) (by_op op is none (suc (max (depth_of_operand x) (depth_of_operand y))))
+    where
+      by_op : (op : BinaryOp) → arith_op op ≡ Some kind → fold (binary_expression line op l r) ≡ None → (depth : ℕ) → Rewritten f listed z left (binary_expression line op l r) (values.binary_value op x y depth)
+      by_op BinaryOp.Add is none depth = binary_rewritten first second BinaryOp.Add kept Op.Add refl none line depth few_first few_second
+      by_op BinaryOp.Sub is none depth = binary_rewritten first second BinaryOp.Sub kept Op.Sub refl none line depth few_first few_second
+      by_op BinaryOp.Mul is none depth = binary_rewritten first second BinaryOp.Mul kept Op.Mul refl none line depth few_first few_second
+      by_op BinaryOp.Div is none depth = binary_rewritten first second BinaryOp.Div kept Op.Div refl none line depth few_first few_second
+      by_op BinaryOp.Rem is none depth = binary_rewritten first second BinaryOp.Rem kept Op.Mod refl none line depth few_first few_second
+      by_op BinaryOp.Pow is none depth = binary_rewritten first second BinaryOp.Pow kept Op.Pow refl none line depth few_first few_second
+      by_op op is none depth = cc
+
+-- ---- unary operators
+
+unary_to : (op : UnaryOp) (e : Expression) (to : ℕ) (m : Maker) → fold (unary_expression 1 op e) ≡ None → (coded (unary_expression 1 op e)).to_reg to m ≡ freeing (unary_value 1 op (coded e) to) m
+unary_to op e to m none = ap (λ o. freeing (load_or o 1 (unary_value 1 op (coded e)) to) m) none
+
+module _ {f : Function} {listed : List ℕ} {z : Maker} {left : List (Option Inner)} {e : Expression} {of : Value} (inside : Rewritten f listed z left e of) (op : UnaryOp) where
+  unary_folded : (n : ℕ) → fold (applied op (wording f listed z left n of)).words ≡ fold_unary op (fold e)
+  unary_folded n = let w = wording f listed z left n of in ap (fold_unary op) (fold_wrapped (left_binds 7 false w.words) w ∙ inside.folded n)
+
+  unary_few : (n : ℕ) → (applied op (wording f listed z left n of)).levels ≤ 3 * (1 + depth_of_expression e) + 2
+  unary_few n =
+      let w = wording f listed z left n of in
+      let one = levels_wrapped (left_binds 7 false w.words) w in
+      let all = few_more (unless (left_binds 7 false w.words) w).levels in
+      omega (arith, inside.few n, one, all)
+
+  module _ (none : fold_unary op (fold e) ≡ None) (line to : ℕ) (m : Maker) (ahead : IsBare m) (final : Final (length m.labels) ((code (unary_expression line op e)).to_reg to m) z) where
+    unary_code : (code (unary_expression line op e)).to_reg to m ≡ freeing (unary_value 1 op (code e) to) m
+    unary_code = unary_to op (one_line_expression e) to m (same_fold (unary_expression line op e) ∙ none)
+
+    operand_final : Final (length m.labels) (operand (code e) m).after z
+    operand_final =
+        let x = operand (code e) m in
+        before_put 1 (Piece.Abc (unary_word op) to x.value 0) x.after (before_free m.free (unary_value 1 op (code e) to m) (subst (λ n. Final (length m.labels) n z) unary_code final))
+
+    unary_same : (coded (applied op (wording f listed z left (length m.constants) of)).words).to_reg to m ≡ (code (unary_expression line op e)).to_reg to m
+    unary_same =
+        let w = wording f listed z left (length m.constants) of in
+        let u = unless (left_binds 7 false w.words) w in
+        unary_to op u.words to m (unary_folded (length m.constants) ∙ none)
+        ∙ ap (λ x. free_from m.free (put 1 (Piece.Abc (unary_word op) to x.value 0) x.after)) (operand_wrapped (left_binds 7 false w.words) w m ∙ operand_same inside m ahead operand_final)
+        ∙ sym unary_code
+
+    unary_taken : length ((code (unary_expression line op e)).to_reg to m).constants ≡ taken_behind of (length m.constants)
+    unary_taken = ap (λ n. length n.constants) unary_code ∙ operand_taken inside m ahead operand_final
+
+module _ {f : Function} {listed : List ℕ} {z : Maker} {left : List (Option Inner)} where
+  -- unary operators that are not folded
+  pub unary_rewritten : (line : ℕ) (op : UnaryOp) (e : Expression) (of v : Value) → fold (unary_expression line op e) ≡ None → Rewritten f listed z left e of → made_unary op of ≡ Some v → Rewritten f listed z left (unary_expression line op e) v
+  unary_rewritten line op e of v none inside made = subst (Rewritten f listed z left (unary_expression line op e)) (made_is (nat_lt (depth_of of) 400) _ v made) (record {
+    can = inside.can;
+    unused = inside.unused;
+    named = λ n. refl;
+    folded = unary_folded inside op;
+    several = λ n. refl;
+    gives = λ is. cc;
+    few = unary_few inside op;
+    keys = omega arith;
+    to_reg = unary_same inside op none line;
+    taken = unary_taken inside op none line;
+    multi = λ is. cc;
+    multi_taken = λ is. cc;
+  })

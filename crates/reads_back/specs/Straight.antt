@@ -1,0 +1,30 @@
+-- To be believed. Straight sources: calls, and assignments of one value to one global or part of a table, one after the other; and what their words are read as.
+use Rattle.std.specs.Prelude.{◌≤◌}
+use Rattle.lua_tree.specs.Syntax as syntax
+use Rattle.lua_tree.specs.Syntax.{Arguments, Expression, Expressions, Source, Statement, Statements, argument_list, assignment, binary_expression, call_expression, call_statement, field_expression, index_expression, method_call, name_expression, no_expressions, no_statements, parenthesized, text_argument, unary_expression, nil_literal, true_literal, false_literal, vararg_expression, number_literal, text_literal}
+use Rattle.lua_tree.specs.WellFormed.{depth_of_statements}
+use Rattle.reads_back.specs.Acted.{IsAct}
+
+-- what is called, indexed or assigned to begins with a name, in parentheses or not
+abbrev pub BeginsWithName : Expression → Type 0
+BeginsWithName (name_expression line text) = Unit {0}
+BeginsWithName (index_expression line on key) = BeginsWithName on
+BeginsWithName (field_expression line on text) = BeginsWithName on
+BeginsWithName (call_expression line on args on_line) = BeginsWithName on
+BeginsWithName (method_call line on name args on_line) = BeginsWithName on
+BeginsWithName (parenthesized line e) = BeginsWithName e
+BeginsWithName e = ⊥
+
+abbrev pub StatementBeginsWithName : Statement → Type 0
+StatementBeginsWithName (call_statement e) = BeginsWithName e
+StatementBeginsWithName (assignment (syntax.expression target es) values) = BeginsWithName target
+StatementBeginsWithName statement = ⊥
+
+abbrev pub AreStraight : Statements → Type 0
+AreStraight no_statements = Unit {0}
+AreStraight (syntax.statement line semi s rest) = (IsAct s × StatementBeginsWithName s) × AreStraight rest
+
+-- with fewer than a third of the levels that a tree may have
+pub record Straight (source : Source) : Type 0 where
+  pub acts : AreStraight source.body
+  pub shallow : depth_of_statements source.body ≤ 66
