@@ -349,7 +349,7 @@ module _ (all : List Mark) (rules : Kept all) where
         let others = statements_lift ss h2 n f setting loop (statement_part line c place).next rest t.between after t.mid q (is ∙ sym (statement_counted line c place).looped) (stands_onwards all n f loop line semi c ss place rest active t.between p t.mid h1 s t.first_at one.plain) t.rest_at in
         record { is = record { between = t.between; mid = t.mid; first_at = one.is; rest_at = others.is }; plain = others.plain }
 
-    statement_lift : (line : ℕ) (c : Statement) → formed_statement c ≡ true → (n : Names) (f : Fn) → Setting n f → (loop : Option LoopAt) (place : Place) (rest : List Mark) (active after : List Active) (p q : Spot) → is_some loop ≡ place.looped → Stands all n f (statement_part line c) place rest active p → StatementAt f loop c active after p q → Lifted f (StatementAt (asking n f) loop c active after p q) q
+    pub statement_lift : (line : ℕ) (c : Statement) → formed_statement c ≡ true → (n : Names) (f : Fn) → Setting n f → (loop : Option LoopAt) (place : Place) (rest : List Mark) (active after : List Active) (p q : Spot) → is_some loop ≡ place.looped → Stands all n f (statement_part line c) place rest active p → StatementAt f loop c active after p q → Lifted f (StatementAt (asking n f) loop c active after p q) q
     statement_lift line (assignment targets es) h n f setting loop place rest active after p q is s t =
         let a = and_right (has_expressions targets) _ h in
         let b = and_right (are_targets targets) _ a in

@@ -34,3 +34,4 @@ pub mod Rooms
 pub mod Here
 pub mod Few
 pub mod Sequences
+pub mod Makers

@@ -33,11 +33,11 @@ words_length labels pc [] = refl
 words_length labels pc (item ∷ items) = ap suc (words_length labels (suc pc) items)
 
 -- the limits that a function without misfits keeps
-record Kept (z : Maker) : Type 0 where
-  limits : Limits (fn_of z)
-  near : reach_from z.labels 0 z.items ≤ 131071
+pub record Kept (z : Maker) : Type 0 where
+  pub limits : Limits (fn_of z)
+  pub near : reach_from z.labels 0 z.items ≤ 131071
 
-limits_kept : (line : ℕ) (z : Maker) → misfits_of line z ≡ [] → Kept z
+pub limits_kept : (line : ℕ) (z : Maker) → misfits_of line z ≡ [] → Kept z
 limits_kept line z e =
     let reach = reach_from z.labels 0 z.items in
     let a = unless_within 250 (register_count z) (too_many_registers line (register_count z)) in
