@@ -1,21 +1,22 @@
 -- What is recovered of the chunk of a straight source: the statements that are read of its words, one after the other.
-use Rattle.std.proofs.Common.{◌≡◌, ◌∙◌, ℕ, ◌≤◌, ◌<◌, ◌^◌, false, List, [], ◌∷◌, length, Option, Some, None, Err, refl, sym, ap, ap₂, subst, arith, inl, inr}
-use Rattle.std.specs.Prelude.{IsSome}
+use Rattle.std.proofs.Common.{◌≡◌, ◌∙◌, ℕ, ◌≤◌, ◌<◌, ◌^◌, true, false, List, [], ◌∷◌, length, Option, Some, None, Err, refl, sym, ap, ap₂, subst, arith, inl, inr}
+use Rattle.std.specs.Prelude.{Bool, IsSome, ◌&&◌, ◌⊎◌, not}
 use Rattle.std.proofs.lemmas.Bool.Decides.{nat_tests}
 use Rattle.std.proofs.lemmas.Option.{none-some, same_Some}
-use Rattle.std.specs.List.{AllByRecursion}
 use Rattle.core_expr.specs.Values.{Inner}
 use Rattle.lua_num.specs.Bytes.{Text}
 use Rattle.lua_tree.specs.Syntax as syntax
-use Rattle.lua_tree.specs.WellFormed.{WellFormed, formed_statements, depth_of_statements, begins_with_paren, statement_begins_with_paren}
-use Rattle.lua_tree.specs.Syntax.{Statements, no_statements, Statement, assignment, call_statement, no_expressions, Expression, index_expression, field_expression, call_expression, method_call, function_body, Source}
+use Rattle.lua_tree.specs.WellFormed.{WellFormed, formed_statement, formed_statements, may_follow, ends_block, depth_of_statements, begins_with_paren, statement_begins_with_paren}
+use Rattle.lua_tree.specs.Syntax.{Statements, no_statements, Statement, assignment, call_statement, local_statement, return_statement, no_expressions, Expression, index_expression, field_expression, call_expression, method_call, function_body, Source}
 use Rattle.proto.specs.Short.{IsShort}
 use Rattle.proto.specs.Chunk.{Chunk, Functions, function, and_function, own, each, no_lines, no_functions, functions, SameButLines}
-use Rattle.recover_expr.specs.Drafts.{Part, statement_part}
+use Rattle.recover_expr.specs.Drafts.{Part}
 use Rattle.recover_expr.specs.Placing.{Steps}
 use Rattle.recover_expr.specs.Reading.{read_steps}
 use Rattle.recover_expr.specs.declared.steps.Step.{Step}
-use Rattle.recover_flow.specs.Acts.{AreActs, AreLow, act_plans, without_semicolons, parts_of_statements, NoneOpen, ActsAreFound, ActsAreBuilt, ActsAreLow}
+use Rattle.recover_expr.specs.declared.steps.StepKind.{StepKind}
+use Rattle.recover_flow.specs.Acts as acts
+use Rattle.recover_flow.specs.Acts.{ActsAreBuilt, ActsAreFound, ActsAreLow, AreLow, IsPlain, NoneOpen, is_return, is_return_step, part_of_statement, parts_of_statements, plans_of, without_semicolons}
 use Rattle.recover_flow.specs.Built.{built_body}
 use Rattle.recover_flow.specs.Debug.{LacksDebug}
 use Rattle.recover_flow.specs.Parts.{begins_open, is_open}
@@ -24,7 +25,7 @@ use Rattle.recover_flow.specs.Recovering.{IsFunctionFound, IsMainFound, IsLostOn
 use Rattle.recover_flow.specs.declared.lost.Lost.{Lost}
 use Rattle.recover_flow.specs.Searching.{whole_body}
 use Rattle.recover_flow.specs.Standing.{BodyStands}
-use Rattle.reads_back.specs.ReadAs.{IsStraightChunk, IsActStep, parts_of, ArePlain, IsReadBack, StraightSourcesAreRead, IsAlone, StraightChunksAreAlone, FlatSourcesAreStraight}
+use Rattle.reads_back.specs.ReadAs.{IsStraightChunk, IsStepOf, AreStepsOf, kind_of, part_of, parts_of, ArePlain, IsReadBack, StraightSourcesAreRead, IsAlone, StraightChunksAreAlone, FlatSourcesAreStraight}
 use Rattle.scheme.specs.Scheme.{scheme}
 use Rattle.scheme_lines.specs.Alike.{SemicolonsDoNotMatter}
 use Rattle.scheme_lines.specs.Bare.{bare_statements}
@@ -56,19 +57,66 @@ stays : (block : Statements) → ArePlain block → without_semicolons block ≡
 stays no_statements plain = refl
 stays (syntax.statement line semi s rest) plain = let others = stays rest plain.3 in let first = plain.0 in let second = plain.1 in cc
 
+part_is : (s : Statement) → part_of s ≡ part_of_statement s
+part_is (return_statement es) = refl
+part_is s = refl
+
 parts_are : (block : Statements) → parts_of block ≡ parts_of_statements block
 parts_are no_statements = refl
-parts_are (syntax.statement line semi s rest) = ap (λ others. statement_part s ∷ others) (parts_are rest)
+parts_are (syntax.statement line semi s rest) = ap₂ (λ part (others : List Part). part ∷ others) (part_is s) (parts_are rest)
 
 -- ---- steps
 
-all_acts : (steps : List Step) → AllByRecursion IsActStep steps → AreActs steps
-all_acts [] acts = tt
-all_acts (step ∷ steps) acts = (acts.0.kind, all_acts steps acts.1)
+left_of_both : (a b : Bool) → a && b ≡ true → a ≡ true
+left_of_both true b both = refl
+left_of_both false b both = cc
 
-all_low : (steps : List Step) → AllByRecursion IsActStep steps → AreLow 200 steps
-all_low [] acts = tt
-all_low (step ∷ steps) acts = (acts.0.levels, all_low steps acts.1)
+right_of_both : (a b : Bool) → a && b ≡ true → b ≡ true
+right_of_both true b both = both
+right_of_both false b both = cc
+
+not_so : (a : Bool) → not a ≡ true → a ≡ false
+not_so true is = cc
+not_so false is = refl
+
+-- the step of a statement behind which others stand does not return
+goes_on : (count : ℕ) (s : Statement) (step : Step) → ends_block s ≡ false → IsStepOf count s step → IsPlain count step.kind
+goes_on count (local_statement names es) step on is = inr is.kind
+goes_on count (return_statement es) step on is = cc
+goes_on count s step on is = inl is.kind
+
+is_last : (count : ℕ) (s : Statement) (step : Step) → IsStepOf count s step → IsPlain count step.kind ⊎ (step.kind ≡ StepKind.Return)
+is_last count (local_statement names es) step is = inl (inr is.kind)
+is_last count (return_statement es) step is = inr is.kind
+is_last count s step is = inl (inl is.kind)
+
+-- a return is the last step, since it is the last statement
+all_plain : (count : ℕ) (block : Statements) (steps : List Step) → formed_statements block ≡ true → AreStepsOf count block steps → acts.ArePlain count steps
+all_plain count no_statements steps formed are = subst (acts.ArePlain count) (sym are) tt
+all_plain count (syntax.statement line semi s rest) [] formed are = absurd are
+all_plain count (syntax.statement line semi s no_statements) (step ∷ []) formed are = is_last count s step are.0
+all_plain count (syntax.statement line semi s no_statements) (step ∷ next ∷ steps) formed are = let over = are.1 in cc
+all_plain count (syntax.statement line semi s (syntax.statement line' semi' s' rest)) (step ∷ []) formed are = absurd are.1
+all_plain count (syntax.statement line semi s (syntax.statement line' semi' s' rest)) (step ∷ next ∷ steps) formed are =
+    let others = syntax.statement line' semi' s' rest in
+    let behind = right_of_both (formed_statement s) _ formed in
+    let follows = left_of_both (may_follow s semi others) _ behind in
+    (goes_on count s step (not_so (ends_block s) (left_of_both _ _ follows)) are.0, all_plain count others (next ∷ steps) (right_of_both (may_follow s semi others) _ behind) are.1)
+
+all_low : (count : ℕ) (block : Statements) (steps : List Step) → AreStepsOf count block steps → AreLow 200 steps
+all_low count no_statements steps are = subst (AreLow 200) (sym are) tt
+all_low count (syntax.statement line semi s rest) [] are = absurd are
+all_low count (syntax.statement line semi s rest) (step ∷ steps) are = (are.0.levels, all_low count rest steps are.1)
+
+returns_is : (count : ℕ) (s : Statement) → is_return_step (kind_of count s) ≡ is_return s
+returns_is count (local_statement names es) = refl
+returns_is count (return_statement es) = refl
+returns_is count s = refl
+
+all_steps : (count : ℕ) (block : Statements) (steps : List Step) → AreStepsOf count block steps → acts.AreStepsOf block steps
+all_steps count no_statements steps are = are
+all_steps count (syntax.statement line semi s rest) [] are = absurd are
+all_steps count (syntax.statement line semi s rest) (step ∷ steps) are = (ap is_return_step are.0.kind ∙ returns_is count s, all_steps count rest steps are.1)
 
 -- ---- what is recovered
 
@@ -78,28 +126,28 @@ record IsChunkRead (chunk : Chunk) (of : Source) : Type 0 where
   read : read_steps chunk [] false ≡ Some steps
   params : steps.params ≡ []
   behind : List Part
-  stands : BodyStands steps.steps (whole_body steps.steps) (act_plans 0 (length steps.steps))
-  only : (plans : Plans) → BodyStands steps.steps (whole_body steps.steps) plans → plans ≡ act_plans 0 (length steps.steps)
-  low : body_levels steps.steps (act_plans 0 (length steps.steps)) ≤ 200
-  built : built_body (act_plans 0 (length steps.steps)) steps.parts ≡ Some (of.body, behind)
+  stands : BodyStands steps.steps (whole_body steps.steps) (plans_of 0 steps.steps)
+  only : (plans : Plans) → BodyStands steps.steps (whole_body steps.steps) plans → plans ≡ plans_of 0 steps.steps
+  low : body_levels steps.steps (plans_of 0 steps.steps) ≤ 200
+  built : built_body (plans_of 0 steps.steps) steps.parts ≡ Some (of.body, behind)
 
 as_read : ActsAreFound → ActsAreBuilt → ActsAreLow → {chunk : Chunk} {source : Source} (steps : Steps) → read_steps chunk [] false ≡ Some steps → (back : IsReadBack source steps) →
     IsChunkRead chunk back.tree
 as_read found built low steps read back =
-    let acts = found steps.steps (all_acts steps.steps back.read.acts) in
+    let count = length steps.steps in
     let block = back.tree.body in
-    let made = built block (none_open block back.plain) in
+    let stands = found steps.steps (all_plain count block steps.steps back.formed.formed back.read.are) in
+    let made = built block steps.steps (none_open block back.plain) (all_steps count block steps.steps back.read.are) in
     let parts : steps.parts ≡ parts_of_statements block = back.read.parts ∙ parts_are block in
-    let count : length steps.steps ≡ length (parts_of_statements block) = back.read.same_length ∙ ap length parts in
     record {
       steps = steps;
       read = read;
       params = back.read.params;
       behind = made.0;
-      stands = acts.0;
-      only = acts.1;
-      low = low 200 steps.steps (grind arith) (all_low steps.steps back.read.acts);
-      built = ap₂ (λ n others. built_body (act_plans 0 n) others) count parts ∙ made.1 ∙ ap (λ body. Some (body, made.0)) (stays block back.plain);
+      stands = stands.0;
+      only = stands.1;
+      low = low 200 steps.steps (grind arith) (all_low count block steps.steps back.read.are);
+      built = ap (built_body (plans_of 0 steps.steps)) parts ∙ made.1 ∙ ap (λ body. Some (body, made.0)) (stays block back.plain);
     }
 
 same_first : {A B : Type 0} {first other : A} {second behind : B} → ◌≡◌ {A = Option (A × B)} (Some (first, second)) (Some (other, behind)) → first ≡ other
@@ -127,7 +175,7 @@ module _ {chunk : Chunk} {of : Source} (is_read : IsChunkRead chunk of) where
   is_recovered (inl unread) = none-some is_read.steps (sym unread ∙ is_read.read)
   is_recovered (inr (steps, read, inl nowhere)) =
       let none = subst (λ (s : Steps). StandsNowhere s) (same_Some steps is_read.steps (sym read ∙ is_read.read)) nowhere in
-      let few = is_read.low in let many = none (act_plans 0 (length is_read.steps.steps)) is_read.stands in grind (arith, nat_tests)
+      let few = is_read.low in let many = none (plans_of 0 is_read.steps.steps) is_read.stands in grind (arith, nat_tests)
   is_recovered (inr (steps, read, inr unbuilt)) =
       none-some _ (sym unbuilt.3 ∙ built_of steps unbuilt.0 (same_Some steps is_read.steps (sym read ∙ is_read.read)) unbuilt.1)
 

@@ -2,24 +2,25 @@
 use Rattle.std.proofs.Common.{◌≡◌, ℕ, ◌≤◌, Bool, true, false, ◌&&◌, List, [], Option, Some, None, is_some, max, refl, sym, ap, ◌∙◌, subst, arith}
 use Rattle.std.specs.Prelude.{suc}
 use Rattle.lua_num.specs.Bytes.{Text}
+use Rattle.lua_tree.specs.Names.{are_some_names}
 use Rattle.lua_tree.specs.Syntax as syntax
-use Rattle.lua_tree.specs.Syntax.{Expression, Statement, assignment, call_expression, call_statement, field_expression, index_expression, method_call, name_expression, no_expressions, parenthesized}
+use Rattle.lua_tree.specs.Syntax.{Expression, Statement, assignment, call_expression, call_statement, field_expression, index_expression, local_statement, method_call, name_expression, no_expressions, parenthesized, return_statement}
 use Rattle.lua_tree.specs.WellFormed.{begins_with_paren, depth_of_statement, ends_block, formed_statement, is_call, is_prefix, is_target, statement_begins_with_paren}
 use Rattle.core_expr.specs.Counting.{left_by, left_by_operand, taken_behind, taken_behind_operand}
 use Rattle.core_expr.specs.Making.{and_last, deepest, depth_of, depth_of_operand, made_index}
 use Rattle.core_expr.specs.Places.{Place, constant_name, field_name, local_name, upvalue_name}
 use Rattle.core_expr.specs.Targets.{TargetValue, can_write_target, global_target, index_target, left_by_target, local_target, taken_behind_target, upvalue_target, word_target}
-use Rattle.core_expr.specs.Values.{Inner, OperandList, OperandValue, Value, and_operand, call_value, global_value, index_value, local_value, method_value, no_operands, upvalue_value, value_operand}
+use Rattle.core_expr.specs.Values.{Inner, OperandList, OperandValue, Value, and_operand, call_value, constant_operand, global_value, index_value, local_value, method_value, no_operands, upvalue_value, value_operand}
 use Rattle.core_expr.specs.Writing.{Wording, as_prefix, can_write, can_write_operand, name_word, unless, with_key, word, word_keys}
 use Rattle.scheme.specs.Making.{Where, in_globals, in_register, in_upvalue}
 use Rattle.scheme.specs.declared.making.Active.{Active}
 use Rattle.scheme_stands.specs.Words.{Fn}
-use Rattle.reads_back.specs.Acted.{Acted, IsAct, IsActed, IsTarget, act_levels, act_statement, assigned, called, can_act, word_stored}
+use Rattle.reads_back.specs.Acted.{Acted, IsAct, IsActed, IsTarget, IsVariableTarget, act_levels, act_statement, assigned, called, can_act, declared, returned, word_stored}
 use Rattle.reads_back.specs.Cores.{IsCore, IsVariable}
 use Rattle.reads_back.specs.Straight.{BeginsWithName, StatementBeginsWithName}
 use Rattle.reads_back.proofs.MarksSame.{over_made}
 use Rattle.reads_back.proofs.Tests.{both_hold, first_of_both, not_so, second_of_both}
-use Rattle.reads_back.proofs.WrittenFormed.{IsFine, none_by, none_by_operand, operand_fine, word_fine}
+use Rattle.reads_back.proofs.WrittenFormed.{IsFine, none_by, none_by_operand, operand_fine, values_fine, word_fine}
 
 -- ---- a target is written as the value that is read there
 
@@ -69,8 +70,11 @@ none_by_target t = refl
 
 -- what is stored
 stored_fine : (at : Place) (n : ℕ) (fs : List (Option Inner)) (t : TargetValue) (o : OperandValue) → fs ≡ [] → can_write_operand at fs o ≡ true → IsFine (word_stored at n fs t o)
+stored_fine at n fs (index_target on key) o none can = operand_fine at o n fs none can
+stored_fine at n fs (local_target r) (value_operand v) none can = word_fine at v n fs none can
+stored_fine at n fs (upvalue_target u) (value_operand v) none can = word_fine at v n fs none can
 stored_fine at n fs (global_target k) (value_operand v) none can = word_fine at v n fs none can
-stored_fine at n fs t o none can = operand_fine at o n fs none can
+stored_fine at n fs t (constant_operand k) none can = operand_fine at (constant_operand k) n fs none can
 
 assigned_parts : (at : Place) (t : TargetValue) (o : OperandValue) (n : ℕ) → can_act at [] (assigned t o) ≡ true → IsFine (word_target at n [] t) × IsFine (word_stored at (taken_behind_target t n) (left_by_target t []) t o)
 assigned_parts at t o n can = (target_fine at n t (first_of_both _ _ can), stored_fine at (taken_behind_target t n) (left_by_target t []) t o (none_by_target t) (second_of_both (can_write_target at [] t) _ can))
@@ -148,23 +152,32 @@ module _ (g : Fn) (active : List Active) where
   name_begins (parenthesized line e) v begins is = name_begins e v begins is
   name_begins e v begins is = absurd begins
 
+  target_variable : (text : Text) (w : Where) (t : TargetValue) → IsVariableTarget g text w t → BeginsWithVariable (value_of_target t)
+  target_variable text (in_register r) t is = subst (λ t. BeginsWithVariable (value_of_target t)) (sym is) tt
+  target_variable text (in_upvalue slot) t is = subst (λ t. BeginsWithVariable (value_of_target t)) (sym is) tt
+  target_variable text in_globals t is = subst (λ t. BeginsWithVariable (value_of_target t)) (sym is.2) tt
+
   target_begins : (e : Expression) (t : TargetValue) → BeginsWithName e → IsTarget g active e t → BeginsWithVariable (value_of_target t)
-  target_begins (name_expression line text) t begins is = subst (λ t. BeginsWithVariable (value_of_target t)) (sym is.3) tt
+  target_begins (name_expression line text) t begins is = target_variable text is.0 t is.2
   target_begins (index_expression line on key) t begins is = subst (λ t. BeginsWithVariable (value_of_target t)) (sym is.4) (name_begins on is.0 begins is.2)
   target_begins (field_expression line on text) t begins is = subst (λ t. BeginsWithVariable (value_of_target t)) (sym is.4) (name_begins on is.0 begins is.2)
   target_begins e t begins is = absurd is
 
 -- ---- acts; calls are written as calls
 
-module _ (at : Place) (g : Fn) (active : List Active) where
-  called_is : (e : Expression) (v : Value) (n : ℕ) → is_call e ≡ true → IsCore g active e v → is_call (word at n [] v).words ≡ true
-  called_is (call_expression line on args on_line) v n call is = ap (λ v. is_call (word at n [] v).words) (over_made (max (depth_of is.0) (deepest is.1)) (λ d. call_value is.0 is.1 is.2 d) v is.5)
-  called_is (method_call line on name args on_line) v n call is = ap (λ v. is_call (word at n [] v).words) (over_made (max (depth_of is.0) (deepest is.2)) (λ d. method_value is.0 is.1 is.2 is.3 d) v is.7)
-  called_is e v n call is = not_so call
+pub called_is : (at : Place) (g : Fn) (active : List Active) (left : List (Option Inner)) (e : Expression) (v : Value) (n : ℕ) → is_call e ≡ true → IsCore g active e v → is_call (word at n left v).words ≡ true
+called_is at g active left (call_expression line on args on_line) v n call is = ap (λ v. is_call (word at n left v).words) (over_made (max (depth_of is.0) (deepest is.1)) (λ d. call_value is.0 is.1 is.2 d) v is.5)
+called_is at g active left (method_call line on name args on_line) v n call is = ap (λ v. is_call (word at n left v).words) (over_made (max (depth_of is.0) (deepest is.2)) (λ d. method_value is.0 is.1 is.2 is.3 d) v is.7)
+called_is at g active left e v n call is = not_so call
 
+module _ (at : Place) (g : Fn) (active : List Active) where
   pub act_formed : (s : Statement) (acted : Acted) (n : ℕ) → IsAct s → IsActed g active s acted → can_act at [] acted ≡ true → formed_statement (act_statement at n [] acted) ≡ true
-  act_formed (call_statement e) (called v) n has is can = let fine = word_fine at v n [] refl can in both_hold _ _ (called_is e v n has.0 is) fine.formed
+  act_formed (call_statement e) (called v) n has is can = let fine = word_fine at v n [] refl can in both_hold _ _ (called_is at g active [] e v n has.0 is) fine.formed
   act_formed (assignment (syntax.expression target no_expressions) (syntax.expression e no_expressions)) (assigned t o) n has is can = assigned_formed at t o n can
+  act_formed (local_statement names es) (declared others vs all) n has is can =
+      let fine = values_fine at vs all n [] refl can in
+      both_hold _ _ (ap are_some_names is.0 ∙ has.0) fine.formed
+  act_formed (return_statement es) (returned vs all) n has is can = let fine = values_fine at vs all n [] refl can in fine.formed
   act_formed s acted n has is can = absurd is
 
   pub act_shallow : (s : Statement) (acted : Acted) (n : ℕ) → IsAct s → IsActed g active s acted → can_act at [] acted ≡ true → act_levels at n [] acted ≤ 400 → suc (depth_of_statement (act_statement at n [] acted)) ≤ act_levels at n [] acted
@@ -174,14 +187,22 @@ module _ (at : Place) (g : Fn) (active : List Active) where
       let low = fine.0.shallow (omega (arith, few)) in
       let high = fine.1.shallow (omega (arith, few)) in
       omega (arith, few, low, high)
+  act_shallow s (declared names vs all) n has is can few = let fine = values_fine at vs all n [] refl can in let low = fine.shallow (omega (arith, few)) in omega (arith, few, low)
+  act_shallow s (returned vs all) n has is can few = let fine = values_fine at vs all n [] refl can in let low = fine.shallow (omega (arith, few)) in omega (arith, few, low)
 
   pub act_closed : (s : Statement) (acted : Acted) (n : ℕ) → StatementBeginsWithName s → IsAct s → IsActed g active s acted → can_act at [] acted ≡ true → statement_begins_with_paren (act_statement at n [] acted) ≡ false
   act_closed (call_statement e) (called v) n begins has is can = let open_words = variable_open at v n [] (name_begins g active e v begins is) can in open_words.bare
   act_closed (assignment (syntax.expression target no_expressions) (syntax.expression e no_expressions)) (assigned t o) n begins has is can =
       let open_words = variable_open at (value_of_target t) n [] (target_begins g active target t begins is.0) (can_be_read at [] t (first_of_both _ _ can)) in
       ap (λ w. begins_with_paren w.words) (written_as_value at n [] t) ∙ open_words.bare
+  act_closed (local_statement names es) (declared others vs all) n begins has is can = refl
+  act_closed (return_statement es) (returned vs all) n begins has is can = refl
   act_closed s acted n begins has is can = absurd is
 
-pub act_goes_on : (at : Place) (acted : Acted) (n : ℕ) → ends_block (act_statement at n [] acted) ≡ false
-act_goes_on at (called v) n = refl
-act_goes_on at (assigned t o) n = refl
+-- a return ends its block, and nothing else does
+pub act_ends : (at : Place) (g : Fn) (active : List Active) (s : Statement) (acted : Acted) (n : ℕ) → IsActed g active s acted → ends_block (act_statement at n [] acted) ≡ ends_block s
+act_ends at g active (call_statement e) (called v) n is = refl
+act_ends at g active (assignment (syntax.expression target no_expressions) (syntax.expression e no_expressions)) (assigned t o) n is = refl
+act_ends at g active (local_statement names es) (declared others vs all) n is = refl
+act_ends at g active (return_statement es) (returned vs all) n is = refl
+act_ends at g active s acted n is = absurd is

@@ -1,5 +1,6 @@
 -- The words of an act are read as one step, with what is written of it: calls as statements.
-use Rattle.std.proofs.Common.{◌≡◌, ℕ, suc, ◌+◌, ◌<◌, ◌≤◌, true, List, [], length, Option, None, Some, refl, sym, ap, ◌∙◌, subst, arith, inl}
+use Rattle.std.proofs.Common.{◌≡◌, ℕ, zero, suc, ◌+◌, ◌<◌, true, List, [], ◌∷◌, ◌++◌, append-nil, length, Option, None, Some, refl, sym, ap, ◌∙◌, subst, arith, inl}
+use Rattle.std.proofs.Math.Nat.{add-zero}
 use Rattle.std.specs.Prelude.{◌==◌, option_and_then, option_map, if◌then◌else◌}
 use Rattle.lua_tree.specs.Syntax.{Expression, Statement, call_statement}
 use Rattle.opcode.specs.declared.op.Op.{Op}
@@ -7,8 +8,9 @@ use Rattle.core_expr.specs.Counting.{taken_behind}
 use Rattle.core_expr.specs.Places.{place}
 use Rattle.core_expr.specs.Values.{Value, Inner}
 use Rattle.core_expr.specs.Writing.{Wording, can_write, word}
-use Rattle.recover_expr.specs.Drafts.{Drafted, drafted, ends, statement_part}
+use Rattle.recover_expr.specs.Drafts.{Drafted, drafted, ends}
 use Rattle.recover_expr.specs.Entries.{Entries}
+use Rattle.recover_expr.specs.Locals.{Scope}
 use Rattle.recover_expr.specs.Reading.{over, read_word, turned, turn_of, words_from}
 use Rattle.recover_expr.specs.Situation.{Function, Situation, place_in_step, see, with_left}
 use Rattle.recover_expr.specs.Words.{as_end, call_ended, call_made, call_written}
@@ -18,15 +20,41 @@ use Rattle.scheme.specs.declared.making.Active.{Active}
 use Rattle.scheme.specs.declared.making.Piece.{Piece}
 use Rattle.scheme_stands.specs.Relation.{related}
 use Rattle.scheme_stands.specs.Words.{Fn, Spot, WordAt, IsRead}
-use Rattle.reads_back.specs.Acted.{Acted, called, IsActed, act_levels, act_statement, can_act, left_by_act, taken_behind_act}
+use Rattle.reads_back.specs.Acted.{Acted, called, declared, returned, IsActed, act_levels, act_statement, can_act, left_by_act, taken_behind_act}
 use Rattle.reads_back.specs.Cores.{IsCore}
+use Rattle.reads_back.specs.ReadAs.{part_of}
 use Rattle.reads_back.proofs.Comes.{CallComes, ReadsCall}
-use Rattle.reads_back.proofs.BehindWords.{HasLocals, SameLocals, behind_words}
+use Rattle.reads_back.proofs.BehindWords.{HasLocals, NoneCaptured, SameLocals, behind_words}
 use Rattle.reads_back.proofs.Reaches.{reaches_on, step_ends, Reaches}
 use Rattle.reads_back.proofs.ValueWords.{next_free}
 use Rattle.reads_back.proofs.WordsRead.{IsFunction, IsQuiet, word_of, word_there, turn_there}
 
 -- ---- what is known of an act that is read
+
+-- what the step is, where so many locals are declared before it
+abbrev pub kind_of_act : (first : ℕ) → Acted → DraftKind
+kind_of_act first (declared names vs all) = DraftKind.Declaration first (length names)
+kind_of_act first (returned vs all) = DraftKind.Return
+kind_of_act first acted = DraftKind.Act
+
+-- how many locals it declares
+abbrev pub locals_of : Acted → ℕ
+locals_of (declared names vs all) = length names
+locals_of acted = 0
+
+-- so many numbers from one on
+abbrev pub numbers_from : (first count : ℕ) → List ℕ
+numbers_from first zero = []
+numbers_from first (suc count) = first ∷ numbers_from (suc first) count
+
+-- so many locals more are declared and active, and none is captured where none was
+pub record Declares (count : ℕ) (before behind : Scope) : Type 0 where
+  pub declared_more : length behind.declared ≡ length before.declared + count
+  pub active_more : behind.active ≡ before.active ++ numbers_from (length before.declared) count
+  pub uncaptured : NoneCaptured before.declared → NoneCaptured behind.declared
+
+pub same_declares : {before behind : Scope} → SameLocals before behind → Declares 0 before behind
+same_declares {before} same = record { declared_more = same.declared ∙ sym (add-zero (length before.declared)); active_more = same.active ∙ sym (append-nil before.active); uncaptured = same.uncaptured }
 
 -- the words from one pc up to another are one step, an act that the statement is, and so it is written
 pub record ActRead (f : Function) (g : Fn) (active : List Active) (statement : Statement) (s : Situation) (first last : ℕ) : Type 0 where
@@ -34,15 +62,13 @@ pub record ActRead (f : Function) (g : Fn) (active : List Active) (statement : S
   pub is : IsActed g active statement acted
   pub draft : Drafted
   pub behind : Situation
-  pub reads : (count : ℕ) → last ≤ count + first → words_from f count first s ≡ Some (draft, behind)
-  pub kind : draft.kind ≡ DraftKind.Act
+  pub reads : (count : ℕ) → last < count + first → words_from f count first s ≡ Some (draft, behind)
+  pub kind : draft.kind ≡ kind_of_act (length s.scope.declared) acted
   pub pc : draft.pc ≡ s.pc
   pub next : draft.next ≡ last
-  pub base : draft.base ≡ s.base
-  pub innermost : draft.innermost ≡ s.inside
-  pub part : draft.part ≡ statement_part (act_statement (place_in_step f s) s.taken s.left acted)
+  pub part : draft.part ≡ part_of (act_statement (place_in_step f s) s.taken s.left acted)
   pub levels : draft.levels ≡ act_levels (place_in_step f s) s.taken s.left acted
-  pub same : SameLocals s.scope behind.scope
+  pub declares : Declares (locals_of acted) s.scope behind.scope
   pub left : behind.left ≡ left_by_act acted s.left
   pub seen : behind.seen ≡ taken_behind_act acted s.seen
   pub later : first < last
@@ -53,7 +79,7 @@ pub record CanAct (f : Function) (g : Fn) (active : List Active) (listed : List 
 
 -- the step of an act, and what is known behind it
 abbrev pub act_draft : (f : Function) → (next : ℕ) → Acted → Situation → Drafted
-act_draft f next acted s = drafted DraftKind.Act next (act_levels (place_in_step f s) s.taken s.left acted) (statement_part (act_statement (place_in_step f s) s.taken s.left acted)) s
+act_draft f next acted s = drafted (kind_of_act (length s.scope.declared) acted) next (act_levels (place_in_step f s) s.taken s.left acted) (part_of (act_statement (place_in_step f s) s.taken s.left acted)) s
 
 abbrev pub after_act : Acted → Situation → Situation
 after_act acted s = with_left (left_by_act acted s.left) s
@@ -64,7 +90,7 @@ ends_turn f w draft s behind does = ap (option_and_then (λ p. turned f w p.1 p.
 
 -- the last word of a step
 pub last_word : {f : Function} {g : Fn} {w : Piece} {p q : Spot} {first : ℕ} {s t behind : Situation} (draft : Drafted) → IsFunction f g → Reaches f first s p.pc t → IsQuiet f t.scope first q.pc → WordAt g w p q → IsRead p.pc w →
-    read_word f (word_of p.pc w) (see (word_of p.pc w).instr t) ≡ Some (ends draft, behind) → (count : ℕ) → q.pc ≤ count + first → words_from f count first s ≡ Some (draft, behind)
+    read_word f (word_of p.pc w) (see (word_of p.pc w).instr t) ≡ Some (ends draft, behind) → (count : ℕ) → q.pc < count + first → words_from f count first s ≡ Some (draft, behind)
 last_word {f} {g} {w} {p} {q} {first} {s} {t} {behind} draft is_function reaches quiet at read does count few =
     let later : p.pc < q.pc = omega (arith, at.next) in
     let turn = turn_there p.pc t quiet (reaches_on reaches) later (word_there is_function at read (omega (arith, quiet.within))) in
@@ -97,11 +123,9 @@ module _ {f : Function} {g : Fn} {active : List Active} {listed : List ℕ} (e :
         kind = refl;
         pc = refl;
         next = sym comes.next;
-        base = refl;
-        innermost = refl;
-        part = ap (λ (listed : List ℕ). statement_part (act_statement (place f.of listed f.short) s.taken s.left (called v))) comes.same.active;
+        part = ap (λ (listed : List ℕ). part_of (act_statement (place f.of listed f.short) s.taken s.left (called v))) comes.same.active;
         levels = ap (λ (listed : List ℕ). act_levels (place f.of listed f.short) s.taken s.left (called v)) comes.same.active;
-        same = comes.same;
+        declares = same_declares comes.same;
         left = refl;
         seen = sym comes.taken;
         later = omega (arith, comes.next, reaches_on comes.reaches);

@@ -1,5 +1,5 @@
 -- What is written of a call has the code of the call: a function with its arguments, and a method.
-use Rattle.std.proofs.Common.{◌≡◌, ℕ, suc, ◌≤◌, max, ◌+◌, Bool, true, false, cond, List, length, Option, Some, None, refl, sym, ap, ◌∙◌, subst, arith}
+use Rattle.std.proofs.Common.{◌≡◌, ℕ, suc, ◌≤◌, max, ◌+◌, Bool, true, false, cond, List, [], ◌++◌, length, Option, Some, None, refl, sym, ap, ◌∙◌, subst, arith}
 use Rattle.std.specs.Prelude.{◌&&◌, not, ◌==◌, is_some, if◌then◌else◌}
 use Rattle.lua_num.specs.Bytes.{Text}
 use Rattle.lua_tree.specs.Names.{is_name as is_name_text}
@@ -25,10 +25,11 @@ use Rattle.scheme_stands.proofs.Parts.{grows, grows_given, grows_next, grows_ope
 use Rattle.scheme_stands.specs.Words.{Fn}
 use Rattle.reads_back.specs.Cores.{HasCore, HasNumber}
 use Rattle.reads_back.proofs.ConstantsSame.{constant_taken}
-use Rattle.reads_back.proofs.BareMakers.{bare_kept, next_keeps, operand_keeps, rk_text_keeps}
 use Rattle.reads_back.proofs.LeavesSame.{some_depth}
 use Rattle.reads_back.proofs.LiteralReads.{constant_there}
-use Rattle.reads_back.proofs.Rewriting.{IsBare, IsMadeBy, Rewritten, RewrittenGiven, arguments_wording, code, wording}
+use Rattle.reads_back.proofs.NamesAhead.{IsAhead, Passed, ahead_behind, ahead_front, names_given, names_in}
+use Rattle.reads_back.proofs.PassedNames.{names_passed, next_passes, operand_passes, rk_text_passes}
+use Rattle.reads_back.proofs.Rewriting.{IsMadeBy, Rewritten, RewrittenGiven, arguments_wording, code, wording}
 use Rattle.reads_back.proofs.Tests.{both_hold}
 use Rattle.reads_back.proofs.WordsSame.{levels_wrapped, next_same, next_taken, next_wrapped, operand_same, operand_taken, operand_wrapped}
 
@@ -67,8 +68,9 @@ call_at_same on off one other op want m next part count =
     ∙ ap (λ (n : Maker). results_at m.free want (put 1 (Piece.Abc op m.free (count_field 1 one.count) (count_field 1 want)) n)) part
     ∙ ap (λ (c : Want). results_at m.free want (put 1 (Piece.Abc op m.free (count_field 1 c) (count_field 1 want)) (other.part (next_reg off m)))) count
 
-module _ {f : Function} {listed : List ℕ} {z : Maker} {left : List (Option Inner)} (on : Expression) (args : Arguments) (o : Value) (values : Values) (all : Bool) (line on_line deep depth : ℕ)
-    (short : f.short ≡ false) (has : HasCore on) (on_written : Rewritten f listed z left on o) (args_written : RewrittenGiven f listed z left args deep values all) (within : deep ≤ max (depth_of_expression on) (depth_of_arguments args)) where
+module _ {f : Function} {g : Fn} {active : List Active} {listed : List ℕ} {z : Maker} {left : List (Option Inner)} (on : Expression) (args : Arguments) (o : Value) (values : Values) (all : Bool) (line on_line deep depth : ℕ)
+    (short : f.short ≡ false) (has : HasCore on) (on_written : Rewritten f g active listed z left on o) (args_written : RewrittenGiven f g active listed z left args deep values all)
+    (within : deep ≤ max (depth_of_expression on) (depth_of_arguments args)) where
   abbrev prefix_words : (n : ℕ) → Wording
   prefix_words n = as_prefix (wording f listed z left n o)
 
@@ -96,25 +98,29 @@ module _ {f : Function} {listed : List ℕ} {z : Maker} {left : List (Option Inn
   behind_on : (op : Op) (want : Want) (m : Maker) → Final (length m.labels) (of_call op want m) z → Final (length (next_reg (code on) m).labels) ((given (one_line_arguments args) 1).part (next_reg (code on) m)) z
   behind_on op want m final = let grown = grows_next {v = calm} (code on) (grows calm (one_line_expression on)) m in later grown.more (before_word op want m final)
 
-  behind_ahead : (m : Maker) → IsBare m → IsBare (next_reg (code on) m)
-  behind_ahead m ahead = next_keeps (code on) (bare_kept on has) m ahead
+  on_ahead : (m : Maker) → IsAhead g active (names_in on ++ names_given args) m → IsAhead g active (names_in on) m
+  on_ahead m ahead = ahead_front (names_in on) (names_given args) ahead
 
-  call_same : (op : Op) (want : Want) (m : Maker) → IsBare m → Final (length m.labels) (of_call op want m) z → written_call (length m.constants) op want m ≡ of_call op want m
+  behind_ahead : (m : Maker) → IsAhead g active (names_in on ++ names_given args) m → IsAhead g active (names_given args) (next_reg (code on) m)
+  behind_ahead m ahead = ahead_behind (names_in on) (names_given args) (next_passes (names_in on) (code on) (names_passed on has) m) ahead
+
+  call_same : (op : Op) (want : Want) (m : Maker) → IsAhead g active (names_in on ++ names_given args) m → Final (length m.labels) (of_call op want m) z → written_call (length m.constants) op want m ≡ of_call op want m
   call_same op want m ahead final =
       let n = length m.constants in
       let mid = next_reg (code on) m in
       call_at_same (coded (prefix_words n).words) (code on) (given (arguments_wording f listed z left (taken_behind o n) values all).words 1) (given (one_line_arguments args) 1) op want m
-      (next_wrapped (is_prefix (wording f listed z left n o).words) (wording f listed z left n o) m ∙ next_same on_written m ahead (before_args op want m final))
-      (ap (λ n. (given (arguments_wording f listed z left n values all).words 1).part mid) (sym (next_taken on_written m ahead (before_args op want m final))) ∙ args_written.part mid (behind_ahead m ahead) (behind_on op want m final))
+      (next_wrapped (is_prefix (wording f listed z left n o).words) (wording f listed z left n o) m ∙ next_same on_written m (on_ahead m ahead) (before_args op want m final))
+      (ap (λ n. (given (arguments_wording f listed z left n values all).words 1).part mid) (sym (next_taken on_written m (on_ahead m ahead) (before_args op want m final))) ∙ args_written.part mid (behind_ahead m ahead) (behind_on op want m final))
       (args_written.counts (taken_behind o n))
 
-  call_taken : (op : Op) (want : Want) (m : Maker) → IsBare m → Final (length m.labels) (of_call op want m) z → length (of_call op want m).constants ≡ taken_behind_values values (taken_behind o (length m.constants))
+  call_taken : (op : Op) (want : Want) (m : Maker) → IsAhead g active (names_in on ++ names_given args) m → Final (length m.labels) (of_call op want m) z →
+      length (of_call op want m).constants ≡ taken_behind_values values (taken_behind o (length m.constants))
   call_taken op want m ahead final =
       results_keep m.free want _
       ∙ args_written.taken (next_reg (code on) m) (behind_ahead m ahead) (behind_on op want m final)
-      ∙ ap (taken_behind_values values) (next_taken on_written m ahead (before_args op want m final))
+      ∙ ap (taken_behind_values values) (next_taken on_written m (on_ahead m ahead) (before_args op want m final))
 
-  call_written : Rewritten f listed z left (call_expression line on args on_line) (call_value o values all depth)
+  call_written : Rewritten f g active listed z left (call_expression line on args on_line) (call_value o values all depth)
   call_written = record {
     can = both_hold _ _ on_written.can (ap (λ fs. can_write_values (place f.of listed f.short) fs values) on_written.unused ∙ args_written.can);
     unused = ap (left_by_values values) on_written.unused ∙ args_written.unused;
@@ -127,6 +133,7 @@ module _ {f : Function} {listed : List ℕ} {z : Maker} {left : List (Option Inn
         let prefix_few = levels_wrapped (is_prefix (wording f listed z left n o).words) (wording f listed z left n o) in
         omega (arith, same, prefix_few, on_written.few n, args_written.few (taken_behind o n), within);
     keys = omega arith;
+    as_local = λ n r m ahead is. cc;
     to_reg = λ r m ahead final.
         ap (λ (w : Wording). (coded w.words).to_reg r m) (call_words_are (length m.constants))
         ∙ by_base_same (written_call (length m.constants) Op.Call (Some 1)) (of_call Op.Call (Some 1)) r m (call_same Op.Call (Some 1) m ahead (before_base (of_call Op.Call (Some 1)) r m final));
@@ -164,7 +171,7 @@ name_taken {z = z} {j = j} made name number m has final = by (is_small (Constant
 
 module _ {f : Function} {g : Fn} {active : List Active} {listed : List ℕ} {z : Maker} {left : List (Option Inner)} (made : IsMadeBy f g active listed z)
     (on : Expression) (args : Arguments) (o : Value) (values : Values) (all : Bool) (line on_line deep depth number : ℕ) (name : Text)
-    (has : HasCore on) (on_written : Rewritten f listed z left on o) (args_written : RewrittenGiven f listed z left args deep values all) (within : deep ≤ max (depth_of_expression on) (depth_of_arguments args))
+    (has : HasCore on) (on_written : Rewritten f g active listed z left on o) (args_written : RewrittenGiven f g active listed z left args deep values all) (within : deep ≤ max (depth_of_expression on) (depth_of_arguments args))
     (numbered : HasNumber g (Constant.Text name) number) (named : is_name_text name ≡ true) where
   abbrev on_words : (n : ℕ) → Wording
   on_words n = as_prefix (wording f listed z left n o)
@@ -210,26 +217,37 @@ module _ {f : Function} {g : Fn} {active : List Active} {listed : List ℕ} {z :
       let two = grows_rk_text {v = calm} 1 name (take_registers 2 (free_from m.free (operand (code on) m).after)) in
       later (omega (arith, one.more, two.more)) (behind_given op want m final)
 
-  given_ahead : (m : Maker) → IsBare m → IsBare (before_given m)
-  given_ahead m ahead = rk_text_keeps 1 name (take_registers 2 (free_from m.free (operand (code on) m).after)) (operand_keeps (code on) (bare_kept on has) m ahead)
+  self_ahead : (m : Maker) → IsAhead g active (names_in on ++ names_given args) m → IsAhead g active (names_in on) m
+  self_ahead m ahead = ahead_front (names_in on) (names_given args) ahead
 
-  given_taken : (op : Op) (want : Want) (m : Maker) → IsBare m → Final (length m.labels) (of_method op want m) z → length (before_given m).constants ≡ behind_name (length m.constants)
+  -- the name of a method is a constant, and so no name of the scope
+  name_passed : (m : Maker) → Passed [] (take_registers 2 (free_from m.free (operand (code on) m).after)) (before_given m)
+  name_passed m = let passed = rk_text_passes 1 name (take_registers 2 (free_from m.free (operand (code on) m).after)) in record { around = passed.around; names = passed.names }
+
+  self_passed : (m : Maker) → Passed (names_in on) m (take_registers 2 (free_from m.free (operand (code on) m).after))
+  self_passed m = let passed = operand_passes (names_in on) (code on) (names_passed on has) m in record { around = passed.around; names = passed.names }
+
+  given_ahead : (m : Maker) → IsAhead g active (names_in on ++ names_given args) m → IsAhead g active (names_given args) (before_given m)
+  given_ahead m ahead = ahead_behind [] (names_given args) (name_passed m) (ahead_behind (names_in on) (names_given args) (self_passed m) ahead)
+
+  given_taken : (op : Op) (want : Want) (m : Maker) → IsAhead g active (names_in on ++ names_given args) m → Final (length m.labels) (of_method op want m) z → length (before_given m).constants ≡ behind_name (length m.constants)
   given_taken op want m ahead final =
       name_taken made name number (take_registers 2 (free_from m.free (operand (code on) m).after)) numbered (behind_rk op want m final)
-      ∙ ap (λ n. with_constant n number) (operand_taken on_written m ahead (behind_operand op want m final))
+      ∙ ap (λ n. with_constant n number) (operand_taken on_written m (self_ahead m ahead) (behind_operand op want m final))
 
-  method_same : (op : Op) (want : Want) (m : Maker) → IsBare m → Final (length m.labels) (of_method op want m) z → written_method (length m.constants) op want m ≡ of_method op want m
+  method_same : (op : Op) (want : Want) (m : Maker) → IsAhead g active (names_in on ++ names_given args) m → Final (length m.labels) (of_method op want m) z → written_method (length m.constants) op want m ≡ of_method op want m
   method_same op want m ahead final =
       let n = length m.constants in
       method_at_same (coded (on_words n).words) (code on) name (given (arguments_wording f listed z left (behind_name n) values all).words 1) (given (one_line_arguments args) 1) op want m
-      (operand_wrapped (is_prefix (wording f listed z left n o).words) (wording f listed z left n o) m ∙ operand_same on_written m ahead (behind_operand op want m final))
+      (operand_wrapped (is_prefix (wording f listed z left n o).words) (wording f listed z left n o) m ∙ operand_same on_written m (self_ahead m ahead) (behind_operand op want m final))
       (ap (λ n. (given (arguments_wording f listed z left n values all).words 1).part (before_given m)) (sym (given_taken op want m ahead final)) ∙ args_written.part (before_given m) (given_ahead m ahead) (given_final op want m final))
       (args_written.counts (behind_name n))
 
-  method_taken : (op : Op) (want : Want) (m : Maker) → IsBare m → Final (length m.labels) (of_method op want m) z → length (of_method op want m).constants ≡ taken_behind_values values (behind_name (length m.constants))
+  method_taken : (op : Op) (want : Want) (m : Maker) → IsAhead g active (names_in on ++ names_given args) m → Final (length m.labels) (of_method op want m) z →
+      length (of_method op want m).constants ≡ taken_behind_values values (behind_name (length m.constants))
   method_taken op want m ahead final = results_keep m.free want _ ∙ args_written.taken (before_given m) (given_ahead m ahead) (given_final op want m final) ∙ ap (taken_behind_values values) (given_taken op want m ahead final)
 
-  method_written : Rewritten f listed z left (method_call line on name args on_line) (method_value o number values all depth)
+  method_written : Rewritten f g active listed z left (method_call line on name args on_line) (method_value o number values all depth)
   method_written = record {
     can =
         both_hold _ _ on_written.can
@@ -244,6 +262,7 @@ module _ {f : Function} {g : Fn} {active : List Active} {listed : List ℕ} {z :
         let prefix_few = levels_wrapped (is_prefix (wording f listed z left n o).words) (wording f listed z left n o) in
         omega (arith, same, prefix_few, on_written.few n, args_written.few (behind_name n), within);
     keys = omega arith;
+    as_local = λ n r m ahead is. cc;
     to_reg = λ r m ahead final.
         ap (λ (w : Wording). (coded w.words).to_reg r m) (method_words_are (length m.constants))
         ∙ by_base_same (written_method (length m.constants) Op.Call (Some 1)) (of_method Op.Call (Some 1)) r m (method_same Op.Call (Some 1) m ahead (before_base (of_method Op.Call (Some 1)) r m final));
@@ -255,19 +274,19 @@ module _ {f : Function} {g : Fn} {active : List Active} {listed : List ℕ} {z :
 -- ---- what a call is made of
 
 module _ {f : Function} {g : Fn} {active : List Active} {listed : List ℕ} {z : Maker} {left : List (Option Inner)} (made : IsMadeBy f g active listed z) where
-  pub call_rewritten : (on : Expression) (args : Arguments) (line on_line deep : ℕ) (o : Value) (values : Values) (all : Bool) (v : Value) → HasCore on → Rewritten f listed z left on o → RewrittenGiven f listed z left args deep values all →
-      deep ≤ max (depth_of_expression on) (depth_of_arguments args) → made_call o values all ≡ Some v → Rewritten f listed z left (call_expression line on args on_line) v
+  pub call_rewritten : (on : Expression) (args : Arguments) (line on_line deep : ℕ) (o : Value) (values : Values) (all : Bool) (v : Value) → HasCore on → Rewritten f g active listed z left on o →
+      RewrittenGiven f g active listed z left args deep values all → deep ≤ max (depth_of_expression on) (depth_of_arguments args) → made_call o values all ≡ Some v → Rewritten f g active listed z left (call_expression line on args on_line) v
   call_rewritten on args line on_line deep o values all v has on_written args_written within is =
       let depth = suc (max (depth_of o) (deepest values)) in
-      subst (λ v. Rewritten f listed z left (call_expression line on args on_line) v) (made_as _ (call_value o values all depth) v is)
+      subst (λ v. Rewritten f g active listed z left (call_expression line on args on_line) v) (made_as _ (call_value o values all depth) v is)
       (call_written on args o values all line on_line deep depth made.is_function.natural has on_written args_written within)
 
-  pub method_rewritten : (on : Expression) (args : Arguments) (line on_line deep number : ℕ) (name : Text) (o : Value) (values : Values) (all : Bool) (v : Value) → HasCore on → Rewritten f listed z left on o →
-      RewrittenGiven f listed z left args deep values all → deep ≤ max (depth_of_expression on) (depth_of_arguments args) → HasNumber g (Constant.Text name) number → is_name_text name ≡ true → made_method o number values all ≡ Some v →
-      Rewritten f listed z left (method_call line on name args on_line) v
+  pub method_rewritten : (on : Expression) (args : Arguments) (line on_line deep number : ℕ) (name : Text) (o : Value) (values : Values) (all : Bool) (v : Value) → HasCore on → Rewritten f g active listed z left on o →
+      RewrittenGiven f g active listed z left args deep values all → deep ≤ max (depth_of_expression on) (depth_of_arguments args) → HasNumber g (Constant.Text name) number → is_name_text name ≡ true → made_method o number values all ≡ Some v →
+      Rewritten f g active listed z left (method_call line on name args on_line) v
   method_rewritten on args line on_line deep number name o values all v has on_written args_written within numbered named is =
       let depth = suc (max (depth_of o) (deepest values)) in
-      subst (λ v. Rewritten f listed z left (method_call line on name args on_line) v) (made_as _ (method_value o number values all depth) v is)
+      subst (λ v. Rewritten f g active listed z left (method_call line on name args on_line) v) (made_as _ (method_value o number values all depth) v is)
       (method_written made on args o values all line on_line deep depth number name has on_written args_written within numbered named)
 
 -- ---- arguments are no deeper than a call needs

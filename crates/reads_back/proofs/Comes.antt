@@ -124,7 +124,7 @@ IsGoal s r = (r ≡ next_free s) ⊎ (r < s.base)
 pub record Reads (f : Function) (g : Fn) (active : List Active) (listed : List ℕ) (Is : Value → Type 0) (deep : ℕ) (to : (free r : ℕ) → Stretch) : Type 0 where
   pub forward : (free r : ℕ) (p q : Spot) → to free r p q → p.pc ≤ q.pc
   pub begins : (free : ℕ) (p q : Spot) → q.pc ≤ f.last → to free free p q → Begins f free p.pc
-  pub arrives : (free r : ℕ) (p q : Spot) (s : Situation) → HasLocals active listed s → free ≡ next_free s → IsGoal s r → IsQuiet f s.scope p.pc q.pc → IsWanted f s q.pc → to free r p q → Arrives f Is deep s r p.pc q.pc
+  pub arrives : (free r : ℕ) (p q : Spot) (s : Situation) → HasLocals active listed s → free ≡ next_free s → IsGoal s r → IsQuiet f s.scope p.pc q.pc → (r ≡ next_free s → IsWanted f s q.pc) → to free r p q → Arrives f Is deep s r p.pc q.pc
 
 -- the words of an expression are read as its value
 abbrev pub ReadsCore : Function → Fn → List Active → (listed : List ℕ) → Expression → Type 0
@@ -132,7 +132,7 @@ ReadsCore f g active listed e = Reads f g active listed (IsCore g active e) (dep
 
 pub comes_next : {f : Function} {g : Fn} {active : List Active} {listed : List ℕ} {Is : Value → Type 0} {deep : ℕ} {to : (free r : ℕ) → Stretch} → Reads f g active listed Is deep to →
     (free : ℕ) (p q : Spot) (s : Situation) → HasLocals active listed s → free ≡ next_free s → IsQuiet f s.scope p.pc q.pc → IsWanted f s q.pc → to free free p q → Comes f Is deep s p.pc q.pc
-comes_next reads free p q s locals is quiet wanted at = arrives_next (reads.arrives free free p q s locals is (inl is) quiet wanted at) is
+comes_next reads free p q s locals is quiet wanted at = arrives_next (reads.arrives free free p q s locals is (inl is) quiet (λ next. wanted) at) is
 
 -- ---- operands
 

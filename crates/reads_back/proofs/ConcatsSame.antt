@@ -1,5 +1,5 @@
 -- What is written of the operands of a `..` has the same code as they have along its right spine.
-use Rattle.std.proofs.Common.{◌≡◌, ℕ, ◌+◌, ◌-◌, ◌*◌, ◌≤◌, Bool, true, false, List, ◌∷◌, length, max, refl, sym, ap, ◌∙◌, subst, arith, nat_lt}
+use Rattle.std.proofs.Common.{◌≡◌, ℕ, ◌+◌, ◌-◌, ◌*◌, ◌≤◌, Bool, true, false, List, ◌∷◌, ◌++◌, length, max, refl, sym, ap, ◌∙◌, subst, arith, nat_lt}
 use Rattle.std.specs.Prelude.{Option, Some}
 use Rattle.std.proofs.lemmas.Bool.{and_from}
 use Rattle.lua_tree.specs.declared.tree.BinaryOp.{BinaryOp}
@@ -17,13 +17,16 @@ use Rattle.recover_expr.specs.Situation.{Function}
 use Rattle.scheme.specs.Making.{Maker, free_from, put, take_registers}
 use Rattle.scheme.specs.Expressions.{fold, is_multiple, is_name, next_reg}
 use Rattle.scheme.specs.Scheme.{coded}
+use Rattle.scheme.specs.declared.making.Active.{Active}
 use Rattle.scheme.specs.declared.making.Piece.{Piece}
 use Rattle.scheme_stands.proofs.Growth.{calm, Final, before, before_free, before_put, before_take, later}
 use Rattle.scheme_stands.proofs.Parts.{grows, grows_next}
-use Rattle.reads_back.proofs.BareMakers.{KeepsBare, next_keeps}
+use Rattle.scheme_stands.specs.Words.{Fn}
+use Rattle.reads_back.proofs.NamesAhead.{IsAhead, ahead_behind, ahead_front, names_in}
+use Rattle.reads_back.proofs.PassedNames.{PassesNames, next_passes}
 use Rattle.reads_back.proofs.OperatorsSame.{few_more, made_is}
 use Rattle.reads_back.proofs.WordsSame.{levels_wrapped, next_wrapped}
-use Rattle.reads_back.proofs.Rewriting.{IsBare, Rewritten, RewrittenSpine, code, wording}
+use Rattle.reads_back.proofs.Rewriting.{Rewritten, RewrittenSpine, code, wording}
 
 -- ---- the spine of what is no `..`
 
@@ -63,14 +66,15 @@ last_alone false w other m = refl
 
 -- ---- the last operand
 
-module _ {f : Function} {listed : List ℕ} {z : Maker} {left : List (Option Inner)} {e : Expression} {v : Value} (value : Rewritten f listed z left e v) (alone : (m : Maker) → (code e).spine m ≡ next_reg (code e) m) where
+module _ {f : Function} {g : Fn} {active : List Active} {listed : List ℕ} {z : Maker} {left : List (Option Inner)} {e : Expression} {v : Value}
+    (value : Rewritten f g active listed z left e v) (alone : (m : Maker) → (code e).spine m ≡ next_reg (code e) m) where
   alone_few : (n : ℕ) → (on_right BinaryOp.Concat (wording f listed z left n v)).levels ≤ 3 * depth_of_expression e + 3
   alone_few n =
       let w = wording f listed z left n v in
       let one = levels_wrapped (right_binds 4 false w.words) w in
       omega (arith, value.few n, one)
 
-  module _ (m : Maker) (ahead : IsBare m) (final : Final (length m.labels) ((code e).spine m) z) where
+  module _ (m : Maker) (ahead : IsAhead g active (names_in e) m) (final : Final (length m.labels) ((code e).spine m) z) where
     alone_final : Final (length m.labels) ((code e).to_reg m.free m) z
     alone_final = before_take 1 ((code e).to_reg m.free m) (subst (λ n. Final (length m.labels) n z) (alone m) final)
 
@@ -82,8 +86,8 @@ module _ {f : Function} {listed : List ℕ} {z : Maker} {left : List (Option Inn
     alone_taken : length ((code e).spine m).constants ≡ taken_behind v (length m.constants)
     alone_taken = ap (λ n. length n.constants) (alone m) ∙ value.taken m.free m ahead alone_final
 
-module _ {f : Function} {listed : List ℕ} {z : Maker} {left : List (Option Inner)} where
-  pub spine_of_one : (e : Expression) (v : Value) → Rewritten f listed z left e v → ((m : Maker) → (code e).spine m ≡ next_reg (code e) m) → RewrittenSpine f listed z left e (and_value v no_values)
+module _ {f : Function} {g : Fn} {active : List Active} {listed : List ℕ} {z : Maker} {left : List (Option Inner)} where
+  pub spine_of_one : (e : Expression) (v : Value) → Rewritten f g active listed z left e v → ((m : Maker) → (code e).spine m ≡ next_reg (code e) m) → RewrittenSpine f g active listed z left e (and_value v no_values)
   spine_of_one e v value alone = record {
     can = and_from _ _ value.can refl;
     unused = value.unused;
@@ -99,8 +103,8 @@ chain_is : (at : Place) (n : ℕ) (fs : List (Option Inner)) (w : Wording) (rest
 chain_is at n fs w no_values some = absurd cc
 chain_is at n fs w (and_value v rest) some = refl
 
-module _ {f : Function} {listed : List ℕ} {z : Maker} {left : List (Option Inner)} {l r : Expression} {v : Value} {rest : Values}
-    (first : Rewritten f listed z left l v) (others : RewrittenSpine f listed z left r rest) (some : ends_values rest ≡ false) where
+module _ {f : Function} {g : Fn} {active : List Active} {listed : List ℕ} {z : Maker} {left : List (Option Inner)} {l r : Expression} {v : Value} {rest : Values}
+    (first : Rewritten f g active listed z left l v) (others : RewrittenSpine f g active listed z left r rest) (some : ends_values rest ≡ false) where
   -- what is written, where so many constants are taken behind the first
   joined_is : (n m : ℕ) → taken_behind v n ≡ m →
       chain (word_each (place f.of listed f.short) n left (and_value v rest)) ≡ with_binary BinaryOp.Concat (on_left BinaryOp.Concat (wording f listed z left n v)) (chain (word_each (place f.of listed f.short) m left rest))
@@ -121,7 +125,13 @@ module _ {f : Function} {listed : List ℕ} {z : Maker} {left : List (Option Inn
       let all = few_more (max (on_left BinaryOp.Concat w).levels u.levels) in
       omega (arith, first.few n, others.few n', same, one, all)
 
-  module _ (kept : KeepsBare (code l)) (m : Maker) (ahead : IsBare m) (final : Final (length m.labels) ((code r).spine (next_reg (code l) m)) z) where
+  module _ (kept : PassesNames (names_in l) (code l)) (m : Maker) (ahead : IsAhead g active (names_in l ++ names_in r) m) (final : Final (length m.labels) ((code r).spine (next_reg (code l) m)) z) where
+    first_ahead : IsAhead g active (names_in l) m
+    first_ahead = ahead_front (names_in l) (names_in r) ahead
+
+    others_ahead : IsAhead g active (names_in r) (next_reg (code l) m)
+    others_ahead = ahead_behind (names_in l) (names_in r) (next_passes (names_in l) (code l) kept m) ahead
+
     first_final : Final (length m.labels) ((code l).to_reg m.free m) z
     first_final =
         let grown = grows calm (one_line_expression r) in
@@ -132,18 +142,18 @@ module _ {f : Function} {listed : List ℕ} {z : Maker} {left : List (Option Inn
 
     joined_here : chain (word_each (place f.of listed f.short) (length m.constants) left (and_value v rest)) ≡
         with_binary BinaryOp.Concat (on_left BinaryOp.Concat (wording f listed z left (length m.constants) v)) (chain (word_each (place f.of listed f.short) (length (next_reg (code l) m).constants) left rest))
-    joined_here = joined_is (length m.constants) (length (next_reg (code l) m).constants) (sym (first.taken m.free m ahead first_final))
+    joined_here = joined_is (length m.constants) (length (next_reg (code l) m).constants) (sym (first.taken m.free m first_ahead first_final))
 
     parts_same : (coded (chain (word_each (place f.of listed f.short) (length (next_reg (code l) m).constants) left rest)).words).spine
         (next_reg (coded (on_left BinaryOp.Concat (wording f listed z left (length m.constants) v)).words) m) ≡ (code r).spine (next_reg (code l) m)
     parts_same =
         let w = wording f listed z left (length m.constants) v in
         let u = chain (word_each (place f.of listed f.short) (length (next_reg (code l) m).constants) left rest) in
-        ap (coded u.words).spine (next_wrapped (left_binds 4 true w.words) w m ∙ ap (take_registers 1) (first.to_reg m.free m ahead first_final))
-        ∙ others.spine (next_reg (code l) m) (next_keeps (code l) kept m ahead) others_final
+        ap (coded u.words).spine (next_wrapped (left_binds 4 true w.words) w m ∙ ap (take_registers 1) (first.to_reg m.free m first_ahead first_final))
+        ∙ others.spine (next_reg (code l) m) others_ahead others_final
 
     joined_taken : length ((code r).spine (next_reg (code l) m)).constants ≡ taken_behind_values rest (taken_behind v (length m.constants))
-    joined_taken = others.taken (next_reg (code l) m) (next_keeps (code l) kept m ahead) others_final ∙ ap (taken_behind_values rest) (first.taken m.free m ahead first_final)
+    joined_taken = others.taken (next_reg (code l) m) others_ahead others_final ∙ ap (taken_behind_values rest) (first.taken m.free m first_ahead first_final)
 
   joined_can : can_write_values (place f.of listed f.short) left (and_value v rest) ≡ true
   joined_can = and_from _ _ first.can (ap (λ fs. can_write_values (place f.of listed f.short) fs rest) first.unused ∙ others.can)
@@ -157,9 +167,9 @@ behind_operands to m n = free_from m.free (put 1 (Piece.Abc Op.Concat to m.free 
 concat_to : (l r : Expression) (to : ℕ) (m : Maker) → (coded (binary_expression 1 BinaryOp.Concat l r)).to_reg to m ≡ behind_operands to m ((coded r).spine (next_reg (coded l) m))
 concat_to l r to m = refl
 
-module _ {f : Function} {listed : List ℕ} {z : Maker} {left : List (Option Inner)} where
-  pub spine_of_first : (line : ℕ) (l r : Expression) (v : Value) (rest : Values) → Rewritten f listed z left l v → RewrittenSpine f listed z left r rest → ends_values rest ≡ false → KeepsBare (code l) →
-      RewrittenSpine f listed z left (binary_expression line BinaryOp.Concat l r) (and_value v rest)
+module _ {f : Function} {g : Fn} {active : List Active} {listed : List ℕ} {z : Maker} {left : List (Option Inner)} where
+  pub spine_of_first : (line : ℕ) (l r : Expression) (v : Value) (rest : Values) → Rewritten f g active listed z left l v → RewrittenSpine f g active listed z left r rest → ends_values rest ≡ false → PassesNames (names_in l) (code l) →
+      RewrittenSpine f g active listed z left (binary_expression line BinaryOp.Concat l r) (and_value v rest)
   spine_of_first line l r v rest first others some kept = record {
     can = joined_can first others some;
     unused = ap (left_by_values rest) first.unused ∙ others.unused;
@@ -168,9 +178,9 @@ module _ {f : Function} {listed : List ℕ} {z : Maker} {left : List (Option Inn
     taken = λ m ahead final. joined_taken first others some kept m ahead final;
   }
 
-  pub concat_rewritten : (line : ℕ) (l r : Expression) (first : Value) (rest : Values) (v : Value) → Rewritten f listed z left l first → RewrittenSpine f listed z left r rest → ends_values rest ≡ false → KeepsBare (code l) →
-      made_concat (and_value first rest) ≡ Some v → Rewritten f listed z left (binary_expression line BinaryOp.Concat l r) v
-  concat_rewritten line l r of rest v first others some kept made = subst (Rewritten f listed z left (binary_expression line BinaryOp.Concat l r)) (made_is (nat_lt (deepest (and_value of rest)) 400) _ v made) (record {
+  pub concat_rewritten : (line : ℕ) (l r : Expression) (first : Value) (rest : Values) (v : Value) → Rewritten f g active listed z left l first → RewrittenSpine f g active listed z left r rest → ends_values rest ≡ false → PassesNames (names_in l) (code l) →
+      made_concat (and_value first rest) ≡ Some v → Rewritten f g active listed z left (binary_expression line BinaryOp.Concat l r) v
+  concat_rewritten line l r of rest v first others some kept made = subst (Rewritten f g active listed z left (binary_expression line BinaryOp.Concat l r)) (made_is (nat_lt (deepest (and_value of rest)) 400) _ v made) (record {
     can = joined_can first others some;
     unused = ap (left_by_values rest) first.unused ∙ others.unused;
     named = λ n. ap (λ w. is_name w.words) (joined_is first others some n (taken_behind of n) refl);
@@ -179,6 +189,7 @@ module _ {f : Function} {listed : List ℕ} {z : Maker} {left : List (Option Inn
     gives = λ is. cc;
     few = joined_few first others some;
     keys = omega arith;
+    as_local = λ n r m ahead is. cc;
     to_reg = λ to m ahead final.
         let final = operands_final to m final in
         ap (λ w. (coded w.words).to_reg to m) (joined_here first others some kept m ahead final) ∙ ap (behind_operands to m) (parts_same first others some kept m ahead final);

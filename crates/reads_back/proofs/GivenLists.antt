@@ -22,14 +22,14 @@ use Rattle.scheme_stands.specs.Lists.{AllNextAt, AllMultiAt, OpenBy, TableAt, re
 use Rattle.scheme_stands.specs.Relation.{all_related, given_rel, ItemsAt}
 use Rattle.scheme_stands.specs.Words.{Fn, Spot, ConstantWord}
 use Rattle.reads_back.specs.Cores.{IsFirst, IsOnly, IsConstant, IsTextGiven, AreCores, AreGiven, AreItems, ends_open}
-use Rattle.reads_back.proofs.Comes.{AreEntries, Begins, IsElementRead, Comes, Reads, ReadsTable, comes_next, GivenComes, ReadsGiven}
+use Rattle.reads_back.proofs.Comes.{AreEntries, Begins, IsElementRead, IsWanted, Comes, Reads, ReadsTable, comes_next, GivenComes, ReadsGiven}
 use Rattle.reads_back.proofs.BehindWords.{HasLocals, SameLocals, same_locals, same_then, quiet_same, behind_words}
 use Rattle.reads_back.proofs.LiteralReads.{constant_reads}
 use Rattle.reads_back.proofs.Reaches.{Reaches, here, reaches_then}
 use Rattle.reads_back.proofs.TakenEntries.{open_taken, behind_taken, list_taken, more_entries}
 use Rattle.reads_back.proofs.Tests.{not_so}
 use Rattle.reads_back.proofs.ValueWords.{next_free}
-use Rattle.reads_back.proofs.WordsBegin.{wanted_above}
+use Rattle.reads_back.proofs.WordsBegin.{begins_wants, wanted_above}
 use Rattle.reads_back.proofs.WordsRead.{IsFunction, IsQuiet, quiet_before, quiet_from}
 
 -- ---- what is asked of the arguments
@@ -39,7 +39,7 @@ AllRead f g active listed deep no_expressions = Unit {0}
 AllRead f g active listed deep (syntax.expression e es) = IsElementRead f g active listed deep e × AllRead f g active listed deep es
 
 -- the words leave the last one open where it can give several values
-opens_by_last : (g : Fn) (es : Expressions) → rels_open (all_related g es) ≡ ends_open es
+pub opens_by_last : (g : Fn) (es : Expressions) → rels_open (all_related g es) ≡ ends_open es
 opens_by_last g no_expressions = refl
 opens_by_last g (syntax.expression e no_expressions) = ap several (form_is g e)
 opens_by_last g (syntax.expression e (syntax.expression d es)) = opens_by_last g (syntax.expression d es)
@@ -80,7 +80,7 @@ locals_behind one locals = record { base = locals.base; places = one.same.active
 
 -- ---- values in the next registers
 
-record AllCome (f : Function) (Are : Values → Type 0) (deep : ℕ) (s : Situation) (count first last : ℕ) : Type 0 where
+pub record AllCome (f : Function) (Are : Values → Type 0) (deep : ℕ) (s : Situation) (count first last : ℕ) : Type 0 where
   pub values : Values
   pub are : Are values
   pub counts : value_count values ≡ count
@@ -93,7 +93,7 @@ record AllCome (f : Function) (Are : Values → Type 0) (deep : ℕ) (s : Situat
   pub singles : AreEntries entries values
   pub reaches : Reaches f first s last (behind_words scope seen entries s)
 
-none_come : (f : Function) (g : Fn) (active : List Active) (deep : ℕ) (s : Situation) (p q : Spot) → q.pc ≡ p.pc → AllCome f (AreCores g active no_expressions) deep s 0 p.pc q.pc
+pub none_come : (f : Function) (g : Fn) (active : List Active) (deep : ℕ) (s : Situation) (p q : Spot) → q.pc ≡ p.pc → AllCome f (AreCores g active no_expressions) deep s 0 p.pc q.pc
 none_come f g active deep s p q same = record {
   values = no_values;
   are = refl;
@@ -157,22 +157,28 @@ more_open one rest = record {
 }
 
 module _ (f : Function) (g : Fn) (active : List Active) (listed : List ℕ) (deep : ℕ) where
-  all_forward : (es : Expressions) → AllRead f g active listed deep es → (free : ℕ) (p q : Spot) → AllNextAt g (all_related g es) active free p q → p.pc ≤ q.pc
+  pub all_forward : (es : Expressions) → AllRead f g active listed deep es → (free : ℕ) (p q : Spot) → AllNextAt g (all_related g es) active free p q → p.pc ≤ q.pc
   all_forward no_expressions reads free p q at = omega (arith, at.pc)
   all_forward (syntax.expression e es) reads free p q at = omega (arith, reads.0.one.forward free free p at.mid at.first, all_forward es reads.1 (free + 1) at.mid q at.others)
 
-  all_begin : (es : Expressions) → AllRead f g active listed deep es → (free : ℕ) (p q : Spot) → q.pc ≤ f.last → AllNextAt g (all_related g es) active free p q → (p.pc ≡ q.pc) ⊎ Begins f free p.pc
+  pub all_begin : (es : Expressions) → AllRead f g active listed deep es → (free : ℕ) (p q : Spot) → q.pc ≤ f.last → AllNextAt g (all_related g es) active free p q → (p.pc ≡ q.pc) ⊎ Begins f free p.pc
   all_begin no_expressions reads free p q within at = inl (sym at.pc)
   all_begin (syntax.expression e es) reads free p q within at = inr (reads.0.one.begins free p at.mid (omega (arith, within, all_forward es reads.1 (free + 1) at.mid q at.others)) at.first)
 
-  all_come : (es : Expressions) → AllRead f g active listed deep es → (free : ℕ) (p q : Spot) (s : Situation) → HasLocals active listed s → free ≡ next_free s → IsQuiet f s.scope p.pc q.pc →
-      0 < length s.entries → AllNextAt g (all_related g es) active free p q → AllCome f (AreCores g active es) deep s (length (all_related g es)) p.pc q.pc
-  all_come no_expressions reads free p q s locals is quiet some at = none_come f g active deep s p q at.pc
-  all_come (syntax.expression e es) reads free p q s locals is quiet some at =
+  -- the first one is wanted by the first word of the next one, or behind them where it is the only one
+  pub all_come : (es : Expressions) → AllRead f g active listed deep es → (free : ℕ) (p q : Spot) (s : Situation) → HasLocals active listed s → free ≡ next_free s → IsQuiet f s.scope p.pc q.pc →
+      IsWanted f s q.pc → AllNextAt g (all_related g es) active free p q → AllCome f (AreCores g active es) deep s (length (all_related g es)) p.pc q.pc
+  all_come no_expressions reads free p q s locals is quiet wanted at = none_come f g active deep s p q at.pc
+  all_come (syntax.expression e es) reads free p q s locals is quiet wanted at =
       let on = reads.0.one.forward free free p at.mid at.first in
       let back = all_forward es reads.1 (free + 1) at.mid q at.others in
-      let one = comes_next reads.0.one free p at.mid s locals is (quiet_before at.mid.pc back quiet) (wanted_above f s at.mid.pc some) at.first in
-      more_come one (all_come es reads.1 (free + 1) at.mid q (behind_one one) (locals_behind one locals) (next_behind free one is) (quiet_same one.same (quiet_from at.mid.pc on quiet)) (some_behind one) at.others)
+      let wanted_there = wanted_by (all_begin es reads.1 (free + 1) at.mid q quiet.within at.others) in
+      let one = comes_next reads.0.one free p at.mid s locals is (quiet_before at.mid.pc back quiet) wanted_there at.first in
+      more_come one (all_come es reads.1 (free + 1) at.mid q (behind_one one) (locals_behind one locals) (next_behind free one is) (quiet_same one.same (quiet_from at.mid.pc on quiet)) (inl (some_behind one)) at.others)
+    where
+      wanted_by : (at.mid.pc ≡ q.pc) ⊎ Begins f (free + 1) at.mid.pc → IsWanted f s at.mid.pc
+      wanted_by (inl same) = subst (IsWanted f s) (sym same) wanted
+      wanted_by (inr begins) = begins_wants s begins (omega (arith, is))
 
   open_forward : (es : Expressions) → true ≡ ends_open es → AllRead f g active listed deep es → (free : ℕ) (p q : Spot) → AllMultiAt g Op.Call None (all_related g es) active free p q → p.pc ≤ q.pc
   open_forward no_expressions ends reads free p q at = not_so (sym ends)
@@ -186,10 +192,11 @@ module _ (f : Function) (g : Fn) (active : List Active) (listed : List ℕ) (dee
   open_begins (syntax.expression e (syntax.expression d es)) ends reads free p q within at =
       reads.0.one.begins free p at.mid (omega (arith, within, open_forward (syntax.expression d es) ends reads.1 (free + 1) at.mid q at.others)) at.first
 
+  -- the values of the last one stay, and each one before it is wanted by the first word of the next one
   open_comes : (es : Expressions) → true ≡ ends_open es → AllRead f g active listed deep es → (free : ℕ) (p q : Spot) (s : Situation) → HasLocals active listed s → free ≡ next_free s → IsQuiet f s.scope p.pc q.pc →
-      0 < length s.entries → AllMultiAt g Op.Call None (all_related g es) active free p q → OpenCome f (AreCores g active es) deep s p.pc q.pc
-  open_comes no_expressions ends reads free p q s locals is quiet some at = not_so (sym ends)
-  open_comes (syntax.expression e no_expressions) ends reads free p q s locals is quiet some at =
+      AllMultiAt g Op.Call None (all_related g es) active free p q → OpenCome f (AreCores g active es) deep s p.pc q.pc
+  open_comes no_expressions ends reads free p q s locals is quiet at = not_so (sym ends)
+  open_comes (syntax.expression e no_expressions) ends reads free p q s locals is quiet at =
       let last = (reads.0.all (sym ends)).comes free p q s locals is quiet at in
       record {
         values = no_values;
@@ -204,13 +211,14 @@ module _ (f : Function) (g : Fn) (active : List Active) (listed : List ℕ) (dee
         singles = refl;
         reaches = last.reaches;
       }
-  open_comes (syntax.expression e (syntax.expression d es)) ends reads free p q s locals is quiet some at =
+  open_comes (syntax.expression e (syntax.expression d es)) ends reads free p q s locals is quiet at =
       let on = reads.0.one.forward free free p at.mid at.first in
       let back = open_forward (syntax.expression d es) ends reads.1 (free + 1) at.mid q at.others in
-      let one = comes_next reads.0.one free p at.mid s locals is (quiet_before at.mid.pc back quiet) (wanted_above f s at.mid.pc some) at.first in
-      more_open one (open_comes (syntax.expression d es) ends reads.1 (free + 1) at.mid q (behind_one one) (locals_behind one locals) (next_behind free one is) (quiet_same one.same (quiet_from at.mid.pc on quiet)) (some_behind one) at.others)
+      let wanted = begins_wants s (open_begins (syntax.expression d es) ends reads.1 (free + 1) at.mid q quiet.within at.others) (omega (arith, is)) in
+      let one = comes_next reads.0.one free p at.mid s locals is (quiet_before at.mid.pc back quiet) wanted at.first in
+      more_open one (open_comes (syntax.expression d es) ends reads.1 (free + 1) at.mid q (behind_one one) (locals_behind one locals) (next_behind free one is) (quiet_same one.same (quiet_from at.mid.pc on quiet)) at.others)
 
-  list_forward : (es : Expressions) (all : Bool) → all ≡ ends_open es → AllRead f g active listed deep es → (free : ℕ) (p q : Spot) → OpenBy all g (all_related g es) active free p q → p.pc ≤ q.pc
+  pub list_forward : (es : Expressions) (all : Bool) → all ≡ ends_open es → AllRead f g active listed deep es → (free : ℕ) (p q : Spot) → OpenBy all g (all_related g es) active free p q → p.pc ≤ q.pc
   list_forward es true ends reads free p q at = open_forward es ends reads free p q at
   list_forward es false ends reads free p q at = all_forward es reads free p q at
 
@@ -218,10 +226,10 @@ module _ (f : Function) (g : Fn) (active : List Active) (listed : List ℕ) (dee
   list_begins es true ends reads free p q within at = inr (open_begins es ends reads free p q within at)
   list_begins es false ends reads free p q within at = all_begin es reads free p q within at
 
-  list_comes : (es : Expressions) (all : Bool) → all ≡ ends_open es → AllRead f g active listed deep es → (free : ℕ) (p q : Spot) (s : Situation) → HasLocals active listed s → free ≡ next_free s → IsQuiet f s.scope p.pc q.pc →
-      0 < length s.entries → OpenBy all g (all_related g es) active free p q → GivenComes f (λ values all. AreCores g active es values × (all ≡ ends_open es)) deep s (cond all None (Some (length (all_related g es)))) p.pc q.pc
-  list_comes es true ends reads free p q s locals is quiet some at =
-      let come = open_comes es ends reads free p q s locals is quiet some at in
+  pub list_comes : (es : Expressions) (all : Bool) → all ≡ ends_open es → AllRead f g active listed deep es → (free : ℕ) (p q : Spot) (s : Situation) → HasLocals active listed s → free ≡ next_free s → IsQuiet f s.scope p.pc q.pc →
+      IsWanted f s q.pc → OpenBy all g (all_related g es) active free p q → GivenComes f (λ values all. AreCores g active es values × (all ≡ ends_open es)) deep s (cond all None (Some (length (all_related g es)))) p.pc q.pc
+  list_comes es true ends reads free p q s locals is quiet wanted at =
+      let come = open_comes es ends reads free p q s locals is quiet at in
       record {
         values = and_last_value come.values come.value;
         all = true;
@@ -235,8 +243,8 @@ module _ (f : Function) (g : Fn) (active : List Active) (listed : List ℕ) (dee
         reaches = come.reaches;
         listed = λ before place field there counts. open_list_taken before come.entries come.values come.value place field come.singles there counts;
       }
-  list_comes es false ends reads free p q s locals is quiet some at =
-      let come = all_come es reads free p q s locals is quiet some at in
+  list_comes es false ends reads free p q s locals is quiet wanted at =
+      let come = all_come es reads free p q s locals is quiet wanted at in
       record {
         values = come.values;
         all = false;
@@ -258,7 +266,7 @@ pub list_given : {f : Function} {g : Fn} {active : List Active} {listed : List �
 list_given {f} {g} {active} {listed} {deep} is_function es reads = record {
   forward = λ free p q at. list_forward f g active listed deep es (rels_open (all_related g es)) (opens_by_last g es) reads free p q at;
   begins = λ free p q within at. list_begins f g active listed deep es (rels_open (all_related g es)) (opens_by_last g es) reads free p q within at;
-  comes = λ free p q s locals is quiet some at. list_comes f g active listed deep es (rels_open (all_related g es)) (opens_by_last g es) reads free p q s locals is quiet some at;
+  comes = λ free p q s locals is quiet some at. list_comes f g active listed deep es (rels_open (all_related g es)) (opens_by_last g es) reads free p q s locals is quiet (wanted_above f s q.pc some) at;
 }
 
 -- ---- a string or a constructor alone

@@ -1,5 +1,5 @@
 -- What is written of arguments has the code of the arguments: lists, of which the last one gives all its values or one, and a string alone.
-use Rattle.std.proofs.Common.{◌≡◌, ℕ, suc, Bool, true, false, cond, not, List, [], ◌∷◌, length, Option, Some, None, refl, sym, ap, ◌∙◌, subst, arith}
+use Rattle.std.proofs.Common.{◌≡◌, ℕ, suc, Bool, true, false, cond, not, List, [], ◌∷◌, ◌++◌, length, Option, Some, None, refl, sym, ap, ◌∙◌, subst, arith}
 use Rattle.std.specs.Prelude.{◌&&◌, slice_get, is_some, option_map}
 use Rattle.lua_num.specs.Bytes.{Text}
 use Rattle.lua_tree.specs.OneLine.{one_line_expression, one_line_expressions}
@@ -23,9 +23,10 @@ use Rattle.scheme_stands.proofs.Parts.{grow_all, grows, grows_next, grows_open}
 use Rattle.scheme_stands.specs.Words.{Fn}
 use Rattle.reads_back.specs.Cores.{AllHaveCores, AreCores, HasCore, HasNumber, IsCore, IsTextGiven, ends_open}
 use Rattle.reads_back.proofs.ConstantsSame.{constant_taken}
-use Rattle.reads_back.proofs.BareMakers.{bare_kept, next_keeps}
 use Rattle.reads_back.proofs.LiteralReads.{constant_there}
-use Rattle.reads_back.proofs.Rewriting.{IsBare, IsMadeBy, Rewritten, RewrittenGiven, code, wording}
+use Rattle.reads_back.proofs.NamesAhead.{IsAhead, ahead_behind, ahead_front, names_in, names_in_all}
+use Rattle.reads_back.proofs.PassedNames.{names_passed, next_passes}
+use Rattle.reads_back.proofs.Rewriting.{IsMadeBy, Rewritten, RewrittenGiven, code, wording}
 use Rattle.reads_back.proofs.Tests.{both_hold}
 use Rattle.reads_back.proofs.WordsSame.{coded_is, levels_wrapped, next_same, next_taken, next_wrapped, same_multiple}
 
@@ -67,13 +68,13 @@ opens_last e b is = ap is_multiple (coded_is (one_line_expression e)) ∙ same_m
 -- the values of each expression are rewritten
 abbrev pub AllRewritten : Function → Fn → List Active → (listed : List ℕ) → Maker → List (Option Inner) → Expressions → Type 0
 AllRewritten f g active listed z left no_expressions = Unit {0}
-AllRewritten f g active listed z left (syntax.expression e es) = ((v : Value) → IsCore g active e v → Rewritten f listed z left e v) × AllRewritten f g active listed z left es
+AllRewritten f g active listed z left (syntax.expression e es) = ((v : Value) → IsCore g active e v → Rewritten f g active listed z left e v) × AllRewritten f g active listed z left es
 
-abbrev ListGiven : Function → (listed : List ℕ) → Maker → List (Option Inner) → Expressions → (all : Bool) → Values → Type 0
-ListGiven f listed z left es all values = RewrittenGiven f listed z left (argument_list es) (depth_of_expressions es) values all
+abbrev ListGiven : Function → Fn → List Active → (listed : List ℕ) → Maker → List (Option Inner) → Expressions → (all : Bool) → Values → Type 0
+ListGiven f g active listed z left es all values = RewrittenGiven f g active listed z left (argument_list es) (depth_of_expressions es) values all
 
-module _ {f : Function} {listed : List ℕ} {z : Maker} {left : List (Option Inner)} where
-  none_given : (all : Bool) → ListGiven f listed z left no_expressions all no_values
+module _ {f : Function} {g : Fn} {active : List Active} {listed : List ℕ} {z : Maker} {left : List (Option Inner)} where
+  none_given : (all : Bool) → ListGiven f g active listed z left no_expressions all no_values
   none_given all = record {
     can = refl;
     unused = refl;
@@ -85,7 +86,7 @@ module _ {f : Function} {listed : List ℕ} {z : Maker} {left : List (Option Inn
 
   -- ---- the last one
 
-  last_open : (e : Expression) (v : Value) → Rewritten f listed z left e v → true ≡ is_multiple e → ListGiven f listed z left (syntax.expression e no_expressions) true (and_value v no_values)
+  last_open : (e : Expression) (v : Value) → Rewritten f g active listed z left e v → true ≡ is_multiple e → ListGiven f g active listed z left (syntax.expression e no_expressions) true (and_value v no_values)
   last_open e v written is = record {
     can = both_hold _ true written.can refl;
     unused = written.unused;
@@ -93,9 +94,9 @@ module _ {f : Function} {listed : List ℕ} {z : Maker} {left : List (Option Inn
     counts = λ n. count_by (coded (wording f listed z left n v).words ∷ []) true (written_opens n) ∙ sym (count_by (code e ∷ []) true (opens_last e true is));
     part = λ m ahead final.
         open_by (coded (wording f listed z left (length m.constants) v).words ∷ []) true m (written_opens (length m.constants))
-        ∙ written.multi (sym is) Op.Call None m ahead (inner m final)
+        ∙ written.multi (sym is) Op.Call None m (ahead_front (names_in e) [] ahead) (inner m final)
         ∙ sym (open_by (code e ∷ []) true m (opens_last e true is));
-    taken = λ m ahead final. ap (λ (m : Maker). length m.constants) (open_by (code e ∷ []) true m (opens_last e true is)) ∙ written.multi_taken (sym is) Op.Call None m ahead (inner m final);
+    taken = λ m ahead final. ap (λ (m : Maker). length m.constants) (open_by (code e ∷ []) true m (opens_last e true is)) ∙ written.multi_taken (sym is) Op.Call None m (ahead_front (names_in e) [] ahead) (inner m final);
   }
     where
       written_opens : (n : ℕ) → opens (coded (wording f listed z left n v).words ∷ []) ≡ true
@@ -104,7 +105,7 @@ module _ {f : Function} {listed : List ℕ} {z : Maker} {left : List (Option Inn
       inner : (m : Maker) → Final (length m.labels) (open_list (code e ∷ []) m) z → Final (length m.labels) ((code e).multi Op.Call None m) z
       inner m final = subst (λ n. Final (length m.labels) n z) (open_by (code e ∷ []) true m (opens_last e true is)) final
 
-  last_closed : (e : Expression) (v : Value) → Rewritten f listed z left e v → false ≡ is_multiple e → ListGiven f listed z left (syntax.expression e no_expressions) false (and_value v no_values)
+  last_closed : (e : Expression) (v : Value) → Rewritten f g active listed z left e v → false ≡ is_multiple e → ListGiven f g active listed z left (syntax.expression e no_expressions) false (and_value v no_values)
   last_closed e v written is = record {
     can = both_hold _ true written.can refl;
     unused = written.unused;
@@ -113,9 +114,9 @@ module _ {f : Function} {listed : List ℕ} {z : Maker} {left : List (Option Inn
     part = λ m ahead final.
         open_by (coded (last (length m.constants)).words ∷ []) false m (written_closed (length m.constants))
         ∙ next_wrapped (not (true && can_be_several v)) (wording f listed z left (length m.constants) v) m
-        ∙ next_same written m ahead (inner m final)
+        ∙ next_same written m (ahead_front (names_in e) [] ahead) (inner m final)
         ∙ sym (open_by (code e ∷ []) false m (opens_last e false is));
-    taken = λ m ahead final. ap (λ (m : Maker). length m.constants) (open_by (code e ∷ []) false m (opens_last e false is)) ∙ next_taken written m ahead (inner m final);
+    taken = λ m ahead final. ap (λ (m : Maker). length m.constants) (open_by (code e ∷ []) false m (opens_last e false is)) ∙ next_taken written m (ahead_front (names_in e) [] ahead) (inner m final);
   }
     where
       last : (n : ℕ) → Wording
@@ -127,14 +128,14 @@ module _ {f : Function} {listed : List ℕ} {z : Maker} {left : List (Option Inn
       inner : (m : Maker) → Final (length m.labels) (open_list (code e ∷ []) m) z → Final (length m.labels) (next_reg (code e) m) z
       inner m final = subst (λ n. Final (length m.labels) n z) (open_by (code e ∷ []) false m (opens_last e false is)) final
 
-  last_given : (e : Expression) (v : Value) (all : Bool) → Rewritten f listed z left e v → all ≡ is_multiple e → ListGiven f listed z left (syntax.expression e no_expressions) all (and_value v no_values)
+  last_given : (e : Expression) (v : Value) (all : Bool) → Rewritten f g active listed z left e v → all ≡ is_multiple e → ListGiven f g active listed z left (syntax.expression e no_expressions) all (and_value v no_values)
   last_given e v true written is = last_open e v written is
   last_given e v false written is = last_closed e v written is
 
   -- ---- one, and others behind it
 
-  more_given : (e d : Expression) (es : Expressions) (v w : Value) (rest : Values) (all : Bool) → HasCore e → Rewritten f listed z left e v → ListGiven f listed z left (syntax.expression d es) all (and_value w rest) →
-      ListGiven f listed z left (syntax.expression e (syntax.expression d es)) all (and_value v (and_value w rest))
+  more_given : (e d : Expression) (es : Expressions) (v w : Value) (rest : Values) (all : Bool) → HasCore e → Rewritten f g active listed z left e v → ListGiven f g active listed z left (syntax.expression d es) all (and_value w rest) →
+      ListGiven f g active listed z left (syntax.expression e (syntax.expression d es)) all (and_value v (and_value w rest))
   more_given e d es v w rest all has first others = record {
     can = both_hold _ _ first.can (ap (λ fs. can_write_values (place f.of listed f.short) fs (and_value w rest)) first.unused ∙ others.can);
     unused = ap (left_by_values (and_value w rest)) first.unused ∙ others.unused;
@@ -151,16 +152,16 @@ module _ {f : Function} {listed : List ℕ} {z : Maker} {left : List (Option Inn
         let mid = next_reg (code e) m in
         let before_rest = here m final in
         open_more c (second (taken_behind v (length m.constants)) (left_by v left)) (others_behind (taken_behind v (length m.constants)) (left_by v left)) m
-        ∙ ap (open_list (written (taken_behind v (length m.constants)) (left_by v left))) (next_same first m ahead before_rest)
-        ∙ ap (λ n. open_list (written n (left_by v left)) mid) (sym (next_taken first m ahead before_rest))
+        ∙ ap (open_list (written (taken_behind v (length m.constants)) (left_by v left))) (next_same first m (first_ahead m ahead) before_rest)
+        ∙ ap (λ n. open_list (written n (left_by v left)) mid) (sym (next_taken first m (first_ahead m ahead) before_rest))
         ∙ ap (λ fs. open_list (written (length mid.constants) fs) mid) first.unused
-        ∙ others.part mid (ahead_behind m ahead) (behind m final)
+        ∙ others.part mid (others_ahead m ahead) (behind m final)
         ∙ sym (open_more (code e) (code d) (all_coded (one_line_expressions es)) m);
     taken = λ m ahead final.
         let mid = next_reg (code e) m in
         ap (λ (m : Maker). length m.constants) (open_more (code e) (code d) (all_coded (one_line_expressions es)) m)
-        ∙ others.taken mid (ahead_behind m ahead) (behind m final)
-        ∙ ap (taken_behind_values (and_value w rest)) (next_taken first m ahead (here m final));
+        ∙ others.taken mid (others_ahead m ahead) (behind m final)
+        ∙ ap (taken_behind_values (and_value w rest)) (next_taken first m (first_ahead m ahead) (here m final));
   }
     where
       second : (n : ℕ) → List (Option Inner) → Coded
@@ -181,8 +182,14 @@ module _ {f : Function} {listed : List ℕ} {z : Maker} {left : List (Option Inn
       here : (m : Maker) → Final (length m.labels) (open_list (code e ∷ behind_first) m) z → Final (length m.labels) (next_reg (code e) m) z
       here m final = before (grows_open {v = calm} behind_first (grow_all calm (one_line_expressions (syntax.expression d es))) (next_reg (code e) m)) (inner m final)
 
-      ahead_behind : (m : Maker) → IsBare m → IsBare (next_reg (code e) m)
-      ahead_behind m ahead = next_keeps (code e) (bare_kept e has) m ahead
+      rest_names : List Text
+      rest_names = names_in_all (syntax.expression d es)
+
+      first_ahead : (m : Maker) → IsAhead g active (names_in e ++ rest_names) m → IsAhead g active (names_in e) m
+      first_ahead m ahead = ahead_front (names_in e) rest_names ahead
+
+      others_ahead : (m : Maker) → IsAhead g active (names_in e ++ rest_names) m → IsAhead g active rest_names (next_reg (code e) m)
+      others_ahead m ahead = ahead_behind (names_in e) rest_names (next_passes (names_in e) (code e) (names_passed e has) m) ahead
 
       behind : (m : Maker) → Final (length m.labels) (open_list (code e ∷ behind_first) m) z → Final (length (next_reg (code e) m).labels) (open_list behind_first (next_reg (code e) m)) z
       behind m final = let grown = grows_next {v = calm} (code e) (grows calm (one_line_expression e)) m in later grown.more (inner m final)
@@ -190,17 +197,17 @@ module _ {f : Function} {listed : List ℕ} {z : Maker} {left : List (Option Inn
 module _ {f : Function} {g : Fn} {active : List Active} {listed : List ℕ} {z : Maker} {left : List (Option Inner)} (made : IsMadeBy f g active listed z) where
   -- a list, of which the last one gives all its values or one
   pub list_rewritten : (es : Expressions) (values : Values) (all : Bool) → AllHaveCores es → AllRewritten f g active listed z left es → AreCores g active es values → all ≡ ends_open es →
-      RewrittenGiven f listed z left (argument_list es) (depth_of_expressions es) values all
-  list_rewritten no_expressions vs all have written are is = subst (ListGiven f listed z left no_expressions all) (sym are) (none_given all)
+      RewrittenGiven f g active listed z left (argument_list es) (depth_of_expressions es) values all
+  list_rewritten no_expressions vs all have written are is = subst (ListGiven f g active listed z left no_expressions all) (sym are) (none_given all)
   list_rewritten (syntax.expression e no_expressions) vs all have written are is =
-      subst (ListGiven f listed z left (syntax.expression e no_expressions) all) (sym (are.4 ∙ ap (and_value are.0) are.3)) (last_given e are.0 all (written.0 are.0 are.2) is)
+      subst (ListGiven f g active listed z left (syntax.expression e no_expressions) all) (sym (are.4 ∙ ap (and_value are.0) are.3)) (last_given e are.0 all (written.0 are.0 are.2) is)
   list_rewritten (syntax.expression e (syntax.expression d es)) vs all have written are is =
       let others = list_rewritten (syntax.expression d es) are.1 all have.1 written.1 are.3 is in
-      subst (ListGiven f listed z left (syntax.expression e (syntax.expression d es)) all) (sym (are.4 ∙ ap (and_value are.0) are.3.4))
-      (more_given e d es are.0 are.3.0 are.3.1 all have.0 (written.0 are.0 are.2) (subst (ListGiven f listed z left (syntax.expression d es) all) are.3.4 others))
+      subst (ListGiven f g active listed z left (syntax.expression e (syntax.expression d es)) all) (sym (are.4 ∙ ap (and_value are.0) are.3.4))
+      (more_given e d es are.0 are.3.0 are.3.1 all have.0 (written.0 are.0 are.2) (subst (ListGiven f g active listed z left (syntax.expression d es) all) are.3.4 others))
 
   -- the number of a string is the only value
-  text_given : (text : Text) (number : ℕ) → HasNumber g (Constant.Text text) number → RewrittenGiven f listed z left (text_argument text) 1 (and_value (constant_value number) no_values) false
+  text_given : (text : Text) (number : ℕ) → HasNumber g (Constant.Text text) number → RewrittenGiven f g active listed z left (text_argument text) 1 (and_value (constant_value number) no_values) false
   text_given text number has = record {
     can = both_hold _ true (ap is_some there) refl;
     unused = refl;
@@ -215,9 +222,9 @@ module _ {f : Function} {g : Fn} {active : List Active} {listed : List ℕ} {z :
       there = constant_there number (Constant.Text text) made.is_function has.is
 
   -- a string alone, which is written as a list
-  pub text_rewritten_given : (text : Text) (values : Values) (all : Bool) → IsTextGiven g text values all → RewrittenGiven f listed z left (text_argument text) 1 values all
+  pub text_rewritten_given : (text : Text) (values : Values) (all : Bool) → IsTextGiven g text values all → RewrittenGiven f g active listed z left (text_argument text) 1 values all
   text_rewritten_given text values all are =
       let known = are.0.1 in
-      subst (λ (all : Bool). RewrittenGiven f listed z left (text_argument text) 1 values all) (sym are.1)
-      (subst (λ (vs : Values). RewrittenGiven f listed z left (text_argument text) 1 vs false) (sym (are.0.2 ∙ ap (λ v. and_value v no_values) known.2))
+      subst (λ (all : Bool). RewrittenGiven f g active listed z left (text_argument text) 1 values all) (sym are.1)
+      (subst (λ (vs : Values). RewrittenGiven f g active listed z left (text_argument text) 1 vs false) (sym (are.0.2 ∙ ap (λ v. and_value v no_values) known.2))
       (text_given text known.0 known.1))

@@ -1,5 +1,5 @@
 -- An operand, and what of it stands in the registers of the step: nothing where it is a constant or a local.
-use Rattle.std.proofs.Common.{◌≡◌, ℕ, ◌+◌, ◌-◌, ◌<◌, ◌≤◌, ◌⊎◌, max, nat_le, List, [], ◌∷◌, length, append-nil, Option, Some, None, refl, sym, ap, ◌∙◌, subst, arith, le-leb, inl, inr}
+use Rattle.std.proofs.Common.{◌≡◌, ℕ, ◌+◌, ◌-◌, ◌<◌, ◌≤◌, ◌⊎◌, max, nat_le, List, [], ◌∷◌, length, Option, Some, None, refl, sym, ap, ◌∙◌, subst, arith, le-leb, inl, inr}
 use Rattle.std.proofs.Math.Nat.{max-zero}
 use Rattle.std.proofs.lemmas.Option.{slice_get_within}
 use Rattle.std.specs.Prelude.{if◌then◌else◌}
@@ -18,11 +18,12 @@ use Rattle.scheme_stands.specs.Expressions.{Form, NextAt, OperandAt, OperandBy, 
 use Rattle.scheme_stands.specs.Relation.{related}
 use Rattle.scheme_stands.specs.Words.{Fn, Spot, Stretch}
 use Rattle.reads_back.specs.Cores.{IsCore, IsKey, IsOperand, IsOperandBy, IsSmall}
+use Rattle.reads_back.proofs.OperandReads.{operand_reads, rk_reads, stays, text_key_reads}
 use Rattle.reads_back.proofs.Comes.{Begins, Comes, IsOperandWanted, IsValueOperand, ReadsCore, comes_next}
 use Rattle.reads_back.proofs.BehindWords.{HasLocals, SameLocals, behind_words, same_locals}
 use Rattle.reads_back.proofs.LiteralReads.{constant_reads, constant_there}
 use Rattle.reads_back.proofs.NameReads.{AreListed, IsLocal, local_operand}
-use Rattle.reads_back.proofs.Reaches.{Reaches, here}
+use Rattle.reads_back.proofs.Reaches.{Reaches}
 use Rattle.reads_back.proofs.Tests.{not_below}
 use Rattle.reads_back.proofs.ValueWords.{next_free}
 use Rattle.reads_back.proofs.WordsRead.{IsFunction, IsQuiet}
@@ -93,11 +94,6 @@ held_less less one = record { kept = one.kept; is = less (operand_of one.kept) o
 
 -- ---- no words
 
-stays : {f : Function} (p q : Spot) (s : Situation) → q.pc ≡ p.pc → Reaches f p.pc s q.pc (behind_words s.scope s.seen [] s)
-stays {f} p q s same =
-    subst (λ (pc : ℕ). Reaches f p.pc s pc (behind_words s.scope s.seen [] s)) (sym same)
-    (subst (λ (entries : Entries). Reaches f p.pc s p.pc (record s { entries = entries })) (sym (append-nil s.entries)) here)
-
 pub counts_none : (x : ℕ) → x < 256 → counted x ≡ 0
 counts_none x small = ap (λ far. if far then one_more (x - 256) else 0) (not_below x 256 small)
 
@@ -106,16 +102,8 @@ counts_constant number =
     let minus : number + 256 - 256 ≡ number = omega arith in
     ap (λ far. if far then one_more (number + 256 - 256) else 0) (le-leb 256 (number + 256) (omega arith)) ∙ ap one_more minus
 
-text_forward : (g : Fn) (text : Text) (free x free1 : ℕ) (p q : Spot) → RkTextAt g text free x free1 p q → p.pc ≤ q.pc
-text_forward g text free x free1 p q (inl at) = omega (arith, at.same.pc)
-text_forward g text free x free1 p q (inr (large, at)) = let w = at.value_at in omega (arith, w.word.next)
-
 next_taken : {f : Function} {g : Fn} {value : Stretch} {free x free1 : ℕ} {p q : Spot} → IsFunction f g → NextAt g value free x free1 p q → IsTaken free x free1
 next_taken is_function at = inr (at.at_x, omega (arith, at.room, is_function.few), at.at_free)
-
-text_begins : {f : Function} {g : Fn} → IsFunction f g → (text : Text) (free x free1 : ℕ) (p q : Spot) → q.pc ≤ f.last → RkTextAt g text free x free1 p q → (p.pc ≡ q.pc) ⊎ Begins f free p.pc
-text_begins is_function text free x free1 p q within (inl at) = inl (sym at.same.pc)
-text_begins is_function text free x free1 p q within (inr (large, at)) = inr ((constant_reads {active = []} {listed = []} is_function (Constant.Text text)).begins free p q within at.value_at)
 
 text_takes : {f : Function} {g : Fn} → IsFunction f g → (text : Text) (free x free1 : ℕ) (p q : Spot) → RkTextAt g text free x free1 p q → IsTaken free x free1
 text_takes is_function text free x free1 p q (inl at) = inl at.at_free
@@ -162,14 +150,6 @@ module _ {f : Function} {g : Fn} {active : List Active} {listed : List ℕ} (is_
       stands = (at_x, local.below, all.few, at_free, local.text, local.named);
     }
 
-    operand_by_forward : (o : Option ℕ) (free x free1 : ℕ) (p q : Spot) → local_at (related g e).form active p ≡ o → OperandBy o g active (related g e) free x free1 p q → p.pc ≤ q.pc
-    operand_by_forward (Some r) free x free1 p q is at = let local = local_operand is_function all e r p q is at.passed in omega (arith, local.same)
-    operand_by_forward None free x free1 p q is at = reads.forward free free p q at.value_at
-
-    operand_by_begins : (o : Option ℕ) (free x free1 : ℕ) (p q : Spot) → local_at (related g e).form active p ≡ o → q.pc ≤ f.last → OperandBy o g active (related g e) free x free1 p q → (p.pc ≡ q.pc) ⊎ Begins f free p.pc
-    operand_by_begins (Some r) free x free1 p q is within at = inl (sym (local_operand is_function all e r p q is at.passed).same)
-    operand_by_begins None free x free1 p q is within at = inr (reads.begins free p q within at.value_at)
-
     operand_by_takes : (o : Option ℕ) (free x free1 : ℕ) (p q : Spot) → OperandBy o g active (related g e) free x free1 p q → IsTaken free x free1
     operand_by_takes (Some r) free x free1 p q at = inl at.at_free
     operand_by_takes None free x free1 p q at = next_taken is_function at
@@ -182,21 +162,11 @@ module _ {f : Function} {g : Fn} {active : List Active} {listed : List ℕ} (is_
     -- a local, or the next register
     pub operand_held : ReadsHeld f g active listed (IsValueOperand (IsCore g active e)) (OperandAt g active (related g e))
     operand_held = record {
-      forward = λ free x free1 p q at. operand_by_forward (local_at (related g e).form active p) free x free1 p q refl at;
-      begins = λ free x free1 p q within at. operand_by_begins (local_at (related g e).form active p) free x free1 p q refl within at;
+      forward = (operand_reads is_function all e reads).forward;
+      begins = (operand_reads is_function all e reads).begins;
       takes = λ free x free1 p q at. operand_by_takes (local_at (related g e).form active p) free x free1 p q at;
       comes = λ free x free1 p q s locals next quiet wanted at. operand_by_held (local_at (related g e).form active p) free x free1 p q s refl locals next quiet wanted at;
     }
-
-    rk_by_forward : (o : Option Constant) (free x free1 : ℕ) (p q : Spot) → RkBy o g active (related g e) free x free1 p q → p.pc ≤ q.pc
-    rk_by_forward (Some k) free x free1 p q (inl at) = omega (arith, at.same.pc)
-    rk_by_forward (Some k) free x free1 p q (inr (large, at)) = operand_held.forward free x free1 p q at
-    rk_by_forward None free x free1 p q at = operand_held.forward free x free1 p q at
-
-    rk_by_begins : (o : Option Constant) (free x free1 : ℕ) (p q : Spot) → q.pc ≤ f.last → RkBy o g active (related g e) free x free1 p q → (p.pc ≡ q.pc) ⊎ Begins f free p.pc
-    rk_by_begins (Some k) free x free1 p q within (inl at) = inl (sym at.same.pc)
-    rk_by_begins (Some k) free x free1 p q within (inr (large, at)) = operand_held.begins free x free1 p q within at
-    rk_by_begins None free x free1 p q within at = operand_held.begins free x free1 p q within at
 
     rk_by_takes : (o : Option Constant) (free x free1 : ℕ) (p q : Spot) → RkBy o g active (related g e) free x free1 p q → IsTaken free x free1
     rk_by_takes (Some k) free x free1 p q (inl at) = inl at.at_free
@@ -212,8 +182,8 @@ module _ {f : Function} {g : Fn} {active : List Active} {listed : List ℕ} (is_
     -- a literal is a constant where its number is small
     pub rk_held : ReadsHeld f g active listed (IsOperand g active e) (RkAt g active (related g e))
     rk_held = record {
-      forward = λ free x free1 p q at. rk_by_forward (related g e).form.literal free x free1 p q at;
-      begins = λ free x free1 p q within at. rk_by_begins (related g e).form.literal free x free1 p q within at;
+      forward = (rk_reads is_function all e reads).forward;
+      begins = (rk_reads is_function all e reads).begins;
       takes = λ free x free1 p q at. rk_by_takes (related g e).form.literal free x free1 p q at;
       comes = λ free x free1 p q s locals next quiet wanted at.
           subst (λ (form : Form). HeldComes f active listed (IsOperandBy form.literal g (IsCore g active e)) s free x free1 p.pc q.pc) (form_is g e)
@@ -232,4 +202,4 @@ module _ {f : Function} {g : Fn} {active : List Active} {listed : List ℕ} (is_
         (comes_next (constant_reads {active = active} {listed = listed} is_function (Constant.Text text)) free p q s locals next quiet (wanted at.at_x at.at_free) at.value_at))
 
     pub text_held : ReadsHeld f g active listed (IsKey g text) (RkTextAt g text)
-    text_held = record { forward = text_forward g text; begins = text_begins is_function text; takes = text_takes is_function text; comes = text_comes }
+    text_held = let key = text_key_reads {active = active} {listed = listed} is_function text in record { forward = key.forward; begins = key.begins; takes = text_takes is_function text; comes = text_comes }

@@ -1,5 +1,5 @@
 -- What is written of a value with a key behind it has the same code as the expression that is indexed.
-use Rattle.std.proofs.Common.{◌≡◌, ℕ, suc, ◌+◌, ◌*◌, ◌≤◌, Bool, true, false, cond, List, length, max, refl, sym, ap, ◌∙◌, subst, arith, le-leb, lt-ltb, nat_lt, nat_le}
+use Rattle.std.proofs.Common.{◌≡◌, ℕ, suc, ◌+◌, ◌*◌, ◌≤◌, Bool, true, false, cond, List, [], ◌++◌, append-nil, length, max, refl, sym, ap, ◌∙◌, subst, arith, le-leb, lt-ltb, nat_lt, nat_le}
 use Rattle.std.specs.Prelude.{Option, Some, None, ◌||◌, if◌then◌else◌}
 use Rattle.std.proofs.lemmas.Bool.{and_from, leb-false}
 use Rattle.lua_num.specs.Bytes.{Text}
@@ -18,13 +18,16 @@ use Rattle.recover_expr.specs.Situation.{Function}
 use Rattle.scheme.specs.Expressions.{fold, indexed_value, is_multiple, is_name, is_small, next_text, operand, rk, rk_text, small_constant}
 use Rattle.scheme.specs.Making.{Asks, Got, Maker, free_from, freeing, put}
 use Rattle.scheme.specs.Scheme.{coded}
+use Rattle.scheme.specs.declared.making.Active.{Active}
 use Rattle.scheme.specs.declared.making.Piece.{Piece}
 use Rattle.scheme_stands.proofs.Growth.{calm, Grown, Final, before, before_free, before_put, later}
 use Rattle.scheme_stands.proofs.Parts.{grows, grows_operand, grows_rk, grows_rk_text}
-use Rattle.reads_back.proofs.BareMakers.{KeepsBare, operand_keeps}
+use Rattle.scheme_stands.specs.Words.{Fn}
+use Rattle.reads_back.proofs.NamesAhead.{AskingPasses, IsAhead, ahead_behind, ahead_front, names_in}
 use Rattle.reads_back.proofs.OperatorsSame.{few_more, made_is, some_depth}
-use Rattle.reads_back.proofs.Rewriting.{IsBare, Rewritten, RewrittenOperand, code, keys_of, operand_wording, wording}
-use Rattle.reads_back.proofs.WordsSame.{levels_wrapped, operand_same, operand_taken, operand_wrapped}
+use Rattle.reads_back.proofs.PassedNames.{PassesNames, operand_passes, rk_passes, rk_text_passes}
+use Rattle.reads_back.proofs.Rewriting.{Rewritten, RewrittenOperand, code, keys_of, operand_wording, wording}
+use Rattle.reads_back.proofs.WordsSame.{levels_wrapped, no_local, operand_same, operand_taken, operand_wrapped}
 use Rattle.reads_back.proofs.Tests.{first_of_both, second_of_both}
 
 -- ---- keys one behind the other, and one more
@@ -185,20 +188,30 @@ key_few None on key deep more first second = let all = few_more (max on.levels k
 key_few (Some name) on key deep more first second = let all = few_more on.levels in omega (arith, first, all)
 
 -- what is known of a key that asks so
-pub record KeySame (f : Function) (listed : List ℕ) (z : Maker) (left : List (Option Inner)) (asked : Asks ℕ) (key : OperandValue) (deep : ℕ) : Type 0 where
+pub record KeySame (f : Function) (g : Fn) (active : List Active) (listed : List ℕ) (z : Maker) (left : List (Option Inner)) (asked : Asks ℕ) (texts : List Text) (key : OperandValue) (deep : ℕ) : Type 0 where
   pub can : can_write_operand (place f.of listed f.short) left key ≡ true
   pub unused : left_by_operand key left ≡ left
   pub few : (n : ℕ) → (operand_wording f listed z left n key).levels ≤ 3 * deep + 3
+  pub passes : AskingPasses texts asked
   pub grown : (m : Maker) → Grown calm m (asked m).after
-  pub as_rk : (m : Maker) → IsBare m → Final (length m.labels) (asked m).after z → rk (coded (operand_wording f listed z left (length m.constants) key).words) m ≡ asked m
-  pub taken : (m : Maker) → IsBare m → Final (length m.labels) (asked m).after z → length (asked m).after.constants ≡ taken_behind_operand key (length m.constants)
+  pub as_rk : (m : Maker) → IsAhead g active texts m → Final (length m.labels) (asked m).after z → rk (coded (operand_wording f listed z left (length m.constants) key).words) m ≡ asked m
+  pub taken : (m : Maker) → IsAhead g active texts m → Final (length m.labels) (asked m).after z → length (asked m).after.constants ≡ taken_behind_operand key (length m.constants)
+
+-- as much of it as an index asks for, which has no names to come behind its key
+record KeyWritten (f : Function) (g : Fn) (active : List Active) (listed : List ℕ) (z : Maker) (left : List (Option Inner)) (asked : Asks ℕ) (texts : List Text) (key : OperandValue) (deep : ℕ) : Type 0 where
+  can : can_write_operand (place f.of listed f.short) left key ≡ true
+  unused : left_by_operand key left ≡ left
+  few : (n : ℕ) → (operand_wording f listed z left n key).levels ≤ 3 * deep + 3
+  grown : (m : Maker) → Grown calm m (asked m).after
+  as_rk : (m : Maker) → IsAhead g active texts m → Final (length m.labels) (asked m).after z → rk (coded (operand_wording f listed z left (length m.constants) key).words) m ≡ asked m
+  taken : (m : Maker) → IsAhead g active texts m → Final (length m.labels) (asked m).after z → length (asked m).after.constants ≡ taken_behind_operand key (length m.constants)
 
 -- the word behind both
 abbrev behind_key : (to : ℕ) → Maker → ℕ → Got ℕ → Maker
 behind_key to m x y = free_from m.free (put 1 (Piece.Abc Op.GetTable to x y.value) y.after)
 
-module _ {f : Function} {listed : List ℕ} {z : Maker} {left : List (Option Inner)} {on : Expression} {o : Value} {asked : Asks ℕ} {key : OperandValue} {deep : ℕ} {v : Value}
-    (first : Rewritten f listed z left on o) (second : KeySame f listed z left asked key deep) (made : made_index o key ≡ Some v) where
+module _ {f : Function} {g : Fn} {active : List Active} {listed : List ℕ} {z : Maker} {left : List (Option Inner)} {on : Expression} {o : Value} {asked : Asks ℕ} {texts : List Text} {key : OperandValue} {deep : ℕ} {v : Value}
+    (first : Rewritten f g active listed z left on o) (second : KeyWritten f g active listed z left asked texts key deep) (made : made_index o key ≡ Some v) where
   is : Indexes (place f.of listed f.short) o key v
   is = indexes (place f.of listed f.short) o key v made
 
@@ -224,7 +237,13 @@ module _ {f : Function} {listed : List ℕ} {z : Maker} {left : List (Option Inn
       let more : suc (keys_of o) ≤ 200 = omega (arith, few, first.keys) in
       is.can left more first.can (ap (λ fs. can_write_operand (place f.of listed f.short) fs key) first.unused ∙ second.can)
 
-  module _ (kept : KeepsBare (code on)) (to : ℕ) (m : Maker) (ahead : IsBare m) (final : Final (length m.labels) (freeing (indexed_value 1 (code on) asked to) m) z) where
+  module _ (kept : PassesNames (names_in on) (code on)) (to : ℕ) (m : Maker) (ahead : IsAhead g active (names_in on ++ texts) m) (final : Final (length m.labels) (freeing (indexed_value 1 (code on) asked to) m) z) where
+    on_ahead : IsAhead g active (names_in on) m
+    on_ahead = ahead_front (names_in on) texts ahead
+
+    key_ahead : IsAhead g active texts (operand (code on) m).after
+    key_ahead = ahead_behind (names_in on) texts (operand_passes (names_in on) (code on) kept m) ahead
+
     both_final : Final (length m.labels) (asked (operand (code on) m).after).after z
     both_final =
         let x = operand (code on) m in
@@ -244,22 +263,23 @@ module _ {f : Function} {listed : List ℕ} {z : Maker} {left : List (Option Inn
         let m1 = x.after in
         let w = wording f listed z left (length m.constants) o in
         let u = operand_wording f listed z left (length m1.constants) key in
-        ap (λ w. (coded w.words).to_reg to m) (indexed_is (length m.constants) (length m1.constants) (sym (operand_taken first m ahead front_final)))
+        ap (λ w. (coded w.words).to_reg to m) (indexed_is (length m.constants) (length m1.constants) (sym (operand_taken first m on_ahead front_final)))
         ∙ index_to (field_name at key) (as_prefix w) u to m
-        ∙ ap (λ x. behind_key to m x.value (key_asks (field_name at key) u x.after)) (operand_wrapped (is_prefix w.words) w m ∙ operand_same first m ahead front_final)
-        ∙ ap (behind_key to m x.value) (key_asks_same at (length m1.constants) left key m1 ∙ second.as_rk m1 (operand_keeps (code on) kept m ahead) behind_final)
+        ∙ ap (λ x. behind_key to m x.value (key_asks (field_name at key) u x.after)) (operand_wrapped (is_prefix w.words) w m ∙ operand_same first m on_ahead front_final)
+        ∙ ap (behind_key to m x.value) (key_asks_same at (length m1.constants) left key m1 ∙ second.as_rk m1 key_ahead behind_final)
 
     indexed_taken : length (freeing (indexed_value 1 (code on) asked to) m).constants ≡ taken_behind v (length m.constants)
     indexed_taken =
-        second.taken (operand (code on) m).after (operand_keeps (code on) kept m ahead) behind_final
-        ∙ ap (taken_behind_operand key) (operand_taken first m ahead front_final)
+        second.taken (operand (code on) m).after key_ahead behind_final
+        ∙ ap (taken_behind_operand key) (operand_taken first m on_ahead front_final)
         ∙ sym (is.taken (length m.constants))
 
   -- an expression whose code this is
-  indexed_rewritten : (e : Expression) → suc (max (depth_of_expression on) deep) ≤ depth_of_expression e → depth_of_expression e ≤ 200 → is_name e ≡ false → fold e ≡ None → is_multiple e ≡ false →
-      ((to : ℕ) (m : Maker) → (code e).to_reg to m ≡ freeing (indexed_value 1 (code on) asked to) m) → KeepsBare (code on) → Rewritten f listed z left e v
-  indexed_rewritten e deeper shallow plain none single code_is kept =
+  indexed_rewritten : (e : Expression) → names_in e ≡ names_in on ++ texts → suc (max (depth_of_expression on) deep) ≤ depth_of_expression e → depth_of_expression e ≤ 200 → is_name e ≡ false → fold e ≡ None → is_multiple e ≡ false →
+      ((to : ℕ) (m : Maker) → (code e).to_reg to m ≡ freeing (indexed_value 1 (code on) asked to) m) → PassesNames (names_in on) (code on) → Rewritten f g active listed z left e v
+  indexed_rewritten e mentioned deeper shallow plain none single code_is kept =
       let name = field_name (place f.of listed f.short) key in
+      let ahead_of : (m : Maker) → IsAhead g active (names_in e) m → IsAhead g active (names_in on ++ texts) m = λ m ahead. subst (λ texts. IsAhead g active texts m) mentioned ahead in
       record {
         can = indexed_can (omega (arith, deeper, shallow));
         unused = is.unused left ∙ ap (left_by_operand key) first.unused ∙ second.unused;
@@ -269,20 +289,21 @@ module _ {f : Function} {listed : List ℕ} {z : Maker} {left : List (Option Inn
         gives = λ several. absurd cc;
         few = λ n. let few = indexed_few n in omega (arith, few, deeper);
         keys = let keys = is.keys in omega (arith, keys, first.keys, deeper);
-        to_reg = λ to m ahead final. indexed_same kept to m ahead (subst (λ n. Final (length m.labels) n z) (code_is to m) final) ∙ sym (code_is to m);
-        taken = λ to m ahead final. ap (λ n. length n.constants) (code_is to m) ∙ indexed_taken kept to m ahead (subst (λ n. Final (length m.labels) n z) (code_is to m) final);
+        as_local = λ n r m ahead local. no_local e r m plain local;
+        to_reg = λ to m ahead final. indexed_same kept to m (ahead_of m ahead) (subst (λ n. Final (length m.labels) n z) (code_is to m) final) ∙ sym (code_is to m);
+        taken = λ to m ahead final. ap (λ n. length n.constants) (code_is to m) ∙ indexed_taken kept to m (ahead_of m ahead) (subst (λ n. Final (length m.labels) n z) (code_is to m) final);
         multi = λ several. absurd cc;
         multi_taken = λ several. absurd cc;
       }
 
 -- ---- expressions that are indexed
 
-module _ {f : Function} {listed : List ℕ} {z : Maker} {left : List (Option Inner)} where
+module _ {f : Function} {g : Fn} {active : List Active} {listed : List ℕ} {z : Maker} {left : List (Option Inner)} where
   -- a tree is no deeper than 200, so it has no more keys one behind the other
-  pub index_rewritten : (line : ℕ) (on key : Expression) (o : Value) (k : OperandValue) (v : Value) → depth_of_expression (index_expression line on key) ≤ 200 → KeepsBare (code on) →
-      Rewritten f listed z left on o → RewrittenOperand f listed z left key k → made_index o k ≡ Some v → Rewritten f listed z left (index_expression line on key) v
+  pub index_rewritten : (line : ℕ) (on key : Expression) (o : Value) (k : OperandValue) (v : Value) → depth_of_expression (index_expression line on key) ≤ 200 → PassesNames (names_in on) (code on) →
+      Rewritten f g active listed z left on o → RewrittenOperand f g active listed z left key k → made_index o k ≡ Some v → Rewritten f g active listed z left (index_expression line on key) v
   index_rewritten line on key o k v shallow kept first second made =
-      let asks : KeySame f listed z left (rk (code key)) k (depth_of_expression key) = record {
+      let asks : KeyWritten f g active listed z left (rk (code key)) (names_in key) k (depth_of_expression key) = record {
         can = second.can;
         unused = second.unused;
         few = second.few;
@@ -290,27 +311,38 @@ module _ {f : Function} {listed : List ℕ} {z : Maker} {left : List (Option Inn
         as_rk = second.as_rk;
         taken = second.taken;
       } in
-      indexed_rewritten first asks made (index_expression line on key) (omega arith) shallow refl refl refl (λ to m. refl) kept
+      indexed_rewritten first asks made (index_expression line on key) refl (omega arith) shallow refl refl refl (λ to m. refl) kept
 
-  pub field_rewritten : (line : ℕ) (on : Expression) (text : Text) (o : Value) (k : OperandValue) (v : Value) → depth_of_expression (field_expression line on text) ≤ 200 → KeepsBare (code on) →
-      Rewritten f listed z left on o → KeySame f listed z left (rk_text 1 text) k 1 → made_index o k ≡ Some v → Rewritten f listed z left (field_expression line on text) v
-  field_rewritten line on text o k v shallow kept first asks made = indexed_rewritten first asks made (field_expression line on text) (omega (arith, some_depth on)) shallow refl refl refl (λ to m. refl) kept
+  pub field_rewritten : (line : ℕ) (on : Expression) (text : Text) (o : Value) (k : OperandValue) (v : Value) → depth_of_expression (field_expression line on text) ≤ 200 → PassesNames (names_in on) (code on) →
+      Rewritten f g active listed z left on o → KeySame f g active listed z left (rk_text 1 text) [] k 1 → made_index o k ≡ Some v → Rewritten f g active listed z left (field_expression line on text) v
+  field_rewritten line on text o k v shallow kept first key made =
+      let asks : KeyWritten f g active listed z left (rk_text 1 text) [] k 1 = record { can = key.can; unused = key.unused; few = key.few; grown = key.grown; as_rk = key.as_rk; taken = key.taken } in
+      indexed_rewritten first asks made (field_expression line on text) (sym (append-nil (names_in on))) (omega (arith, some_depth on)) shallow refl refl refl (λ to m. refl) kept
+
+  -- a key that is an expression
+  pub expression_key : (key : Expression) (k : OperandValue) → PassesNames (names_in key) (code key) → RewrittenOperand f g active listed z left key k → KeySame f g active listed z left (rk (code key)) (names_in key) k (depth_of_expression key)
+  expression_key key k passed operand = record {
+    can = operand.can;
+    unused = operand.unused;
+    few = operand.few;
+    passes = rk_passes (names_in key) (code key) passed;
+    grown = grows_rk (code key) (grows calm (one_line_expression key));
+    as_rk = operand.as_rk;
+    taken = operand.taken;
+  }
+
+  pub key_deeper : {asked : Asks ℕ} {texts : List Text} {k : OperandValue} {deep more : ℕ} → deep ≤ more → KeySame f g active listed z left asked texts k deep → KeySame f g active listed z left asked texts k more
+  key_deeper deeper key = record { can = key.can; unused = key.unused; few = λ n. omega (arith, key.few n, deeper); passes = key.passes; grown = key.grown; as_rk = key.as_rk; taken = key.taken }
 
   -- the name of a field is a string, which is an operand as one that is an expression of its own
-  -- a key that is an expression
-  pub expression_key : (key : Expression) (k : OperandValue) → RewrittenOperand f listed z left key k → KeySame f listed z left (rk (code key)) k (depth_of_expression key)
-  expression_key key k operand = record { can = operand.can; unused = operand.unused; few = operand.few; grown = grows_rk (code key) (grows calm (one_line_expression key)); as_rk = operand.as_rk; taken = operand.taken }
-
-  pub key_deeper : {asked : Asks ℕ} {k : OperandValue} {deep more : ℕ} → deep ≤ more → KeySame f listed z left asked k deep → KeySame f listed z left asked k more
-  key_deeper deeper key = record { can = key.can; unused = key.unused; few = λ n. omega (arith, key.few n, deeper); grown = key.grown; as_rk = key.as_rk; taken = key.taken }
-
-  pub text_key : (line : ℕ) (text : Text) (k : OperandValue) → RewrittenOperand f listed z left (text_literal line text) k → KeySame f listed z left (rk_text 1 text) k 1
+  pub text_key : (line : ℕ) (text : Text) (k : OperandValue) → RewrittenOperand f g active listed z left (text_literal line text) k → KeySame f g active listed z left (rk_text 1 text) [] k 1
   text_key line text k operand =
       let asked = text_asks text in
       record {
         can = operand.can;
         unused = operand.unused;
         few = operand.few;
+        passes = rk_text_passes 1 text;
         grown = grows_rk_text 1 text;
         as_rk = λ m ahead final. operand.as_rk m ahead (subst (λ got. Final (length m.labels) got.after z) (sym (asked m)) final) ∙ asked m;
         taken = λ m ahead final. ap (λ got. length got.after.constants) (sym (asked m)) ∙ operand.taken m ahead (subst (λ got. Final (length m.labels) got.after z) (sym (asked m)) final);

@@ -1,30 +1,33 @@
 -- What is written of the value of an expression without parts has the same code: literals, folded numbers, names and `...`; and so in parentheses.
-use Rattle.std.proofs.Common.{◌≡◌, ℕ, ◌≤◌, true, false, ℤ, List, length, Option, Some, None, is_some, refl, sym, ap, ◌∙◌, subst, arith, true≢false}
+use Rattle.std.proofs.Common.{◌≡◌, ℕ, ◌≤◌, true, false, ℤ, List, [], ◌∷◌, length, Option, Some, None, is_some, refl, sym, ap, ◌∙◌, subst, arith, true≢false}
 use Rattle.std.specs.Prelude.{slice_get, if◌then◌else◌}
 use Rattle.lua_num.specs.Bytes.{Text}
 use Rattle.lua_tree.specs.Names.{is_name as is_good_name}
+use Rattle.lua_tree.specs.Scoping.{global_use}
 use Rattle.lua_tree.specs.Syntax.{Expression, nil_literal, true_literal, false_literal, vararg_expression, text_literal, name_expression, parenthesized}
 use Rattle.lua_tree.specs.WellFormed.{depth_of_expression}
 use Rattle.opcode.specs.declared.op.Op.{Op}
 use Rattle.proto.specs.declared.parts.Constant.{Constant}
+use Rattle.core_expr.specs.Counting.{left_by, taken_behind}
 use Rattle.core_expr.specs.Places.{as_name, as_text, constant_name, place}
 use Rattle.core_expr.specs.Values.{Value, nil_value, bool_value, vararg_value, constant_value, global_value, Inner}
-use Rattle.core_expr.specs.Writing.{Wording, constant_word, literal as literal_word, name_word, single as single_word}
+use Rattle.core_expr.specs.Writing.{Wording, can_write, constant_word, is_multiple as can_be_several, literal as literal_word, name_word, single as single_word, word}
 use Rattle.recover_expr.specs.Situation.{Function}
-use Rattle.scheme.specs.Expressions.{Want, fold, is_multiple, is_name, read_where}
+use Rattle.scheme.specs.Expressions.{Want, fold, is_multiple, is_name, read_where, register_of}
 use Rattle.scheme.specs.Lists.{vararg_at}
-use Rattle.scheme.specs.Making.{Maker, Where, constant, free_from, in_globals, pass_name}
+use Rattle.scheme.specs.Making.{Maker, Part, Where, constant, free_from, head_or, in_globals, in_register, in_upvalue, next_name, pass_name, where_is}
 use Rattle.scheme.specs.Scheme.{coded}
 use Rattle.scheme.specs.declared.making.Active.{Active}
 use Rattle.scheme.specs.declared.making.Piece.{Piece}
 use Rattle.scheme_stands.proofs.Growth.{Final, before_free, before_put}
-use Rattle.scheme_stands.specs.Words.{Fn}
+use Rattle.scheme_stands.specs.Words.{Fn, Means}
 use Rattle.reads_back.specs.Cores.{HasNumber, IsConstant, IsNamed, IsVariable}
 use Rattle.reads_back.proofs.ConstantsSame.{before_load, constant_is, constant_taken, fold_numeral, loads, number_loads, number_no_name, number_single, numeral_few, numeral_loads, numeral_plain, numeral_single}
-use Rattle.reads_back.proofs.Rewriting.{IsBare, IsMadeBy, Rewritten, code}
+use Rattle.reads_back.proofs.Rewriting.{IsMadeBy, Rewritten, code, keys_of}
 use Rattle.reads_back.proofs.WholeNumbers.{IsWhole}
-use Rattle.reads_back.proofs.WordsSame.{global_next}
-use Rattle.reads_back.proofs.NameReads.{OnlyGlobals}
+use Rattle.reads_back.proofs.WordsSame.{no_local}
+use Rattle.reads_back.proofs.NameReads.{IsListed}
+use Rattle.reads_back.proofs.NamesAhead.{IsAhead}
 
 -- ---- no expression is without depth
 
@@ -53,7 +56,7 @@ record LoadsIt (k : Constant) (e : Expression) : Type 0 where
   as_loaded : (r : ℕ) (m : Maker) → (code e).to_reg r m ≡ loads r k m
 
 module _ {f : Function} {g : Fn} {active : List Active} {listed : List ℕ} {z : Maker} {left : List (Option Inner)} (made : IsMadeBy f g active listed z) where
-  loaded_rewritten : (e : Expression) (k : Constant) (number : ℕ) → HasNumber g k number → IsLoaded k → LoadsIt k e → Rewritten f listed z left e (constant_value number)
+  loaded_rewritten : (e : Expression) (k : Constant) (number : ℕ) → HasNumber g k number → IsLoaded k → LoadsIt k e → Rewritten f g active listed z left e (constant_value number)
   loaded_rewritten e k number has loaded it = record {
     can = ap is_some there;
     unused = refl;
@@ -63,6 +66,7 @@ module _ {f : Function} {g : Fn} {active : List Active} {listed : List ℕ} {z :
     gives = λ several. never_several e it.single several;
     few = λ n. omega (arith, ap (λ (w : Wording). w.levels) word_is, loaded.few, some_depth e);
     keys = omega arith;
+    as_local = λ n r m ahead is. no_local e r m it.named is;
     to_reg = λ r m ahead final. ap (λ (w : Wording). (coded w.words).to_reg r m) word_is ∙ loaded.as_loaded r m ∙ sym (it.as_loaded r m);
     taken = λ r m ahead final. ap (λ (n : Maker). length n.constants) (it.as_loaded r m) ∙ constant_taken made k number m has (before_load r k m (subst (λ (n : Maker). Final (length m.labels) n z) (it.as_loaded r m) final));
     multi = λ several. never_several e it.single several;
@@ -76,24 +80,24 @@ module _ {f : Function} {g : Fn} {active : List Active} {listed : List ℕ} {z :
       word_is = ap constant_word there
 
   -- a folded number is the numeral of it
-  pub number_rewritten : (e : Expression) (n : ℤ) (v : Value) → IsWhole n → fold e ≡ Some n → IsConstant g (Constant.Number n) v → Rewritten f listed z left e v
+  pub number_rewritten : (e : Expression) (n : ℤ) (v : Value) → IsWhole n → fold e ≡ Some n → IsConstant g (Constant.Number n) v → Rewritten f g active listed z left e v
   number_rewritten e n v whole is (number, has, same) =
-      subst (Rewritten f listed z left e) (sym same)
+      subst (Rewritten f g active listed z left e) (sym same)
       (loaded_rewritten e (Constant.Number n) number has
       (record { named = numeral_plain n; single = numeral_single n; few = numeral_few n; as_loaded = numeral_loads n whole })
       (record { named = number_no_name e n is; single = number_single e n is; folded = fold_numeral n whole ∙ sym is; as_loaded = number_loads e n is }))
 
-  pub text_rewritten : (line : ℕ) (text : Text) (v : Value) → IsConstant g (Constant.Text text) v → Rewritten f listed z left (text_literal line text) v
+  pub text_rewritten : (line : ℕ) (text : Text) (v : Value) → IsConstant g (Constant.Text text) v → Rewritten f g active listed z left (text_literal line text) v
   text_rewritten line text v (number, has, same) =
-      subst (Rewritten f listed z left (text_literal line text)) (sym same)
+      subst (Rewritten f g active listed z left (text_literal line text)) (sym same)
       (loaded_rewritten (text_literal line text) (Constant.Text text) number has
       (record { named = refl; single = refl; few = omega arith; as_loaded = λ r m. refl })
       (record { named = refl; single = refl; folded = refl; as_loaded = λ r m. refl }))
 
   -- ---- literals that are words
 
-  pub nil_rewritten : (line : ℕ) (v : Value) → v ≡ nil_value → Rewritten f listed z left (nil_literal line) v
-  nil_rewritten line v is = subst (Rewritten f listed z left (nil_literal line)) (sym is) (record {
+  pub nil_rewritten : (line : ℕ) (v : Value) → v ≡ nil_value → Rewritten f g active listed z left (nil_literal line) v
+  nil_rewritten line v is = subst (Rewritten f g active listed z left (nil_literal line)) (sym is) (record {
     can = refl;
     unused = refl;
     named = λ n. refl;
@@ -102,14 +106,15 @@ module _ {f : Function} {g : Fn} {active : List Active} {listed : List ℕ} {z :
     gives = λ several. cc;
     few = λ n. omega arith;
     keys = omega arith;
+    as_local = λ n r m ahead is. cc;
     to_reg = λ r m ahead final. refl;
     taken = λ r m ahead final. refl;
     multi = λ several op want m ahead final. refl;
     multi_taken = λ several op want m ahead final. refl;
   })
 
-  pub true_rewritten : (line : ℕ) (v : Value) → v ≡ bool_value true → Rewritten f listed z left (true_literal line) v
-  true_rewritten line v is = subst (Rewritten f listed z left (true_literal line)) (sym is) (record {
+  pub true_rewritten : (line : ℕ) (v : Value) → v ≡ bool_value true → Rewritten f g active listed z left (true_literal line) v
+  true_rewritten line v is = subst (Rewritten f g active listed z left (true_literal line)) (sym is) (record {
     can = refl;
     unused = refl;
     named = λ n. refl;
@@ -118,14 +123,15 @@ module _ {f : Function} {g : Fn} {active : List Active} {listed : List ℕ} {z :
     gives = λ several. cc;
     few = λ n. omega arith;
     keys = omega arith;
+    as_local = λ n r m ahead is. cc;
     to_reg = λ r m ahead final. refl;
     taken = λ r m ahead final. refl;
     multi = λ several op want m ahead final. refl;
     multi_taken = λ several op want m ahead final. refl;
   })
 
-  pub false_rewritten : (line : ℕ) (v : Value) → v ≡ bool_value false → Rewritten f listed z left (false_literal line) v
-  false_rewritten line v is = subst (Rewritten f listed z left (false_literal line)) (sym is) (record {
+  pub false_rewritten : (line : ℕ) (v : Value) → v ≡ bool_value false → Rewritten f g active listed z left (false_literal line) v
+  false_rewritten line v is = subst (Rewritten f g active listed z left (false_literal line)) (sym is) (record {
     can = refl;
     unused = refl;
     named = λ n. refl;
@@ -134,14 +140,15 @@ module _ {f : Function} {g : Fn} {active : List Active} {listed : List ℕ} {z :
     gives = λ several. cc;
     few = λ n. omega arith;
     keys = omega arith;
+    as_local = λ n r m ahead is. cc;
     to_reg = λ r m ahead final. refl;
     taken = λ r m ahead final. refl;
     multi = λ several op want m ahead final. refl;
     multi_taken = λ several op want m ahead final. refl;
   })
 
-  pub vararg_rewritten : (line : ℕ) (v : Value) → v ≡ vararg_value → Rewritten f listed z left (vararg_expression line) v
-  vararg_rewritten line v is = subst (Rewritten f listed z left (vararg_expression line)) (sym is) (record {
+  pub vararg_rewritten : (line : ℕ) (v : Value) → v ≡ vararg_value → Rewritten f g active listed z left (vararg_expression line) v
+  vararg_rewritten line v is = subst (Rewritten f g active listed z left (vararg_expression line)) (sym is) (record {
     can = refl;
     unused = refl;
     named = λ n. refl;
@@ -150,6 +157,7 @@ module _ {f : Function} {g : Fn} {active : List Active} {listed : List ℕ} {z :
     gives = λ several. refl;
     few = λ n. omega arith;
     keys = omega arith;
+    as_local = λ n r m ahead is. cc;
     to_reg = λ r m ahead final. refl;
     taken = λ r m ahead final. refl;
     multi = λ several op want m ahead final. refl;
@@ -160,46 +168,88 @@ module _ {f : Function} {g : Fn} {active : List Active} {listed : List ℕ} {z :
       results_take None m = refl
       results_take (Some n) m = refl
 
-  -- ---- names, which all mean globals
+-- ---- names
 
-  global_rewritten : (line : ℕ) (text : Text) (number : ℕ) → is_good_name text ≡ true → HasNumber g (Constant.Text text) number → Rewritten f listed z left (name_expression line text) (global_value number)
-  global_rewritten line text number good has = record {
-    can = ap is_some there;
-    unused = refl;
-    named = λ n. ap (λ (w : Wording). is_name w.words) word_is;
-    folded = λ n. ap (λ (w : Wording). fold w.words) word_is;
-    several = λ n. ap (λ (w : Wording). is_multiple w.words) word_is;
+-- the code of a name by what it means
+abbrev reads : ℕ → Text → Where → Part
+reads r text w m = free_from m.free (read_where 1 r text w (pass_name m))
+
+code_reads : (line : ℕ) (text : Text) (w : Where) (r : ℕ) (m : Maker) → next_name m ≡ w → (code (name_expression line text)).to_reg r m ≡ reads r text w m
+code_reads line text w r m means = ap (λ w. reads r text w m) means
+
+local_taken : (g : Fn) (text : Text) (w : Where) (v : Value) (n r : ℕ) → IsVariable g text w v → register_of w ≡ Some r → taken_behind v n ≡ n
+local_taken g text (in_register x) v n r is register = ap (λ v. taken_behind v n) is
+local_taken g text (in_upvalue slot) v n r is register = cc
+local_taken g text in_globals v n r is register = cc
+
+variable_single : (g : Fn) (text : Text) (w : Where) (v : Value) → IsVariable g text w v → can_be_several v ≡ false
+variable_single g text (in_register x) v is = ap can_be_several is
+variable_single g text (in_upvalue slot) v is = ap can_be_several is
+variable_single g text in_globals v (number, has, is) = ap can_be_several is
+
+-- a variable can be written, and it is written as its name
+record IsWritten (f : Function) (listed : List ℕ) (left : List (Option Inner)) (text : Text) (v : Value) : Type 0 where
+  can : can_write (place f.of listed f.short) left v ≡ true
+  unused : left_by v left ≡ left
+  word_is : (n : ℕ) → word (place f.of listed f.short) n left v ≡ single_word (name_expression 1 text)
+  keys : keys_of v ≡ 0
+
+module _ {f : Function} {g : Fn} {active : List Active} {listed : List ℕ} {z : Maker} (made : IsMadeBy f g active listed z) where
+  -- the name that comes next means what the scope finds
+  pub next_means : (text : Text) (w : Where) (others : List Text) (m : Maker) → Means g.law active text w → IsAhead g active (text ∷ others) m → next_name m ≡ w
+  next_means text w others m means ahead =
+      ap (where_is (head_or global_use m.ahead.names)) ahead.active_are ∙ made.certain text (where_is (head_or global_use m.ahead.names) active) w ahead.names.0 means
+
+  before_read : {j : ℕ} (r : ℕ) (text : Text) (m : Maker) → Final j (reads r text in_globals m) z → Final j (constant (Constant.Text text) (pass_name m)).after z
+  before_read r text m final = before_put 1 (Piece.Abx Op.GetGlobal r (constant (Constant.Text text) (pass_name m)).value) (constant (Constant.Text text) (pass_name m)).after (before_free m.free (read_where 1 r text in_globals (pass_name m)) final)
+
+  -- what a variable takes
+  reads_taken : (text : Text) (w : Where) (v : Value) (r : ℕ) (m : Maker) → IsVariable g text w v → Final (length m.labels) (reads r text w m) z → length (reads r text w m).constants ≡ taken_behind v (length m.constants)
+  reads_taken text (in_register x) v r m is final = ap (λ v. taken_behind v (length m.constants)) (sym is)
+  reads_taken text (in_upvalue slot) v r m is final = ap (λ v. taken_behind v (length m.constants)) (sym is)
+  reads_taken text in_globals v r m (number, has, is) final =
+      constant_taken made (Constant.Text text) number (pass_name m) has (before_read r text m final) ∙ ap (λ v. taken_behind v (length m.constants)) (sym is)
+
+  module _ (left : List (Option Inner)) where
+    global_written : (text : Text) (number : ℕ) → is_good_name text ≡ true → HasNumber g (Constant.Text text) number → IsWritten f listed left text (global_value number)
+    global_written text number good has =
+        let there : constant_name (place f.of listed f.short) number ≡ Some text = ap (λ k. as_name (as_text k)) (constant_is made (Constant.Text text) number has) ∙ ap (λ good. if good then Some text else None) good in
+        record { can = ap is_some there; unused = refl; word_is = λ n. ap name_word there; keys = refl }
+
+    variable_written : (text : Text) (w : Where) (v : Value) → is_good_name text ≡ true → IsListed f (length active) listed text w → IsVariable g text w v → IsWritten f listed left text v
+    variable_written text (in_register x) v good there is =
+        subst (IsWritten f listed left text) (sym is) (record { can = ap is_some there.1; unused = refl; word_is = λ n. ap name_word there.1; keys = refl })
+    variable_written text (in_upvalue slot) v good there is =
+        subst (IsWritten f listed left text) (sym is) (record { can = ap is_some there; unused = refl; word_is = λ n. ap name_word there; keys = refl })
+    variable_written text in_globals v good there (number, has, is) = subst (IsWritten f listed left text) (sym is) (global_written text number good has)
+
+module _ {f : Function} {g : Fn} {active : List Active} {listed : List ℕ} {z : Maker} {left : List (Option Inner)} (made : IsMadeBy f g active listed z) where
+  pub name_rewritten : (line : ℕ) (text : Text) (v : Value) → is_good_name text ≡ true → IsNamed g active text v → Rewritten f g active listed z left (name_expression line text) v
+  name_rewritten line text v good (w, means, is) = record {
+    can = written.can;
+    unused = written.unused;
+    named = λ n. ap (λ (w : Wording). is_name w.words) (written.word_is n);
+    folded = λ n. ap (λ (w : Wording). fold w.words) (written.word_is n);
+    several = λ n. ap (λ (w : Wording). is_multiple w.words) (written.word_is n) ∙ sym (variable_single g text w v is);
     gives = λ several. cc;
-    few = λ n. omega (arith, ap (λ (w : Wording). w.levels) word_is);
-    keys = omega arith;
-    to_reg = λ r m ahead final. ap (λ (w : Wording). (coded w.words).to_reg r m) word_is;
-    taken = λ r m ahead final. ap (λ (n : Maker). length n.constants) (reads r m ahead) ∙ constant_taken made (Constant.Text text) number (pass_name m) has (before_read r m (subst (λ (n : Maker). Final (length m.labels) n z) (reads r m ahead) final));
+    few = λ n. omega (arith, ap (λ (w : Wording). w.levels) (written.word_is n));
+    keys = omega (arith, written.keys);
+    as_local = λ n r m ahead register. local_taken g text w v n r is (ap register_of (sym (next_means made text w [] m means ahead)) ∙ register);
+    to_reg = λ r m ahead final. ap (λ (w : Wording). (coded w.words).to_reg r m) (written.word_is (length m.constants));
+    taken = λ r m ahead final.
+        let same = code_reads line text w r m (next_means made text w [] m means ahead) in
+        ap (λ (n : Maker). length n.constants) same ∙ reads_taken made text w v r m is (subst (λ (n : Maker). Final (length m.labels) n z) same final);
     multi = λ several. cc;
     multi_taken = λ several. cc;
   }
     where
-      there : constant_name (place f.of listed f.short) number ≡ Some text
-      there = ap (λ k. as_name (as_text k)) (constant_is made (Constant.Text text) number has) ∙ ap (λ good. if good then Some text else None) good
-
-      word_is : name_word (constant_name (place f.of listed f.short) number) ≡ single_word (name_expression 1 text)
-      word_is = ap name_word there
-
-      reads : (r : ℕ) (m : Maker) → IsBare m → (code (name_expression line text)).to_reg r m ≡ free_from m.free (read_where 1 r text in_globals (pass_name m))
-      reads r m ahead = ap (λ w. free_from m.free (read_where 1 r text w (pass_name m))) (global_next m ahead)
-
-      before_read : {j : ℕ} (r : ℕ) (m : Maker) → Final j (free_from m.free (read_where 1 r text in_globals (pass_name m))) z → Final j (constant (Constant.Text text) (pass_name m)).after z
-      before_read r m final = before_put 1 (Piece.Abx Op.GetGlobal r (constant (Constant.Text text) (pass_name m)).value) (constant (Constant.Text text) (pass_name m)).after (before_free m.free (read_where 1 r text in_globals (pass_name m)) final)
-
-  pub name_rewritten : OnlyGlobals g active → (line : ℕ) (text : Text) (v : Value) → is_good_name text ≡ true → IsNamed g active text v → Rewritten f listed z left (name_expression line text) v
-  name_rewritten only line text v good (w, means, is) = by (subst (λ (w : Where). IsVariable g text w v) (only.globals text w means) is)
-    where
-      by : IsVariable g text in_globals v → Rewritten f listed z left (name_expression line text) v
-      by (number, has, same) = subst (Rewritten f listed z left (name_expression line text)) (sym same) (global_rewritten line text number good has)
+      written : IsWritten f listed left text v
+      written = variable_written made left text w v good (made.all.listed_as text w means) is
 
 -- ---- in parentheses
 
-module _ {f : Function} {listed : List ℕ} {z : Maker} {left : List (Option Inner)} where
-  pub parenthesized_rewritten : (line : ℕ) (e : Expression) (v : Value) → Rewritten f listed z left e v → Rewritten f listed z left (parenthesized line e) v
+module _ {f : Function} {g : Fn} {active : List Active} {listed : List ℕ} {z : Maker} {left : List (Option Inner)} where
+  pub parenthesized_rewritten : (line : ℕ) (e : Expression) (v : Value) → Rewritten f g active listed z left e v → Rewritten f g active listed z left (parenthesized line e) v
   parenthesized_rewritten line e v rewritten = record {
     can = rewritten.can;
     unused = rewritten.unused;
@@ -209,6 +259,7 @@ module _ {f : Function} {listed : List ℕ} {z : Maker} {left : List (Option Inn
     gives = λ several. cc;
     few = λ n. omega (arith, rewritten.few n);
     keys = omega (arith, rewritten.keys);
+    as_local = rewritten.as_local;
     to_reg = rewritten.to_reg;
     taken = rewritten.taken;
     multi = λ several. cc;

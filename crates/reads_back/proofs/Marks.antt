@@ -174,7 +174,7 @@ module _ (at : Place) (natural : at.short ≡ false) where
     word_part (table_value items all depth) n fs none can = items_part items all n fs none can
     word_part (function_value number itself) n fs none can = absurd (none_there fs number none (second_of_both (not itself) _ can))
 
-    values_part : (vs : Values) (all : Bool) (n : ℕ) (fs : List (Option Inner)) → fs ≡ [] → can_write_values at fs vs ≡ true → SamePart (expressions_part (word_values at n fs vs all).words) (parts_of at vs)
+    pub values_part : (vs : Values) (all : Bool) (n : ℕ) (fs : List (Option Inner)) → fs ≡ [] → can_write_values at fs vs ≡ true → SamePart (expressions_part (word_values at n fs vs all).words) (parts_of at vs)
     values_part no_values all n fs none can = same_part nothing
     values_part (and_value v rest) all n fs none can =
         both_same (part_then (unless_part _ (word at n fs v)) (word_part v n fs none (first_of_both _ _ can))) (values_part rest all (taken_behind v n) (left_by v fs) (ap (left_by v) none ∙ none_by v) (second_of_both _ _ can))

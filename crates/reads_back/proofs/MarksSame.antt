@@ -238,6 +238,6 @@ module _ {f : Function} {g : Fn} {active : List Active} {listed : List ℕ} (is_
     items_marks (keyed key e separator rest) has items open_last is =
         keyed_part _ _ (AreItems g active rest) _ _ _ (λ o. of_operand key o (literal key) refl (marks_of key has.0).one) (λ o. of_operand e o (literal e) refl (marks_of e has.1).one) (items_marks rest has.2) items open_last is
 
-    list_part : (es : Expressions) → AllHaveCores es → (vs : Values) → AreCores g active es vs → SamePart (parts_of at vs) (expressions_part (one_line_expressions es))
+    pub list_part : (es : Expressions) → AllHaveCores es → (vs : Values) → AreCores g active es vs → SamePart (parts_of at vs) (expressions_part (one_line_expressions es))
     list_part no_expressions has vs is = λ place. ap (λ vs. parts_of at vs place) is
     list_part (syntax.expression e es) has vs is = let first = marks_of e has.0 in first_part vs is.0 is.1 _ _ is.4 (first.one is.0 is.2) (list_part es has.1 is.1 is.3)

@@ -1,13 +1,13 @@
--- An act is one on one line too.
+-- An act is one on one line too, as deep as before; and on one line it stays as it is.
+use Rattle.std.proofs.Common.{◌≡◌, true, refl, ap}
 use Rattle.lua_tree.specs.OneLine.{one_line_arguments, one_line_expression, one_line_expressions, one_line_fields, one_line_statement}
 use Rattle.lua_tree.specs.Syntax as syntax
-use Rattle.lua_tree.specs.Syntax.{Arguments, Expression, Expressions, Statement, Statements, argument_list, assignment, binary_expression, call_expression, call_statement, constructor, Fields, no_fields, positional, named, keyed, table_argument, false_literal, field_expression, index_expression, method_call, name_expression, nil_literal, no_expressions, no_statements, number_literal, parenthesized, text_argument, text_literal, true_literal, unary_expression, vararg_expression}
-use Rattle.lua_tree.specs.WellFormed.{is_call}
-use Rattle.std.proofs.Common.{◌≡◌, true}
+use Rattle.lua_tree.specs.Syntax.{Arguments, Expression, Expressions, Statement, argument_list, assignment, binary_expression, call_expression, call_statement, constructor, Fields, no_fields, positional, named, keyed, table_argument, false_literal, field_expression, index_expression, local_statement, method_call, name_expression, nil_literal, no_expressions, number_literal, parenthesized, return_statement, text_argument, text_literal, true_literal, unary_expression, vararg_expression}
+use Rattle.lua_tree.specs.WellFormed.{depth_of_arguments, depth_of_expression, depth_of_expressions, depth_of_fields, depth_of_statement, is_call}
 use Rattle.reads_back.specs.Acted.{IsAct, IsActTarget}
 use Rattle.reads_back.specs.Cores.{AllHaveCores, HasCore, HaveCores, HaveItems}
-use Rattle.reads_back.proofs.BlocksSame.{plainly}
-use Rattle.reads_back.proofs.GlobalSources.{AreAllActs}
+
+-- ---- it is an act
 
 mutual
   core_on_line : (e : Expression) → HasCore e → HasCore (one_line_expression e)
@@ -54,11 +54,102 @@ target_on_line (index_expression line on key) is = (core_on_line on is.0, core_o
 target_on_line (field_expression line on text) is = core_on_line on is
 target_on_line e is = absurd is
 
-act_on_line : (s : Statement) → IsAct s → IsAct (one_line_statement s)
+pub act_on_line : (s : Statement) → IsAct s → IsAct (one_line_statement s)
 act_on_line (call_statement e) is = (call_on_line e is.0, core_on_line e is.1)
 act_on_line (assignment (syntax.expression target no_expressions) (syntax.expression e no_expressions)) is = (target_on_line target is.0, core_on_line e is.1)
+act_on_line (local_statement names es) is = (is.0, cores_on_line es is.1)
+act_on_line (return_statement es) is = cores_on_line es is
 act_on_line s is = absurd is
 
-pub acts_on_line : (block : Statements) → AreAllActs block → AreAllActs (plainly block)
-acts_on_line no_statements acts = tt
-acts_on_line (syntax.statement line semi s rest) acts = (act_on_line s acts.0, acts_on_line rest acts.1)
+-- a target can be read as well
+pub target_has_core : (e : Expression) → IsActTarget e → HasCore e
+target_has_core (name_expression line text) is = is
+target_has_core (index_expression line on key) is = is
+target_has_core (field_expression line on text) is = is
+target_has_core e is = absurd is
+
+-- ---- it stays as it is
+
+mutual
+  again : (e : Expression) → HasCore e → one_line_expression (one_line_expression e) ≡ one_line_expression e
+  again (nil_literal line) has = refl
+  again (true_literal line) has = refl
+  again (false_literal line) has = refl
+  again (vararg_expression line) has = refl
+  again (number_literal line n) has = refl
+  again (text_literal line text) has = refl
+  again (name_expression line text) has = refl
+  again (index_expression line on key) has = cc (again on has.0, again key has.1)
+  again (field_expression line on text) has = cc (again on has)
+  again (call_expression line on args on_line) has = cc (again on has.0, arguments_again args has.1)
+  again (method_call line on name args on_line) has = cc (again on has.1, arguments_again args has.2)
+  again (binary_expression line op left right) has = cc (again left has.1, again right has.2)
+  again (unary_expression line op e) has = cc (again e has)
+  again (constructor line fields) has = cc (items_again fields has)
+  again (parenthesized line e) has = cc (again e has)
+  again e has = absurd has
+
+  arguments_again : (args : Arguments) → HaveCores args → one_line_arguments (one_line_arguments args) ≡ one_line_arguments args
+  arguments_again (argument_list es) have = cc (all_again es have)
+  arguments_again (text_argument text) have = refl
+  arguments_again (table_argument fields) have = cc (items_again fields have)
+
+  items_again : (fields : Fields) → HaveItems fields → one_line_fields (one_line_fields fields) ≡ one_line_fields fields
+  items_again no_fields have = refl
+  items_again (positional e separator rest) have = cc (again e have.0, items_again rest have.1)
+  items_again (named text e separator rest) have = cc (again e have.0, items_again rest have.1)
+  items_again (keyed key e separator rest) have = cc (again key have.0, again e have.1, items_again rest have.2)
+
+  all_again : (es : Expressions) → AllHaveCores es → one_line_expressions (one_line_expressions es) ≡ one_line_expressions es
+  all_again no_expressions have = refl
+  all_again (syntax.expression e es) have = cc (again e have.0, all_again es have.1)
+
+pub again_on_line : (s : Statement) → IsAct s → one_line_statement (one_line_statement s) ≡ one_line_statement s
+again_on_line (call_statement e) is = ap call_statement (again e is.1)
+again_on_line (assignment (syntax.expression target no_expressions) (syntax.expression e no_expressions)) is = cc (again target (target_has_core target is.0), again e is.1)
+again_on_line (local_statement names es) is = ap (local_statement names) (all_again es is.1)
+again_on_line (return_statement es) is = ap return_statement (all_again es is)
+again_on_line s is = absurd is
+
+-- ---- it is as deep
+
+mutual
+  as_deep : (e : Expression) → HasCore e → depth_of_expression (one_line_expression e) ≡ depth_of_expression e
+  as_deep (nil_literal line) has = refl
+  as_deep (true_literal line) has = refl
+  as_deep (false_literal line) has = refl
+  as_deep (vararg_expression line) has = refl
+  as_deep (number_literal line n) has = refl
+  as_deep (text_literal line text) has = refl
+  as_deep (name_expression line text) has = refl
+  as_deep (index_expression line on key) has = cc (as_deep on has.0, as_deep key has.1)
+  as_deep (field_expression line on text) has = cc (as_deep on has)
+  as_deep (call_expression line on args on_line) has = cc (as_deep on has.0, arguments_as_deep args has.1)
+  as_deep (method_call line on name args on_line) has = cc (as_deep on has.1, arguments_as_deep args has.2)
+  as_deep (binary_expression line op left right) has = cc (as_deep left has.1, as_deep right has.2)
+  as_deep (unary_expression line op e) has = cc (as_deep e has)
+  as_deep (constructor line fields) has = cc (items_as_deep fields has)
+  as_deep (parenthesized line e) has = cc (as_deep e has)
+  as_deep e has = absurd has
+
+  arguments_as_deep : (args : Arguments) → HaveCores args → depth_of_arguments (one_line_arguments args) ≡ depth_of_arguments args
+  arguments_as_deep (argument_list es) have = all_as_deep es have
+  arguments_as_deep (text_argument text) have = refl
+  arguments_as_deep (table_argument fields) have = items_as_deep fields have
+
+  items_as_deep : (fields : Fields) → HaveItems fields → depth_of_fields (one_line_fields fields) ≡ depth_of_fields fields
+  items_as_deep no_fields have = refl
+  items_as_deep (positional e separator rest) have = cc (as_deep e have.0, items_as_deep rest have.1)
+  items_as_deep (named text e separator rest) have = cc (as_deep e have.0, items_as_deep rest have.1)
+  items_as_deep (keyed key e separator rest) have = cc (as_deep key have.0, as_deep e have.1, items_as_deep rest have.2)
+
+  all_as_deep : (es : Expressions) → AllHaveCores es → depth_of_expressions (one_line_expressions es) ≡ depth_of_expressions es
+  all_as_deep no_expressions have = refl
+  all_as_deep (syntax.expression e es) have = cc (as_deep e have.0, all_as_deep es have.1)
+
+pub act_as_deep : (s : Statement) → IsAct s → depth_of_statement (one_line_statement s) ≡ depth_of_statement s
+act_as_deep (call_statement e) is = as_deep e is.1
+act_as_deep (assignment (syntax.expression target no_expressions) (syntax.expression e no_expressions)) is = cc (as_deep target (target_has_core target is.0), as_deep e is.1)
+act_as_deep (local_statement names es) is = all_as_deep es is.1
+act_as_deep (return_statement es) is = all_as_deep es is
+act_as_deep s is = absurd is

@@ -56,7 +56,7 @@ comes_less less deeper comes = record {
 -- ---- no words
 
 -- nothing is read between
-stays : {f : Function} (p q : Spot) (s : Situation) → q.pc ≡ p.pc → Reaches f p.pc s q.pc (behind_words s.scope s.seen [] s)
+pub stays : {f : Function} (p q : Spot) (s : Situation) → q.pc ≡ p.pc → Reaches f p.pc s q.pc (behind_words s.scope s.seen [] s)
 stays {f} p q s same =
     subst (λ (pc : ℕ). Reaches f p.pc s pc (behind_words s.scope s.seen [] s)) (sym same)
     (subst (λ (entries : Entries). Reaches f p.pc s p.pc (record s { entries = entries })) (sym (append-nil s.entries)) here)

@@ -1,19 +1,18 @@
 -- What is written of an operand has the same code: a constant with a small number, or a value, in parentheses where it would else be such a constant; and the name of a field as a key.
-use Rattle.std.proofs.Common.{◌≡◌, ℕ, ◌<◌, ◌≤◌, nat_le, nat_lt, not, Bool, true, false, cond, ℤ, List, length, Option, Some, None, is_some, refl, sym, ap, ◌∙◌, subst, arith, true≢false, inl, inr}
+use Rattle.std.proofs.Common.{◌≡◌, ℕ, ◌<◌, ◌≤◌, nat_le, nat_lt, not, Bool, true, false, ℤ, List, length, Option, Some, None, is_some, refl, sym, ap, ◌∙◌, subst, arith, true≢false, inl, inr}
 use Rattle.std.proofs.lemmas.Bool.Decides.{nat_tests}
 use Rattle.std.proofs.lemmas.Option.{same_Some}
-use Rattle.std.specs.Prelude.{◌||◌, slice_get, if◌then◌else◌}
+use Rattle.std.specs.Prelude.{◌||◌, slice_get}
 use Rattle.lua_num.specs.Bytes.{Text}
-use Rattle.lua_tree.specs.Names.{is_name as is_good_name}
 use Rattle.lua_tree.specs.OneLine.{one_line_expression}
 use Rattle.lua_tree.specs.Syntax.{Expression, nil_literal, true_literal, false_literal, text_literal}
 use Rattle.proto.specs.Constants.{constant_number}
 use Rattle.proto.specs.declared.parts.Constant.{Constant}
-use Rattle.core_expr.specs.Places.{as_name, as_text, constant_name, field_name, name_of_number, place, text_at}
+use Rattle.core_expr.specs.Places.{as_text, place, text_at}
 use Rattle.core_expr.specs.Values.{Value, bool_value, constant_value, OperandValue, constant_operand, value_operand, Inner}
-use Rattle.core_expr.specs.Writing.{Wording, constant_word, has_no_number, is_bare, is_literal, literal as literal_word, numeral, single as single_word, truth, unless}
+use Rattle.core_expr.specs.Writing.{Wording, constant_word, has_no_number, is_bare, is_literal, literal as literal_word, numeral, truth, unless}
 use Rattle.recover_expr.specs.Situation.{Function}
-use Rattle.scheme.specs.Expressions.{fold, is_small, literal, number_or, next_text, operand, plain_literal, rk, rk_text, small_constant}
+use Rattle.scheme.specs.Expressions.{fold, is_small, literal, local_register, number_or, operand, plain_literal, rk, small_constant}
 use Rattle.scheme.specs.Making.{Got, Maker}
 use Rattle.scheme.specs.Scheme.{coded}
 use Rattle.scheme.specs.declared.making.Active.{Active}
@@ -25,7 +24,8 @@ use Rattle.reads_back.specs.Cores.{HasCore, HasNumber, IsConstant, IsCore, IsKey
 use Rattle.reads_back.proofs.ConstantsSame.{before_load, constant_is, constant_taken, fold_numeral, large_there, loads, number_is, number_stands, numeral_few, numeral_folds, passes_among, small_there}
 use Rattle.reads_back.proofs.LeavesSame.{some_depth, text_rewritten}
 use Rattle.reads_back.proofs.PlainWords.{IsLoadable, IsShown, is_constant, is_nil, is_no_literal, is_truth, shown}
-use Rattle.reads_back.proofs.Rewriting.{IsBare, IsMadeBy, Rewritten, RewrittenOperand, code, operand_wording, wording}
+use Rattle.reads_back.proofs.NamesAhead.{IsAhead, names_in}
+use Rattle.reads_back.proofs.Rewriting.{IsMadeBy, Rewritten, RewrittenOperand, code, operand_wording, wording}
 use Rattle.reads_back.proofs.Tests.{first_of_both, second_of_both}
 use Rattle.reads_back.proofs.WholeNumbers.{IsWhole, folded_whole}
 use Rattle.reads_back.proofs.WordsSame.{fold_wrapped, levels_wrapped, operand_final, operand_same, operand_taken, operand_wrapped, rk_large, rk_plain, rk_small, same_literal}
@@ -152,7 +152,7 @@ module _ {f : Function} {g : Fn} {active : List Active} {listed : List ℕ} {z :
 module _ {f : Function} {g : Fn} {active : List Active} {listed : List ℕ} {z : Maker} {left : List (Option Inner)} (made : IsMadeBy f g active listed z) where
   -- ---- a constant with a small number
 
-  small_rewritten : (e : Expression) (k : Constant) (number : ℕ) → HasCore e → literal e ≡ Some k → HasNumber g k number → number ≤ 255 → RewrittenOperand f listed z left e (constant_operand number)
+  small_rewritten : (e : Expression) (k : Constant) (number : ℕ) → HasCore e → literal e ≡ Some k → HasNumber g k number → number ≤ 255 → RewrittenOperand f g active listed z left e (constant_operand number)
   small_rewritten e k number cored is has small = record {
     can = ap is_some there;
     unused = refl;
@@ -179,9 +179,9 @@ module _ {f : Function} {g : Fn} {active : List Active} {listed : List ℕ} {z :
 
   -- ---- a value in a register
 
-  value_rewritten : (e : Expression) (v : Value) → Rewritten f listed z left e v → ((m : Maker) → Final (length m.labels) (rk (code e) m).after z → rk (code e) m ≡ operand (code e) m) →
-      ((m : Maker) (k : Constant) → IsBare m → Final (length m.labels) (rk (code e) m).after z → Final (length m.labels) (operand (code e) m).after z → literal (operand_wording f listed z left (length m.constants) (value_operand v)).words ≡ Some k → is_small k m ≡ false) →
-      RewrittenOperand f listed z left e (value_operand v)
+  value_rewritten : (e : Expression) (v : Value) → Rewritten f g active listed z left e v → ((m : Maker) → Final (length m.labels) (rk (code e) m).after z → rk (code e) m ≡ operand (code e) m) →
+      ((m : Maker) (k : Constant) → IsAhead g active (names_in e) m → Final (length m.labels) (rk (code e) m).after z → Final (length m.labels) (operand (code e) m).after z → literal (operand_wording f listed z left (length m.constants) (value_operand v)).words ≡ Some k → is_small k m ≡ false) →
+      RewrittenOperand f g active listed z left e (value_operand v)
   value_rewritten e v rewritten own large = record {
     can = rewritten.can;
     unused = rewritten.unused;
@@ -202,7 +202,7 @@ module _ {f : Function} {g : Fn} {active : List Active} {listed : List ℕ} {z :
   -- ---- a literal with no small number
 
   -- where an expression is a literal, it is written as that literal
-  written_literal : (e : Expression) (k : Constant) (v : Value) → literal e ≡ Some k → IsCore g active e v → Rewritten f listed z left e v → (n : ℕ) → literal (wording f listed z left n v).words ≡ Some k
+  written_literal : (e : Expression) (k : Constant) (v : Value) → literal e ≡ Some k → IsCore g active e v → Rewritten f g active listed z left e v → (n : ℕ) → literal (wording f listed z left n v).words ≡ Some k
   written_literal e k v is core rewritten n = by (fold e) refl
     where
       by : (folded : Option ℤ) → fold e ≡ folded → literal (wording f listed z left n v).words ≡ Some k
@@ -212,7 +212,7 @@ module _ {f : Function} {g : Fn} {active : List Active} {listed : List ℕ} {z :
           ∙ is
       by None known = plain_written made left e k v (plain_by (fold e) (plain_literal e) (Some k) known is) core n
 
-  large_rewritten : (e : Expression) (k : Constant) (v : Value) → literal e ≡ Some k → IsLarge g k → IsCore g active e v → Rewritten f listed z left e v → RewrittenOperand f listed z left e (value_operand v)
+  large_rewritten : (e : Expression) (k : Constant) (v : Value) → literal e ≡ Some k → IsLarge g k → IsCore g active e v → Rewritten f g active listed z left e v → RewrittenOperand f g active listed z left e (value_operand v)
   large_rewritten e k v is large core rewritten =
       value_rewritten e v rewritten
       (λ m final. rk_large (one_line_expression e) k m (same_literal e ∙ is) (large_now m final))
@@ -226,11 +226,19 @@ module _ {f : Function} {g : Fn} {active : List Active} {listed : List ℕ} {z :
 
   -- ---- what is no literal
 
+  -- what takes a constant is no local
+  constant_no_local : (e : Expression) (number : ℕ) (m : Maker) → Rewritten f g active listed z left e (constant_value number) → IsAhead g active (names_in e) m → local_register (one_line_expression e) m ≡ None
+  constant_no_local e number m rewritten ahead = by (local_register (one_line_expression e) m) refl
+    where
+      by : (local : Option ℕ) → local_register (one_line_expression e) m ≡ local → local ≡ None
+      by (Some r) is = let none = rewritten.as_local 0 r m ahead is in absurd (omega (arith, none))
+      by None is = refl
+
   -- a string with a large number
-  text_large : (e : Expression) (text : Text) (number : ℕ) (m : Maker) → HasNumber g (Constant.Text text) number → Rewritten f listed z left e (constant_value number) → IsBare m → Final (length m.labels) (operand (code e) m).after z →
+  text_large : (e : Expression) (text : Text) (number : ℕ) (m : Maker) → HasNumber g (Constant.Text text) number → Rewritten f g active listed z left e (constant_value number) → IsAhead g active (names_in e) m → Final (length m.labels) (operand (code e) m).after z →
       is_bare (place f.of listed f.short) (length m.constants) (constant_value number) ≡ true → is_small (Constant.Text text) m ≡ false
   text_large e text number m has rewritten ahead final bare =
-      not_up_to (constant_number (Constant.Text text) m.constants) (omega (arith, more, number_is made (Constant.Text text) number m has (before_load m.free (Constant.Text text) m (subst (λ (n : Maker). Final (length m.labels) n z) loaded (operand_final (one_line_expression e) m ahead final)))))
+      not_up_to (constant_number (Constant.Text text) m.constants) (omega (arith, more, number_is made (Constant.Text text) number m has (before_load m.free (Constant.Text text) m (subst (λ (n : Maker). Final (length m.labels) n z) loaded (operand_final (one_line_expression e) m (constant_no_local e number m rewritten ahead) final)))))
     where
       there : slice_get f.of.constants number ≡ Some (Constant.Text text)
       there = constant_is made (Constant.Text text) number has
@@ -239,9 +247,9 @@ module _ {f : Function} {g : Fn} {active : List Active} {listed : List ℕ} {z :
       more = below_255 number (first_of_or (nat_lt 255 number) (not (is_some (text_at (place f.of listed f.short) number))) bare (ap (λ k. not (is_some (as_text k))) there))
 
       loaded : (code e).to_reg m.free m ≡ loads m.free (Constant.Text text) m
-      loaded = sym (rewritten.to_reg m.free m ahead (operand_final (one_line_expression e) m ahead final)) ∙ ap (λ k. (coded (constant_word k).words).to_reg m.free m) there
+      loaded = sym (rewritten.to_reg m.free m ahead (operand_final (one_line_expression e) m (constant_no_local e number m rewritten ahead) final)) ∙ ap (λ k. (coded (constant_word k).words).to_reg m.free m) there
 
-  constant_large : (e : Expression) (own : Constant) (number : ℕ) (m : Maker) (k : Constant) → IsLoadable own → HasNumber g own number → fold e ≡ None → Rewritten f listed z left e (constant_value number) → IsBare m → Final (length m.labels) (operand (code e) m).after z →
+  constant_large : (e : Expression) (own : Constant) (number : ℕ) (m : Maker) (k : Constant) → IsLoadable own → HasNumber g own number → fold e ≡ None → Rewritten f g active listed z left e (constant_value number) → IsAhead g active (names_in e) m → Final (length m.labels) (operand (code e) m).after z →
       is_bare (place f.of listed f.short) (length m.constants) (constant_value number) ≡ true → plain_literal (wording f listed z left (length m.constants) (constant_value number)).words ≡ Some k → is_small k m ≡ false
   constant_large e (Constant.Text text) number m k loadable has none rewritten ahead final bare plain =
       let there = constant_is made (Constant.Text text) number has in
@@ -253,7 +261,7 @@ module _ {f : Function} {g : Fn} {active : List Active} {listed : List ℕ} {z :
   constant_large e own number m k loadable has none rewritten ahead final bare plain = absurd loadable
 
   -- how a value is written that could be one
-  shown_large : (e : Expression) (v : Value) (m : Maker) (k : Constant) → fold e ≡ None → Rewritten f listed z left e v → IsShown g (place f.of listed f.short) left v → IsBare m → Final (length m.labels) (operand (code e) m).after z →
+  shown_large : (e : Expression) (v : Value) (m : Maker) (k : Constant) → fold e ≡ None → Rewritten f g active listed z left e v → IsShown g (place f.of listed f.short) left v → IsAhead g active (names_in e) m → Final (length m.labels) (operand (code e) m).after z →
       is_bare (place f.of listed f.short) (length m.constants) v ≡ true → plain_literal (wording f listed z left (length m.constants) v).words ≡ Some k → is_small k m ≡ false
   shown_large e v m k none rewritten (is_nil is) ahead final =
       subst (λ (v : Value). is_bare (place f.of listed f.short) (length m.constants) v ≡ true → plain_literal (wording f listed z left (length m.constants) v).words ≡ Some k → is_small k m ≡ false) (sym is)
@@ -263,10 +271,10 @@ module _ {f : Function} {g : Fn} {active : List Active} {listed : List ℕ} {z :
       (truth_large made b m k (before (grows_operand {v = calm} (code e) (grows calm (one_line_expression e)) m) final))
   shown_large e v m k none rewritten (is_constant own number loadable has is) ahead final =
       subst (λ (v : Value). is_bare (place f.of listed f.short) (length m.constants) v ≡ true → plain_literal (wording f listed z left (length m.constants) v).words ≡ Some k → is_small k m ≡ false) (sym is)
-      (constant_large e own number m k loadable has none (subst (Rewritten f listed z left e) is rewritten) ahead final)
+      (constant_large e own number m k loadable has none (subst (Rewritten f g active listed z left e) is rewritten) ahead final)
   shown_large e v m k none rewritten (is_no_literal never) ahead final = λ bare plain. let words = sym (never (length m.constants)) ∙ plain in cc
 
-  plain_rewritten : (e : Expression) (v : Value) → literal e ≡ None → IsCore g active e v → Rewritten f listed z left e v → RewrittenOperand f listed z left e (value_operand v)
+  plain_rewritten : (e : Expression) (v : Value) → literal e ≡ None → IsCore g active e v → Rewritten f g active listed z left e v → RewrittenOperand f g active listed z left e (value_operand v)
   plain_rewritten e v is core rewritten =
       value_rewritten e v rewritten
       (λ m final. rk_plain (one_line_expression e) m (same_literal e ∙ is))
@@ -275,7 +283,7 @@ module _ {f : Function} {g : Fn} {active : List Active} {listed : List ℕ} {z :
       none : fold e ≡ None
       none = fold_by e ∙ ap number_in is
 
-      by : (m : Maker) (k : Constant) → IsBare m → Final (length m.labels) (operand (code e) m).after z → (bare : Bool) → is_bare (place f.of listed f.short) (length m.constants) v ≡ bare → literal (unless bare (wording f listed z left (length m.constants) v)).words ≡ Some k → is_small k m ≡ false
+      by : (m : Maker) (k : Constant) → IsAhead g active (names_in e) m → Final (length m.labels) (operand (code e) m).after z → (bare : Bool) → is_bare (place f.of listed f.short) (length m.constants) v ≡ bare → literal (unless bare (wording f listed z left (length m.constants) v)).words ≡ Some k → is_small k m ≡ false
       by m k ahead final true bare words =
           let n = length m.constants in
           shown_large e v m k none rewritten (shown g active (place f.of listed f.short) left e v core rewritten.can) ahead final bare (plain_by (fold (wording f listed z left n v).words) (plain_literal (wording f listed z left n v).words) (Some k) (rewritten.folded n ∙ none) words)
@@ -286,59 +294,14 @@ module _ {f : Function} {g : Fn} {active : List Active} {listed : List ℕ} {z :
           none_some : (k : Constant) → None ≡ Some k → ⊥
           none_some k is = cc
 
-  pub operand_rewritten : (e : Expression) (o : OperandValue) → HasCore e → IsOperand g active e o → ((v : Value) → IsCore g active e v → Rewritten f listed z left e v) → RewrittenOperand f listed z left e o
+  pub operand_rewritten : (e : Expression) (o : OperandValue) → HasCore e → IsOperand g active e o → ((v : Value) → IsCore g active e v → Rewritten f g active listed z left e v) → RewrittenOperand f g active listed z left e o
   operand_rewritten e o has is written = by (literal e) refl is
     where
-      by : (k : Option Constant) → literal e ≡ k → IsOperandBy k g (IsCore g active e) o → RewrittenOperand f listed z left e o
-      by (Some k) known (inl (number, numbered, small, same)) = subst (RewrittenOperand f listed z left e) (sym same) (small_rewritten e k number has known numbered small)
-      by (Some k) known (inr (large, v, core, same)) = subst (RewrittenOperand f listed z left e) (sym same) (large_rewritten e k v known large core (written v core))
-      by None known (v, core, same) = subst (RewrittenOperand f listed z left e) (sym same) (plain_rewritten e v known core (written v core))
+      by : (k : Option Constant) → literal e ≡ k → IsOperandBy k g (IsCore g active e) o → RewrittenOperand f g active listed z left e o
+      by (Some k) known (inl (number, numbered, small, same)) = subst (RewrittenOperand f g active listed z left e) (sym same) (small_rewritten e k number has known numbered small)
+      by (Some k) known (inr (large, v, core, same)) = subst (RewrittenOperand f g active listed z left e) (sym same) (large_rewritten e k v known large core (written v core))
+      by None known (v, core, same) = subst (RewrittenOperand f g active listed z left e) (sym same) (plain_rewritten e v known core (written v core))
 
   -- the name of a field, as a string that is a key
-  pub key_rewritten : (line : ℕ) (text : Text) (o : OperandValue) → IsKey g text o → RewrittenOperand f listed z left (text_literal line text) o
+  pub key_rewritten : (line : ℕ) (text : Text) (o : OperandValue) → IsKey g text o → RewrittenOperand f g active listed z left (text_literal line text) o
   key_rewritten line text o is = operand_rewritten (text_literal line text) o tt is (λ v core. text_rewritten made line text v core)
-
--- ---- the name of a field, and a key that is written as one
-
-pub text_as_rk : (line : ℕ) (text : Text) (m : Maker) → rk (code (text_literal line text)) m ≡ rk_text 1 text m
-text_as_rk line text m = either (is_small (Constant.Text text) m)
-  where
-    either : (small : Bool) → cond small (small_constant (Constant.Text text)) (operand (code (text_literal line text))) m ≡ cond small (small_constant (Constant.Text text)) (λ n. record { value = n.free; after = next_text 1 text n }) m
-    either true = refl
-    either false = refl
-
-text_of_name : (text : Option Text) (name : Text) → as_name text ≡ Some name → text ≡ Some name
-text_of_name None name is = cc
-text_of_name (Some text) name is = by (is_good_name text) is
-  where
-    by : (good : Bool) → (if good then Some text else None) ≡ Some name → Some text ≡ Some name
-    by true is = is
-    by false is = cc
-
-constant_of_text : (k : Option Constant) (text : Text) → as_text k ≡ Some text → k ≡ Some (Constant.Text text)
-constant_of_text None text is = cc
-constant_of_text (Some (Constant.Text own)) text is = ap (λ (text : Text). Some (Constant.Text text)) (same_Some own text is)
-constant_of_text (Some k) text is = cc
-
-module _ (f : Function) (listed : List ℕ) (z : Maker) (left : List (Option Inner)) where
-  named_constant : (number : ℕ) (name : Text) → constant_name (place f.of listed f.short) number ≡ Some name → constant_word (slice_get f.of.constants number) ≡ single_word (text_literal 1 name)
-  named_constant number name is = ap constant_word (constant_of_text (slice_get f.of.constants number) name (text_of_name (as_text (slice_get f.of.constants number)) name is))
-
-  -- as an operand it is written as the string
-  pub field_words : (o : OperandValue) (name : Text) (n : ℕ) → field_name (place f.of listed f.short) o ≡ Some name → operand_wording f listed z left n o ≡ single_word (text_literal 1 name)
-  field_words (constant_operand number) name n is = named_constant number name is
-  field_words (value_operand (constant_value number)) name n is = by (nat_le number 255) refl is
-    where
-      by : (small : Bool) → nat_le number 255 ≡ small → name_of_number (place f.of listed f.short) (if small then None else Some number) ≡ Some name → operand_wording f listed z left n (value_operand (constant_value number)) ≡ single_word (text_literal 1 name)
-      by true known is = cc
-      by false known is =
-          ap (λ large. unless (large || not (is_some (text_at (place f.of listed f.short) number))) (constant_word (slice_get f.of.constants number))) (over_255 number known)
-          ∙ named_constant number name is
-  field_words o name n is = cc
-
-  -- a key that is written as a field has the same code as the name of that
-  pub field_as_rk : (e : Expression) (o : OperandValue) (name : Text) (m : Maker) → RewrittenOperand f listed z left e o → field_name (place f.of listed f.short) o ≡ Some name → IsBare m → Final (length m.labels) (rk (code e) m).after z → rk_text 1 name m ≡ rk (code e) m
-  field_as_rk e o name m rewritten is ahead final =
-      sym (text_as_rk 1 name m)
-      ∙ ap (λ (w : Wording). rk (coded w.words) m) (sym (field_words o name (length m.constants) is))
-      ∙ rewritten.as_rk m ahead final

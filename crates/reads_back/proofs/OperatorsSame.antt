@@ -1,5 +1,5 @@
 -- What is written of an operator on values has the same code as the operator on the expressions.
-use Rattle.std.proofs.Common.{◌≡◌, ℕ, suc, ◌+◌, ◌*◌, ◌≤◌, Bool, true, false, List, length, max, refl, sym, ap, ◌∙◌, subst, arith, nat_lt}
+use Rattle.std.proofs.Common.{◌≡◌, ℕ, suc, ◌+◌, ◌*◌, ◌≤◌, Bool, true, false, List, ◌++◌, length, max, refl, sym, ap, ◌∙◌, subst, arith, nat_lt}
 use Rattle.std.specs.Prelude.{Option, Some, None, ℤ, pos, negsuc, ◌^◌, ◌-◌, ◌==◌, if◌then◌else◌}
 use Rattle.std.proofs.lemmas.Bool.{and_from}
 use Rattle.lua_num.specs.declared.arith.ArithOp.{ArithOp}
@@ -21,12 +21,15 @@ use Rattle.recover_expr.specs.Situation.{Function}
 use Rattle.scheme.specs.Making.{Maker, free_from, freeing, put}
 use Rattle.scheme.specs.Expressions.{Coded, arith_op, arithmetic, binary_value, fold, fold_binary, fold_unary, load_or, operand, rk, unary_value, unary_word}
 use Rattle.scheme.specs.Scheme.{coded}
+use Rattle.scheme.specs.declared.making.Active.{Active}
 use Rattle.scheme.specs.declared.making.Piece.{Piece}
 use Rattle.scheme_stands.proofs.Growth.{calm, Final, before, before_free, before_put, later}
 use Rattle.scheme_stands.proofs.Parts.{grows, grows_rk}
-use Rattle.reads_back.proofs.BareMakers.{KeepsBare, rk_keeps}
+use Rattle.scheme_stands.specs.Words.{Fn}
+use Rattle.reads_back.proofs.NamesAhead.{IsAhead, ahead_behind, ahead_front, names_in}
+use Rattle.reads_back.proofs.PassedNames.{PassesNames, rk_passes}
 use Rattle.reads_back.proofs.WordsSame.{fold_wrapped, levels_wrapped, operand_same, operand_taken, operand_wrapped, rk_on_left, rk_on_right, same_fold}
-use Rattle.reads_back.proofs.Rewriting.{IsBare, Rewritten, RewrittenOperand, code, operand_wording, wording}
+use Rattle.reads_back.proofs.Rewriting.{Rewritten, RewrittenOperand, code, operand_wording, wording}
 
 -- ---- what was made
 
@@ -69,8 +72,8 @@ wrapped_few bare w e few = omega (arith, few, levels_wrapped bare w, some_depth 
 pub constant_operand_few : (f : Function) (listed : List ℕ) (z : Maker) (left : List (Option Inner)) (e : Expression) (k n : ℕ) → (operand_wording f listed z left n (constant_operand k)).levels ≤ 3 * depth_of_expression e + 2
 constant_operand_few f listed z left e k n = wrapped_few true (constant_word (constant_at (place f.of listed f.short) k)) e (constant_few (constant_at (place f.of listed f.short) k))
 
-module _ {f : Function} {listed : List ℕ} {z : Maker} {left : List (Option Inner)} where
-  pub value_operand_few : (e : Expression) (v : Value) → Rewritten f listed z left e v → (n : ℕ) → (operand_wording f listed z left n (value_operand v)).levels ≤ 3 * depth_of_expression e + 2
+module _ {f : Function} {g : Fn} {active : List Active} {listed : List ℕ} {z : Maker} {left : List (Option Inner)} where
+  pub value_operand_few : (e : Expression) (v : Value) → Rewritten f g active listed z left e v → (n : ℕ) → (operand_wording f listed z left n (value_operand v)).levels ≤ 3 * depth_of_expression e + 2
   value_operand_few e values.nil_value rewritten n = wrapped_few _ (wording f listed z left n values.nil_value) e (omega arith)
   value_operand_few e (values.bool_value b) rewritten n = wrapped_few _ (wording f listed z left n (values.bool_value b)) e (truth_few b)
   value_operand_few e (values.constant_value k) rewritten n = wrapped_few _ (wording f listed z left n (values.constant_value k)) e (constant_few (constant_at (place f.of listed f.short) k))
@@ -100,7 +103,8 @@ second_is f listed z left n m x y unused taken =
     ap (λ fs. word_operand (place f.of listed f.short) (taken_behind_operand x n) fs y) unused
     ∙ ap (λ n. word_operand (place f.of listed f.short) n left y) taken
 
-module _ {f : Function} {listed : List ℕ} {z : Maker} {left : List (Option Inner)} {l r : Expression} {x y : OperandValue} (first : RewrittenOperand f listed z left l x) (second : RewrittenOperand f listed z left r y) (op : BinaryOp) where
+module _ {f : Function} {g : Fn} {active : List Active} {listed : List ℕ} {z : Maker} {left : List (Option Inner)} {l r : Expression} {x y : OperandValue}
+    (first : RewrittenOperand f g active listed z left l x) (second : RewrittenOperand f g active listed z left r y) (op : BinaryOp) where
   binary_folded : (n : ℕ) → fold (joined op (operand_wording f listed z left n x) (second_wording f listed left n x y)).words ≡ fold_binary (arith_op op) (fold l) (fold r)
   binary_folded n =
       let w = operand_wording f listed z left n x in
@@ -121,7 +125,7 @@ module _ {f : Function} {listed : List ℕ} {z : Maker} {left : List (Option Inn
       let all = few_more (max (on_left op w).levels (on_right op u).levels) in
       omega (arith, few_first n, few_second n', same, one, other, all)
 
-  module _ (kept : KeepsBare (code l)) (word : Op) (is_word : binary_value 1 op ≡ arithmetic 1 word) (none : fold_binary (arith_op op) (fold l) (fold r) ≡ None) where
+  module _ (kept : PassesNames (names_in l) (code l)) (word : Op) (is_word : binary_value 1 op ≡ arithmetic 1 word) (none : fold_binary (arith_op op) (fold l) (fold r) ≡ None) where
     code_to : (line to : ℕ) (m : Maker) → (code (binary_expression line op l r)).to_reg to m ≡ freeing (arithmetic 1 word (code l) (code r) to) m
     code_to line to m = arithmetic_to word op (one_line_expression l) (one_line_expression r) to m is_word (same_fold (binary_expression line op l r) ∙ none)
 
@@ -136,32 +140,36 @@ module _ {f : Function} {listed : List ℕ} {z : Maker} {left : List (Option Inn
     behind_of : (line to : ℕ) (m : Maker) → Final (length m.labels) ((code (binary_expression line op l r)).to_reg to m) z → Final (length (rk (code l) m).after.labels) (rk (code r) (rk (code l) m).after).after z
     behind_of line to m final = let grown = grows_rk {v = calm} (code l) (grows calm (one_line_expression l)) m in later grown.more (both_of line to m final)
 
-    binary_to : (line to : ℕ) (m : Maker) → IsBare m → Final (length m.labels) ((code (binary_expression line op l r)).to_reg to m) z →
+    behind_ahead : (m : Maker) → IsAhead g active (names_in l ++ names_in r) m → IsAhead g active (names_in r) (rk (code l) m).after
+    behind_ahead m ahead = ahead_behind (names_in l) (names_in r) (rk_passes (names_in l) (code l) kept m) ahead
+
+    binary_to : (line to : ℕ) (m : Maker) → IsAhead g active (names_in l ++ names_in r) m → Final (length m.labels) ((code (binary_expression line op l r)).to_reg to m) z →
         (coded (joined op (operand_wording f listed z left (length m.constants) x) (second_wording f listed left (length m.constants) x y)).words).to_reg to m ≡ (code (binary_expression line op l r)).to_reg to m
     binary_to line to m ahead final =
         let n = length m.constants in
         let w = operand_wording f listed z left n x in
         let u = second_wording f listed left n x y in
         let m1 = (rk (code l) m).after in
+        let ahead_first = ahead_front (names_in l) (names_in r) ahead in
         let front = front_of line to m final in
-        let one = rk_on_left op w m ∙ first.as_rk m ahead front in
+        let one = rk_on_left op w m ∙ first.as_rk m ahead_first front in
         let other =
         rk_on_right op u m1
-        ∙ ap (λ w. rk (coded w.words) m1) (second_is f listed z left n (length m1.constants) x y first.unused (sym (first.taken m ahead front)))
-        ∙ second.as_rk m1 (rk_keeps (code l) kept m ahead) (behind_of line to m final) in
+        ∙ ap (λ w. rk (coded w.words) m1) (second_is f listed z left n (length m1.constants) x y first.unused (sym (first.taken m ahead_first front)))
+        ∙ second.as_rk m1 (behind_ahead m ahead) (behind_of line to m final) in
         arithmetic_to word op (on_left op w).words (on_right op u).words to m is_word (binary_folded n ∙ none)
         ∙ ap (free_from m.free) (arithmetic_same word (coded (on_left op w).words) (coded (on_right op u).words) (code l) (code r) to m one other)
         ∙ sym (code_to line to m)
 
-    binary_taken : (line to : ℕ) (m : Maker) → IsBare m → Final (length m.labels) ((code (binary_expression line op l r)).to_reg to m) z →
+    binary_taken : (line to : ℕ) (m : Maker) → IsAhead g active (names_in l ++ names_in r) m → Final (length m.labels) ((code (binary_expression line op l r)).to_reg to m) z →
         length ((code (binary_expression line op l r)).to_reg to m).constants ≡ taken_behind_operand y (taken_behind_operand x (length m.constants))
     binary_taken line to m ahead final =
         ap (λ n. length n.constants) (code_to line to m)
-        ∙ second.taken (rk (code l) m).after (rk_keeps (code l) kept m ahead) (behind_of line to m final)
-        ∙ ap (taken_behind_operand y) (first.taken m ahead (front_of line to m final))
+        ∙ second.taken (rk (code l) m).after (behind_ahead m ahead) (behind_of line to m final)
+        ∙ ap (taken_behind_operand y) (first.taken m (ahead_front (names_in l) (names_in r) ahead) (front_of line to m final))
 
     binary_rewritten : (line depth : ℕ) → ((n : ℕ) → (operand_wording f listed z left n x).levels ≤ 3 * depth_of_expression l + 2) → ((n : ℕ) → (operand_wording f listed z left n y).levels ≤ 3 * depth_of_expression r + 2) →
-        Rewritten f listed z left (binary_expression line op l r) (values.binary_value op x y depth)
+        Rewritten f g active listed z left (binary_expression line op l r) (values.binary_value op x y depth)
     binary_rewritten line depth few_first few_second = record {
       can = and_from _ _ first.can (ap (λ fs. can_write_operand (place f.of listed f.short) fs y) first.unused ∙ second.can);
       unused = ap (left_by_operand y) first.unused ∙ second.unused;
@@ -171,22 +179,23 @@ module _ {f : Function} {listed : List ℕ} {z : Maker} {left : List (Option Inn
       gives = λ is. cc;
       few = binary_few few_first few_second;
       keys = omega arith;
+      as_local = λ n r m ahead is. cc;
       to_reg = binary_to line;
       taken = binary_taken line;
       multi = λ is. cc;
       multi_taken = λ is. cc;
     }
 
-module _ {f : Function} {listed : List ℕ} {z : Maker} {left : List (Option Inner)} where
+module _ {f : Function} {g : Fn} {active : List Active} {listed : List ℕ} {z : Maker} {left : List (Option Inner)} where
   -- operators of arithmetic that are not folded; an operand needs no more levels than a value, since what stands in parentheses as an operand has few of its own
-  pub arithmetic_rewritten : (line : ℕ) (op : BinaryOp) (kind : ArithOp) (l r : Expression) (x y : OperandValue) (v : Value) → arith_op op ≡ Some kind → fold (binary_expression line op l r) ≡ None → KeepsBare (code l) →
-      RewrittenOperand f listed z left l x → RewrittenOperand f listed z left r y →
+  pub arithmetic_rewritten : (line : ℕ) (op : BinaryOp) (kind : ArithOp) (l r : Expression) (x y : OperandValue) (v : Value) → arith_op op ≡ Some kind → fold (binary_expression line op l r) ≡ None → PassesNames (names_in l) (code l) →
+      RewrittenOperand f g active listed z left l x → RewrittenOperand f g active listed z left r y →
       ((n : ℕ) → (operand_wording f listed z left n x).levels ≤ 3 * depth_of_expression l + 2) → ((n : ℕ) → (operand_wording f listed z left n y).levels ≤ 3 * depth_of_expression r + 2) →
-      made_binary op x y ≡ Some v → Rewritten f listed z left (binary_expression line op l r) v
+      made_binary op x y ≡ Some v → Rewritten f g active listed z left (binary_expression line op l r) v
   arithmetic_rewritten line op kind l r x y v is none kept first second few_first few_second made =
-      subst (Rewritten f listed z left (binary_expression line op l r)) (made_is (nat_lt (max (depth_of_operand x) (depth_of_operand y)) 400) _ v made) (by_op op is none (suc (max (depth_of_operand x) (depth_of_operand y))))
+      subst (Rewritten f g active listed z left (binary_expression line op l r)) (made_is (nat_lt (max (depth_of_operand x) (depth_of_operand y)) 400) _ v made) (by_op op is none (suc (max (depth_of_operand x) (depth_of_operand y))))
     where
-      by_op : (op : BinaryOp) → arith_op op ≡ Some kind → fold (binary_expression line op l r) ≡ None → (depth : ℕ) → Rewritten f listed z left (binary_expression line op l r) (values.binary_value op x y depth)
+      by_op : (op : BinaryOp) → arith_op op ≡ Some kind → fold (binary_expression line op l r) ≡ None → (depth : ℕ) → Rewritten f g active listed z left (binary_expression line op l r) (values.binary_value op x y depth)
       by_op BinaryOp.Add is none depth = binary_rewritten first second BinaryOp.Add kept Op.Add refl none line depth few_first few_second
       by_op BinaryOp.Sub is none depth = binary_rewritten first second BinaryOp.Sub kept Op.Sub refl none line depth few_first few_second
       by_op BinaryOp.Mul is none depth = binary_rewritten first second BinaryOp.Mul kept Op.Mul refl none line depth few_first few_second
@@ -200,7 +209,7 @@ module _ {f : Function} {listed : List ℕ} {z : Maker} {left : List (Option Inn
 unary_to : (op : UnaryOp) (e : Expression) (to : ℕ) (m : Maker) → fold (unary_expression 1 op e) ≡ None → (coded (unary_expression 1 op e)).to_reg to m ≡ freeing (unary_value 1 op (coded e) to) m
 unary_to op e to m none = ap (λ o. freeing (load_or o 1 (unary_value 1 op (coded e)) to) m) none
 
-module _ {f : Function} {listed : List ℕ} {z : Maker} {left : List (Option Inner)} {e : Expression} {of : Value} (inside : Rewritten f listed z left e of) (op : UnaryOp) where
+module _ {f : Function} {g : Fn} {active : List Active} {listed : List ℕ} {z : Maker} {left : List (Option Inner)} {e : Expression} {of : Value} (inside : Rewritten f g active listed z left e of) (op : UnaryOp) where
   unary_folded : (n : ℕ) → fold (applied op (wording f listed z left n of)).words ≡ fold_unary op (fold e)
   unary_folded n = let w = wording f listed z left n of in ap (fold_unary op) (fold_wrapped (left_binds 7 false w.words) w ∙ inside.folded n)
 
@@ -211,7 +220,7 @@ module _ {f : Function} {listed : List ℕ} {z : Maker} {left : List (Option Inn
       let all = few_more (unless (left_binds 7 false w.words) w).levels in
       omega (arith, inside.few n, one, all)
 
-  module _ (none : fold_unary op (fold e) ≡ None) (line to : ℕ) (m : Maker) (ahead : IsBare m) (final : Final (length m.labels) ((code (unary_expression line op e)).to_reg to m) z) where
+  module _ (none : fold_unary op (fold e) ≡ None) (line to : ℕ) (m : Maker) (ahead : IsAhead g active (names_in e) m) (final : Final (length m.labels) ((code (unary_expression line op e)).to_reg to m) z) where
     unary_code : (code (unary_expression line op e)).to_reg to m ≡ freeing (unary_value 1 op (code e) to) m
     unary_code = unary_to op (one_line_expression e) to m (same_fold (unary_expression line op e) ∙ none)
 
@@ -231,10 +240,11 @@ module _ {f : Function} {listed : List ℕ} {z : Maker} {left : List (Option Inn
     unary_taken : length ((code (unary_expression line op e)).to_reg to m).constants ≡ taken_behind of (length m.constants)
     unary_taken = ap (λ n. length n.constants) unary_code ∙ operand_taken inside m ahead operand_final
 
-module _ {f : Function} {listed : List ℕ} {z : Maker} {left : List (Option Inner)} where
+module _ {f : Function} {g : Fn} {active : List Active} {listed : List ℕ} {z : Maker} {left : List (Option Inner)} where
   -- unary operators that are not folded
-  pub unary_rewritten : (line : ℕ) (op : UnaryOp) (e : Expression) (of v : Value) → fold (unary_expression line op e) ≡ None → Rewritten f listed z left e of → made_unary op of ≡ Some v → Rewritten f listed z left (unary_expression line op e) v
-  unary_rewritten line op e of v none inside made = subst (Rewritten f listed z left (unary_expression line op e)) (made_is (nat_lt (depth_of of) 400) _ v made) (record {
+  pub unary_rewritten : (line : ℕ) (op : UnaryOp) (e : Expression) (of v : Value) → fold (unary_expression line op e) ≡ None → Rewritten f g active listed z left e of →
+      made_unary op of ≡ Some v → Rewritten f g active listed z left (unary_expression line op e) v
+  unary_rewritten line op e of v none inside made = subst (Rewritten f g active listed z left (unary_expression line op e)) (made_is (nat_lt (depth_of of) 400) _ v made) (record {
     can = inside.can;
     unused = inside.unused;
     named = λ n. refl;
@@ -243,6 +253,7 @@ module _ {f : Function} {listed : List ℕ} {z : Maker} {left : List (Option Inn
     gives = λ is. cc;
     few = unary_few inside op;
     keys = omega arith;
+    as_local = λ n r m ahead is. cc;
     to_reg = unary_same inside op none line;
     taken = unary_taken inside op none line;
     multi = λ is. cc;

@@ -1,8 +1,9 @@
--- What is written of the value of an expression has the same code as the expression, where so many constants were taken before it, and all names to come mean globals: the records in which this is said.
-use Rattle.std.proofs.Common.{◌≡◌, ℕ, ◌*◌, ◌+◌, ◌≤◌, Bool, true, List, [], ◌∷◌, length, None, Option}
+-- What is written of the value of an expression has the same code as the expression, where so many constants were taken before it, and its names come next: the records in which this is said.
+use Rattle.std.proofs.Common.{◌≡◌, ℕ, ◌*◌, ◌+◌, ◌≤◌, Bool, true, List, [], ◌++◌, length, None, Some, Option}
+use Rattle.lua_num.specs.Bytes.{Text}
 use Rattle.lua_tree.specs.OneLine.{one_line_expression, one_line_arguments, one_line_statement}
-use Rattle.lua_tree.specs.Scoping.{Use, global_use}
-use Rattle.lua_tree.specs.Syntax.{Arguments, Expression, Statement}
+use Rattle.lua_tree.specs.Syntax as syntax
+use Rattle.lua_tree.specs.Syntax.{Arguments, Expression, Statement, no_expressions, assignment, call_statement, local_statement, return_statement}
 use Rattle.lua_tree.specs.WellFormed.{depth_of_expression, depth_of_statement}
 use Rattle.opcode.specs.declared.op.Op.{Op}
 use Rattle.core_expr.specs.Counting.{taken_behind, taken_behind_operand, taken_behind_values, left_by, left_by_operand, left_by_values}
@@ -10,14 +11,15 @@ use Rattle.core_expr.specs.Places.{place}
 use Rattle.core_expr.specs.Values.{Value, index_value, OperandValue, Values, Inner}
 use Rattle.core_expr.specs.Writing.{ArgumentWording, Wording, as_list, can_write, can_write_operand, can_write_values, chain, is_multiple as can_be_several, operand_count, word, word_each, word_operand, word_values}
 use Rattle.recover_expr.specs.Situation.{Function}
-use Rattle.scheme.specs.Expressions.{Coded, Want, fold, is_multiple, is_name, rk}
-use Rattle.scheme.specs.Making.{Maker}
+use Rattle.scheme.specs.Expressions.{Coded, Want, fold, is_multiple, is_name, local_register, rk}
+use Rattle.scheme.specs.Making.{Maker, Where}
 use Rattle.scheme.specs.Scheme.{coded, given, statement_made}
 use Rattle.scheme.specs.declared.making.Active.{Active}
 use Rattle.scheme_stands.proofs.Growth.{Final}
-use Rattle.scheme_stands.specs.Words.{Fn}
+use Rattle.scheme_stands.specs.Words.{Fn, Means}
 use Rattle.reads_back.specs.Acted.{Acted, act_levels, act_statement, can_act, left_by_act, taken_behind_act}
 use Rattle.reads_back.proofs.NameReads.{AreListed}
+use Rattle.reads_back.proofs.NamesAhead.{IsAhead, names_in, names_given, names_in_all}
 use Rattle.reads_back.proofs.WordsRead.{IsFunction}
 
 -- the function that is read is the one that is made in the end
@@ -26,19 +28,20 @@ pub record IsMadeBy (f : Function) (g : Fn) (active : List Active) (listed : Lis
   pub all : AreListed f g active listed
   pub constants : g.constants ≡ z.constants
   pub few : length z.constants ≤ 262144
+  -- the scope finds one meaning by a name
+  pub certain : (text : Text) (one other : Where) → Means g.law active text one → Means g.law active text other → one ≡ other
 
 -- the code of an expression on one line
 abbrev pub code : Expression → Coded
 code e = coded (one_line_expression e)
 
--- all mean globals
-abbrev pub AreGlobals : List Use → Type 0
-AreGlobals [] = Unit {0}
-AreGlobals (one ∷ others) = (one ≡ global_use) × AreGlobals others
-
--- nothing is active or listed, no function is in it, it has no upvalues, and all names to come mean globals
-abbrev pub IsBare : Maker → Type 0
-IsBare m = AreGlobals m.ahead.names × (m.active ≡ []) × (m.locals ≡ []) × (m.functions ≡ []) × (m.upvalue_names ≡ [])
+-- the names that a statement mentions
+abbrev pub names_of_statement : Statement → List Text
+names_of_statement (call_statement e) = names_in e
+names_of_statement (assignment (syntax.expression target no_expressions) (syntax.expression e no_expressions)) = names_in target ++ names_in e
+names_of_statement (local_statement names es) = names_in_all es
+names_of_statement (return_statement es) = names_in_all es
+names_of_statement s = []
 
 -- how many keys a value has
 abbrev pub keys_of : Value → ℕ
@@ -53,54 +56,57 @@ module _ (f : Function) (listed : List ℕ) (z : Maker) (left : List (Option Inn
   abbrev pub operand_wording : ℕ → OperandValue → Wording
   operand_wording n o = word_operand (place f.of listed f.short) n left o
 
+  abbrev pub arguments_wording : ℕ → Values → (all : Bool) → ArgumentWording
+  arguments_wording n values all = as_list (word_values (place f.of listed f.short) n left values all)
+
+module _ (f : Function) (g : Fn) (active : List Active) (listed : List ℕ) (z : Maker) (left : List (Option Inner)) where
   -- of a value
   pub record Rewritten (e : Expression) (v : Value) : Type 0 where
     pub can : can_write (place f.of listed f.short) left v ≡ true
     pub unused : left_by v left ≡ left
-    pub named : (n : ℕ) → is_name (wording n v).words ≡ is_name e
-    pub folded : (n : ℕ) → fold (wording n v).words ≡ fold e
-    pub several : (n : ℕ) → is_multiple (wording n v).words ≡ can_be_several v
+    pub named : (n : ℕ) → is_name (wording f listed z left n v).words ≡ is_name e
+    pub folded : (n : ℕ) → fold (wording f listed z left n v).words ≡ fold e
+    pub several : (n : ℕ) → is_multiple (wording f listed z left n v).words ≡ can_be_several v
     pub gives : is_multiple e ≡ true → can_be_several v ≡ true
-    pub few : (n : ℕ) → (wording n v).levels ≤ 3 * depth_of_expression e + 2
+    pub few : (n : ℕ) → (wording f listed z left n v).levels ≤ 3 * depth_of_expression e + 2
     pub keys : keys_of v ≤ depth_of_expression e
-    pub to_reg : (r : ℕ) (m : Maker) → IsBare m → Final (length m.labels) ((code e).to_reg r m) z → (coded (wording (length m.constants) v).words).to_reg r m ≡ (code e).to_reg r m
-    pub taken : (r : ℕ) (m : Maker) → IsBare m → Final (length m.labels) ((code e).to_reg r m) z → length ((code e).to_reg r m).constants ≡ taken_behind v (length m.constants)
-    pub multi : is_multiple e ≡ true → (op : Op) (want : Want) (m : Maker) → IsBare m → Final (length m.labels) ((code e).multi op want m) z → (coded (wording (length m.constants) v).words).multi op want m ≡ (code e).multi op want m
-    pub multi_taken : is_multiple e ≡ true → (op : Op) (want : Want) (m : Maker) → IsBare m → Final (length m.labels) ((code e).multi op want m) z → length ((code e).multi op want m).constants ≡ taken_behind v (length m.constants)
+    -- a local takes no constant
+    pub as_local : (n r : ℕ) (m : Maker) → IsAhead g active (names_in e) m → local_register (one_line_expression e) m ≡ Some r → taken_behind v n ≡ n
+    pub to_reg : (r : ℕ) (m : Maker) → IsAhead g active (names_in e) m → Final (length m.labels) ((code e).to_reg r m) z → (coded (wording f listed z left (length m.constants) v).words).to_reg r m ≡ (code e).to_reg r m
+    pub taken : (r : ℕ) (m : Maker) → IsAhead g active (names_in e) m → Final (length m.labels) ((code e).to_reg r m) z → length ((code e).to_reg r m).constants ≡ taken_behind v (length m.constants)
+    pub multi : is_multiple e ≡ true → (op : Op) (want : Want) (m : Maker) → IsAhead g active (names_in e) m → Final (length m.labels) ((code e).multi op want m) z → (coded (wording f listed z left (length m.constants) v).words).multi op want m ≡ (code e).multi op want m
+    pub multi_taken : is_multiple e ≡ true → (op : Op) (want : Want) (m : Maker) → IsAhead g active (names_in e) m → Final (length m.labels) ((code e).multi op want m) z → length ((code e).multi op want m).constants ≡ taken_behind v (length m.constants)
 
   -- of a constant, or the value of an expression, as an operand
   pub record RewrittenOperand (e : Expression) (o : OperandValue) : Type 0 where
     pub can : can_write_operand (place f.of listed f.short) left o ≡ true
     pub unused : left_by_operand o left ≡ left
-    pub folded : (n : ℕ) → fold (operand_wording n o).words ≡ fold e
-    pub few : (n : ℕ) → (operand_wording n o).levels ≤ 3 * depth_of_expression e + 3
-    pub as_rk : (m : Maker) → IsBare m → Final (length m.labels) (rk (code e) m).after z → rk (coded (operand_wording (length m.constants) o).words) m ≡ rk (code e) m
-    pub taken : (m : Maker) → IsBare m → Final (length m.labels) (rk (code e) m).after z → length (rk (code e) m).after.constants ≡ taken_behind_operand o (length m.constants)
+    pub folded : (n : ℕ) → fold (operand_wording f listed z left n o).words ≡ fold e
+    pub few : (n : ℕ) → (operand_wording f listed z left n o).levels ≤ 3 * depth_of_expression e + 3
+    pub as_rk : (m : Maker) → IsAhead g active (names_in e) m → Final (length m.labels) (rk (code e) m).after z → rk (coded (operand_wording f listed z left (length m.constants) o).words) m ≡ rk (code e) m
+    pub taken : (m : Maker) → IsAhead g active (names_in e) m → Final (length m.labels) (rk (code e) m).after z → length (rk (code e) m).after.constants ≡ taken_behind_operand o (length m.constants)
 
   -- of the operands of a `..`, up to the last one
   pub record RewrittenSpine (e : Expression) (values : Values) : Type 0 where
     pub can : can_write_values (place f.of listed f.short) left values ≡ true
     pub unused : left_by_values values left ≡ left
     pub few : (n : ℕ) → (chain (word_each (place f.of listed f.short) n left values)).levels ≤ 3 * depth_of_expression e + 3
-    pub spine : (m : Maker) → IsBare m → Final (length m.labels) ((code e).spine m) z → (coded (chain (word_each (place f.of listed f.short) (length m.constants) left values)).words).spine m ≡ (code e).spine m
-    pub taken : (m : Maker) → IsBare m → Final (length m.labels) ((code e).spine m) z → length ((code e).spine m).constants ≡ taken_behind_values values (length m.constants)
-
-  abbrev pub arguments_wording : ℕ → Values → (all : Bool) → ArgumentWording
-  arguments_wording n values all = as_list (word_values (place f.of listed f.short) n left values all)
+    pub spine : (m : Maker) → IsAhead g active (names_in e) m → Final (length m.labels) ((code e).spine m) z → (coded (chain (word_each (place f.of listed f.short) (length m.constants) left values)).words).spine m ≡ (code e).spine m
+    pub taken : (m : Maker) → IsAhead g active (names_in e) m → Final (length m.labels) ((code e).spine m) z → length ((code e).spine m).constants ≡ taken_behind_values values (length m.constants)
 
   -- of the arguments of a call
   pub record RewrittenGiven (args : Arguments) (deep : ℕ) (values : Values) (all : Bool) : Type 0 where
     pub can : can_write_values (place f.of listed f.short) left values ≡ true
     pub unused : left_by_values values left ≡ left
-    pub few : (n : ℕ) → (arguments_wording n values all).levels ≤ 3 * deep + 4
-    pub counts : (n : ℕ) → (given (arguments_wording n values all).words 1).count ≡ (given (one_line_arguments args) 1).count
-    pub part : (m : Maker) → IsBare m → Final (length m.labels) ((given (one_line_arguments args) 1).part m) z → (given (arguments_wording (length m.constants) values all).words 1).part m ≡ (given (one_line_arguments args) 1).part m
-    pub taken : (m : Maker) → IsBare m → Final (length m.labels) ((given (one_line_arguments args) 1).part m) z → length ((given (one_line_arguments args) 1).part m).constants ≡ taken_behind_values values (length m.constants)
+    pub few : (n : ℕ) → (arguments_wording f listed z left n values all).levels ≤ 3 * deep + 4
+    pub counts : (n : ℕ) → (given (arguments_wording f listed z left n values all).words 1).count ≡ (given (one_line_arguments args) 1).count
+    pub part : (m : Maker) → IsAhead g active (names_given args) m → Final (length m.labels) ((given (one_line_arguments args) 1).part m) z → (given (arguments_wording f listed z left (length m.constants) values all).words 1).part m ≡ (given (one_line_arguments args) 1).part m
+    pub taken : (m : Maker) → IsAhead g active (names_given args) m → Final (length m.labels) ((given (one_line_arguments args) 1).part m) z → length ((given (one_line_arguments args) 1).part m).constants ≡ taken_behind_values values (length m.constants)
 
   -- of an act: as a statement on one line it makes the same
   pub record RewrittenAct (s : Statement) (acted : Acted) : Type 0 where
     pub can : can_act (place f.of listed f.short) left acted ≡ true
     pub unused : left_by_act acted left ≡ left
     pub few : (n : ℕ) → act_levels (place f.of listed f.short) n left acted ≤ 3 * depth_of_statement s + 4
-    pub made : (m : Maker) → IsBare m → Final (length m.labels) (statement_made (one_line_statement s) 1 None m) z → statement_made (act_statement (place f.of listed f.short) (length m.constants) left acted) 1 None m ≡ statement_made (one_line_statement s) 1 None m
-    pub taken : (m : Maker) → IsBare m → Final (length m.labels) (statement_made (one_line_statement s) 1 None m) z → length (statement_made (one_line_statement s) 1 None m).constants ≡ taken_behind_act acted (length m.constants)
+    pub made : (m : Maker) → IsAhead g active (names_of_statement s) m → Final (length m.labels) (statement_made (one_line_statement s) 1 None m) z → statement_made (act_statement (place f.of listed f.short) (length m.constants) left acted) 1 None m ≡ statement_made (one_line_statement s) 1 None m
+    pub taken : (m : Maker) → IsAhead g active (names_of_statement s) m → Final (length m.labels) (statement_made (one_line_statement s) 1 None m) z → length (statement_made (one_line_statement s) 1 None m).constants ≡ taken_behind_act acted (length m.constants)

@@ -1,42 +1,159 @@
--- Acts are placed as they are: none goes anywhere.
-use Rattle.std.proofs.Common.{◌≡◌, ℕ, suc, List, [], ◌∷◌, ◌++◌, length, map, append-nil, append_assoc, Some, refl, sym, ap, ap₂, ◌∙◌}
-use Rattle.std.specs.List.{AllByRecursion}
-use Rattle.std.specs.Prelude.{option_and_then}
+-- The steps that are read of a block are placed as its statements: where all locals end at the last word and no closure captures one, a declaration reaches up to the end.
+use Rattle.std.proofs.Common.{◌≡◌, ℕ, zero, suc, ◌+◌, ◌<◌, ◌≤◌, ◌&&◌, ◌||◌, Bool, true, false, nat_lt, List, [], ◌∷◌, ◌++◌, take, drop, length, length-drop, length-set, map, replicate, append-nil, append_assoc, Option, Some, None, refl, sym, ap, ap₂, ◌∙◌, subst, arith, eq-eqb, get_or-set_same, le-leb, lt-ltb, if◌then◌else◌}
+use Rattle.std.proofs.lemmas.List.{drop-map, length-map, length-replicate}
+use Rattle.std.proofs.lemmas.Option.{slice_get-get_or}
+use Rattle.std.specs.List.{list_any}
+use Rattle.std.specs.Prelude.{option_and_then, option_map, slice_set}
+use Rattle.lua_num.specs.Bytes.{Text}
+use Rattle.lua_tree.specs.Syntax.{Statement, Statements, local_statement, no_statements, return_statement, statement}
+use Rattle.proto.specs.declared.parts.LocVar.{LocVar}
 use Rattle.recover_expr.specs.Drafts.{Drafted, Part}
-use Rattle.recover_expr.specs.Locals.{Scope, up_to}
-use Rattle.recover_expr.specs.Placing.{Numbers, Steps, and_step, kind_placed, step_of_kind, steps_placed}
+use Rattle.recover_expr.specs.Locals.{Scope, all_end, end_of, highest_captured, up_to}
+use Rattle.recover_expr.specs.Placing.{Numbers, Steps, and_step, declaration_placed, end_shared, kind_placed, number_all, number_at, numbers_of, placed, set_number, shared_end, step_of_kind, steps_placed, there}
 use Rattle.recover_expr.specs.Situation.{Function}
+use Rattle.recover_expr.specs.declared.draft.DraftKind.{DraftKind}
+use Rattle.recover_expr.specs.declared.locals.Declared.{Declared}
 use Rattle.recover_expr.specs.declared.steps.Step.{Step}
 use Rattle.recover_expr.specs.declared.steps.StepKind.{StepKind}
-use Rattle.reads_back.specs.ReadAs.{IsActStep}
-use Rattle.reads_back.proofs.StraightSteps.{IsActDraft}
+use Rattle.reads_back.specs.ReadAs.{AreStepsOf, kind_of, part_of, parts_of}
+use Rattle.reads_back.proofs.BehindWords.{NoneCaptured}
+use Rattle.reads_back.proofs.ListedLocals.{ended}
+use Rattle.reads_back.proofs.Tests.{both_hold}
 
-abbrev pub act_of : (highest : List ℕ) → Drafted → Step
-act_of highest draft = step_of_kind StepKind.Act (up_to highest draft.innermost) draft
+-- ---- what is read of a block
 
-abbrev pub acts_of : (highest : List ℕ) → List Drafted → List Step
-acts_of highest drafts = map (act_of highest) drafts
+-- where so many locals are listed, a declaration is of some of them, one for each name
+abbrev pub KindIs : (listed : ℕ) → Statement → DraftKind → Type 0
+KindIs listed (local_statement names es) kind = (first : ℕ) × (kind ≡ DraftKind.Declaration first (length names)) × (0 < length names) × (first + length names ≤ listed)
+KindIs listed (return_statement es) kind = kind ≡ DraftKind.Return
+KindIs listed s kind = kind ≡ DraftKind.Act
 
-abbrev pub parts_in : List Drafted → List Part
-parts_in drafts = map (λ (draft : Drafted). draft.part) drafts
+-- a step that is read of a statement, where so many locals are listed
+pub record IsDraftOf (listed : ℕ) (s : Statement) (draft : Drafted) : Type 0 where
+  pub kind : KindIs listed s draft.kind
+  pub part : draft.part ≡ part_of s
+  pub few : draft.levels ≤ 200
 
-abbrev pub with_steps : Steps → List Step → List Part → Steps
-with_steps sofar steps parts = record sofar { steps = sofar.steps ++ steps; parts = sofar.parts ++ parts }
+-- the steps of a block, one for each statement
+abbrev pub AreDraftsOf : (listed : ℕ) → Statements → List Drafted → Type 0
+AreDraftsOf listed no_statements drafts = drafts ≡ []
+AreDraftsOf listed (statement line semi s rest) [] = ⊥
+AreDraftsOf listed (statement line semi s rest) (draft ∷ drafts) = IsDraftOf listed s draft × AreDraftsOf listed rest drafts
 
-pub are_act_steps : (highest : List ℕ) (drafts : List Drafted) → AllByRecursion IsActDraft drafts → AllByRecursion IsActStep (acts_of highest drafts)
-are_act_steps highest [] acts = tt
-are_act_steps highest (draft ∷ drafts) acts =
-    (record { kind = refl; base = acts.0.base; captured = ap (up_to highest) acts.0.innermost; levels = acts.0.few }, are_act_steps highest drafts acts.1)
+-- what is known where all steps are read: every listed local ends at the last word, and none is captured
+pub record AreEnding (f : Function) (scope : Scope) : Type 0 where
+  pub entries : List LocVar
+  pub listed : f.of.locals ≡ map (ended f.last) entries
+  pub uncaptured : NoneCaptured scope.declared
+  pub within : f.last < length f.of.code
 
-pub as_many : (highest : List ℕ) (drafts : List Drafted) → length (acts_of highest drafts) ≡ length (parts_in drafts)
-as_many highest [] = refl
-as_many highest (draft ∷ drafts) = ap suc (as_many highest drafts)
+-- ---- no local is captured
 
-pub acts_placed : (f : Function) (scope : Scope) (numbers : Numbers) (highest : List ℕ) (drafts : List Drafted) (sofar : Steps) → AllByRecursion IsActDraft drafts →
-    steps_placed f scope numbers highest drafts sofar ≡ Some (with_steps sofar (acts_of highest drafts) (parts_in drafts))
-acts_placed f scope numbers highest [] sofar acts = ap₂ (λ (steps : List Step) (parts : List Part). Some (record sofar { steps = steps; parts = parts })) (sym (append-nil sofar.steps)) (sym (append-nil sofar.parts))
-acts_placed f scope numbers highest (draft ∷ drafts) sofar acts =
-    let step = act_of highest draft in
-    ap (λ kind. option_and_then (λ kind. steps_placed f scope numbers highest drafts (and_step draft (step_of_kind kind (up_to highest draft.innermost) draft) sofar)) (kind_placed f scope numbers kind)) acts.0.kind
-    ∙ acts_placed f scope numbers highest drafts (and_step draft step sofar) acts.1
-    ∙ ap₂ (λ (steps : List Step) (parts : List Part). Some (record sofar { steps = steps; parts = parts })) (append_assoc sofar.steps (step ∷ []) (acts_of highest drafts)) (append_assoc sofar.parts (draft.part ∷ []) (parts_in drafts))
+none_captured : (first count : ℕ) (declared : List Declared) → NoneCaptured declared → list_any (λ (one : Declared). one.captured) (take count (drop first declared)) ≡ false
+none_captured zero zero declared none = refl
+none_captured zero (suc count) [] none = refl
+none_captured zero (suc count) (one ∷ others) none = ap (λ captured. captured || list_any (λ (one : Declared). one.captured) (take count others)) none.0 ∙ none_captured zero count others none.1
+none_captured (suc first) zero declared none = refl
+none_captured (suc first) (suc count) [] none = refl
+none_captured (suc first) (suc count) (one ∷ others) none = none_captured first (suc count) others none.1
+
+-- ---- the last word has the number behind all steps
+
+length_set_number : (pc number : ℕ) (numbers : Numbers) → length (set_number pc number numbers) ≡ length numbers
+length_set_number pc number numbers = by (nat_lt pc (length numbers))
+  where
+    by : (inside : Bool) → length (if inside then slice_set numbers pc (Some number) else numbers) ≡ length numbers
+    by true = length-set numbers pc (Some number)
+    by false = refl
+
+length_number_all : (number : ℕ) (drafts : List Drafted) (numbers : Numbers) → length (number_all number drafts numbers) ≡ length numbers
+length_number_all number [] numbers = refl
+length_number_all number (draft ∷ drafts) numbers = length_number_all (suc number) drafts (set_number draft.pc number numbers) ∙ length_set_number draft.pc number numbers
+
+number_is_set : (pc number : ℕ) (numbers : Numbers) → pc < length numbers → number_at (set_number pc number numbers) pc ≡ Some number
+number_is_set pc number numbers within =
+    ap (λ (inside : Bool). number_at (if inside then slice_set numbers pc (Some number) else numbers) pc) (lt-ltb pc (length numbers) within)
+    ∙ ap there (slice_get-get_or (slice_set numbers pc (Some number)) pc None (omega (arith, within, length-set numbers pc (Some number))) ∙ ap (λ (there : Option ℕ). Some there) (get_or-set_same numbers pc (Some number) None within))
+
+last_number : (f : Function) (drafts : List Drafted) → f.last < length f.of.code → number_at (numbers_of f drafts) f.last ≡ Some (length drafts)
+last_number f drafts within =
+    let before : Numbers = replicate (length f.of.code) None in
+    number_is_set f.last (length drafts) (number_all 0 drafts before) (omega (arith, within, length_number_all 0 drafts before, length-replicate {A = Option ℕ} (length f.of.code) None))
+
+-- ---- all locals end there
+
+all_ended : (end count : ℕ) (entries : List LocVar) → all_end (map (ended end) entries) count end ≡ true
+all_ended end zero entries = refl
+all_ended end (suc count) [] = refl
+all_ended end (suc count) (entry ∷ entries) =
+    ap (λ same. same && all_end (map (ended end) entries) count end) (eq-eqb end end refl) ∙ all_ended end count entries
+
+ended_from : (end first count : ℕ) (entries : List LocVar) → all_end (drop first (map (ended end) entries)) count end ≡ true
+ended_from end first count entries = ap (λ (locals : List LocVar). all_end locals count end) (drop-map (ended end) first entries) ∙ all_ended end count (drop first entries)
+
+end_is : (end first : ℕ) (entries : List LocVar) → first < length entries → end_of (map (ended end) entries) first ≡ Some end
+end_is end zero [] within = absurd (omega arith)
+end_is end zero (entry ∷ entries) within = refl
+end_is end (suc first) [] within = absurd (omega arith)
+end_is end (suc first) (entry ∷ entries) within = end_is end first entries (omega arith)
+
+ends_shared : (numbers : Numbers) (end number : ℕ) (entries : List LocVar) (first count : ℕ) → number_at numbers end ≡ Some number → 0 < count → first + count ≤ length entries →
+    shared_end (map (ended end) entries) numbers first count ≡ Some number
+ends_shared numbers end number entries first count is some within =
+    let locals : List LocVar = map (ended end) entries in
+    let enough : count ≤ length (drop first locals) = omega (arith, within, length-drop first locals, length-map entries (ended end)) in
+    ap (option_and_then (end_shared locals numbers first count)) (end_is end first entries (omega (arith, some, within)))
+    ∙ ap (λ (all : Bool). if all then number_at numbers end else None) (both_hold _ _ (le-leb count (length (drop first locals)) enough) (ended_from end first count entries))
+    ∙ is
+
+-- ---- steps
+
+module _ (f : Function) (scope : Scope) (ending : AreEnding f scope) (numbers : Numbers) (number : ℕ) (is : number_at numbers f.last ≡ Some number) where
+  declaration_is_placed : (first count : ℕ) → 0 < count → first + count ≤ length f.of.locals → kind_placed f scope numbers (DraftKind.Declaration first count) ≡ Some (StepKind.Declaration number false)
+  declaration_is_placed first count some within =
+      let shared : shared_end f.of.locals numbers first count ≡ Some number =
+      ap (λ (locals : List LocVar). shared_end locals numbers first count) ending.listed
+      ∙ ends_shared numbers f.last number ending.entries first count is some (omega (arith, within, ap length ending.listed, length-map ending.entries (ended f.last))) in
+      ap (option_map (declaration_placed scope first count)) shared ∙ ap (λ captured. Some (StepKind.Declaration number captured)) (none_captured first count scope.declared ending.uncaptured)
+
+  kind_is_placed : (s : Statement) (kind : DraftKind) → KindIs (length f.of.locals) s kind → kind_placed f scope numbers kind ≡ Some (kind_of number s)
+  kind_is_placed (local_statement names es) kind are = ap (kind_placed f scope numbers) are.1 ∙ declaration_is_placed are.0 (length names) are.2 are.3
+  kind_is_placed (return_statement es) kind are = ap (kind_placed f scope numbers) are
+  kind_is_placed s kind are = ap (kind_placed f scope numbers) are
+
+  -- behind steps that are placed, those of a block
+  record ArePlaced (highest : List ℕ) (sofar : Steps) (block : Statements) (drafts : List Drafted) : Type 0 where
+    steps : List Step
+    placed : steps_placed f scope numbers highest drafts sofar ≡ Some (record sofar { steps = sofar.steps ++ steps; parts = sofar.parts ++ parts_of block })
+    as_many : length steps ≡ length drafts
+    are : AreStepsOf number block steps
+
+  block_placed : (highest : List ℕ) (sofar : Steps) (block : Statements) (drafts : List Drafted) → AreDraftsOf (length f.of.locals) block drafts → ArePlaced highest sofar block drafts
+  block_placed highest sofar no_statements drafts are = record {
+    steps = [];
+    placed =
+        ap (λ (drafts : List Drafted). steps_placed f scope numbers highest drafts sofar) are
+        ∙ ap₂ (λ (steps : List Step) (parts : List Part). Some (record sofar { steps = steps; parts = parts })) (sym (append-nil sofar.steps)) (sym (append-nil sofar.parts));
+    as_many = sym (ap length are);
+    are = refl;
+  }
+  block_placed highest sofar (statement line semi s rest) [] are = absurd are
+  block_placed highest sofar (statement line semi s rest) (draft ∷ drafts) are =
+      let step : Step = step_of_kind (kind_of number s) (up_to highest draft.innermost) draft in
+      let others : ArePlaced highest (and_step draft step sofar) rest drafts = block_placed highest (and_step draft step sofar) rest drafts are.1 in
+      record {
+        steps = step ∷ others.steps;
+        placed =
+            ap (option_and_then (λ kind. steps_placed f scope numbers highest drafts (and_step draft (step_of_kind kind (up_to highest draft.innermost) draft) sofar))) (kind_is_placed s draft.kind are.0.kind)
+            ∙ others.placed
+            ∙ ap₂ (λ (steps : List Step) (parts : List Part). Some (record sofar { steps = steps; parts = parts })) (append_assoc sofar.steps (step ∷ []) others.steps)
+            (append_assoc sofar.parts (draft.part ∷ []) (parts_of rest) ∙ ap (λ part. sofar.parts ++ part ∷ parts_of rest) are.0.part);
+        as_many = ap suc others.as_many;
+        are = (record { kind = refl; levels = are.0.few }, others.are);
+      }
+
+pub steps_are_placed : (f : Function) (scope : Scope) → AreEnding f scope → (params : List Text) (block : Statements) (drafts : List Drafted) → AreDraftsOf (length f.of.locals) block drafts →
+    (steps : List Step) × (placed f scope params drafts ≡ Some (record { params = params; steps = steps; parts = parts_of block })) × AreStepsOf (length steps) block steps
+steps_are_placed f scope ending params block drafts are =
+    let all = block_placed f scope ending (numbers_of f drafts) (length drafts) (last_number f drafts ending.within) (highest_captured scope) (record { params = params; steps = []; parts = [] }) block drafts are in
+    (all.steps, all.placed, subst (λ (count : ℕ). AreStepsOf count block all.steps) (sym all.as_many) all.are)

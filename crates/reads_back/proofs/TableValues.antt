@@ -41,8 +41,8 @@ module _ {f : Function} {g : Fn} {active : List Active} {listed : List ℕ} {Are
         turn = turn ∙ ap₂ (λ (next from : ℕ). turn_of f t (record { pc = at.mid.pc; next = next; instr = instr_by at.mid.pc (Piece.Abc Op.Move r from 0) })) (sym at.second_at.next) is;
       }
 
-  arrives : (free r : ℕ) (p q : Spot) (s : Situation) → HasLocals active listed s → free ≡ next_free s → IsQuiet f s.scope p.pc q.pc → IsWanted f s q.pc → MovedFrom g (part free) free r p q → Arrives f (IsTable Are) deep s r p.pc q.pc
-  arrives free r p q s locals is quiet wanted (inl (same, at)) = inr (inl (sym same ∙ is, (reads.comes free p q s locals is quiet wanted at).0))
+  arrives : (free r : ℕ) (p q : Spot) (s : Situation) → HasLocals active listed s → free ≡ next_free s → IsQuiet f s.scope p.pc q.pc → (r ≡ next_free s → IsWanted f s q.pc) → MovedFrom g (part free) free r p q → Arrives f (IsTable Are) deep s r p.pc q.pc
+  arrives free r p q s locals is quiet wanted (inl (same, at)) = inr (inl (sym same ∙ is, (reads.comes free p q s locals is quiet (wanted (sym same ∙ is)) at).0))
   arrives free r p q s locals is quiet wanted (inr (other, at)) = inr (inr (moved free r p q s locals is quiet other at))
 
   pub table_value_reads : Reads f g active listed (IsTable Are) deep (λ free r. MovedFrom g (part free) free r)

@@ -1,5 +1,5 @@
 -- What is written of a constructor has the code of the constructor: item by item, where so many values are pending.
-use Rattle.std.proofs.Common.{◌≡◌, ℕ, suc, ◌*◌, ◌+◌, ◌-◌, ◌/◌, ◌≤◌, max, nat_lt, nat_le, Bool, true, false, not, cond, ◌&&◌, List, [], ◌∷◌, length, Option, Some, None, refl, sym, ap, ap₂, ◌∙◌, subst, arith, eq-eqb}
+use Rattle.std.proofs.Common.{◌≡◌, ℕ, suc, ◌*◌, ◌+◌, ◌-◌, ◌/◌, ◌≤◌, max, nat_lt, nat_le, Bool, true, false, not, cond, ◌&&◌, List, [], ◌∷◌, ◌++◌, length, Option, Some, None, refl, sym, ap, ap₂, ◌∙◌, subst, arith, eq-eqb}
 use Rattle.std.specs.Prelude.{◌==◌}
 use Rattle.lua_num.specs.Bytes.{Text}
 use Rattle.lua_tree.specs.OneLine.{one_line_expression, one_line_fields}
@@ -16,14 +16,17 @@ use Rattle.scheme.specs.Expressions.{Coded, is_multiple, next_reg, rk, rk_text}
 use Rattle.scheme.specs.Lists.{coded_table, moved, Entry, positional_entry, entries_from, full_end, is_last, keyed_item, large_block, open_entry, other_count, pending_after, positional_count, set_list, size_hint, small_block, table_at}
 use Rattle.scheme.specs.Making.{Asks, Got, Maker, Part, free_from, freeing, put, take_registers, when}
 use Rattle.scheme.specs.Scheme.{coded, entries}
+use Rattle.scheme.specs.declared.making.Active.{Active}
 use Rattle.scheme.specs.declared.making.Piece.{Piece}
 use Rattle.scheme_stands.proofs.Growth.{Final, Grown, before, before_free, before_put, calm, later}
 use Rattle.scheme_stands.proofs.Parts.{EntriesGrow, grow_entries, grows, grows_entries, grows_next, grows_rk, grows_set_list, grows_when}
 use Rattle.scheme_stands.specs.Lists.{is_last_item}
+use Rattle.scheme_stands.specs.Words.{Fn}
 use Rattle.reads_back.specs.Cores.{HasCore}
-use Rattle.reads_back.proofs.BareMakers.{AskingKeeps, KeepsBare, bare_kept, item_keeps, next_keeps, set_list_keeps, when_keeps}
 use Rattle.reads_back.proofs.IndexSame.{KeySame, key_asks, key_asks_same}
-use Rattle.reads_back.proofs.Rewriting.{IsBare, Rewritten, RewrittenGiven, RewrittenOperand, code, operand_wording, wording}
+use Rattle.reads_back.proofs.NamesAhead.{IsAhead, Passed, ahead_behind, ahead_front, names_in, names_of_fields}
+use Rattle.reads_back.proofs.PassedNames.{PassesNames, names_passed, item_passes, next_passes, set_list_passes, when_passes}
+use Rattle.reads_back.proofs.Rewriting.{Rewritten, RewrittenGiven, RewrittenOperand, code, operand_wording, wording}
 use Rattle.reads_back.proofs.Tests.{both_hold}
 use Rattle.reads_back.proofs.WordsSame.{coded_is, same_multiple, levels_wrapped, next_same, next_taken, next_wrapped}
 
@@ -62,23 +65,24 @@ module _ (f : Function) (listed : List ℕ) (z : Maker) (left : List (Option Inn
   abbrev pub items_wording : ℕ → ItemList → (all : Bool) → FieldWording
   items_wording n items all = word_items (place f.of listed f.short) n left items all
 
+module _ (f : Function) (g : Fn) (active : List Active) (listed : List ℕ) (z : Maker) (left : List (Option Inner)) where
   -- of the items of a constructor
   pub record RewrittenItems (fields : Fields) (deep : ℕ) (items : ItemList) (all : Bool) : Type 0 where
     pub can : can_write_items (place f.of listed f.short) left items ≡ true
     pub unused : left_by_items items left ≡ left
-    pub few : (n : ℕ) → (items_wording n items all).levels ≤ 3 * deep + 3
-    pub last : (n : ℕ) → is_last (entries (items_wording n items all).words) ≡ is_last (entries (one_line_fields fields))
-    pub positions : (n : ℕ) → positional_count (entries (items_wording n items all).words) ≡ positional_count (entries (one_line_fields fields))
-    pub others : (n : ℕ) → other_count (entries (items_wording n items all).words) ≡ other_count (entries (one_line_fields fields))
-    pub part : (t done pending : ℕ) (m : Maker) → IsBare m → Final (length m.labels) (entries_from 1 t done pending (entries (one_line_fields fields)) m) z →
-        entries_from 1 t done pending (entries (items_wording (length m.constants) items all).words) m ≡ entries_from 1 t done pending (entries (one_line_fields fields)) m
-    pub taken : (t done pending : ℕ) (m : Maker) → IsBare m → Final (length m.labels) (entries_from 1 t done pending (entries (one_line_fields fields)) m) z →
+    pub few : (n : ℕ) → (items_wording f listed z left n items all).levels ≤ 3 * deep + 3
+    pub last : (n : ℕ) → is_last (entries (items_wording f listed z left n items all).words) ≡ is_last (entries (one_line_fields fields))
+    pub positions : (n : ℕ) → positional_count (entries (items_wording f listed z left n items all).words) ≡ positional_count (entries (one_line_fields fields))
+    pub others : (n : ℕ) → other_count (entries (items_wording f listed z left n items all).words) ≡ other_count (entries (one_line_fields fields))
+    pub part : (t done pending : ℕ) (m : Maker) → IsAhead g active (names_of_fields fields) m → Final (length m.labels) (entries_from 1 t done pending (entries (one_line_fields fields)) m) z →
+        entries_from 1 t done pending (entries (items_wording f listed z left (length m.constants) items all).words) m ≡ entries_from 1 t done pending (entries (one_line_fields fields)) m
+    pub taken : (t done pending : ℕ) (m : Maker) → IsAhead g active (names_of_fields fields) m → Final (length m.labels) (entries_from 1 t done pending (entries (one_line_fields fields)) m) z →
         length (entries_from 1 t done pending (entries (one_line_fields fields)) m).constants ≡ taken_behind_items items (length m.constants)
 
-module _ {f : Function} {listed : List ℕ} {z : Maker} {left : List (Option Inner)} where
+module _ {f : Function} {g : Fn} {active : List Active} {listed : List ℕ} {z : Maker} {left : List (Option Inner)} where
   -- ---- no more items
 
-  pub none_rewritten : (deep : ℕ) (all : Bool) → RewrittenItems f listed z left no_fields deep no_items all
+  pub none_rewritten : (deep : ℕ) (all : Bool) → RewrittenItems f g active listed z left no_fields deep no_items all
   none_rewritten deep all = record {
     can = refl;
     unused = refl;
@@ -92,8 +96,8 @@ module _ {f : Function} {listed : List ℕ} {z : Maker} {left : List (Option Inn
 
   -- ---- a last one, of which all values go into the table
 
-  pub open_rewritten : (e : Expression) (separator : Separator) (v : Value) (deep : ℕ) → depth_of_expression e ≤ deep → Rewritten f listed z left e v → is_multiple e ≡ true →
-      RewrittenItems f listed z left (positional e separator no_fields) deep (and_positional v no_items) true
+  pub open_rewritten : (e : Expression) (separator : Separator) (v : Value) (deep : ℕ) → depth_of_expression e ≤ deep → Rewritten f g active listed z left e v → is_multiple e ≡ true →
+      RewrittenItems f g active listed z left (positional e separator no_fields) deep (and_positional v no_items) true
   open_rewritten e separator v deep deeper written is = record {
     can = both_hold _ true written.can refl;
     unused = written.unused;
@@ -103,12 +107,12 @@ module _ {f : Function} {listed : List ℕ} {z : Maker} {left : List (Option Inn
     others = λ n. refl;
     part = λ t done pending m ahead final.
         as_open t done pending (coded (wording f listed z left (length m.constants) v).words) m (several (length m.constants))
-        ∙ ap (set_list 1 t 0 (suc done)) (written.multi is Op.Call None m ahead (inner t done pending m final))
+        ∙ ap (set_list 1 t 0 (suc done)) (written.multi is Op.Call None m (ahead_front (names_in e) [] ahead) (inner t done pending m final))
         ∙ sym (as_open t done pending (code e) m of_code);
     taken = λ t done pending m ahead final.
         ap (λ (n : Maker). length n.constants) (as_open t done pending (code e) m of_code)
         ∙ ap (λ ks. length ks) (set_list_constants t 0 (suc done) ((code e).multi Op.Call None m))
-        ∙ written.multi_taken is Op.Call None m ahead (inner t done pending m final);
+        ∙ written.multi_taken is Op.Call None m (ahead_front (names_in e) [] ahead) (inner t done pending m final);
   }
     where
       several : (n : ℕ) → is_multiple (coded (wording f listed z left n v).words).e ≡ true
@@ -127,9 +131,9 @@ module _ {f : Function} {listed : List ℕ} {z : Maker} {left : List (Option Inn
 
   -- ---- an item without a key, and others behind it
 
-  pub positional_rewritten : (e : Expression) (separator : Separator) (rest : Fields) (v : Value) (items : ItemList) (all : Bool) (deep : ℕ) → HasCore e → depth_of_expression e ≤ deep → Rewritten f listed z left e v → RewrittenItems f listed z left rest deep items all →
+  pub positional_rewritten : (e : Expression) (separator : Separator) (rest : Fields) (v : Value) (items : ItemList) (all : Bool) (deep : ℕ) → HasCore e → depth_of_expression e ≤ deep → Rewritten f g active listed z left e v → RewrittenItems f g active listed z left rest deep items all →
       (is_last_item rest && is_multiple e) ≡ false → ((n : ℕ) → (is_last (entries (items_wording f listed z left n items all).words) && is_multiple (as_value (ends_items items && not all) v (wording f listed z left n v)).words) ≡ false) →
-      RewrittenItems f listed z left (positional e separator rest) deep (and_positional v items) all
+      RewrittenItems f g active listed z left (positional e separator rest) deep (and_positional v items) all
   positional_rewritten e separator rest v items all deep has deeper first others closed written_closed = record {
     can = both_hold _ _ first.can (ap (λ fs. can_write_items (place f.of listed f.short) fs items) first.unused ∙ others.can);
     unused = ap (left_by_items items) first.unused ∙ others.unused;
@@ -149,18 +153,18 @@ module _ {f : Function} {listed : List ℕ} {z : Maker} {left : List (Option Inn
         let at_rest = here t done pending m final in
         let on_first = first_final t done pending m final in
         let mid = between t done pending m in
-        let same : length mid.constants ≡ taken_behind v n = ap (λ ks. length ks) (between_constants t done pending m) ∙ next_taken first m ahead on_first in
+        let same : length mid.constants ≡ taken_behind v n = ap (λ ks. length ks) (between_constants t done pending m) ∙ next_taken first m (ahead_front (names_in e) (names_of_fields rest) ahead) on_first in
         ap (λ (w : FieldWording). entries_from 1 t done pending (positional_entry c ∷ entries w.words) m) (behind_is n)
         ∙ closed_by t done pending c (entries (behind n).words) m (item_closed n)
-        ∙ ap (λ mid. entries_from 1 t (suc done) (pending_after (suc pending)) (entries (behind n).words) (full_end 1 t (suc done) (suc pending) mid)) (next_wrapped (not ((ends_items items && not all) && can_be_several v)) (wording f listed z left n v) m ∙ next_same first m ahead on_first)
+        ∙ ap (λ mid. entries_from 1 t (suc done) (pending_after (suc pending)) (entries (behind n).words) (full_end 1 t (suc done) (suc pending) mid)) (next_wrapped (not ((ends_items items && not all) && can_be_several v)) (wording f listed z left n v) m ∙ next_same first m (ahead_front (names_in e) (names_of_fields rest) ahead) on_first)
         ∙ ap (λ n. entries_from 1 t (suc done) (pending_after (suc pending)) (entries (items_wording f listed z left n items all).words) mid) (sym same)
-        ∙ others.part t (suc done) (pending_after (suc pending)) mid (between_bare t done pending m ahead) at_rest
+        ∙ others.part t (suc done) (pending_after (suc pending)) mid (rest_ahead t done pending m ahead) at_rest
         ∙ sym (closed_by t done pending (code e) (entries (one_line_fields rest)) m code_closed);
     taken = λ t done pending m ahead final.
         let mid = between t done pending m in
         ap (λ (n : Maker). length n.constants) (closed_by t done pending (code e) (entries (one_line_fields rest)) m code_closed)
-        ∙ others.taken t (suc done) (pending_after (suc pending)) mid (between_bare t done pending m ahead) (here t done pending m final)
-        ∙ ap (taken_behind_items items) (ap (λ ks. length ks) (between_constants t done pending m) ∙ next_taken first m ahead (first_final t done pending m final));
+        ∙ others.taken t (suc done) (pending_after (suc pending)) mid (rest_ahead t done pending m ahead) (here t done pending m final)
+        ∙ ap (taken_behind_items items) (ap (λ ks. length ks) (between_constants t done pending m) ∙ next_taken first m (ahead_front (names_in e) (names_of_fields rest) ahead) (first_final t done pending m final));
   }
     where
       item : (n : ℕ) → Wording
@@ -185,8 +189,10 @@ module _ {f : Function} {listed : List ℕ} {z : Maker} {left : List (Option Inn
       between_constants : (t done pending : ℕ) (m : Maker) → (between t done pending m).constants ≡ (next_reg (code e) m).constants
       between_constants t done pending m = when_constants (suc pending == 50) (set_list 1 t 50 (suc done)) (next_reg (code e) m) (set_list_constants t 50 (suc done) (next_reg (code e) m))
 
-      between_bare : (t done pending : ℕ) (m : Maker) → IsBare m → IsBare (between t done pending m)
-      between_bare t done pending m ahead = when_keeps (suc pending == 50) (set_list 1 t 50 (suc done)) (set_list_keeps t 50 (suc done)) (next_reg (code e) m) (next_keeps (code e) (bare_kept e has) m ahead)
+      rest_ahead : (t done pending : ℕ) (m : Maker) → IsAhead g active (names_in e ++ names_of_fields rest) m → IsAhead g active (names_of_fields rest) (between t done pending m)
+      rest_ahead t done pending m ahead =
+          ahead_behind [] (names_of_fields rest) (when_passes (suc pending == 50) (set_list 1 t 50 (suc done)) (set_list_passes t 50 (suc done)) (next_reg (code e) m))
+          (ahead_behind (names_in e) (names_of_fields rest) (next_passes (names_in e) (code e) (names_passed e has) m) ahead)
 
       between_grown : (t done pending : ℕ) (m : Maker) → Grown calm (next_reg (code e) m) (between t done pending m)
       between_grown t done pending m = grows_when (suc pending == 50) (set_list 1 t 50 (suc done)) (next_reg (code e) m) (grows_set_list 1 t 50 (suc done) (next_reg (code e) m))
@@ -232,22 +238,23 @@ keyed_few : (name : Option Text) (key item : Wording) (separator : Separator) (r
 keyed_few None key item separator rest n first second others = omega (arith, first, second, others)
 keyed_few (Some name) key item separator rest n first second others = omega (arith, second, others)
 
--- the fields begin with an item that asks so for its key
-pub record IsKeyed (fields : Fields) (asked : Asks ℕ) (e : Expression) (rest : Fields) : Type 0 where
+-- the fields begin with an item that asks so for its key, by these names
+pub record IsKeyed (fields : Fields) (asked : Asks ℕ) (texts : List Text) (e : Expression) (rest : Fields) : Type 0 where
+  names : names_of_fields fields ≡ (texts ++ names_in e) ++ names_of_fields rest
   from : (t done pending : ℕ) (m : Maker) → entries_from 1 t done pending (entries (one_line_fields fields)) m ≡ keyed_from t done pending asked (code e) (entries (one_line_fields rest)) m
   last : is_last (entries (one_line_fields fields)) ≡ false
   positions : positional_count (entries (one_line_fields fields)) ≡ positional_count (entries (one_line_fields rest))
   others : other_count (entries (one_line_fields fields)) ≡ suc (other_count (entries (one_line_fields rest)))
 
-pub named_keyed : (text : Text) (e : Expression) (separator : Separator) (rest : Fields) → IsKeyed (named text e separator rest) (rk_text 1 text) e rest
-named_keyed text e separator rest = record { from = λ t done pending m. refl; last = refl; positions = refl; others = refl }
+pub named_keyed : (text : Text) (e : Expression) (separator : Separator) (rest : Fields) → IsKeyed (named text e separator rest) (rk_text 1 text) [] e rest
+named_keyed text e separator rest = record { names = refl; from = λ t done pending m. refl; last = refl; positions = refl; others = refl }
 
-pub keyed_keyed : (key e : Expression) (separator : Separator) (rest : Fields) → IsKeyed (keyed key e separator rest) (rk (code key)) e rest
-keyed_keyed key e separator rest = record { from = λ t done pending m. refl; last = refl; positions = refl; others = refl }
+pub keyed_keyed : (key e : Expression) (separator : Separator) (rest : Fields) → IsKeyed (keyed key e separator rest) (rk (code key)) (names_in key) e rest
+keyed_keyed key e separator rest = record { names = refl; from = λ t done pending m. refl; last = refl; positions = refl; others = refl }
 
-module _ {f : Function} {listed : List ℕ} {z : Maker} {left : List (Option Inner)} (fields : Fields) (asked : Asks ℕ) (e : Expression) (rest : Fields) (k o : OperandValue) (items : ItemList) (all : Bool) (deep : ℕ)
-    (is : IsKeyed fields asked e rest) (key_keeps : AskingKeeps asked) (e_keeps : KeepsBare (code e)) (key_same : KeySame f listed z left asked k deep) (e_same : RewrittenOperand f listed z left e o) (deeper : depth_of_expression e ≤ deep)
-    (rest_same : RewrittenItems f listed z left rest deep items all) where
+module _ {f : Function} {g : Fn} {active : List Active} {listed : List ℕ} {z : Maker} {left : List (Option Inner)} (fields : Fields) (asked : Asks ℕ) (texts : List Text) (e : Expression) (rest : Fields) (k o : OperandValue) (items : ItemList) (all : Bool) (deep : ℕ)
+    (is : IsKeyed fields asked texts e rest) (e_passes : PassesNames (names_in e) (code e)) (key_same : KeySame f g active listed z left asked texts k deep) (e_same : RewrittenOperand f g active listed z left e o) (deeper : depth_of_expression e ≤ deep)
+    (rest_same : RewrittenItems f g active listed z left rest deep items all) where
   abbrev at : Place
   at = place f.of listed f.short
 
@@ -268,7 +275,7 @@ module _ {f : Function} {listed : List ℕ} {z : Maker} {left : List (Option Inn
       ap (λ fs. and_keyed_item (field_name at k) (key_words n) (word_operand at n1 fs o) (separator_before items) (word_items at n2 (left_by_operand o fs) items all)) key_same.unused
       ∙ ap (λ fs. and_keyed_item (field_name at k) (key_words n) (e_words n1) (separator_before items) (word_items at n2 fs items all)) e_same.unused
 
-  module _ (t done pending : ℕ) (m : Maker) (ahead : IsBare m) (final : Final (length m.labels) (entries_from 1 t done pending (entries (one_line_fields fields)) m) z) where
+  module _ (t done pending : ℕ) (m : Maker) (ahead : IsAhead g active (names_of_fields fields) m) (final : Final (length m.labels) (entries_from 1 t done pending (entries (one_line_fields fields)) m) z) where
     -- behind the key, the item, and its word
     abbrev key_got : Got ℕ
     key_got = asked m
@@ -279,11 +286,20 @@ module _ {f : Function} {listed : List ℕ} {z : Maker} {left : List (Option Inn
     abbrev behind : Maker
     behind = freeing (keyed_item 1 t asked (code e)) m
 
-    behind_bare : IsBare behind
-    behind_bare = item_keeps t asked (code e) key_keeps e_keeps m ahead
+    item_ahead : IsAhead g active ((texts ++ names_in e) ++ names_of_fields rest) m
+    item_ahead = subst (λ texts. IsAhead g active texts m) is.names ahead
 
-    key_bare : IsBare key_got.after
-    key_bare = key_keeps m ahead
+    both_ahead : IsAhead g active (texts ++ names_in e) m
+    both_ahead = ahead_front (texts ++ names_in e) (names_of_fields rest) item_ahead
+
+    key_ahead : IsAhead g active texts m
+    key_ahead = ahead_front texts (names_in e) both_ahead
+
+    e_ahead : IsAhead g active (names_in e) key_got.after
+    e_ahead = ahead_behind texts (names_in e) (key_same.passes m) both_ahead
+
+    rest_ahead : IsAhead g active (names_of_fields rest) behind
+    rest_ahead = ahead_behind (texts ++ names_in e) (names_of_fields rest) (item_passes t texts (names_in e) asked (code e) key_same.passes e_passes m) item_ahead
 
     whole : Final (length m.labels) (keyed_from t done pending asked (code e) (entries (one_line_fields rest)) m) z
     whole = subst (λ n. Final (length m.labels) n z) (is.from t done pending m) final
@@ -307,10 +323,10 @@ module _ {f : Function} {listed : List ℕ} {z : Maker} {left : List (Option Inn
         later (omega (arith, grown.more, more.more)) whole
 
     key_count : length key_got.after.constants ≡ taken_behind_operand k (length m.constants)
-    key_count = key_same.taken m ahead key_final
+    key_count = key_same.taken m key_ahead key_final
 
     e_count : length behind.constants ≡ taken_behind_operand o (taken_behind_operand k (length m.constants))
-    e_count = e_same.taken key_got.after key_bare e_later ∙ ap (taken_behind_operand o) key_count
+    e_count = e_same.taken key_got.after e_ahead e_later ∙ ap (taken_behind_operand o) key_count
 
     keyed_same : entries_from 1 t done pending (entries (items_wording f listed z left (length m.constants) (and_keyed k o items) all).words) m ≡ entries_from 1 t done pending (entries (one_line_fields fields)) m
     keyed_same =
@@ -319,11 +335,11 @@ module _ {f : Function} {listed : List ℕ} {z : Maker} {left : List (Option Inn
         let n2 = taken_behind_operand o n1 in
         ap (λ (w : FieldWording). entries_from 1 t done pending (entries w.words) m) (written_is n)
         ∙ written_keyed (field_name at k) (key_words n) (e_words n1) (separator_before items) (rest_words n2) t done pending m
-        ∙ ap (λ (got : Got ℕ). behind_key got (coded (e_words n1).words) (entries (rest_words n2).words)) (key_asks_same at n left k m ∙ key_same.as_rk m ahead key_final)
+        ∙ ap (λ (got : Got ℕ). behind_key got (coded (e_words n1).words) (entries (rest_words n2).words)) (key_asks_same at n left k m ∙ key_same.as_rk m key_ahead key_final)
         ∙ ap (λ n1. behind_key key_got (coded (e_words n1).words) (entries (rest_words n2).words)) (sym key_count)
-        ∙ ap (λ (got : Got ℕ). behind_item key_got got (entries (rest_words n2).words)) (e_same.as_rk key_got.after key_bare e_later)
+        ∙ ap (λ (got : Got ℕ). behind_item key_got got (entries (rest_words n2).words)) (e_same.as_rk key_got.after e_ahead e_later)
         ∙ ap (λ n2. entries_from 1 t done pending (entries (rest_words n2).words) behind) (sym e_count)
-        ∙ rest_same.part t done pending behind behind_bare rest_later
+        ∙ rest_same.part t done pending behind rest_ahead rest_later
         ∙ sym (is.from t done pending m)
       where
         behind_item : Got ℕ → Got ℕ → List Entry → Maker
@@ -333,9 +349,9 @@ module _ {f : Function} {listed : List ℕ} {z : Maker} {left : List (Option Inn
         behind_key key c others = behind_item key (rk c key.after) others
 
     keyed_taken : length (entries_from 1 t done pending (entries (one_line_fields fields)) m).constants ≡ taken_behind_items (and_keyed k o items) (length m.constants)
-    keyed_taken = ap (λ (n : Maker). length n.constants) (is.from t done pending m) ∙ rest_same.taken t done pending behind behind_bare rest_later ∙ ap (taken_behind_items items) e_count
+    keyed_taken = ap (λ (n : Maker). length n.constants) (is.from t done pending m) ∙ rest_same.taken t done pending behind rest_ahead rest_later ∙ ap (taken_behind_items items) e_count
 
-  pub keyed_rewritten : RewrittenItems f listed z left fields deep (and_keyed k o items) all
+  pub keyed_rewritten : RewrittenItems f g active listed z left fields deep (and_keyed k o items) all
   keyed_rewritten = record {
     can = both_hold _ _ key_same.can (both_hold _ _ (ap (λ fs. can_write_operand at fs o) key_same.unused ∙ e_same.can) (ap (λ fs. can_write_items at (left_by_operand o fs) items) key_same.unused ∙ ap (λ fs. can_write_items at fs items) e_same.unused ∙ rest_same.can));
     unused = ap (λ fs. left_by_items items (left_by_operand o fs)) key_same.unused ∙ ap (left_by_items items) e_same.unused ∙ rest_same.unused;
@@ -357,7 +373,7 @@ module _ {f : Function} {listed : List ℕ} {z : Maker} {left : List (Option Inn
 abbrev begun : List Entry → Part
 begun others m = take_registers 1 (put 1 (Piece.Abc Op.NewTable m.free (size_hint (positional_count others)) (size_hint (other_count others))) m)
 
-module _ {f : Function} {listed : List ℕ} {z : Maker} {left : List (Option Inner)} {fields : Fields} {deep : ℕ} {items : ItemList} {all : Bool} (same : RewrittenItems f listed z left fields deep items all) where
+module _ {f : Function} {g : Fn} {active : List Active} {listed : List ℕ} {z : Maker} {left : List (Option Inner)} {fields : Fields} {deep : ℕ} {items : ItemList} {all : Bool} (same : RewrittenItems f g active listed z left fields deep items all) where
   abbrev written : ℕ → List Entry
   written n = entries (items_wording f listed z left n items all).words
 
@@ -367,13 +383,19 @@ module _ {f : Function} {listed : List ℕ} {z : Maker} {left : List (Option Inn
   items_final : (m : Maker) → Final (length m.labels) (table_at 1 (entries (one_line_fields fields)) m) z → Final (length m.labels) (entries_from 1 m.free 0 0 (entries (one_line_fields fields)) (begun (entries (one_line_fields fields)) m)) z
   items_final m final = before_free (m.free + 1) _ final
 
-  table_same : (m : Maker) → IsBare m → Final (length m.labels) (table_at 1 (entries (one_line_fields fields)) m) z → table_at 1 (written (length m.constants)) m ≡ table_at 1 (entries (one_line_fields fields)) m
+  begun_passes : (others : List Entry) (m : Maker) → Passed [] m (begun others m)
+  begun_passes others m = record { around = refl; names = refl }
+
+  begun_ahead : (m : Maker) → IsAhead g active (names_of_fields fields) m → IsAhead g active (names_of_fields fields) (begun (entries (one_line_fields fields)) m)
+  begun_ahead m ahead = ahead_behind [] (names_of_fields fields) (begun_passes (entries (one_line_fields fields)) m) ahead
+
+  table_same : (m : Maker) → IsAhead g active (names_of_fields fields) m → Final (length m.labels) (table_at 1 (entries (one_line_fields fields)) m) z → table_at 1 (written (length m.constants)) m ≡ table_at 1 (entries (one_line_fields fields)) m
   table_same m ahead final =
       ap (λ n. free_from (m.free + 1) (entries_from 1 m.free 0 0 (written (length m.constants)) n)) (begun_same (length m.constants) m)
-      ∙ ap (free_from (m.free + 1)) (same.part m.free 0 0 (begun (entries (one_line_fields fields)) m) ahead (items_final m final))
+      ∙ ap (free_from (m.free + 1)) (same.part m.free 0 0 (begun (entries (one_line_fields fields)) m) (begun_ahead m ahead) (items_final m final))
 
-  table_taken : (m : Maker) → IsBare m → Final (length m.labels) (table_at 1 (entries (one_line_fields fields)) m) z → length (table_at 1 (entries (one_line_fields fields)) m).constants ≡ taken_behind_items items (length m.constants)
-  table_taken m ahead final = same.taken m.free 0 0 (begun (entries (one_line_fields fields)) m) ahead (items_final m final)
+  table_taken : (m : Maker) → IsAhead g active (names_of_fields fields) m → Final (length m.labels) (table_at 1 (entries (one_line_fields fields)) m) z → length (table_at 1 (entries (one_line_fields fields)) m).constants ≡ taken_behind_items items (length m.constants)
+  table_taken m ahead final = same.taken m.free 0 0 (begun (entries (one_line_fields fields)) m) (begun_ahead m ahead) (items_final m final)
 
   abbrev table_code : ℕ → Maker → Maker
   table_code r m = free_from m.free (moved 1 m.free r (table_at 1 (entries (one_line_fields fields)) m))
@@ -385,7 +407,7 @@ module _ {f : Function} {listed : List ℕ} {z : Maker} {left : List (Option Inn
   inner : (r : ℕ) (m : Maker) → Final (length m.labels) (table_code r m) z → Final (length m.labels) (table_at 1 (entries (one_line_fields fields)) m) z
   inner r m final = moved_final (not (m.free == r)) (length m.labels) r m.free (table_at 1 (entries (one_line_fields fields)) m) (before_free m.free _ final)
 
-  pub table_rewritten : (line depth : ℕ) → depth_of_fields fields ≡ deep → Rewritten f listed z left (constructor line fields) (table_value items all depth)
+  pub table_rewritten : (line depth : ℕ) → depth_of_fields fields ≡ deep → Rewritten f g active listed z left (constructor line fields) (table_value items all depth)
   table_rewritten line depth is_deep = record {
     can = same.can;
     unused = same.unused;
@@ -395,6 +417,7 @@ module _ {f : Function} {listed : List ℕ} {z : Maker} {left : List (Option Inn
     gives = λ several. cc;
     few = λ n. omega (arith, same.few n, is_deep);
     keys = omega arith;
+    as_local = λ n r m ahead is. cc;
     to_reg = λ r m ahead final. ap (λ n. free_from m.free (moved 1 m.free r n)) (table_same m ahead (inner r m final));
     taken = λ r m ahead final. ap (λ ks. length ks) (moved_constants (not (m.free == r)) r m.free (table_at 1 (entries (one_line_fields fields)) m)) ∙ table_taken m ahead (inner r m final);
     multi = λ several. cc;
@@ -416,7 +439,7 @@ module _ {f : Function} {listed : List ℕ} {z : Maker} {left : List (Option Inn
       ap (λ (same : Bool). take_registers 1 (free_from m.free (when (not same) (put 1 (Piece.Abc Op.Move m.free m.free 0)) at))) (eq-eqb m.free m.free refl)
       ∙ ap (λ (high : ℕ). record at { free = m.free + 1; high = high }) high
 
-  pub table_rewritten_given : (depth : ℕ) → depth_of_fields fields ≡ deep → RewrittenGiven f listed z left (table_argument fields) deep (and_value (table_value items all depth) no_values) false
+  pub table_rewritten_given : (depth : ℕ) → depth_of_fields fields ≡ deep → RewrittenGiven f g active listed z left (table_argument fields) deep (and_value (table_value items all depth) no_values) false
   table_rewritten_given depth is_deep = record {
     can = both_hold _ true same.can refl;
     unused = same.unused;

@@ -1,8 +1,7 @@
 -- How many constants are taken behind a value does not depend on the order in which they are counted.
 use Rattle.std.proofs.Common.{◌≡◌, ℕ, max, refl, ap, ◌∙◌, arith}
 use Rattle.core_expr.specs.Counting.{one_more, taken_behind, taken_behind_values, taken_behind_operand, taken_behind_operands, taken_behind_items}
-use Rattle.core_expr.specs.Values.{Value, nil_value, vararg_value, bool_value, constant_value, local_value, upvalue_value, global_value, index_value, binary_value, unary_value, concat_value, call_value, method_value, table_value, function_value}
-use Rattle.core_expr.specs.Values.{Values, no_values, and_value, OperandValue, constant_operand, value_operand, OperandList, no_operands, and_operand, ItemList, no_items, and_positional, and_keyed}
+use Rattle.core_expr.specs.Values.{Value, nil_value, vararg_value, bool_value, constant_value, local_value, upvalue_value, global_value, index_value, binary_value, unary_value, concat_value, call_value, method_value, table_value, function_value, Values, no_values, and_value, OperandValue, constant_operand, value_operand, OperandList, no_operands, and_operand, ItemList, no_items, and_positional, and_keyed}
 
 pub max_swap : (n m c : ℕ) → max (max n m) c ≡ max (max n c) m
 max_swap n m c = omega arith

@@ -3,7 +3,7 @@ use Rattle.std.proofs.Common.{◌≡◌, ℕ, suc, ◌≤◌, max, true, false, 
 use Rattle.std.specs.Prelude.{ℤ}
 use Rattle.lua_num.specs.Bytes.{Text}
 use Rattle.lua_tree.specs.Syntax as syntax
-use Rattle.lua_tree.specs.Syntax.{Expressions, no_expressions, Arguments, argument_list, text_argument, table_argument, constructor, Fields, no_fields, positional, named, keyed, Expression, nil_literal, true_literal, false_literal, vararg_expression, number_literal, text_literal, name_expression, function_expression, index_expression, field_expression, call_expression, method_call, and_expression, or_expression, binary_expression, unary_expression, constructor, parenthesized}
+use Rattle.lua_tree.specs.Syntax.{Expressions, no_expressions, Arguments, argument_list, text_argument, table_argument, constructor, Fields, no_fields, positional, named, keyed, Expression, nil_literal, true_literal, false_literal, vararg_expression, number_literal, text_literal, name_expression, index_expression, field_expression, call_expression, method_call, binary_expression, unary_expression, parenthesized}
 use Rattle.lua_tree.specs.WellFormed.{is_call, depth_of_arguments, depth_of_expression, depth_of_expressions, depth_of_fields}
 use Rattle.lua_tree.specs.declared.tree.BinaryOp.{BinaryOp}
 use Rattle.proto.specs.declared.parts.Constant.{Constant}
@@ -146,7 +146,7 @@ module _ {f : Function} {g : Fn} {active : List Active} {listed : List ℕ} (is_
         let item = reads_all e has.1 (omega (arith, few, low)) in
         (operand_deeper (omega (arith, low)) (rk_reads is_function all key first.one), operand_deeper (omega (arith, low)) (rk_reads is_function all e item.one), items_read rest has.2 few (omega (arith, low)))
 
-    each_read : (es : Expressions) → AllHaveCores es → {deep : ℕ} → deep ≤ 200 → depth_of_expressions es ≤ deep → AllRead f g active listed deep es
+    pub each_read : (es : Expressions) → AllHaveCores es → {deep : ℕ} → deep ≤ 200 → depth_of_expressions es ≤ deep → AllRead f g active listed deep es
     each_read no_expressions has few low = tt
     each_read (syntax.expression e es) has few low =
         let first = reads_all e has.0 (omega (arith, few, low)) in

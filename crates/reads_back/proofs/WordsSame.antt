@@ -1,9 +1,9 @@
 -- What the scheme asks of an expression, and what it makes of one in parentheses or on one line; what is written of a value as an operand and in the next register.
-use Rattle.std.proofs.Common.{◌≡◌, ℕ, suc, ◌≤◌, Bool, true, false, cond, List, [], ◌∷◌, length, Option, Some, None, refl, sym, ap, ap₂, ◌∙◌, subst, arith, le-leb, true≢false, inl, inr, ◌⊎◌}
+use Rattle.std.proofs.Common.{◌≡◌, ℕ, suc, ◌≤◌, Bool, true, false, cond, List, length, Option, Some, None, refl, sym, ap, ap₂, ◌∙◌, subst, arith, le-leb, true≢false, inl, inr, ◌⊎◌}
+use Rattle.std.proofs.lemmas.Option.{none-some}
 use Rattle.std.specs.Prelude.{◌+◌, ◌||◌, ℤ, not}
 use Rattle.lua_tree.specs.OneLine.{one_line_expression}
 use Rattle.lua_tree.specs.Precedence.{binds, is_right_associative, is_unary, left_binds, level_of, level_of_op, right_binds}
-use Rattle.lua_tree.specs.Scoping.{Use, global_use}
 use Rattle.lua_tree.specs.Syntax.{Expression, binary_expression, and_expression, nil_literal, or_expression, parenthesized, unary_expression}
 use Rattle.lua_tree.specs.declared.tree.BinaryOp.{BinaryOp}
 use Rattle.proto.specs.declared.parts.Constant.{Constant}
@@ -12,10 +12,13 @@ use Rattle.core_expr.specs.Values.{Value, Inner}
 use Rattle.core_expr.specs.Writing.{Wording, is_power, on_left, on_right, unless}
 use Rattle.recover_expr.specs.Situation.{Function}
 use Rattle.scheme.specs.Expressions.{arith_op, fold, fold_binary, fold_unary, in_next_reg, is_multiple, is_name, is_small, literal, local_register, next_reg, number_or, operand, operand_by, plain_literal, register_of, rk, rk_by, small_constant}
-use Rattle.scheme.specs.Making.{Got, Maker, Where, head_or, in_globals, next_name, take_registers, where_is}
+use Rattle.scheme.specs.Making.{Got, Maker, next_name, pass_name, take_registers}
 use Rattle.scheme.specs.Scheme.{coded}
+use Rattle.scheme.specs.declared.making.Active.{Active}
 use Rattle.scheme_stands.proofs.Growth.{Final, before_take}
-use Rattle.reads_back.proofs.Rewriting.{AreGlobals, IsBare, Rewritten, code, wording}
+use Rattle.scheme_stands.specs.Words.{Fn}
+use Rattle.reads_back.proofs.NamesAhead.{IsAhead, names_in}
+use Rattle.reads_back.proofs.Rewriting.{Rewritten, code, wording}
 
 -- ---- on one line
 
@@ -44,28 +47,28 @@ pub same_multiple : (e : Expression) → is_multiple (one_line_expression e) ≡
 same_multiple (nil_literal line) = refl
 same_multiple e = refl
 
--- ---- where all names mean globals, an operand is in the next register
+-- ---- a local is an operand as it is; another value is one in the next register
 
-next_global : (names : List Use) → AreGlobals names → head_or global_use names ≡ global_use
-next_global [] are = refl
-next_global (one ∷ others) are = are.0
+operand_is : (x : Expression) (m : Maker) → operand (coded x) m ≡ operand_by (local_register x m) (coded x) m
+operand_is x m = ap (λ x'. operand_by (local_register x' m) (coded x) m) (coded_is x)
 
-pub global_next : (m : Maker) → IsBare m → next_name m ≡ in_globals
-global_next m ahead = ap (λ means. where_is means m.active) (next_global m.ahead.names ahead.0)
+pub operand_next : (x : Expression) (m : Maker) → local_register x m ≡ None → operand (coded x) m ≡ in_next_reg (coded x) m
+operand_next x m none = operand_is x m ∙ ap (λ local. operand_by local (coded x) m) none
 
-no_choice : (named : Bool) → cond named (register_of in_globals) None ≡ None
-no_choice true = refl
-no_choice false = refl
+pub operand_local : (x : Expression) (r : ℕ) (m : Maker) → local_register x m ≡ Some r → operand (coded x) m ≡ record { value = r; after = pass_name m }
+operand_local x r m is = operand_is x m ∙ ap (λ local. operand_by local (coded x) m) is
 
-pub no_register : (x : Expression) (m : Maker) → IsBare m → local_register x m ≡ None
-no_register x m ahead = ap (λ (w : Where). cond (is_name x) (register_of w) None) (global_next m ahead) ∙ no_choice (is_name x)
+-- what is final behind an operand in the next register is so behind its value
+pub operand_final : {j : ℕ} {z : Maker} (x : Expression) (m : Maker) → local_register x m ≡ None → Final j (operand (coded x) m).after z → Final j ((coded x).to_reg m.free m) z
+operand_final {j} {z} x m none final = before_take 1 ((coded x).to_reg m.free m) (subst (λ (got : Got ℕ). Final j got.after z) (operand_next x m none) final)
 
-pub operand_next : (x : Expression) (m : Maker) → IsBare m → operand (coded x) m ≡ in_next_reg (coded x) m
-operand_next x m ahead = ap (λ local. operand_by local (coded x) m) (no_register (coded x).e m ahead)
+-- what is a name is a local where the name that comes next is one
+pub same_local : (x y : Expression) (m : Maker) → is_name x ≡ is_name y → local_register x m ≡ local_register y m
+same_local x y m named = ap (λ named. cond named (register_of (next_name m)) None) named
 
--- what is final behind an operand is so behind its value
-pub operand_final : {j : ℕ} {z : Maker} (x : Expression) (m : Maker) → IsBare m → Final j (operand (coded x) m).after z → Final j ((coded x).to_reg m.free m) z
-operand_final {j} {z} x m ahead final = before_take 1 ((coded x).to_reg m.free m) (subst (λ (got : Got ℕ). Final j got.after z) (operand_next x m ahead) final)
+-- what is no name is no local
+pub no_local : {A : Type 0} (e : Expression) (r : ℕ) (m : Maker) → is_name e ≡ false → local_register (one_line_expression e) m ≡ Some r → A
+no_local e r m other is = absurd (none-some r (sym (ap (λ named. cond named (register_of (next_name m)) None) (same_name e ∙ other)) ∙ is))
 
 -- ---- a literal as an operand
 
@@ -95,9 +98,6 @@ pub rk_plain : (x : Expression) (m : Maker) → literal x ≡ None → rk (coded
 rk_plain x m is = rk_is x m ∙ ap (λ k. rk_by k (coded x) m) is
 
 -- ---- in parentheses
-
-operand_is : (x : Expression) (m : Maker) → operand (coded x) m ≡ operand_by (local_register x m) (coded x) m
-operand_is x m = ap (λ x'. operand_by (local_register x' m) (coded x) m) (coded_is x)
 
 operand_by_parens : (local : Option ℕ) (x : Expression) (m : Maker) → operand_by local (coded (parenthesized 1 x)) m ≡ operand_by local (coded x) m
 operand_by_parens (Some r) x m = refl
@@ -177,21 +177,35 @@ rk_on_right op w m = rk_wrapped (right_binds (level_of_op op) (is_power op) w.wo
 
 -- ---- what is written of a value
 
-module _ {f : Function} {listed : List ℕ} {z : Maker} {left : List (Option Inner)} {e : Expression} {v : Value} (rewritten : Rewritten f listed z left e v) where
-  pub next_same : (m : Maker) → IsBare m → Final (length m.labels) (next_reg (code e) m) z → next_reg (coded (wording f listed z left (length m.constants) v).words) m ≡ next_reg (code e) m
+module _ {f : Function} {g : Fn} {active : List Active} {listed : List ℕ} {z : Maker} {left : List (Option Inner)} {e : Expression} {v : Value} (rewritten : Rewritten f g active listed z left e v) where
+  pub next_same : (m : Maker) → IsAhead g active (names_in e) m → Final (length m.labels) (next_reg (code e) m) z → next_reg (coded (wording f listed z left (length m.constants) v).words) m ≡ next_reg (code e) m
   next_same m ahead final = ap (take_registers 1) (rewritten.to_reg m.free m ahead (before_take 1 ((code e).to_reg m.free m) final))
 
-  pub next_taken : (m : Maker) → IsBare m → Final (length m.labels) (next_reg (code e) m) z → length (next_reg (code e) m).constants ≡ taken_behind v (length m.constants)
+  pub next_taken : (m : Maker) → IsAhead g active (names_in e) m → Final (length m.labels) (next_reg (code e) m) z → length (next_reg (code e) m).constants ≡ taken_behind v (length m.constants)
   next_taken m ahead final = rewritten.taken m.free m ahead (before_take 1 ((code e).to_reg m.free m) final)
 
-  as_next : (m : Maker) → IsBare m → operand (code e) m ≡ in_next_reg (code e) m
-  as_next m ahead = operand_next (one_line_expression e) m ahead
+  abbrev one_line : Expression
+  one_line = one_line_expression e
 
-  pub operand_same : (m : Maker) → IsBare m → Final (length m.labels) (operand (code e) m).after z → operand (coded (wording f listed z left (length m.constants) v).words) m ≡ operand (code e) m
-  operand_same m ahead final =
-      operand_next (wording f listed z left (length m.constants) v).words m ahead
-      ∙ ap (λ (after : Maker). record { value = m.free; after = take_registers 1 after }) (rewritten.to_reg m.free m ahead (operand_final (one_line_expression e) m ahead final))
-      ∙ sym (as_next m ahead)
+  abbrev written_at : Maker → Expression
+  written_at m = (wording f listed z left (length m.constants) v).words
 
-  pub operand_taken : (m : Maker) → IsBare m → Final (length m.labels) (operand (code e) m).after z → length (operand (code e) m).after.constants ≡ taken_behind v (length m.constants)
-  operand_taken m ahead final = ap (λ (got : Got ℕ). length got.after.constants) (as_next m ahead) ∙ rewritten.taken m.free m ahead (operand_final (one_line_expression e) m ahead final)
+  written_local : (m : Maker) → local_register (written_at m) m ≡ local_register one_line m
+  written_local m = same_local (written_at m) one_line m (rewritten.named (length m.constants) ∙ sym (same_name e))
+
+  pub operand_same : (m : Maker) → IsAhead g active (names_in e) m → Final (length m.labels) (operand (code e) m).after z → operand (coded (wording f listed z left (length m.constants) v).words) m ≡ operand (code e) m
+  operand_same m ahead final = by (local_register one_line m) refl
+    where
+      by : (local : Option ℕ) → local_register one_line m ≡ local → operand (coded (written_at m)) m ≡ operand (code e) m
+      by (Some r) is = operand_local (written_at m) r m (written_local m ∙ is) ∙ sym (operand_local one_line r m is)
+      by None is =
+          operand_next (written_at m) m (written_local m ∙ is)
+          ∙ ap (λ (after : Maker). record { value = m.free; after = take_registers 1 after }) (rewritten.to_reg m.free m ahead (operand_final one_line m is final))
+          ∙ sym (operand_next one_line m is)
+
+  pub operand_taken : (m : Maker) → IsAhead g active (names_in e) m → Final (length m.labels) (operand (code e) m).after z → length (operand (code e) m).after.constants ≡ taken_behind v (length m.constants)
+  operand_taken m ahead final = by (local_register one_line m) refl
+    where
+      by : (local : Option ℕ) → local_register one_line m ≡ local → length (operand (code e) m).after.constants ≡ taken_behind v (length m.constants)
+      by (Some r) is = ap (λ (got : Got ℕ). length got.after.constants) (operand_local one_line r m is) ∙ sym (rewritten.as_local (length m.constants) r m ahead is)
+      by None is = ap (λ (got : Got ℕ). length got.after.constants) (operand_next one_line m is) ∙ rewritten.taken m.free m ahead (operand_final one_line m is final)

@@ -57,9 +57,9 @@ pub record IsFine (w : Wording) : Type 0 where
   pub formed : formed_expression w.words ≡ true
   pub shallow : w.levels ≤ 400 → depth_of_expression w.words ≤ w.levels
 
-record AreFine (ws : Wordings) : Type 0 where
-  formed : formed_expressions ws.words ≡ true
-  shallow : ws.levels ≤ 400 → depth_of_expressions ws.words ≤ ws.levels
+pub record AreFine (ws : Wordings) : Type 0 where
+  pub formed : formed_expressions ws.words ≡ true
+  pub shallow : ws.levels ≤ 400 → depth_of_expressions ws.words ≤ ws.levels
 
 record AreGiven (args : ArgumentWording) : Type 0 where
   formed : formed_arguments args.words ≡ true
@@ -357,7 +357,7 @@ module _ (at : Place) where
     word_fine (table_value items all depth) n fs none can = table_fine _ (items_fine items all n fs none can)
     word_fine (function_value number itself) n fs none can = absurd (none_there fs number none (second_of_both (not itself) _ can))
 
-    values_fine : (vs : Values) (all : Bool) (n : ℕ) (fs : List (Option Inner)) → fs ≡ [] → can_write_values at fs vs ≡ true → AreFine (word_values at n fs vs all)
+    pub values_fine : (vs : Values) (all : Bool) (n : ℕ) (fs : List (Option Inner)) → fs ≡ [] → can_write_values at fs vs ≡ true → AreFine (word_values at n fs vs all)
     values_fine no_values all n fs none can = record { formed = refl; shallow = λ few. omega arith }
     values_fine (and_value v rest) all n fs none can =
         and_wording_fine _ _ (unless_fine (not ((ends_values rest && not all) && is_multiple v)) _ (word_fine v n fs none (first_of_both _ _ can))) (values_fine rest all (taken_behind v n) (left_by v fs) (ap (left_by v) none ∙ none_by v) (second_of_both _ _ can))

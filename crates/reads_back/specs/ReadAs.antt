@@ -1,15 +1,14 @@
 -- To be believed. What the words of the chunk of a straight source are read as: one step for each statement, and these statements are a source with the same chunk.
-use Rattle.std.specs.Prelude.{◌≡◌, ◌≤◌, ◌<◌, ◌^◌, false, List, [], ◌∷◌, length, Some, IsSome}
-use Rattle.std.specs.List.{AllByRecursion}
+use Rattle.std.specs.Prelude.{◌≡◌, ◌≤◌, ◌<◌, ◌^◌, ℕ, false, List, [], ◌∷◌, length, Some, IsSome}
 use Rattle.lua_num.specs.Bytes.{Text}
 use Rattle.lua_tree.specs.Scoping.{Scoped}
-use Rattle.lua_tree.specs.Syntax.{Statements, no_statements, statement, Source}
+use Rattle.lua_tree.specs.Syntax.{Statement, Statements, local_statement, no_statements, return_statement, statement, Source}
 use Rattle.lua_tree.specs.WellFormed.{WellFormed, statement_begins_with_paren}
 use Rattle.proto.specs.Chunk.{Chunk, SameButLines, functions, no_functions, own}
 use Rattle.scheme.specs.Scheme.{scheme, Fits}
 use Rattle.scheme.specs.Shapes.{Flat}
 use Rattle.scheme_lines.specs.Alike.{AreAlike}
-use Rattle.recover_expr.specs.Drafts.{Part, statement_part}
+use Rattle.recover_expr.specs.Drafts.{Part, statement_part, values_part}
 use Rattle.recover_expr.specs.Placing.{Steps}
 use Rattle.recover_expr.specs.Reading.{read_steps}
 use Rattle.recover_expr.specs.declared.steps.Step.{Step}
@@ -28,23 +27,36 @@ pub record IsStraightChunk (chunk : Chunk) : Type 0 where
 
 -- ---- steps
 
--- an act of a function without locals, with no more levels than a tree may have
-pub record IsActStep (step : Step) : Type 0 where
-  pub kind : step.kind ≡ StepKind.Act
-  pub base : step.base ≡ 0
-  pub captured : step.captured ≡ 0
-  pub levels : step.levels ≤ 200
+-- what a step of the statement is, in a function of so many steps, where no local ends before the function does
+abbrev pub kind_of : (count : ℕ) → Statement → StepKind
+kind_of count (local_statement names es) = StepKind.Declaration count false
+kind_of count (return_statement es) = StepKind.Return
+kind_of count s = StepKind.Act
+
+-- what stands of it in its step
+abbrev pub part_of : Statement → Part
+part_of (return_statement es) = values_part es
+part_of s = statement_part s
 
 abbrev pub parts_of : Statements → List Part
 parts_of no_statements = []
-parts_of (statement line semi s rest) = statement_part s ∷ parts_of rest
+parts_of (statement line semi s rest) = part_of s ∷ parts_of rest
+
+-- with no more levels than a tree may have
+pub record IsStepOf (count : ℕ) (s : Statement) (step : Step) : Type 0 where
+  pub kind : step.kind ≡ kind_of count s
+  pub levels : step.levels ≤ 200
+
+abbrev pub AreStepsOf : (count : ℕ) → Statements → List Step → Type 0
+AreStepsOf count no_statements steps = steps ≡ []
+AreStepsOf count (statement line semi s rest) [] = ⊥
+AreStepsOf count (statement line semi s rest) (step ∷ steps) = IsStepOf count s step × AreStepsOf count rest steps
 
 -- the statements of a tree, one step each
 pub record IsReadAs (tree : Source) (steps : Steps) : Type 0 where
   pub params : steps.params ≡ []
   pub parts : steps.parts ≡ parts_of tree.body
-  pub acts : AllByRecursion IsActStep steps.steps
-  pub same_length : length steps.steps ≡ length steps.parts
+  pub are : AreStepsOf (length steps.steps) tree.body steps.steps
 
 -- ---- what is read
 

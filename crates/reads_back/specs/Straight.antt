@@ -1,7 +1,7 @@
--- To be believed. Straight sources: calls, and assignments of one value to one global or part of a table, one after the other; and what their words are read as.
+-- To be believed. Straight sources: calls, assignments of one value to one target and declarations of locals, one after the other, and maybe a return at the end.
 use Rattle.std.specs.Prelude.{◌≤◌}
 use Rattle.lua_tree.specs.Syntax as syntax
-use Rattle.lua_tree.specs.Syntax.{Arguments, Expression, Expressions, Source, Statement, Statements, argument_list, assignment, binary_expression, call_expression, call_statement, field_expression, index_expression, method_call, name_expression, no_expressions, no_statements, parenthesized, text_argument, unary_expression, nil_literal, true_literal, false_literal, vararg_expression, number_literal, text_literal}
+use Rattle.lua_tree.specs.Syntax.{Expression, Source, Statement, Statements, assignment, call_expression, call_statement, field_expression, index_expression, local_statement, method_call, name_expression, no_statements, parenthesized, return_statement}
 use Rattle.lua_tree.specs.WellFormed.{depth_of_statements}
 use Rattle.reads_back.specs.Acted.{IsAct}
 
@@ -18,6 +18,8 @@ BeginsWithName e = ⊥
 abbrev pub StatementBeginsWithName : Statement → Type 0
 StatementBeginsWithName (call_statement e) = BeginsWithName e
 StatementBeginsWithName (assignment (syntax.expression target es) values) = BeginsWithName target
+StatementBeginsWithName (local_statement names es) = Unit {0}
+StatementBeginsWithName (return_statement es) = Unit {0}
 StatementBeginsWithName statement = ⊥
 
 abbrev pub AreStraight : Statements → Type 0

@@ -1,3 +1,4 @@
+mod ActsBuilt
 mod ActsFound
 mod Answered
 mod Arming
@@ -11,7 +12,6 @@ mod ConditionJoins
 mod ConditionParts
 mod ConditionViews
 mod Failing
-mod FlatBuilt
 mod Forming
 mod Growing
 mod Joinings

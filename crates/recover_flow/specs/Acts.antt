@@ -1,57 +1,86 @@
--- To be believed. Functions whose steps are all acts: what stands there, and what is built of it.
-use Rattle.std.specs.Prelude.{◌≡◌, ◌≤◌, ◌+◌, ℕ, zero, suc, false, List, [], ◌∷◌, length, Some}
-use Rattle.lua_tree.specs.Syntax.{Statements, no_statements, statement}
-use Rattle.recover_expr.specs.Drafts.{Part, statement_part}
+-- Serves the laws. Functions whose steps are all statements by themselves, of which the last one may be a return: what stands there, and what is built of it.
+use Rattle.std.specs.Prelude.{◌≡◌, ◌≤◌, ◌+◌, ◌⊎◌, ℕ, Bool, true, false, List, [], ◌∷◌, length, Some}
+use Rattle.lua_tree.specs.Syntax.{Statements, no_statements, statement, Statement, return_statement}
+use Rattle.recover_expr.specs.Drafts.{Part, statement_part, values_part}
 use Rattle.recover_expr.specs.declared.steps.Step.{Step}
 use Rattle.recover_expr.specs.declared.steps.StepKind.{StepKind}
 use Rattle.recover_flow.specs.Built.{built_body}
 use Rattle.recover_flow.specs.Parts.{begins_open}
-use Rattle.recover_flow.specs.Plans.{Plans, no_plans, and_plan, step_plan, body_levels}
+use Rattle.recover_flow.specs.Plans.{Plans, no_plans, and_plan, PlanTree, step_plan, end_plan, body_levels}
 use Rattle.recover_flow.specs.Searching.{whole_body}
 use Rattle.recover_flow.specs.Standing.{BodyStands}
+use Rattle.recover_flow.specs.declared.plan.End.{End}
 
--- each step is an act
-abbrev pub AreActs : List Step → Type 0
-AreActs [] = Unit {0}
-AreActs (step ∷ steps) = (step.kind ≡ StepKind.Act) × AreActs steps
+-- an act, or a declaration of locals that end with the function, behind so many steps, and that no closure captures
+abbrev pub IsPlain : (count : ℕ) → StepKind → Type 0
+IsPlain count kind = (kind ≡ StepKind.Act) ⊎ (kind ≡ StepKind.Declaration count false)
+
+-- each step is such a one, and the last one may be a return
+abbrev pub ArePlain : (count : ℕ) → List Step → Type 0
+ArePlain count [] = Unit {0}
+ArePlain count (step ∷ []) = IsPlain count step.kind ⊎ (step.kind ≡ StepKind.Return)
+ArePlain count (step ∷ next ∷ steps) = IsPlain count step.kind × ArePlain count (next ∷ steps)
 
 -- each step needs at most so many levels
 abbrev pub AreLow : (levels : ℕ) → List Step → Type 0
 AreLow levels [] = Unit {0}
 AreLow levels (step ∷ steps) = (step.levels ≤ levels) × AreLow levels steps
 
--- so many steps from one on, each a statement by itself
-abbrev pub act_plans : (from count : ℕ) → Plans
-act_plans from zero = no_plans
-act_plans from (suc count) = and_plan (step_plan from) (act_plans (from + 1) count)
+-- a step is a statement by itself
+abbrev pub plan_of : StepKind → (step : ℕ) → PlanTree
+plan_of StepKind.Return step = end_plan (End.Return step) false
+plan_of kind step = step_plan step
+
+-- these steps from one on, each a statement by itself
+abbrev pub plans_of : (from : ℕ) → List Step → Plans
+plans_of from [] = no_plans
+plans_of from (step ∷ steps) = and_plan (plan_of step.kind from) (plans_of (from + 1) steps)
 
 -- none of these statements begins with a parenthesis
 abbrev pub NoneOpen : Statements → Type 0
 NoneOpen no_statements = Unit {0}
 NoneOpen (statement line semicolon kind rest) = (begins_open kind ≡ false) × NoneOpen rest
 
--- each statement is the part of a step
+-- what stands of a statement in its step
+abbrev pub part_of_statement : Statement → Part
+part_of_statement (return_statement values) = values_part values
+part_of_statement kind = statement_part kind
+
 abbrev pub parts_of_statements : Statements → List Part
 parts_of_statements no_statements = []
-parts_of_statements (statement line semicolon kind rest) = statement_part kind ∷ parts_of_statements rest
+parts_of_statements (statement line semicolon kind rest) = part_of_statement kind ∷ parts_of_statements rest
+
+abbrev pub is_return_step : StepKind → Bool
+is_return_step StepKind.Return = true
+is_return_step kind = false
+
+abbrev pub is_return : Statement → Bool
+is_return (return_statement values) = true
+is_return kind = false
+
+-- the steps are those of these statements: returns are steps that return
+abbrev pub AreStepsOf : Statements → List Step → Type 0
+AreStepsOf no_statements steps = steps ≡ []
+AreStepsOf (statement line semicolon kind rest) [] = ⊥
+AreStepsOf (statement line semicolon kind rest) (step ∷ steps) = (is_return_step step.kind ≡ is_return kind) × AreStepsOf rest steps
 
 -- these statements on line 1, with no semicolons
 abbrev pub without_semicolons : Statements → Statements
 without_semicolons no_statements = no_statements
 without_semicolons (statement line semicolon kind rest) = statement 1 false kind (without_semicolons rest)
 
--- one body stands there, of these acts
+-- one body stands there, of these statements
 abbrev pub ActsAreFound : Type 0
 ActsAreFound =
-    (steps : List Step) → AreActs steps
-    → BodyStands steps (whole_body steps) (act_plans 0 (length steps)) × ((plans : Plans) → BodyStands steps (whole_body steps) plans → plans ≡ act_plans 0 (length steps))
+    (steps : List Step) → ArePlain (length steps) steps
+    → BodyStands steps (whole_body steps) (plans_of 0 steps) × ((plans : Plans) → BodyStands steps (whole_body steps) plans → plans ≡ plans_of 0 steps)
 
--- acts are built of their statements
+-- they are built of their parts
 abbrev pub ActsAreBuilt : Type 0
 ActsAreBuilt =
-    (statements : Statements) → NoneOpen statements
-    → (behind : List Part) × (built_body (act_plans 0 (length (parts_of_statements statements))) (parts_of_statements statements) ≡ Some (without_semicolons statements, behind))
+    (statements : Statements) (steps : List Step) → NoneOpen statements → AreStepsOf statements steps
+    → (behind : List Part) × (built_body (plans_of 0 steps) (parts_of_statements statements) ≡ Some (without_semicolons statements, behind))
 
--- acts need no more levels than their steps, and one at least
+-- they need no more levels than their steps, and one at least
 abbrev pub ActsAreLow : Type 0
-ActsAreLow = (levels : ℕ) (steps : List Step) → 1 ≤ levels → AreLow levels steps → body_levels steps (act_plans 0 (length steps)) ≤ levels
+ActsAreLow = (levels : ℕ) (steps : List Step) → 1 ≤ levels → AreLow levels steps → body_levels steps (plans_of 0 steps) ≤ levels

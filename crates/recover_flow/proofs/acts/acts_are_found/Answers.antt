@@ -1,5 +1,5 @@
+use Rattle.recover_flow.proofs.ActsBuilt.{acts_built}
 use Rattle.recover_flow.proofs.ActsFound.{acts_found, acts_low}
-use Rattle.recover_flow.proofs.FlatBuilt.{acts_built}
 use Rattle.recover_flow.proofs.acts.acts_are_found.Goals as goal
 
 pub returns-clause-found : goal.returns-clause-found

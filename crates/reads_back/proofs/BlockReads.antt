@@ -1,0 +1,347 @@
+-- The words of a straight block are read one statement after the other, each as what is written of it.
+use Rattle.std.proofs.Common.{◌≡◌, ℕ, zero, suc, ◌+◌, ◌-◌, ◌<◌, ◌≤◌, Bool, true, false, List, [], ◌∷◌, ◌++◌, drop, length, length-append, map, append-nil, append_assoc, Option, Some, None, refl, sym, ap, ap₂, ◌∙◌, subst, arith, le-leb, lt-ltb, if◌then◌else◌}
+use Rattle.std.proofs.lemmas.List.{length-map, length-replicate}
+use Rattle.std.specs.List.{prefix_len}
+use Rattle.std.specs.Prelude.{◌==◌, ◌^◌, option_and_then, replicate}
+use Rattle.lua_num.specs.Bytes.{Text}
+use Rattle.lua_tree.specs.Names.{are_names, are_some_names, is_name}
+use Rattle.lua_tree.specs.Syntax as syntax
+use Rattle.lua_tree.specs.Syntax.{Statement, Statements, assignment, call_statement, local_statement, no_statements, return_statement}
+use Rattle.proto.specs.declared.parts.LocVar.{LocVar}
+use Rattle.core_expr.specs.Places.{place}
+use Rattle.core_expr.specs.Values.{Inner}
+use Rattle.recover_expr.specs.Drafts.{Drafted}
+use Rattle.recover_expr.specs.Locals.{Scope, declare, is_hidden, is_hidden_local, leave, names_from, starting}
+use Rattle.recover_expr.specs.Reading.{ReadSoFar, and_draft, drafts_from, left_at, read_step, step_at, words_from}
+use Rattle.recover_expr.specs.Situation.{Function, Situation, begun}
+use Rattle.recover_expr.specs.declared.draft.DraftKind.{DraftKind}
+use Rattle.recover_expr.specs.declared.locals.Declared.{Declared}
+use Rattle.scheme.specs.Making.{Maker}
+use Rattle.scheme.specs.Statements.{settle}
+use Rattle.scheme_stands.proofs.Growth.{spot}
+use Rattle.scheme_stands.specs.Words.{Fn}
+use Rattle.reads_back.specs.Acted.{Acted, IsAct, IsActed, act_levels, act_statement, assigned, called, declared, left_by_act, returned}
+use Rattle.reads_back.specs.ReadAs.{part_of}
+use Rattle.reads_back.proofs.ActsRead.{ActRead, Declares, kind_of_act, locals_of, numbers_from}
+use Rattle.reads_back.proofs.BehindWords.{HasLocals, NoneCaptured}
+use Rattle.reads_back.proofs.BlockMakers.{actives_by, all_made, entries_by, entries_from, good_names, made_by, statement_moves}
+use Rattle.reads_back.proofs.DeclarationsRead.{StartHere}
+use Rattle.reads_back.proofs.DeclaredLocals.{actives_of, entries_at}
+use Rattle.reads_back.proofs.ListedLocals.{as_many_listed, ended}
+use Rattle.reads_back.proofs.StartingLocals.{StartFrom, all_left, all_start, are_declared, at_front, behind_front, entries_start, names_listed, none_start, numbers_length, shown_name, start_both, start_later}
+use Rattle.reads_back.proofs.StepsPlaced.{AreDraftsOf, KindIs}
+use Rattle.reads_back.proofs.StraightActs.{StartsWith, act_forward, act_read, few_levels, written}
+use Rattle.reads_back.proofs.StraightBlocks.{AreWritten, ComesNext, IsWhole, comes_behind, listed_by, low, made_there}
+use Rattle.reads_back.proofs.Tests.{first_of_both, not_below}
+use Rattle.reads_back.proofs.WordsRead.{IsQuiet}
+
+some_names : (names : List Text) → are_some_names names ≡ true → 0 < length names
+some_names [] good = cc
+some_names (name ∷ names) good = omega arith
+
+-- the first one has a name that a source can write
+first_shown : (end : ℕ) (front : List LocVar) (names : List Text) (pc : ℕ) (others : List LocVar) (at : ℕ) → at ≡ length front → are_some_names names ≡ true → is_hidden (map (ended end) (front ++ (entries_at names pc ++ others))) at ≡ false
+first_shown end front [] pc others at is good = cc
+first_shown end front (name ∷ names) pc others at is good =
+    ap is_hidden_local (at_front end front (record { name = name; start = pc; end = pc }) (entries_at names pc ++ others) at is) ∙ shown_name name (first_of_both (is_name name) (are_names names) good)
+
+actives_count : (texts : List Text) (captures : List Bool) (declaration listed : ℕ) → length (actives_of texts captures declaration listed) ≡ length texts
+actives_count [] captures declaration listed = refl
+actives_count (text ∷ texts) captures declaration listed = ap suc (actives_count texts (drop 1 captures) (suc declaration) (suc listed))
+
+entries_count : (texts : List Text) (pc : ℕ) → length (entries_at texts pc) ≡ length texts
+entries_count [] pc = refl
+entries_count (text ∷ texts) pc = ap suc (entries_count texts pc)
+
+numbers_both : (first count more : ℕ) → numbers_from first (count + more) ≡ numbers_from first count ++ numbers_from (first + count) more
+numbers_both first zero more =
+    let same : first ≡ first + 0 = omega arith in
+    let zero_more : 0 + more ≡ more = omega arith in
+    ap₂ numbers_from same zero_more
+numbers_both first (suc count) more =
+    let same : suc first + count ≡ first + suc count = omega arith in
+    let all : suc count + more ≡ suc (count + more) = omega arith in
+    ap (numbers_from first) all ∙ ap (λ rest. first ∷ rest) (numbers_both (suc first) count more ∙ ap (λ next. numbers_from (suc first) count ++ numbers_from next more) same)
+
+-- ---- what is known where a statement is read
+
+-- one local of an invented situation with the locals that are active
+no_local : Declared
+no_local = record { outer = None; register = 0; step = None; captured = false }
+
+abbrev invented : Maker → Situation
+invented m = record {
+  left = [];
+  scope = record { declared = replicate (length m.active) no_local; active = listed_by m };
+  step = 0;
+  pc = 0;
+  inside = None;
+  base = length m.active;
+  entries = [];
+  taken = 0;
+  seen = 0;
+}
+
+-- the locals of the function in the making are those that are declared, all active before the last word, and no functions are left
+pub record IsThere (f : Function) (m : Maker) (now : Situation) : Type 0 where
+  pub declared : length now.scope.declared ≡ length m.active
+  pub active : length m.items < f.last → now.scope.active ≡ listed_by m
+  pub left : now.left ≡ []
+  pub uncaptured : NoneCaptured now.scope.declared
+
+module _ {f : Function} {g : Fn} {z : Maker} (whole : IsWhole f g z) where
+  module _ {block : Statements} {m : Maker} (next : ComesNext f g z block m) where
+    count_same : length m.active ≡ length m.locals
+    count_same = as_many_listed 0 m.active m.locals next.listing.are
+
+    -- where locals start next
+    pub starts_next : (pc : ℕ) (scope : Scope) → length scope.declared ≡ length m.active → starting f.of.locals pc scope ≡ prefix_len (λ (entry : LocVar). entry.start == pc) (map (ended f.last) (entries_from block m))
+    starts_next pc scope as_many =
+        ap₂ (λ count (locals : List LocVar). prefix_len (λ (entry : LocVar). entry.start == pc) (drop count locals)) (as_many ∙ count_same) next.listing.listed
+        ∙ ap (prefix_len (λ (entry : LocVar). entry.start == pc)) (behind_front (ended f.last) m.locals (entries_from block m))
+
+  module _ {line : ℕ} {semi : Bool} {s : Statement} {rest : Statements} {m : Maker} (next : ComesNext f g z (syntax.statement line semi s rest) m) where
+    abbrev behind : Maker
+    behind = made_by s m
+
+    abbrev first_pc : ℕ
+    first_pc = length m.items
+
+    abbrev last_pc : ℕ
+    last_pc = length behind.items
+
+    forward : first_pc ≤ last_pc
+    forward = act_forward (made_there whole next) s next.straight.0.0 next.straight.0.1 (low whole next) behind.active (spot m) (spot behind) next.stand.0
+
+    own_entries : (s : Statement) → IsAct s → (n : Maker) → StartFrom (length n.items) (entries_by s n)
+    own_entries (local_statement names es) is n = entries_start names (length n.items)
+    own_entries (call_statement e) is n = tt
+    own_entries (assignment targets es) is n = tt
+    own_entries (return_statement es) is n = tt
+    own_entries s is n = absurd is
+
+    module _ (rest_later : StartFrom (suc last_pc) (entries_from rest (settle behind))) where
+      -- none starts among its words
+      all_behind : StartFrom last_pc (entries_from (syntax.statement line semi s rest) m)
+      all_behind = start_both last_pc (entries_by s behind) (entries_from rest (settle behind)) (own_entries s next.straight.0.0 behind) (start_later last_pc (suc last_pc) (entries_from rest (settle behind)) (omega arith) rest_later)
+
+      is_quiet : (scope : Scope) → length scope.declared ≡ length m.active → last_pc ≤ f.last → IsQuiet f scope first_pc last_pc
+      is_quiet scope as_many within = record {
+        none = λ pc from below. starts_next next pc scope as_many ∙ none_start f.last pc (entries_from (syntax.statement line semi s rest) m) (start_later (suc pc) last_pc (entries_from (syntax.statement line semi s rest) m) (omega (arith, below)) all_behind);
+        within = within;
+      }
+
+      local_starts : (names : List Text) (es : syntax.Expressions) → s ≡ local_statement names es → (scope : Scope) → length scope.declared ≡ length m.active → scope.active ≡ listed_by m → last_pc ≤ f.last → StartHere f scope names last_pc
+      local_starts names es is scope as_many active within =
+          let acts = subst IsAct is next.straight.0.0 in
+          let good = good_names names acts.0 in
+          let others = entries_from rest (settle behind) in
+          let entries : entries_from (syntax.statement line semi s rest) m ≡ entries_at names last_pc ++ others = ap (λ s. entries_by s behind ++ others) is in
+          let listed : f.of.locals ≡ map (ended f.last) (m.locals ++ (entries_at names last_pc ++ others)) = next.listing.listed ∙ ap (λ entries. map (ended f.last) (m.locals ++ entries)) entries in
+          let count : length scope.declared ≡ length m.locals = as_many ∙ count_same next in
+          let moves = statement_moves s next.straight.0.0 m in
+          let added : length behind.active ≡ length m.active + length names = ap length moves.active ∙ length-append m.active (actives_by s m) ∙ ap (λ s. length m.active + length (actives_by s m)) is ∙ ap (λ n. length m.active + n) (actives_count names m.ahead.captures m.ahead.declarations (length m.locals)) in
+          let room = (comes_behind whole next).room in
+          let few : length m.locals + length names ≤ 250 = omega (arith, added, room, whole.is_function.few, count_same next) in
+          let named = names_listed f.last last_pc m.locals names others (length scope.declared) count good in
+          record {
+            some = some_names names acts.0;
+            starts = starts_next next last_pc scope as_many ∙ ap (λ entries. prefix_len (λ (entry : LocVar). entry.start == last_pc) (map (ended f.last) entries)) entries ∙ all_start f.last last_pc names others rest_later;
+            named = ap (λ locals. names_from locals (length scope.declared) (length names)) listed ∙ named;
+            shown = ap (λ locals. is_hidden locals (length scope.declared)) listed ∙ first_shown f.last m.locals names last_pc others (length scope.declared) count acts.0;
+            declares = λ step.
+                let found = are_declared f.last last_pc m.locals names others step scope within count (active ∙ ap (numbers_from 0) (count_same next)) few in
+                subst (λ locals. (behind : Scope) × (declare locals (length names) last_pc step scope ≡ Some behind) × Declares (length names) scope behind) (sym listed) found;
+          }
+
+      starts_with : (statement : Statement) → s ≡ statement → (now : Situation) → length now.scope.declared ≡ length m.active → now.scope.active ≡ listed_by m → last_pc ≤ f.last → StartsWith f statement now last_pc
+      starts_with (local_statement names es) is now as_many active within = local_starts names es is now.scope as_many active within
+      starts_with (call_statement e) is now as_many active within = tt
+      starts_with (assignment targets es) is now as_many active within = tt
+      starts_with (return_statement es) is now as_many active within = tt
+      starts_with other is now as_many active within = absurd (subst IsAct is next.straight.0.0)
+
+      -- its words are read
+      act_there : last_pc ≤ f.last → (now : Situation) → length now.scope.declared ≡ length m.active → HasLocals m.active (listed_by m) now → now.entries ≡ [] → now.taken ≡ now.seen → ActRead f g m.active s now first_pc last_pc
+      act_there within now as_many locals empty taken =
+          act_read (made_there whole next) s next.straight.0.0 next.straight.0.1 (low whole next) behind.active (spot m) (spot behind) next.stand.0 now locals empty taken (is_quiet now.scope as_many within) (starts_with s refl now as_many locals.places within)
+
+      -- and they are some
+      is_later : last_pc ≤ f.last → first_pc < last_pc
+      is_later within =
+          let act = act_there within (invented m) (length-replicate (length m.active) no_local) (record { base = refl; places = refl }) refl refl in
+          act.later
+
+  block_forward : (block : Statements) (m : Maker) → ComesNext f g z block m → length m.items ≤ length (all_made block m).items
+  block_forward no_statements m next = omega arith
+  block_forward (syntax.statement line semi s rest) m next =
+      let others = block_forward rest (settle (made_by s m)) (comes_behind whole next) in omega (arith, forward next, others)
+
+  -- no local of a block starts where its words begin
+  pub later_starts : (block : Statements) (m : Maker) → ComesNext f g z block m → length (all_made block m).items ≤ f.last → StartFrom (suc (length m.items)) (entries_from block m)
+  later_starts no_statements m next within = tt
+  later_starts (syntax.statement line semi s rest) m next within =
+      let n = made_by s m in
+      let more = comes_behind whole next in
+      let rest_later = later_starts rest (settle n) more within in
+      let later = is_later next rest_later (omega (arith, within, block_forward rest (settle n) more)) in
+      start_later (suc (length m.items)) (length n.items) (entries_from (syntax.statement line semi s rest) m) (omega (arith, later)) (all_behind next rest_later)
+
+  -- ---- one step
+
+  -- what the step is of what is written
+  kind_is : (s : Statement) → IsAct s → (m : Maker) (acted : Acted) (n first listed : ℕ) (kind : DraftKind) → IsActed g m.active s acted → kind ≡ kind_of_act first acted → first + length (entries_by s (made_by s m)) ≤ listed →
+      KindIs listed (act_statement (place f.of (listed_by m) f.short) n [] acted) kind
+  kind_is (call_statement e) is m (called v) n first listed kind acts same room = same
+  kind_is (assignment (syntax.expression target syntax.no_expressions) (syntax.expression e syntax.no_expressions)) is m (assigned t o) n first listed kind acts same room = same
+  kind_is (local_statement names es) is m (declared others vs all) n first listed kind acts same room =
+      let some = some_names names is.0 in
+      let as_many = entries_count names (length (made_by (local_statement names es) m).items) in
+      (first, same, omega (arith, some, ap length acts.0), omega (arith, room, as_many, ap length acts.0))
+  kind_is (return_statement es) is m (returned vs all) n first listed kind acts same room = same
+  kind_is s is m acted n first listed kind acts same room = absurd acts
+
+  -- how many locals it declares
+  declares_count : (s : Statement) → IsAct s → (m : Maker) (acted : Acted) → IsActed g m.active s acted → locals_of acted ≡ length (actives_by s m)
+  declares_count (call_statement e) is m (called v) acts = refl
+  declares_count (assignment (syntax.expression target syntax.no_expressions) (syntax.expression e syntax.no_expressions)) is m (assigned t o) acts = refl
+  declares_count (local_statement names es) is m (declared others vs all) acts = ap length acts.0 ∙ sym (actives_count names m.ahead.captures m.ahead.declarations (length m.locals))
+  declares_count (return_statement es) is m (returned vs all) acts = refl
+  declares_count s is m acted acts = absurd acts
+
+  -- what is known behind the words of the first statement
+  there_behind : {line : ℕ} {semi : Bool} {s : Statement} {rest : Statements} {m : Maker} {number : ℕ} {now : Situation} (next : ComesNext f g z (syntax.statement line semi s rest) m) → IsThere f m now → now.scope.active ≡ listed_by m →
+      (act : ActRead f g m.active s (begun number (length m.items) now) (length m.items) (length (made_by s m).items)) → IsThere f (settle (made_by s m)) (left_at f (length (made_by s m).items) act.behind)
+  there_behind {s = s} {rest} {m} next there active act =
+      let n = made_by s m in
+      let more = comes_behind whole next in
+      let moves = statement_moves s next.straight.0.0 m in
+      let count = declares_count s next.straight.0.0 m act.acted act.is in
+      let added : length n.active ≡ length m.active + locals_of act.acted = ap length moves.active ∙ length-append m.active (actives_by s m) ∙ ap (λ more. length m.active + more) (sym count) in
+      let zero_more : length m.active ≡ 0 + length m.active = omega arith in
+      let all_active : act.behind.scope.active ≡ numbers_from 0 (length n.active) =
+      act.declares.active_more
+      ∙ ap₂ (λ active first. active ++ numbers_from first (locals_of act.acted)) active (there.declared ∙ zero_more)
+      ∙ sym (numbers_both 0 (length m.active) (locals_of act.acted))
+      ∙ ap (numbers_from 0) (sym added) in
+      let as_many : length n.active ≤ length (n.locals ++ entries_from rest (settle n)) = omega (arith, as_many_listed 0 n.active n.locals more.listing.are, length-append n.locals (entries_from rest (settle n))) in
+      record {
+        declared = act.declares.declared_more ∙ ap (λ count. count + locals_of act.acted) there.declared ∙ sym added;
+        active = λ before.
+            ap (λ locals. (leave locals (length n.items) act.behind.scope).active) more.listing.listed
+            ∙ all_left f.last (length n.items) (length n.active) (n.locals ++ entries_from rest (settle n)) act.behind.scope before all_active as_many
+            ∙ all_active;
+        left = act.left ∙ ap (left_by_act act.acted) there.left ∙ (written (made_there whole next) s next.straight.0.0 (low whole next) act.acted act.is).unused;
+        uncaptured = act.declares.uncaptured there.uncaptured;
+      }
+
+  -- ---- steps up to the last word
+
+  pub record StepsRead (block : Statements) (m : Maker) (drafts : List Drafted) (now : Situation) : Type 0 where
+    pub written : Statements
+    pub are : AreWritten f g now.seen block written m
+    pub more : List Drafted
+    pub behind : Situation
+    pub reads : (count : ℕ) → f.last ≤ count + length m.items → drafts_from f count (drafts, length m.items, now) ≡ Some (drafts ++ more, f.last, behind)
+    pub drafts_are : AreDraftsOf (length f.of.locals) written more
+    pub uncaptured : NoneCaptured behind.scope.declared
+    pub all_declared : length f.of.locals ≡ length behind.scope.declared
+
+  no_steps : (m : Maker) (drafts : List Drafted) (now : Situation) → ComesNext f g z no_statements m → length m.items ≡ f.last → IsThere f m now → StepsRead no_statements m drafts now
+  no_steps m drafts now next over there = record {
+    written = no_statements;
+    are = refl;
+    more = [];
+    behind = now;
+    reads = reads;
+    drafts_are = refl;
+    uncaptured = there.uncaptured;
+    all_declared =
+        ap length next.listing.listed
+        ∙ length-map (m.locals ++ []) (ended f.last)
+        ∙ ap length (append-nil m.locals)
+        ∙ sym (as_many_listed 0 m.active m.locals next.listing.are)
+        ∙ sym there.declared;
+  }
+    where
+      same : ◌≡◌ {A = Option ReadSoFar} (Some (drafts, length m.items, now)) (Some (drafts ++ [], f.last, now))
+      same = ap₂ (λ (drafts : List Drafted) (pc : ℕ). Some (drafts, pc, now)) (sym (append-nil drafts)) over
+
+      reads : (count : ℕ) → f.last ≤ count + length m.items → drafts_from f count (drafts, length m.items, now) ≡ Some (drafts ++ [], f.last, now)
+      reads zero few = same
+      reads (suc count) few =
+          ap (λ over. if over then Some (drafts, length m.items, now) else option_and_then (λ step. drafts_from f count (and_draft f drafts step)) (step_at f (length drafts) (length m.items) now)) (le-leb f.last (length m.items) (omega (arith, over))) ∙ same
+
+  act_is_read : (m : Maker) {s : Statement} {number last : ℕ} (now : Situation) (act : ActRead f g m.active s (begun number (length m.items) now) (length m.items) last) → starting f.of.locals (length m.items) now.scope ≡ 0 →
+      length now.scope.active ≤ 250 → last ≤ f.last → step_at f number (length m.items) now ≡ Some (act.draft, act.behind)
+  act_is_read m {number = number} {last} now act none few within =
+      let pc = length m.items in
+      let step = begun number pc now in
+      ap (λ small. if small then read_step f step else None) (lt-ltb (length now.scope.active) (2 ^ 32) (omega (arith, few)))
+      ∙ ap (λ n. if n == 0 then words_from f (suc (f.last - pc)) pc step else None) none
+      ∙ act.reads (suc (f.last - pc)) (omega (arith, act.later, within))
+
+  one_step : {s : Statement} {rest : Statements} {m : Maker} (line : ℕ) (semi : Bool) (drafts : List Drafted) (now : Situation) (next : ComesNext f g z (syntax.statement line semi s rest) m) → now.scope.active ≡ listed_by m → IsThere f m now →
+      (act : ActRead f g m.active s (begun (length drafts) (length m.items) now) (length m.items) (length (made_by s m).items)) → step_at f (length drafts) (length m.items) now ≡ Some (act.draft, act.behind) → length (made_by s m).items ≤ f.last →
+      StepsRead rest (settle (made_by s m)) (drafts ++ act.draft ∷ []) (left_at f (length (made_by s m).items) act.behind) → StepsRead (syntax.statement line semi s rest) m drafts now
+  one_step {s} {rest} {m} line semi drafts now next active there act is_read within others = record {
+    written = syntax.statement 1 false here others.written;
+    are = (act.acted, others.written, act.is, subst (λ taken. AreWritten f g taken rest others.written (settle n)) act.seen others.are, refl);
+    more = act.draft ∷ others.more;
+    behind = others.behind;
+    reads = reads;
+    drafts_are = (record { kind = kind; part = part; few = few }, others.drafts_are);
+    uncaptured = others.uncaptured;
+    all_declared = others.all_declared;
+  }
+    where
+      n : Maker
+      n = made_by s m
+
+      here : Statement
+      here = act_statement (place f.of (listed_by m) f.short) now.seen [] act.acted
+
+      part : act.draft.part ≡ part_of here
+      part = act.part ∙ ap₂ (λ (listed : List ℕ) (left : List (Option Inner)). part_of (act_statement (place f.of listed f.short) now.seen left act.acted)) active there.left
+
+      few : act.draft.levels ≤ 200
+      few =
+          let same = act.levels ∙ ap₂ (λ (listed : List ℕ) (left : List (Option Inner)). act_levels (place f.of listed f.short) now.seen left act.acted) active there.left in
+          omega (arith, same, few_levels (made_there whole next) s next.straight.0.0 (low whole next) act.acted now.seen act.is)
+
+      room : length now.scope.declared + length (entries_by s n) ≤ length f.of.locals
+      room =
+          let listed = ap length next.listing.listed ∙ length-map (m.locals ++ (entries_by s n ++ entries_from rest (settle n))) (ended f.last) in
+          omega (arith, listed, length-append m.locals (entries_by s n ++ entries_from rest (settle n)), length-append (entries_by s n) (entries_from rest (settle n)), as_many_listed 0 m.active m.locals next.listing.are, there.declared)
+
+      kind : KindIs (length f.of.locals) here act.draft.kind
+      kind = kind_is s next.straight.0.0 m act.acted now.seen (length now.scope.declared) (length f.of.locals) act.draft.kind act.is act.kind room
+
+      reads : (count : ℕ) → f.last ≤ count + length m.items → drafts_from f count (drafts, length m.items, now) ≡ Some (drafts ++ act.draft ∷ others.more, f.last, others.behind)
+      reads zero over = absurd (omega (arith, over, act.later, within))
+      reads (suc count) over =
+          let go_on = λ (step : Drafted × Situation). drafts_from f count (and_draft f drafts step) in
+          ap (λ over. if over then Some (drafts, length m.items, now) else option_and_then go_on (step_at f (length drafts) (length m.items) now)) (not_below (length m.items) f.last (omega (arith, act.later, within)))
+          ∙ ap (option_and_then go_on) is_read
+          ∙ ap (λ pc. drafts_from f count (drafts ++ act.draft ∷ [], pc, left_at f pc act.behind)) act.next
+          ∙ others.reads count (omega (arith, act.later, over))
+          ∙ ap (λ (drafts : List Drafted). Some (drafts, f.last, others.behind)) (append_assoc drafts (act.draft ∷ []) others.more)
+
+  -- ---- all steps
+
+  pub block_read : (block : Statements) (m : Maker) (drafts : List Drafted) (now : Situation) → ComesNext f g z block m → length (all_made block m).items ≡ f.last → IsThere f m now → StepsRead block m drafts now
+  block_read no_statements m drafts now next ends there = no_steps m drafts now next ends there
+  block_read (syntax.statement line semi s rest) m drafts now next ends there =
+      let n = made_by s m in
+      let more = comes_behind whole next in
+      let rest_later = later_starts rest (settle n) more (omega (arith, ends)) in
+      let within : length n.items ≤ f.last = omega (arith, ends, block_forward rest (settle n) more) in
+      let later = is_later next rest_later within in
+      let active = there.active (omega (arith, later, within)) in
+      let base : length now.scope.active ≡ length m.active = ap length active ∙ numbers_length 0 (length m.active) in
+      let act = act_there next rest_later within (begun (length drafts) (length m.items) now) there.declared (record { base = base; places = active }) refl refl in
+      let quiet = is_quiet next rest_later now.scope there.declared within in
+      let few : length now.scope.active ≤ 250 = omega (arith, base, next.room, whole.is_function.few) in
+      let is_read = act_is_read m now act (quiet.none (length m.items) (omega arith) later) few within in
+      let behind = left_at f (length n.items) act.behind in
+      one_step line semi drafts now next active there act is_read within (block_read rest (settle n) (drafts ++ act.draft ∷ []) behind more ends (there_behind next there active act))

@@ -1,0 +1,356 @@
+-- What is written of a `local` statement makes the same code as the statement, whichever of its values are written.
+use Rattle.std.proofs.Common.{◌≡◌, ℕ, suc, ◌+◌, ◌-◌, ◌*◌, ◌≤◌, ◌<◌, Bool, true, false, cond, List, [], ◌∷◌, length, nat_lt, lt-ltb, Option, Some, None, refl, sym, ap, ◌∙◌, subst, arith}
+use Rattle.std.proofs.lemmas.Bool.{eqb-true, eqb-false, le-ltb, ltb-false, ltb-true}
+use Rattle.std.specs.Prelude.{◌&&◌, ◌==◌, not}
+use Rattle.lua_num.specs.Bytes.{Text}
+use Rattle.lua_tree.specs.OneLine.{one_line_expressions}
+use Rattle.lua_tree.specs.Syntax as syntax
+use Rattle.lua_tree.specs.Syntax.{Expressions, no_expressions, argument_list, nil_literal, local_statement}
+use Rattle.lua_tree.specs.WellFormed.{depth_of_expressions}
+use Rattle.opcode.specs.declared.op.Op.{Op}
+use Rattle.core_expr.specs.Counting.{taken_behind_values, left_by_values}
+use Rattle.core_expr.specs.Places.{place}
+use Rattle.core_expr.specs.Values.{Value, nil_value, Values, and_value, Inner}
+use Rattle.core_expr.specs.Writing.{can_write_values, is_multiple as can_be_several}
+use Rattle.recover_expr.specs.Entries.{Listed, and_last_value}
+use Rattle.recover_expr.specs.Lists.{before_last, is_nil, split_last, value_count}
+use Rattle.recover_expr.specs.Situation.{Function}
+use Rattle.scheme.specs.Expressions.{Coded, next_reg}
+use Rattle.scheme.specs.Lists.{adjust, all_multi, all_next, ends_open as opens, filled, nils}
+use Rattle.scheme.specs.Making.{Maker, activate, declare, free_from, put, take_registers}
+use Rattle.scheme.specs.Scheme.{coded}
+use Rattle.scheme.specs.Statements.{local_part}
+use Rattle.scheme.specs.declared.making.Active.{Active}
+use Rattle.scheme.specs.declared.making.Local.{Local}
+use Rattle.scheme.specs.declared.making.Piece.{Piece}
+use Rattle.scheme_stands.proofs.Growth.{Final, before, before_free, before_put, before_take, calm, later, loose}
+use Rattle.scheme_stands.proofs.Lines.{all_next_free, declare_active, grows_activate, grows_declare}
+use Rattle.scheme_stands.proofs.Parts.{grow_all}
+use Rattle.scheme_stands.specs.Words.{Fn}
+use Rattle.reads_back.specs.Acted.{declared, declared_values, ends_with_nil, filled as filled_values, without_nil}
+use Rattle.reads_back.specs.Cores.{AllHaveCores, AreCores, ends_open}
+use Rattle.reads_back.proofs.DeclaredValues.{nil_last}
+use Rattle.reads_back.proofs.GivenSame.{AllRewritten, list_rewritten}
+use Rattle.reads_back.proofs.AdjustedEntries.{count_last, last_split, taken_end}
+use Rattle.reads_back.proofs.ListsSame.{EachFine, can_last, codes_of, coded_count, cores_count, cores_fine, fine_front, fine_last, left_last, list_closed, list_few, multi_all, multi_all_taken, next_all, next_all_taken, nil_next, opens_is, values_coded}
+use Rattle.reads_back.proofs.NamesAhead.{AreMeant, IsAhead, names_in_all}
+use Rattle.reads_back.proofs.Rewriting.{IsMadeBy, RewrittenAct, RewrittenGiven}
+use Rattle.reads_back.proofs.Tests.{and_not, first_of_both, not_so, second_of_both}
+
+-- ---- a last nil of values
+
+no_nil : (v : Value) → can_be_several v ≡ true → is_nil v ≡ false
+no_nil nil_value several = cc
+no_nil v several = refl
+
+-- ---- the registers of the locals
+
+-- one register is cleared as by a nil
+nils_one : (m : Maker) → nils 1 1 m ≡ next_reg (coded (nil_literal 1)) m
+nils_one m = let same : m.free + 1 - 1 ≡ m.free = omega arith in ap (λ last. put 1 (Piece.Abc Op.LoadNil m.free last 0) (take_registers 1 m)) same
+
+before_nils : {k : ℕ} {z : Maker} (n : ℕ) (m : Maker) → Final k (nils 1 n m) z → Final k m z
+before_nils n m final = before_take n m (before_put 1 (Piece.Abc Op.LoadNil m.free (m.free + n - 1) 0) (take_registers n m) final)
+
+adjust_more : (cs : List Coded) (n : ℕ) (m : Maker) → n ≤ length cs → adjust 1 cs n m ≡ free_from (m.free + n) (all_next cs m)
+adjust_more cs n m enough = ap (λ fewer. cond fewer (filled 1 cs (n - length cs)) (λ k. free_from (m.free + n) (all_next cs k)) m) (le-ltb (length cs) n enough)
+
+adjust_fewer : (cs : List Coded) (n : ℕ) (m : Maker) → length cs < n → adjust 1 cs n m ≡ filled 1 cs (n - length cs) m
+adjust_fewer cs n m fewer = ap (λ fewer. cond fewer (filled 1 cs (n - length cs)) (λ k. free_from (m.free + n) (all_next cs k)) m) (lt-ltb (length cs) n fewer)
+
+adjust_open : (cs : List Coded) (n : ℕ) (m : Maker) → length cs < n → opens cs ≡ true → adjust 1 cs n m ≡ all_multi Op.Call (Some (n - length cs + 1)) cs m
+adjust_open cs n m fewer is = adjust_fewer cs n m fewer ∙ ap (λ several. cond several (all_multi Op.Call (Some (n - length cs + 1)) cs) (λ m. nils 1 (n - length cs) (all_next cs m)) m) is
+
+adjust_closed : (cs : List Coded) (n : ℕ) (m : Maker) → length cs < n → opens cs ≡ false → adjust 1 cs n m ≡ nils 1 (n - length cs) (all_next cs m)
+adjust_closed cs n m fewer is = adjust_fewer cs n m fewer ∙ ap (λ several. cond several (all_multi Op.Call (Some (n - length cs + 1)) cs) (λ m. nils 1 (n - length cs) (all_next cs m)) m) is
+
+-- F is there already
+free_there : (r : ℕ) (m : Maker) → m.free ≡ r → free_from r m ≡ m
+free_there r m is = ap (λ r. free_from r m) (sym is)
+
+-- ---- what is declared
+
+declare_constants : (names : List Text) (m : Maker) → (declare names m).after.constants ≡ m.constants
+declare_constants [] m = refl
+declare_constants (name ∷ names) m = declare_constants names _
+
+declare_names : (names : List Text) (m : Maker) → (declare names m).after.ahead.names ≡ m.ahead.names
+declare_names [] m = refl
+declare_names (name ∷ names) m = declare_names names _
+
+activate_constants : (locals : List Local) (m : Maker) → (activate locals m).constants ≡ m.constants
+activate_constants [] m = refl
+activate_constants (local ∷ locals) m = activate_constants locals _
+
+-- lists that count as much are both open or both closed
+count_opens : (a b : Bool) (x y : ℕ) → ◌≡◌ {A = Option ℕ} (cond a None (Some x)) (cond b None (Some y)) → a ≡ b
+count_opens true true x y same = refl
+count_opens true false x y same = cc
+count_opens false true x y same = cc
+count_opens false false x y same = refl
+
+module _ (f : Function) (g : Fn) (active : List Active) (listed : List ℕ) (z : Maker) (left : List (Option Inner)) where
+  -- the last one gives several, so it is no nil
+  open_no_nil : (es : Expressions) (vs : Values) → AllRewritten f g active listed z left es → AreCores g active es vs → ends_open es ≡ true → ends_with_nil vs ≡ false
+  open_no_nil no_expressions vs written are is = not_so is
+  open_no_nil (syntax.expression e no_expressions) vs written are is = ap ends_with_nil (are.4 ∙ ap (and_value are.0) are.3) ∙ no_nil are.0 ((written.0 are.0 are.2).gives is)
+  open_no_nil (syntax.expression e (syntax.expression d no_expressions)) vs written are is =
+      let w = are.3.0 in
+      ap ends_with_nil (are.4 ∙ ap (and_value are.0) (are.3.4 ∙ ap (and_value w) are.3.3)) ∙ ap (λ nil. nil && not (can_be_several are.0)) (no_nil w ((written.1.0 w are.3.2).gives is))
+  open_no_nil (syntax.expression e (syntax.expression d (syntax.expression x es))) vs written are is =
+      let behind = are.3.4 ∙ ap (and_value are.3.0) are.3.3.4 in
+      ap ends_with_nil (are.4 ∙ ap (and_value are.0) behind) ∙ ap ends_with_nil (sym behind) ∙ open_no_nil (syntax.expression d (syntax.expression x es)) are.1 written.1 are.3 is
+
+  -- ---- what is asked of the values that are written
+
+  record Adjusts (names : List Text) (es : Expressions) (vs : Values) (all : Bool) : Type 0 where
+    can : can_write_values (place f.of listed f.short) left vs ≡ true
+    unused : left_by_values vs left ≡ left
+    fine : (n : ℕ) → EachFine (place f.of listed f.short) (3 * depth_of_expressions es + 2) n left vs
+    same : (m : Maker) → IsAhead g active (names_in_all es) m → Final (length m.labels) (adjust 1 (codes_of es) (length names) m) z →
+        adjust 1 (values_coded (place f.of listed f.short) (length m.constants) left vs all) (length names) m ≡ adjust 1 (codes_of es) (length names) m
+    taken : (m : Maker) → IsAhead g active (names_in_all es) m → Final (length m.labels) (adjust 1 (codes_of es) (length names) m) z → length (adjust 1 (codes_of es) (length names) m).constants ≡ taken_behind_values vs (length m.constants)
+
+  -- the names are declared before the values, and active behind them
+  adjusts_act : (names : List Text) (es : Expressions) (vs : Values) (all : Bool) → Adjusts names es vs all → RewrittenAct f g active listed z left (local_statement names es) (declared names vs all)
+  adjusts_act names es vs all adjusts = record {
+    can = adjusts.can;
+    unused = adjusts.unused;
+    few = λ n. omega (arith, list_few (place f.of listed f.short) (3 * depth_of_expressions es + 2) n left vs all (adjusts.fine n));
+    made = λ m ahead final.
+        let behind = declare names m in
+        ap (λ constants. activate behind.value (adjust 1 (values_coded (place f.of listed f.short) (length constants) left vs all) (length names) behind.after)) (sym (declare_constants names m))
+        ∙ ap (activate behind.value) (adjusts.same behind.after (names_ahead m ahead) (inner m final));
+    taken = λ m ahead final.
+        let behind = declare names m in
+        ap length (activate_constants behind.value (adjust 1 (codes_of es) (length names) behind.after))
+        ∙ adjusts.taken behind.after (names_ahead m ahead) (inner m final)
+        ∙ ap (λ constants. taken_behind_values vs (length constants)) (declare_constants names m);
+  }
+    where
+      names_ahead : (m : Maker) → IsAhead g active (names_in_all es) m → IsAhead g active (names_in_all es) (declare names m).after
+      names_ahead m ahead = record {
+        active_are = declare_active names m ∙ ahead.active_are;
+        names = subst (λ uses. AreMeant g.law active (names_in_all es) uses) (sym (declare_names names m)) ahead.names;
+      }
+
+      inner : (m : Maker) → Final (length m.labels) (local_part 1 names (codes_of es) m) z → Final (length (declare names m).after.labels) (adjust 1 (codes_of es) (length names) (declare names m).after) z
+      inner m final =
+          let behind = declare names m in
+          let grown = grows_declare calm names m in
+          later grown.more (before {v = loose} (grows_activate behind.value (adjust 1 (codes_of es) (length names) behind.after)) final)
+
+-- ---- which values are written
+
+module _ {f : Function} {g : Fn} {active : List Active} {listed : List ℕ} {z : Maker} (left : List (Option Inner)) (made : IsMadeBy f g active listed z) (names : List Text) (es : Expressions) (from : Values)
+    (has : AllHaveCores es) (written : AllRewritten f g active listed z left es) (are : AreCores g active es from) where
+  abbrev IsWritten : Values → (all : Bool) → Type 0
+  IsWritten vs all = Adjusts f g active listed z left names es vs all
+
+  abbrev written_as : ℕ → Values → (all : Bool) → List Coded
+  written_as n vs all = values_coded (place f.of listed f.short) n left vs all
+
+  abbrev cs : List Coded
+  cs = codes_of es
+
+  abbrev deep : ℕ
+  deep = 3 * depth_of_expressions es + 2
+
+  given : RewrittenGiven f g active listed z left (argument_list es) (depth_of_expressions es) from (ends_open es)
+  given = list_rewritten made es from (ends_open es) has written are refl
+
+  fine : (n : ℕ) → EachFine (place f.of listed f.short) deep n left from
+  fine n = cores_fine f g active listed z left (depth_of_expressions es) es from (omega arith) written are n
+
+  as_many : length cs ≡ value_count from
+  as_many = cores_count g active es from are
+
+  count_written : (n : ℕ) (vs : Values) (all : Bool) → length (written_as n vs all) ≡ value_count vs
+  count_written n vs all = coded_count (place f.of listed f.short) n left vs all
+
+  all_free : (m : Maker) → (all_next cs m).free ≡ m.free + value_count from
+  all_free m = all_next_free cs (grow_all calm (one_line_expressions es)) m ∙ ap (λ k. m.free + k) as_many
+
+  closed_code : ends_open es ≡ false → opens cs ≡ false
+  closed_code closed = opens_is es ∙ closed
+
+  -- as many as names or more
+  module _ (enough : length names ≤ value_count from) where
+    more_is : (m : Maker) → adjust 1 cs (length names) m ≡ free_from (m.free + length names) (all_next cs m)
+    more_is m = adjust_more cs (length names) m (omega (arith, enough, as_many))
+
+    more_final : (m : Maker) → Final (length m.labels) (adjust 1 cs (length names) m) z → Final (length m.labels) (all_next cs m) z
+    more_final m final = before_free (m.free + length names) (all_next cs m) (subst (λ (n : Maker). Final (length m.labels) n z) (more_is m) final)
+
+    more_taken : (m : Maker) → IsAhead g active (names_in_all es) m → Final (length m.labels) (adjust 1 cs (length names) m) z → length (adjust 1 cs (length names) m).constants ≡ taken_behind_values from (length m.constants)
+    more_taken m ahead final = ap (λ (n : Maker). length n.constants) (more_is m) ∙ next_all_taken f g active listed z left es from has written are m ahead (more_final m final)
+
+    more_written : IsWritten from true
+    more_written = record {
+      can = given.can;
+      unused = given.unused;
+      fine = fine;
+      same = λ m ahead final.
+          let ds = written_as (length m.constants) from true in
+          adjust_more ds (length names) m (omega (arith, enough, count_written (length m.constants) from true))
+          ∙ ap (free_from (m.free + length names)) (next_all f g active listed z left es from true has written are m ahead (more_final m final))
+          ∙ sym (more_is m);
+      taken = more_taken;
+    }
+
+  -- fewer, and the last one gives all that are missing
+  module _ (fewer : value_count from < length names) (open_last : ends_open es ≡ true) where
+    open_is : (m : Maker) → adjust 1 cs (length names) m ≡ all_multi Op.Call (Some (length names - length cs + 1)) cs m
+    open_is m = adjust_open cs (length names) m (omega (arith, fewer, as_many)) (opens_is es ∙ open_last)
+
+    open_final : (m : Maker) → Final (length m.labels) (adjust 1 cs (length names) m) z → Final (length m.labels) (all_multi Op.Call (Some (length names - length cs + 1)) cs m) z
+    open_final m final = subst (λ (n : Maker). Final (length m.labels) n z) (open_is m) final
+
+    -- what is written is open too
+    written_open : (n : ℕ) → opens (written_as n from true) ≡ true
+    written_open n =
+        let counts = (list_rewritten made es from true has written are (sym open_last)).counts n in
+        count_opens (opens (written_as n from true)) (opens cs) (length (written_as n from true)) (length cs) counts ∙ opens_is es ∙ open_last
+
+    open_written : IsWritten from true
+    open_written = record {
+      can = given.can;
+      unused = given.unused;
+      fine = fine;
+      same = λ m ahead final.
+          let ds = written_as (length m.constants) from true in
+          let count = count_written (length m.constants) from true in
+          adjust_open ds (length names) m (omega (arith, fewer, count)) (written_open (length m.constants))
+          ∙ ap (λ k. all_multi Op.Call (Some (length names - k + 1)) ds m) (count ∙ sym as_many)
+          ∙ multi_all f g active listed z left Op.Call (Some (length names - length cs + 1)) es from has written are open_last m ahead (open_final m final)
+          ∙ sym (open_is m);
+      taken = λ m ahead final. ap (λ (n : Maker). length n.constants) (open_is m) ∙ multi_all_taken f g active listed z left Op.Call (Some (length names - length cs + 1)) es from has written are open_last m ahead (open_final m final);
+    }
+
+  -- fewer, and the others are nils
+  module _ (fewer : value_count from < length names) (closed : ends_open es ≡ false) where
+    closed_is : (m : Maker) → adjust 1 cs (length names) m ≡ nils 1 (length names - length cs) (all_next cs m)
+    closed_is m = adjust_closed cs (length names) m (omega (arith, fewer, as_many)) (closed_code closed)
+
+    closed_final : (m : Maker) → Final (length m.labels) (adjust 1 cs (length names) m) z → Final (length m.labels) (all_next cs m) z
+    closed_final m final = before_nils (length names - length cs) (all_next cs m) (subst (λ (n : Maker). Final (length m.labels) n z) (closed_is m) final)
+
+    closed_taken : (m : Maker) → IsAhead g active (names_in_all es) m → Final (length m.labels) (adjust 1 cs (length names) m) z → length (adjust 1 cs (length names) m).constants ≡ taken_behind_values from (length m.constants)
+    closed_taken m ahead final = ap (λ (n : Maker). length n.constants) (closed_is m) ∙ next_all_taken f g active listed z left es from has written are m ahead (closed_final m final)
+
+    closed_written : IsWritten from false
+    closed_written = record {
+      can = given.can;
+      unused = given.unused;
+      fine = fine;
+      same = λ m ahead final.
+          let ds = written_as (length m.constants) from false in
+          let count = count_written (length m.constants) from false in
+          adjust_closed ds (length names) m (omega (arith, fewer, count)) (list_closed (place f.of listed f.short) deep (length m.constants) left from (fine (length m.constants)))
+          ∙ ap (λ k. nils 1 (length names - k) (all_next ds m)) (count ∙ sym as_many)
+          ∙ ap (nils 1 (length names - length cs)) (next_all f g active listed z left es from false has written are m ahead (closed_final m final))
+          ∙ sym (closed_is m);
+      taken = closed_taken;
+    }
+
+    -- the only one that is missing is written as a nil
+    nil_written : suc (value_count from) ≡ length names → IsWritten (and_last_value from nil_value) true
+    nil_written exact = record {
+      can = can_last (place f.of listed f.short) left from ∙ given.can;
+      unused = left_last from left ∙ given.unused;
+      fine = λ n. fine_last (place f.of listed f.short) deep n left from (omega arith) (fine n);
+      same = λ m ahead final.
+          let ds = written_as (length m.constants) (and_last_value from nil_value) true in
+          let behind = next_reg (coded (nil_literal 1)) (all_next cs m) in
+          let one : 1 ≡ length names - length cs = omega (arith, exact, as_many) in
+          adjust_more ds (length names) m (omega (arith, exact, count_written (length m.constants) (and_last_value from nil_value) true, count_last from nil_value))
+          ∙ ap (free_from (m.free + length names))
+          (nil_next (place f.of listed f.short) (length m.constants) left from true m
+          ∙ ap (next_reg (coded (nil_literal 1))) (next_all f g active listed z left es from true has written are m ahead (closed_final m final)))
+          ∙ free_there (m.free + length names) behind (omega (arith, all_free m, exact))
+          ∙ sym (nils_one (all_next cs m))
+          ∙ ap (λ k. nils 1 k (all_next cs m)) one
+          ∙ sym (closed_is m);
+      taken = λ m ahead final. closed_taken m ahead final ∙ sym (taken_end from nil_value (length m.constants));
+    }
+
+  -- the last one is a nil, which is left out
+  module _ (exact : value_count from ≡ length names) (is : ends_with_nil from ≡ true) where
+    abbrev front : Values
+    front = before_last (split_last from)
+
+    split : from ≡ and_last_value front nil_value
+    split = sym (nil_last from is)
+
+    more : value_count from ≡ suc (value_count front)
+    more = ap value_count split ∙ count_last front nil_value
+
+    enough : length names ≤ value_count from
+    enough = omega (arith, exact)
+
+    front_fine : (n : ℕ) → EachFine (place f.of listed f.short) deep n left front
+    front_fine n = fine_front (place f.of listed f.short) deep n left front (subst (EachFine (place f.of listed f.short) deep n left) split (fine n))
+
+    front_written : IsWritten front false
+    front_written =
+        let at = place f.of listed f.short in
+        record {
+          can = sym (can_last at left front) ∙ ap (can_write_values at left) (sym split) ∙ given.can;
+          unused = sym (left_last front left) ∙ ap (λ vs. left_by_values vs left) (sym split) ∙ given.unused;
+          fine = front_fine;
+          same = λ m ahead final.
+              let n = length m.constants in
+              let ds = written_as n front false in
+              let count = count_written n front false in
+              let one : length names - length ds ≡ 1 = omega (arith, exact, count, more) in
+              adjust_closed ds (length names) m (omega (arith, exact, count, more)) (list_closed at deep n left front (front_fine n))
+              ∙ ap (λ k. nils 1 k (all_next ds m)) one
+              ∙ nils_one (all_next ds m)
+              ∙ sym (nil_next at n left front false m)
+              ∙ ap (λ vs. all_next (written_as n vs false) m) (sym split)
+              ∙ next_all f g active listed z left es from false has written are m ahead (more_final enough m final)
+              ∙ sym (free_there (m.free + length names) (all_next cs m) (omega (arith, all_free m, exact)))
+              ∙ sym (more_is enough m);
+          taken = λ m ahead final. more_taken enough m ahead final ∙ ap (λ vs. taken_behind_values vs (length m.constants)) split ∙ taken_end front nil_value (length m.constants);
+        }
+
+  -- ---- every declaration
+
+  abbrev IsListed : Listed → Type 0
+  IsListed list = IsWritten list.values list.all
+
+  open_listed : ends_open es ≡ true → (fewer : Bool) → nat_lt (value_count from) (length names) ≡ fewer → IsWritten from true
+  open_listed is true fewer = open_written (ltb-true _ _ fewer) is
+  open_listed is false fewer = more_written (ltb-false _ _ fewer)
+
+  last_listed : value_count from < length names → ends_open es ≡ false → suc (value_count from) ≡ length names → (left_out : Bool) → IsListed (without_nil left_out (and_last_value from nil_value))
+  last_listed fewer is exact true = subst (λ vs. IsWritten vs false) (sym (ap before_last (last_split from nil_value))) (closed_written fewer is)
+  last_listed fewer is exact false = nil_written fewer is exact
+
+  exact_listed : length names ≤ value_count from → (left_out : Bool) → ((value_count from == length names) && ends_with_nil from) ≡ left_out → IsListed (without_nil left_out from)
+  exact_listed low true both = front_written (eqb-true _ _ (first_of_both _ _ both)) (second_of_both _ _ both)
+  exact_listed low false both = more_written low
+
+  closed_listed : ends_open es ≡ false → (missing_some : Bool) → nat_lt (suc (value_count from)) (length names) ≡ missing_some → (missing_one : Bool) → (suc (value_count from) == length names) ≡ missing_one →
+      IsListed (filled_values missing_some (length names) missing_one from)
+  closed_listed is true some missing_one one = let fewer = ltb-true _ _ some in closed_written (omega (arith, fewer)) is
+  closed_listed is false some true one =
+      let exact = eqb-true _ _ one in
+      last_listed (omega (arith, exact)) is exact _
+  closed_listed is false some false one =
+      let low = ltb-false _ _ some in
+      let other = eqb-false _ _ one in
+      exact_listed (omega (arith, low, other)) _ refl
+
+  all_listed : (is_open : Bool) → ends_open es ≡ is_open → IsListed (declared_values (length names) is_open from)
+  all_listed true is =
+      let no_nil = ap (λ nil. (value_count from == length names) && nil) (open_no_nil f g active listed z left es from written are is) ∙ and_not (value_count from == length names) in
+      subst (λ left_out. IsListed (without_nil left_out from)) (sym no_nil) (open_listed is _ refl)
+  all_listed false is = closed_listed is _ refl _ refl
+
+  pub local_rewritten_act : (others : List Text) (vs : Values) (all : Bool) → others ≡ names → declared_values (length names) (ends_open es) from ≡ record { values = vs; all = all } →
+      RewrittenAct f g active listed z left (local_statement names es) (declared others vs all)
+  local_rewritten_act others vs all same is =
+      let list : Listed = record { values = vs; all = all } in
+      let adjusts : IsListed list = subst IsListed is (all_listed (ends_open es) refl) in
+      subst (λ others. RewrittenAct f g active listed z left (local_statement names es) (declared others vs all)) (sym same) (adjusts_act f g active listed z left names es vs all adjusts)

@@ -1,0 +1,209 @@
+-- What is written of a list of values makes the same code as the expressions: each value goes to the next register, or the last one gives several; and a nil behind the values.
+use Rattle.std.proofs.Common.{◌≡◌, ℕ, suc, ◌+◌, ◌*◌, ◌≤◌, Bool, true, false, List, [], ◌++◌, length, Option, refl, sym, ap, ◌∙◌, subst, arith}
+use Rattle.std.specs.Prelude.{◌&&◌, not}
+use Rattle.lua_tree.specs.OneLine.{one_line_expression, one_line_expressions}
+use Rattle.lua_tree.specs.Syntax as syntax
+use Rattle.lua_tree.specs.Syntax.{Expressions, no_expressions, Expression, nil_literal}
+use Rattle.lua_tree.specs.WellFormed.{depth_of_expressions}
+use Rattle.opcode.specs.declared.op.Op.{Op}
+use Rattle.core_expr.specs.Counting.{taken_behind, taken_behind_values, left_by, left_by_values}
+use Rattle.core_expr.specs.Places.{Place, place}
+use Rattle.core_expr.specs.Values.{nil_value, Values, no_values, and_value, Inner}
+use Rattle.core_expr.specs.Writing.{can_write, can_write_values, ends_values, is_multiple as can_be_several, single as single_word, unless, word, word_values}
+use Rattle.recover_expr.specs.Entries.{and_last_value}
+use Rattle.recover_expr.specs.Lists.{value_count}
+use Rattle.recover_expr.specs.Situation.{Function}
+use Rattle.scheme.specs.Expressions.{Coded, Want, is_multiple, next_reg}
+use Rattle.scheme.specs.Lists.{all_multi, all_next, ends_open as opens}
+use Rattle.scheme.specs.Making.{Maker}
+use Rattle.scheme.specs.Scheme.{all_coded, coded}
+use Rattle.scheme.specs.declared.making.Active.{Active}
+use Rattle.scheme_stands.proofs.Growth.{Final, before, calm, later}
+use Rattle.scheme_stands.proofs.Parts.{grow_all, grows, grows_all, grows_multi, grows_next}
+use Rattle.scheme_stands.specs.Words.{Fn}
+use Rattle.reads_back.specs.Cores.{AllHaveCores, AreCores, ends_open}
+use Rattle.reads_back.proofs.GivenSame.{AllRewritten, closed_unless}
+use Rattle.reads_back.proofs.NamesAhead.{IsAhead, ahead_behind, ahead_front, names_in, names_in_all}
+use Rattle.reads_back.proofs.PassedNames.{names_passed, next_passes}
+use Rattle.reads_back.proofs.Rewriting.{code, wording}
+use Rattle.reads_back.proofs.Tests.{not_so}
+use Rattle.reads_back.proofs.WordsSame.{coded_is, levels_wrapped, next_same, next_taken, next_wrapped, same_multiple}
+
+-- the code of expressions on one line, and of what is written of values
+abbrev pub codes_of : Expressions → List Coded
+codes_of es = all_coded (one_line_expressions es)
+
+abbrev pub values_coded : Place → ℕ → List (Option Inner) → Values → (all : Bool) → List Coded
+values_coded at n fs vs all = all_coded (word_values at n fs vs all).words
+
+-- ---- how many there are
+
+pub coded_count : (at : Place) (n : ℕ) (fs : List (Option Inner)) (vs : Values) (all : Bool) → length (values_coded at n fs vs all) ≡ value_count vs
+coded_count at n fs no_values all = refl
+coded_count at n fs (and_value v rest) all = ap suc (coded_count at (taken_behind v n) (left_by v fs) rest all)
+
+pub cores_count : (g : Fn) (active : List Active) (es : Expressions) (vs : Values) → AreCores g active es vs → length (codes_of es) ≡ value_count vs
+cores_count g active no_expressions vs are = ap value_count (sym are)
+cores_count g active (syntax.expression e es) vs are = ap suc (cores_count g active es are.1 are.3) ∙ ap value_count (sym are.4)
+
+-- the last one gives several in the code too
+pub opens_is : (es : Expressions) → opens (codes_of es) ≡ ends_open es
+opens_is no_expressions = refl
+opens_is (syntax.expression e no_expressions) = ap is_multiple (coded_is (one_line_expression e)) ∙ same_multiple e
+opens_is (syntax.expression e (syntax.expression d es)) = opens_is (syntax.expression d es)
+
+-- ---- each of them
+
+module _ (at : Place) (deep : ℕ) where
+  -- it has few levels, and can give several as a word where it can as a value
+  abbrev pub EachFine : ℕ → List (Option Inner) → Values → Type 0
+  EachFine n fs no_values = Unit {0}
+  EachFine n fs (and_value v rest) = ((word at n fs v).levels ≤ deep) × (is_multiple (word at n fs v).words ≡ can_be_several v) × EachFine (taken_behind v n) (left_by v fs) rest
+
+  pub list_few : (n : ℕ) (fs : List (Option Inner)) (vs : Values) (all : Bool) → EachFine n fs vs → (word_values at n fs vs all).levels ≤ suc deep
+  list_few n fs no_values all fine = omega arith
+  list_few n fs (and_value v rest) all fine =
+      omega (arith, fine.0, levels_wrapped (not ((ends_values rest && not all) && can_be_several v)) (word at n fs v), list_few (taken_behind v n) (left_by v fs) rest all fine.2)
+
+  -- one value is wanted of the last one
+  pub list_closed : (n : ℕ) (fs : List (Option Inner)) (vs : Values) → EachFine n fs vs → opens (values_coded at n fs vs false) ≡ false
+  list_closed n fs no_values fine = refl
+  list_closed n fs (and_value v no_values) fine =
+      let one = unless (not (true && can_be_several v)) (word at n fs v) in
+      ap is_multiple (coded_is one.words) ∙ closed_unless (can_be_several v) (word at n fs v) fine.1
+  list_closed n fs (and_value v (and_value w rest)) fine = list_closed (taken_behind v n) (left_by v fs) (and_value w rest) fine.2
+
+  pub fine_last : (n : ℕ) (fs : List (Option Inner)) (vs : Values) → 1 ≤ deep → EachFine n fs vs → EachFine n fs (and_last_value vs nil_value)
+  fine_last n fs no_values some fine = (some, refl, tt)
+  fine_last n fs (and_value v rest) some fine = (fine.0, fine.1, fine_last (taken_behind v n) (left_by v fs) rest some fine.2)
+
+  pub fine_front : (n : ℕ) (fs : List (Option Inner)) (vs : Values) → EachFine n fs (and_last_value vs nil_value) → EachFine n fs vs
+  fine_front n fs no_values fine = tt
+  fine_front n fs (and_value v rest) fine = (fine.0, fine.1, fine_front (taken_behind v n) (left_by v fs) rest fine.2)
+
+pub cores_fine : (f : Function) (g : Fn) (active : List Active) (listed : List ℕ) (z : Maker) (left : List (Option Inner)) (deep : ℕ) (es : Expressions) (vs : Values) →
+    depth_of_expressions es ≤ deep → AllRewritten f g active listed z left es → AreCores g active es vs → (n : ℕ) → EachFine (place f.of listed f.short) (3 * deep + 2) n left vs
+cores_fine f g active listed z left deep no_expressions vs shallow written are n = subst (EachFine (place f.of listed f.short) (3 * deep + 2) n left) (sym are) tt
+cores_fine f g active listed z left deep (syntax.expression e es) vs shallow written are n =
+    let at = place f.of listed f.short in
+    let v = are.0 in
+    let one = written.0 v are.2 in
+    subst (EachFine at (3 * deep + 2) n left) (sym are.4) (
+      omega (arith, one.few n, shallow),
+      one.several n,
+      subst (λ fs. EachFine at (3 * deep + 2) (taken_behind v n) fs are.1) (sym one.unused) (cores_fine f g active listed z left deep es are.1 (omega (arith, shallow)) written.1 are.3 (taken_behind v n)),
+    )
+
+pub cores_few : (f : Function) (g : Fn) (active : List Active) (listed : List ℕ) (z : Maker) (left : List (Option Inner)) (es : Expressions) (vs : Values) (all : Bool) →
+    AllRewritten f g active listed z left es → AreCores g active es vs → (n : ℕ) → (word_values (place f.of listed f.short) n left vs all).levels ≤ 3 * depth_of_expressions es + 3
+cores_few f g active listed z left es vs all written are n =
+    let deep = depth_of_expressions es in
+    omega (arith, list_few (place f.of listed f.short) (3 * deep + 2) n left vs all (cores_fine f g active listed z left deep es vs (omega arith) written are n))
+
+-- ---- a nil behind them
+
+module _ (at : Place) where
+  pub can_last : (fs : List (Option Inner)) (vs : Values) → can_write_values at fs (and_last_value vs nil_value) ≡ can_write_values at fs vs
+  can_last fs no_values = refl
+  can_last fs (and_value v rest) = ap (λ can. can_write at fs v && can) (can_last (left_by v fs) rest)
+
+  -- each goes to the next register, in parentheses or not
+  pub nil_next : (n : ℕ) (fs : List (Option Inner)) (vs : Values) (all : Bool) (m : Maker) → all_next (values_coded at n fs (and_last_value vs nil_value) all) m ≡ next_reg (coded (nil_literal 1)) (all_next (values_coded at n fs vs all) m)
+  nil_next n fs no_values all m = next_wrapped (not (not all && false)) (single_word (nil_literal 1)) m
+  nil_next n fs (and_value v rest) all m =
+      let w = word at n fs v in
+      let behind = values_coded at (taken_behind v n) (left_by v fs) rest all in
+      let bare = not ((ends_values rest && not all) && can_be_several v) in
+      nil_next (taken_behind v n) (left_by v fs) rest all _
+      ∙ ap (λ m. next_reg (coded (nil_literal 1)) (all_next behind m)) (next_wrapped _ w m ∙ sym (next_wrapped bare w m))
+
+pub left_last : (vs : Values) (fs : List (Option Inner)) → left_by_values (and_last_value vs nil_value) fs ≡ left_by_values vs fs
+left_last no_values fs = refl
+left_last (and_value v rest) fs = left_last rest (left_by v fs)
+
+-- ---- the code
+
+-- what is known between the first one and the others
+module _ {g : Fn} {active : List Active} (e : Expression) (es : Expressions) (has : AllHaveCores (syntax.expression e es)) (m : Maker) (ahead : IsAhead g active (names_in e ++ names_in_all es) m) where
+  first_ahead : IsAhead g active (names_in e) m
+  first_ahead = ahead_front (names_in e) (names_in_all es) ahead
+
+  others_ahead : IsAhead g active (names_in_all es) (next_reg (code e) m)
+  others_ahead = ahead_behind (names_in e) (names_in_all es) (next_passes (names_in e) (code e) (names_passed e has.0) m) ahead
+
+module _ {z : Maker} (e : Expression) (es : Expressions) (m : Maker) where
+  first_next : Final (length m.labels) (all_next (codes_of es) (next_reg (code e) m)) z → Final (length m.labels) (next_reg (code e) m) z
+  first_next final = before (grows_all {v = calm} (codes_of es) (grow_all calm (one_line_expressions es)) (next_reg (code e) m)) final
+
+  first_multi : (op : Op) (want : Want) → Final (length m.labels) (all_multi op want (codes_of es) (next_reg (code e) m)) z → Final (length m.labels) (next_reg (code e) m) z
+  first_multi op want final = before (grows_multi {v = calm} op want (codes_of es) (grow_all calm (one_line_expressions es)) (next_reg (code e) m)) final
+
+  others_final : {n : Maker} → Final (length m.labels) n z → Final (length (next_reg (code e) m).labels) n z
+  others_final final = let grown = grows_next {v = calm} (code e) (grows calm (one_line_expression e)) m in later grown.more final
+
+module _ (f : Function) (g : Fn) (active : List Active) (listed : List ℕ) (z : Maker) (left : List (Option Inner)) where
+  -- each goes to the next register, whether the last one could give all its values or not
+  pub next_all : (es : Expressions) (vs : Values) (all : Bool) → AllHaveCores es → AllRewritten f g active listed z left es → AreCores g active es vs →
+      (m : Maker) → IsAhead g active (names_in_all es) m → Final (length m.labels) (all_next (codes_of es) m) z →
+      all_next (values_coded (place f.of listed f.short) (length m.constants) left vs all) m ≡ all_next (codes_of es) m
+  next_all no_expressions vs all has written are m ahead final = ap (λ vs. all_next (values_coded (place f.of listed f.short) (length m.constants) left vs all) m) are
+  next_all (syntax.expression e es) vs all has written are m ahead final =
+      let at = place f.of listed f.short in
+      let v = are.0 in
+      let rest = are.1 in
+      let first = written.0 v are.2 in
+      let mid = next_reg (code e) m in
+      let here = first_next e es m final in
+      ap (λ vs. all_next (values_coded at (length m.constants) left vs all) m) are.4
+      ∙ ap (all_next (values_coded at (taken_behind v (length m.constants)) (left_by v left) rest all))
+      (next_wrapped (not ((ends_values rest && not all) && can_be_several v)) (wording f listed z left (length m.constants) v) m ∙ next_same first m (first_ahead e es has m ahead) here)
+      ∙ ap (λ n. all_next (values_coded at n (left_by v left) rest all) mid) (sym (next_taken first m (first_ahead e es has m ahead) here))
+      ∙ ap (λ fs. all_next (values_coded at (length mid.constants) fs rest all) mid) first.unused
+      ∙ next_all es rest all has.1 written.1 are.3 mid (others_ahead e es has m ahead) (others_final e es m final)
+
+  pub next_all_taken : (es : Expressions) (vs : Values) → AllHaveCores es → AllRewritten f g active listed z left es → AreCores g active es vs →
+      (m : Maker) → IsAhead g active (names_in_all es) m → Final (length m.labels) (all_next (codes_of es) m) z → length (all_next (codes_of es) m).constants ≡ taken_behind_values vs (length m.constants)
+  next_all_taken no_expressions vs has written are m ahead final = ap (λ vs. taken_behind_values vs (length m.constants)) (sym are)
+  next_all_taken (syntax.expression e es) vs has written are m ahead final =
+      let first = written.0 are.0 are.2 in
+      next_all_taken es are.1 has.1 written.1 are.3 (next_reg (code e) m) (others_ahead e es has m ahead) (others_final e es m final)
+      ∙ ap (taken_behind_values are.1) (next_taken first m (first_ahead e es has m ahead) (first_next e es m final))
+      ∙ ap (λ vs. taken_behind_values vs (length m.constants)) (sym are.4)
+
+  -- the last one gives several values, which are wanted
+  pub multi_all : (op : Op) (want : Want) (es : Expressions) (vs : Values) → AllHaveCores es → AllRewritten f g active listed z left es → AreCores g active es vs → ends_open es ≡ true →
+      (m : Maker) → IsAhead g active (names_in_all es) m → Final (length m.labels) (all_multi op want (codes_of es) m) z →
+      all_multi op want (values_coded (place f.of listed f.short) (length m.constants) left vs true) m ≡ all_multi op want (codes_of es) m
+  multi_all op want no_expressions vs has written are is m ahead final = not_so is
+  multi_all op want (syntax.expression e no_expressions) vs has written are is m ahead final =
+      ap (λ vs. all_multi op want (values_coded (place f.of listed f.short) (length m.constants) left vs true) m) (are.4 ∙ ap (and_value are.0) are.3)
+      ∙ (written.0 are.0 are.2).multi is op want m (ahead_front (names_in e) [] ahead) final
+  multi_all op want (syntax.expression e (syntax.expression d es)) vs has written are is m ahead final =
+      let at = place f.of listed f.short in
+      let v = are.0 in
+      let rest = are.1 in
+      let behind = syntax.expression d es in
+      let first = written.0 v are.2 in
+      let mid = next_reg (code e) m in
+      let here = first_multi e behind m op want final in
+      let here_ahead = first_ahead e behind has m ahead in
+      let rest_is = are.3.4 in
+      ap (λ vs. all_multi op want (values_coded at (length m.constants) left vs true) m) (are.4 ∙ ap (and_value v) rest_is)
+      ∙ ap (all_multi op want (values_coded at (taken_behind v (length m.constants)) (left_by v left) (and_value are.3.0 are.3.1) true)) (next_same first m here_ahead here)
+      ∙ ap (λ n. all_multi op want (values_coded at n (left_by v left) (and_value are.3.0 are.3.1) true) mid) (sym (next_taken first m here_ahead here))
+      ∙ ap (λ fs. all_multi op want (values_coded at (length mid.constants) fs (and_value are.3.0 are.3.1) true) mid) first.unused
+      ∙ ap (λ rest. all_multi op want (values_coded at (length mid.constants) left rest true) mid) (sym rest_is)
+      ∙ multi_all op want (syntax.expression d es) rest has.1 written.1 are.3 is mid (others_ahead e behind has m ahead) (others_final e behind m final)
+
+  pub multi_all_taken : (op : Op) (want : Want) (es : Expressions) (vs : Values) → AllHaveCores es → AllRewritten f g active listed z left es → AreCores g active es vs → ends_open es ≡ true →
+      (m : Maker) → IsAhead g active (names_in_all es) m → Final (length m.labels) (all_multi op want (codes_of es) m) z → length (all_multi op want (codes_of es) m).constants ≡ taken_behind_values vs (length m.constants)
+  multi_all_taken op want no_expressions vs has written are is m ahead final = not_so is
+  multi_all_taken op want (syntax.expression e no_expressions) vs has written are is m ahead final =
+      (written.0 are.0 are.2).multi_taken is op want m (ahead_front (names_in e) [] ahead) final
+      ∙ ap (λ vs. taken_behind_values vs (length m.constants)) (sym (are.4 ∙ ap (and_value are.0) are.3))
+  multi_all_taken op want (syntax.expression e (syntax.expression d es)) vs has written are is m ahead final =
+      let behind = syntax.expression d es in
+      let first = written.0 are.0 are.2 in
+      multi_all_taken op want (syntax.expression d es) are.1 has.1 written.1 are.3 is (next_reg (code e) m) (others_ahead e behind has m ahead) (others_final e behind m final)
+      ∙ ap (taken_behind_values are.1) (next_taken first m (first_ahead e behind has m ahead) (first_multi e behind m op want final))
+      ∙ ap (λ vs. taken_behind_values vs (length m.constants)) (sym are.4)

@@ -1,0 +1,493 @@
+-- Where words of an expression stand with their law, each name that it mentions means what the scope finds by it, and the names are passed one by one.
+use Rattle.std.proofs.Common.{◌≡◌, ℕ, suc, inl, inr, Bool, true, false, cond, List, [], ◌∷◌, ◌++◌, length, Option, Some, None, refl, sym, ap, ap₂, ◌∙◌, subst, drop}
+use Rattle.std.specs.Prelude.{◌==◌, ◌&&◌, ◌||◌, ◌+◌, ◌-◌, ◌/◌, nat_le, nat_lt, ℤ}
+use Rattle.lua_num.specs.Bytes.{Text}
+use Rattle.lua_num.specs.declared.arith.ArithOp.{ArithOp}
+use Rattle.lua_tree.specs.Scoping.{Use}
+use Rattle.lua_tree.specs.Syntax as syntax
+use Rattle.lua_tree.specs.Syntax.{Expressions, no_expressions, Arguments, argument_list, text_argument, table_argument, Expression, nil_literal, true_literal, false_literal, vararg_expression, number_literal, text_literal, name_expression, index_expression, field_expression, call_expression, method_call, binary_expression, unary_expression, parenthesized, constructor, Fields, no_fields, positional, named, keyed, Statement, assignment, call_statement, local_statement, return_statement}
+use Rattle.lua_tree.specs.declared.tree.BinaryOp.{BinaryOp}
+use Rattle.lua_tree.specs.declared.tree.UnaryOp.{UnaryOp}
+use Rattle.opcode.specs.declared.op.Op.{Op}
+use Rattle.proto.specs.declared.parts.Constant.{Constant}
+use Rattle.scheme.specs.Expressions.{Target, Want, arith_op, fold, fold_binary, fold_unary, is_comparison, is_vararg, literal, name_target, number_or, part_target, plain_literal, register_of}
+use Rattle.scheme.specs.Lists.{pending_after}
+use Rattle.scheme.specs.Making.{Ahead, Where, in_globals, in_register, in_upvalue}
+use Rattle.scheme.specs.declared.making.Active.{Active}
+use Rattle.scheme.specs.declared.making.Local.{Local}
+use Rattle.scheme_stands.proofs.Forms.{form_is}
+use Rattle.scheme_stands.specs.Expressions.{ArithmeticAt, BinaryAt, BinarySpine, ConcatAt, Form, IndexAt, LoadOr, NameBy, OperandAt, OperandBy, Rel, RkAt, RkBy, RkTextAt, SpineAt, TwoAt, UnaryAt, form_of, in_next, several}
+use Rattle.scheme_stands.specs.Functions.{Declared}
+use Rattle.scheme_stands.specs.Lists.{AdjustAt, AdjustBy, AllMultiAt, AllNextAt, CallAt, FilledAt, FirstAt, GivenRel, ItemBy, KeyedAt, MethodAt, MovedFrom, OpenBy, OpenListAt, SetListAt, SetListBy, SetListIf, TableAt, is_last_item, rel_call, rels_open}
+use Rattle.scheme_stands.specs.Relation.{ItemsAt, StatementAt, all_related, given_rel, related}
+use Rattle.scheme_stands.specs.Statements.{ReturnAt, ReturnBy, SetAt, StoreAt, StoreNameAt}
+use Rattle.scheme_stands.specs.Words.{Fn, Spot, Stretch, meaning}
+use Rattle.reads_back.specs.Acted.{IsAct, IsActTarget}
+use Rattle.reads_back.specs.Cores.{AllHaveCores, HasCore, HaveCores, HaveItems}
+use Rattle.reads_back.proofs.AssignmentsRead.{one_target}
+use Rattle.reads_back.proofs.NamesAhead.{AreMeant, behind_both, both_meant, names_behind, names_given, names_in, names_in_all, names_of_fields}
+use Rattle.reads_back.proofs.Rewriting.{names_of_statement}
+
+-- ---- what a stretch of words means and passes
+
+-- the names come next before it, and are passed behind it; nothing else is
+pub record IsMeant (g : Fn) (active : List Active) (texts : List Text) (p q : Spot) : Type 0 where
+  pub names : AreMeant g.law active texts p.ahead.names
+  pub behind : q.ahead ≡ record p.ahead { names = names_behind texts p.ahead.names }
+
+abbrev pub Meant : Fn → List Active → List Text → Stretch → Type 0
+Meant g active texts part = (p q : Spot) → part p q → IsMeant g active texts p q
+
+module _ {g : Fn} {active : List Active} where
+  meant_none : {p q : Spot} → q.ahead ≡ p.ahead → IsMeant g active [] p q
+  meant_none same = record { names = tt; behind = same }
+
+  meant_then : {p m q : Spot} (texts others : List Text) → IsMeant g active texts p m → IsMeant g active others m q → IsMeant g active (texts ++ others) p q
+  meant_then {p} {m} {q} texts others first second =
+      let passed : m.ahead.names ≡ names_behind texts p.ahead.names = ap (λ (ahead : Ahead). ahead.names) first.behind in
+      record {
+        names = both_meant g.law active texts others p.ahead.names first.names (subst (λ (uses : List Use). AreMeant g.law active others uses) passed second.names);
+        behind =
+            second.behind
+            ∙ ap (λ (ahead : Ahead). record ahead { names = names_behind others ahead.names }) first.behind
+            ∙ ap (λ (uses : List Use). record p.ahead { names = uses }) (sym (behind_both texts others p.ahead.names));
+      }
+
+  -- words that pass no name, behind these or before them
+  meant_on : {p m q : Spot} {texts : List Text} → IsMeant g active texts p m → q.ahead ≡ m.ahead → IsMeant g active texts p q
+  meant_on first same = record { names = first.names; behind = same ∙ first.behind }
+
+  meant_from : {p m q : Spot} {texts : List Text} → m.ahead ≡ p.ahead → IsMeant g active texts m q → IsMeant g active texts p q
+  meant_from {p} {m} {q} {texts} same second = record {
+    names = subst (λ (ahead : Ahead). AreMeant g.law active texts ahead.names) same second.names;
+    behind = second.behind ∙ ap (λ (ahead : Ahead). record ahead { names = names_behind texts ahead.names }) same;
+  }
+
+  -- the same names
+  meant_as : {p q : Spot} {texts others : List Text} → texts ≡ others → IsMeant g active others p q → IsMeant g active texts p q
+  meant_as {p} {q} are meant = subst (λ (texts : List Text). IsMeant g active texts p q) (sym are) meant
+
+-- ---- literals name nothing
+
+both_none : (texts others : List Text) → texts ≡ [] → others ≡ [] → texts ++ others ≡ []
+both_none texts others first second = ap₂ (λ (texts others : List Text). texts ++ others) first second
+
+unary_folds : (op : UnaryOp) (a : Option ℤ) (n : ℤ) → fold_unary op a ≡ Some n → (x : ℤ) × (a ≡ Some x)
+unary_folds UnaryOp.Neg (Some a) n is = (a, refl)
+unary_folds op a n is = cc
+
+binary_folds : (op : Option ArithOp) (a b : Option ℤ) (n : ℤ) → fold_binary op a b ≡ Some n → ((x : ℤ) × (a ≡ Some x)) × ((y : ℤ) × (b ≡ Some y))
+binary_folds (Some op) (Some a) (Some b) n is = ((a, refl), (b, refl))
+binary_folds op a b n is = cc
+
+-- only numbers are folded
+folded_nameless : (e : Expression) (n : ℤ) → fold e ≡ Some n → names_in e ≡ []
+folded_nameless (number_literal line x) n is = refl
+folded_nameless (parenthesized line e) n is = folded_nameless e n is
+folded_nameless (unary_expression line op e) n is = let inside = unary_folds op (fold e) n is in folded_nameless e inside.0 inside.1
+folded_nameless (binary_expression line op left right) n is =
+    let sides = binary_folds (arith_op op) (fold left) (fold right) n is in
+    both_none (names_in left) (names_in right) (folded_nameless left sides.0.0 sides.0.1) (folded_nameless right sides.1.0 sides.1.1)
+folded_nameless e n is = cc
+
+plain_nameless : (e : Expression) (k : Constant) → plain_literal e ≡ Some k → names_in e ≡ []
+plain_nameless (nil_literal line) k is = refl
+plain_nameless (true_literal line) k is = refl
+plain_nameless (false_literal line) k is = refl
+plain_nameless (text_literal line text) k is = refl
+plain_nameless e k is = cc
+
+literal_nameless_by : (folded : Option ℤ) (e : Expression) (k : Constant) → fold e ≡ folded → number_or folded (plain_literal e) ≡ Some k → names_in e ≡ []
+literal_nameless_by (Some n) e k folded is = folded_nameless e n folded
+literal_nameless_by None e k folded is = plain_nameless e k is
+
+literal_nameless : (e : Expression) (k : Constant) → literal e ≡ Some k → names_in e ≡ []
+literal_nameless e k is = literal_nameless_by (fold e) e k refl is
+
+-- ---- the uses of an expression
+
+-- each use of an expression that mentions these names
+pub record MeansNames (g : Fn) (active : List Active) (texts : List Text) (c : Rel) : Type 0 where
+  pub to_reg : (free r : ℕ) → Meant g active texts (c.to_reg active free r)
+  pub spine : (free free1 : ℕ) → Meant g active texts (c.spine active free free1)
+  -- several values are asked only of what can give them
+  pub multi : several c.form ≡ true → (free : ℕ) (op : Op) (want : Want) → Meant g active texts (c.multi active free op want)
+  -- only a name is an operand as it is, and a literal mentions none
+  pub bare : c.form.name ≡ true → Meant g active texts (c.bare active)
+  pub nameless : (k : Constant) → c.form.literal ≡ Some k → texts ≡ []
+
+abbrev EachMeant : Fn → List Active → Expressions → Type 0
+EachMeant g active no_expressions = Unit {0}
+EachMeant g active (syntax.expression e es) = MeansNames g active (names_in e) (related g e) × EachMeant g active es
+
+abbrev ItemsMeant : Fn → List Active → Fields → Type 0
+ItemsMeant g active no_fields = Unit {0}
+ItemsMeant g active (positional e separator rest) = MeansNames g active (names_in e) (related g e) × ItemsMeant g active rest
+ItemsMeant g active (named text e separator rest) = MeansNames g active (names_in e) (related g e) × ItemsMeant g active rest
+ItemsMeant g active (keyed key e separator rest) = MeansNames g active (names_in key) (related g key) × MeansNames g active (names_in e) (related g e) × ItemsMeant g active rest
+
+-- what goes into a table that is made passes none
+set_list_by_passes : (g : Fn) (small : Bool) (t n block : ℕ) (p q : Spot) → SetListBy small g t n block p q → q.ahead ≡ p.ahead
+set_list_by_passes g true t n block p q at = at.ahead
+set_list_by_passes g false t n block p q at = at.second_at.ahead ∙ at.first_at.ahead
+
+set_list_passes : (g : Fn) (t n done : ℕ) (p q : Spot) → SetListAt g t n done p q → q.ahead ≡ p.ahead
+set_list_passes g t n done p q at = let block = (done - 1) / 50 + 1 in set_list_by_passes g (nat_le block 511) t n block p q at
+
+set_list_if_passes : (g : Fn) (are : Bool) (t n done : ℕ) (p q : Spot) → SetListIf are g t n done p q → q.ahead ≡ p.ahead
+set_list_if_passes g true t n done p q at = set_list_passes g t n done p q at
+set_list_if_passes g false t n done p q at = at.ahead
+
+-- no names stand behind the last item
+last_nameless : (fields : Fields) → is_last_item fields ≡ true → names_of_fields fields ≡ []
+last_nameless no_fields is = refl
+last_nameless items is = cc
+
+-- what reads a name, or stores to it, passes none
+name_by : (g : Fn) (text : Text) (w : Where) (r : ℕ) (p q : Spot) → NameBy g text w r p q → q.ahead ≡ p.ahead
+name_by g text (in_register x) r p q at = at.ahead
+name_by g text (in_upvalue slot) r p q at = at.ahead
+name_by g text in_globals r p q at = at.word.ahead
+
+module _ {g : Fn} {active : List Active} where
+  -- ---- operands
+
+  operand_by : (texts : List Text) (c : Rel) → MeansNames g active texts c → (named : Bool) (local : Option ℕ) → c.form.name ≡ named → (free x free1 : ℕ) → Meant g active texts (OperandBy (cond named local None) g active c free x free1)
+  operand_by texts c means true (Some r) is free x free1 p q at = means.bare is p q at.passed
+  operand_by texts c means true None is free x free1 p q at = means.to_reg free free p q at.value_at
+  operand_by texts c means false local is free x free1 p q at = means.to_reg free free p q at.value_at
+
+  operand_meant : (texts : List Text) (c : Rel) → MeansNames g active texts c → (free x free1 : ℕ) → Meant g active texts (OperandAt g active c free x free1)
+  operand_meant texts c means free x free1 p q at = operand_by texts c means c.form.name (register_of (meaning active p)) refl free x free1 p q at
+
+  rk_by : (texts : List Text) (c : Rel) → MeansNames g active texts c → (k : Option Constant) → c.form.literal ≡ k → (free x free1 : ℕ) → Meant g active texts (RkBy k g active c free x free1)
+  rk_by texts c means (Some k) is free x free1 p q (inl at) = meant_as (means.nameless k is) (meant_none at.same.ahead)
+  rk_by texts c means (Some k) is free x free1 p q (inr (large, at)) = operand_meant texts c means free x free1 p q at
+  rk_by texts c means None is free x free1 p q at = operand_meant texts c means free x free1 p q at
+
+  rk_meant : (texts : List Text) (c : Rel) → MeansNames g active texts c → (free x free1 : ℕ) → Meant g active texts (RkAt g active c free x free1)
+  rk_meant texts c means = rk_by texts c means c.form.literal refl
+
+  -- the name of a field is none of these names
+  text_meant : (text : Text) (free x free1 : ℕ) → Meant g active [] (RkTextAt g text free x free1)
+  text_meant text free x free1 p q (inl at) = meant_none at.same.ahead
+  text_meant text free x free1 p q (inr (large, at)) = meant_none at.value_at.word.ahead
+
+  -- two parts, and words behind them that pass no name
+  two_meant : (texts others : List Text) (left right : (free x free1 : ℕ) → Stretch) (words : (x y : ℕ) → Stretch) → ((free x free1 : ℕ) → Meant g active texts (left free x free1)) → ((free x free1 : ℕ) → Meant g active others (right free x free1)) →
+      ((x y : ℕ) (p q : Spot) → words x y p q → q.ahead ≡ p.ahead) → (free : ℕ) → Meant g active (texts ++ others) (TwoAt left right free words)
+  two_meant texts others left right words first second same free p q at =
+      meant_on (meant_then texts others (first free at.x at.free1 p at.mid at.left_at) (second at.free1 at.y at.free2 at.mid at.last at.right_at)) (same at.x at.y at.last q at.words_at)
+
+  -- ---- expressions from their parts
+
+  -- what is no name, and gives one value: its value goes to the next register
+  value_meant : (texts : List Text) (c : Rel) → ((free r : ℕ) → Meant g active texts (c.to_reg active free r)) → ((free free1 : ℕ) (p q : Spot) → c.spine active free free1 p q → in_next g c.to_reg active free free1 p q) →
+      several c.form ≡ false → c.form.name ≡ false → ((k : Constant) → c.form.literal ≡ Some k → texts ≡ []) → MeansNames g active texts c
+  value_meant texts c means spine single unnamed nameless = record {
+    to_reg = means;
+    spine = λ free free1 p q at. means free free p q (spine free free1 p q at).value_at;
+    multi = λ is. absurd cc;
+    bare = λ is. absurd cc;
+    nameless = nameless;
+  }
+
+  -- what is loaded has no names
+  loaded_meant : (c : Rel) → ((free r : ℕ) (p q : Spot) → c.to_reg active free r p q → q.ahead ≡ p.ahead) → ((free free1 : ℕ) (p q : Spot) → c.spine active free free1 p q → in_next g c.to_reg active free free1 p q) →
+      several c.form ≡ false → c.form.name ≡ false → MeansNames g active [] c
+  loaded_meant c same spine single unnamed = value_meant [] c (λ free r p q at. meant_none (same free r p q at)) spine single unnamed (λ k is. refl)
+
+  name_meant : (line : ℕ) (text : Text) → MeansNames g active (text ∷ []) (related g (name_expression line text))
+  name_meant line text = record {
+    to_reg = λ free r. to r;
+    spine = λ free free1 p q at. to free p q at.value_at;
+    multi = λ is. absurd cc;
+    bare = λ is p q at. record { names = (at.means, tt); behind = at.passed.ahead };
+    nameless = λ k is. absurd cc;
+  }
+    where
+      to : (r : ℕ) → Meant g active (text ∷ []) ((related g (name_expression line text)).to_reg active 0 r)
+      to r p q at = record { names = (at.0, tt); behind = name_by g text (meaning active p) r at.1.mid q at.1.second_at ∙ at.1.first_at.ahead }
+
+  indexed_meant : (texts keys : List Text) (on : Rel) (key : List Active → (free x free1 : ℕ) → Stretch) → MeansNames g active texts on → ((free x free1 : ℕ) → Meant g active keys (key active free x free1)) →
+      (free r : ℕ) → Meant g active (texts ++ keys) (IndexAt g on key active free r)
+  indexed_meant texts keys on key means then_key free r = two_meant texts keys (OperandAt g active on) (key active) _ (operand_meant texts on means) then_key (λ x y p q at. at.ahead) free
+
+  -- the name of a field is passed over
+  field_meant : (texts : List Text) (on : Rel) (text : Text) → MeansNames g active texts on → (free r : ℕ) → Meant g active texts (IndexAt g on (λ active. RkTextAt g text) active free r)
+  field_meant texts on text means free r p q at =
+      let first = operand_meant texts on means free at.x at.free1 p at.mid at.left_at in
+      let key = text_meant text at.free1 at.y at.free2 at.mid at.last at.right_at in
+      meant_on first (at.words_at.ahead ∙ key.behind)
+
+  load_or_meant : (texts : List Text) (folded : Option ℤ) (to : List Active → (free r : ℕ) → Stretch) → ((n : ℤ) → folded ≡ Some n → texts ≡ []) → ((free r : ℕ) → Meant g active texts (to active free r)) →
+      (free r : ℕ) → Meant g active texts (LoadOr folded g to active free r)
+  load_or_meant texts (Some n) to nameless means free r p q at = meant_as (nameless n refl) (meant_none at.word.ahead)
+  load_or_meant texts None to nameless means free r p q at = means free r p q at
+
+  arithmetic_meant : (texts others : List Text) (op : Op) (left right : Rel) → MeansNames g active texts left → MeansNames g active others right → (free r : ℕ) → Meant g active (texts ++ others) (ArithmeticAt g op left right active free r)
+  arithmetic_meant texts others op left right first second free r = two_meant texts others (RkAt g active left) (RkAt g active right) _ (rk_meant texts left first) (rk_meant others right second) (λ x y p q at. at.ahead) free
+
+  operands_meant : (texts others : List Text) (left right : Rel) → MeansNames g active texts left → MeansNames g active others right → (free free1 : ℕ) → Meant g active (texts ++ others) (SpineAt g left right active free free1)
+  operands_meant texts others left right first second free free1 p q at = meant_then texts others (first.to_reg free free p at.mid at.first) (second.spine (free + 1) free1 at.mid q at.rest)
+
+  concat_meant : (texts others : List Text) (left right : Rel) → MeansNames g active texts left → MeansNames g active others right → (free r : ℕ) → Meant g active (texts ++ others) (ConcatAt g left right active free r)
+  concat_meant texts others left right first second free r p q at = meant_on (operands_meant texts others left right first second free at.free1 p at.last at.operands) at.word.ahead
+
+  binary_value_meant : (texts others : List Text) (op : BinaryOp) (left right : Rel) → is_comparison op ≡ false → MeansNames g active texts left → MeansNames g active others right →
+      (free r : ℕ) → Meant g active (texts ++ others) (BinaryAt g op left right active free r)
+  binary_value_meant texts others BinaryOp.Add left right plain first second = arithmetic_meant texts others Op.Add left right first second
+  binary_value_meant texts others BinaryOp.Sub left right plain first second = arithmetic_meant texts others Op.Sub left right first second
+  binary_value_meant texts others BinaryOp.Mul left right plain first second = arithmetic_meant texts others Op.Mul left right first second
+  binary_value_meant texts others BinaryOp.Div left right plain first second = arithmetic_meant texts others Op.Div left right first second
+  binary_value_meant texts others BinaryOp.Rem left right plain first second = arithmetic_meant texts others Op.Mod left right first second
+  binary_value_meant texts others BinaryOp.Pow left right plain first second = arithmetic_meant texts others Op.Pow left right first second
+  binary_value_meant texts others BinaryOp.Concat left right plain first second = concat_meant texts others left right first second
+  binary_value_meant texts others op left right plain first second = absurd cc
+
+  binary_spine_meant : (texts others : List Text) (op : BinaryOp) (left right value : Rel) → MeansNames g active texts left → MeansNames g active others right → ((free free1 : ℕ) → Meant g active (texts ++ others) (value.spine active free free1)) →
+      (free free1 : ℕ) → Meant g active (texts ++ others) (BinarySpine g op left right value active free free1)
+  binary_spine_meant texts others BinaryOp.Concat left right value first second means = operands_meant texts others left right first second
+  binary_spine_meant texts others op left right value first second means = means
+
+  binary_meant : (line : ℕ) (op : BinaryOp) (l r : Expression) → is_comparison op ≡ false → MeansNames g active (names_in l) (related g l) → MeansNames g active (names_in r) (related g r) →
+      MeansNames g active (names_in l ++ names_in r) (related g (binary_expression line op l r))
+  binary_meant line op l r plain first second = record {
+    to_reg = to;
+    spine = binary_spine_meant (names_in l) (names_in r) op (related g l) (related g r) _ first second (λ free free1 p q at. to free free p q at.value_at);
+    multi = λ is. absurd cc;
+    bare = λ is. absurd cc;
+    nameless = literal_nameless (binary_expression line op l r);
+  }
+    where
+      to : (free r1 : ℕ) → Meant g active (names_in l ++ names_in r) ((related g (binary_expression line op l r)).to_reg active free r1)
+      to = load_or_meant _ (fold (binary_expression line op l r)) (BinaryAt g op (related g l) (related g r)) (folded_nameless (binary_expression line op l r))
+          (binary_value_meant (names_in l) (names_in r) op (related g l) (related g r) plain first second)
+
+  unary_meant : (line : ℕ) (op : UnaryOp) (e : Expression) → MeansNames g active (names_in e) (related g e) → MeansNames g active (names_in e) (related g (unary_expression line op e))
+  unary_meant line op e means = value_meant (names_in e) (related g (unary_expression line op e)) to (λ free free1 p q at. at) refl refl (literal_nameless (unary_expression line op e))
+    where
+      value : (free r : ℕ) → Meant g active (names_in e) (UnaryAt g op (related g e) active free r)
+      value free r p q at = meant_on (operand_meant (names_in e) (related g e) means free at.x at.free1 p at.mid at.operand_at) at.words_at.ahead
+
+      to : (free r : ℕ) → Meant g active (names_in e) ((related g (unary_expression line op e)).to_reg active free r)
+      to = load_or_meant (names_in e) (fold (unary_expression line op e)) (UnaryAt g op (related g e)) (folded_nameless (unary_expression line op e)) value
+
+  -- a name in parentheses is a name; of several values there is one
+  parenthesized_meant : (line : ℕ) (e : Expression) → MeansNames g active (names_in e) (related g e) → MeansNames g active (names_in e) (related g (parenthesized line e))
+  parenthesized_meant line e means = record {
+    to_reg = means.to_reg;
+    spine = λ free free1 p q at. means.to_reg free free p q at.value_at;
+    multi = λ is. absurd cc;
+    bare = λ is. means.bare (ap (λ (form : Form). form.name) (form_is g e) ∙ is);
+    nameless = literal_nameless (parenthesized line e);
+  }
+
+  -- ---- lists and calls
+
+  next_meant : (texts others : List Text) (c : Rel) (free : ℕ) (rest : Stretch) → MeansNames g active texts c → Meant g active others rest → Meant g active (texts ++ others) (FirstAt g c active free rest)
+  next_meant texts others c free rest first second p q at = meant_then texts others (first.to_reg free free p at.mid at.first) (second at.mid q at.others)
+
+  next_each_meant : (es : Expressions) → EachMeant g active es → (free : ℕ) → Meant g active (names_in_all es) (AllNextAt g (all_related g es) active free)
+  next_each_meant no_expressions each free p q at = meant_none at.ahead
+  next_each_meant (syntax.expression e es) each free p q at = next_meant (names_in e) (names_in_all es) (related g e) free _ each.0 (next_each_meant es each.1 (free + 1)) p q at
+
+  -- the last one gives several values
+  multi_each_meant : (op : Op) (want : Want) (es : Expressions) → EachMeant g active es → rels_open (all_related g es) ≡ true → (free : ℕ) → Meant g active (names_in_all es) (AllMultiAt g op want (all_related g es) active free)
+  multi_each_meant op want no_expressions each is free p q at = meant_none at.ahead
+  multi_each_meant op want (syntax.expression e no_expressions) each is free p q at = meant_then (names_in e) [] (each.0.multi is free op want p q at) (meant_none refl)
+  multi_each_meant op want (syntax.expression e (syntax.expression d es)) each is free p q at =
+      next_meant (names_in e) (names_in_all (syntax.expression d es)) (related g e) free _ each.0 (multi_each_meant op want (syntax.expression d es) each.1 is (free + 1)) p q at
+
+  open_by_meant : (several : Bool) (es : Expressions) → EachMeant g active es → rels_open (all_related g es) ≡ several → (free : ℕ) → Meant g active (names_in_all es) (OpenBy several g (all_related g es) active free)
+  open_by_meant true es each is = multi_each_meant Op.Call None es each is
+  open_by_meant false es each is = next_each_meant es each
+
+  open_meant : (es : Expressions) → EachMeant g active es → (free : ℕ) → Meant g active (names_in_all es) (OpenListAt g (all_related g es) active free)
+  open_meant es each = open_by_meant (rels_open (all_related g es)) es each refl
+
+  filled_meant : (several : Bool) (es : Expressions) (missing : ℕ) → EachMeant g active es → rels_open (all_related g es) ≡ several → (free : ℕ) → Meant g active (names_in_all es) (FilledAt several g (all_related g es) missing active free)
+  filled_meant true es missing each is free p q at = multi_each_meant Op.Call (Some (missing + 1)) es each is free p q at
+  filled_meant false es missing each is free p q at = meant_on (next_each_meant es each free p at.mid at.first_at) at.second_at.word.ahead
+
+  adjust_by_meant : (fewer : Bool) (es : Expressions) (n : ℕ) → EachMeant g active es → (free : ℕ) → Meant g active (names_in_all es) (AdjustBy fewer g (all_related g es) n active free)
+  adjust_by_meant true es n each = filled_meant (rels_open (all_related g es)) es (n - length (all_related g es)) each refl
+  adjust_by_meant false es n each = next_each_meant es each
+
+  adjust_meant : (es : Expressions) (n : ℕ) → EachMeant g active es → (free : ℕ) → Meant g active (names_in_all es) (AdjustAt g (all_related g es) n active free)
+  adjust_meant es n = adjust_by_meant (nat_lt (length (all_related g es)) n) es n
+
+  call_meant : (texts others : List Text) (on : Rel) (given : GivenRel) → MeansNames g active texts on → ((free : ℕ) → Meant g active others (given.part active free)) → (free : ℕ) (op : Op) (want : Want) →
+      Meant g active (texts ++ others) (CallAt g on given active free op want)
+  call_meant texts others on given first second free op want p q at = meant_on (meant_then texts others (first.to_reg free free p at.mid at.on_at) (second (free + 1) at.mid at.last at.given_at)) at.word.ahead
+
+  method_meant : (texts others : List Text) (on : Rel) (text : Text) (given : GivenRel) → MeansNames g active texts on → ((free : ℕ) → Meant g active others (given.part active free)) → (free : ℕ) (op : Op) (want : Want) →
+      Meant g active (texts ++ others) (MethodAt g on text given active free op want)
+  method_meant texts others on text given first second free op want p q at =
+      let key = text_meant text (free + 2) at.y at.free2 at.mid at.named at.name_at in
+      let self : IsMeant g active texts p at.begun = meant_on (operand_meant texts on first free at.x at.free1 p at.mid at.on_at) (at.self_at.ahead ∙ key.behind) in
+      meant_on (meant_then texts others self (second (free + 2) at.begun at.last at.given_at)) at.word.ahead
+
+  moved_meant : (texts : List Text) (part : Stretch) (free r : ℕ) → Meant g active texts part → Meant g active texts (MovedFrom g part free r)
+  moved_meant texts part free r means p q (inl at) = means p q at.1
+  moved_meant texts part free r means p q (inr at) = meant_on (means p at.1.mid at.1.first_at) at.1.second_at.ahead
+
+  called_meant : (texts : List Text) (form : Form) (part : List Active → (free : ℕ) → Op → Want → Stretch) → form.name ≡ false → form.literal ≡ None → ((free : ℕ) (op : Op) (want : Want) → Meant g active texts (part active free op want)) →
+      MeansNames g active texts (rel_call g form part)
+  called_meant texts form part unnamed none means = record {
+    to_reg = to;
+    spine = λ free free1 p q at. to free free p q at.value_at;
+    multi = λ is. means;
+    bare = λ is. absurd cc;
+    nameless = λ k is. absurd cc;
+  }
+    where
+      to : (free r : ℕ) → Meant g active texts ((rel_call g form part).to_reg active free r)
+      to free r = moved_meant texts (part active free Op.Call (Some 1)) free r (means free Op.Call (Some 1))
+
+  -- ---- constructors
+
+  keyed_meant : (texts others : List Text) (key : (free x free1 : ℕ) → Stretch) (c : Rel) → ((free x free1 : ℕ) → Meant g active texts (key free x free1)) → MeansNames g active others c → (t pending : ℕ) →
+      Meant g active (texts ++ others) (KeyedAt g key c active t pending)
+  keyed_meant texts others key c first second t pending = two_meant texts others key (RkAt g active c) _ first (rk_meant others c second) (λ x y p q at. at.ahead) (t + suc pending)
+
+  first_item : (e : Expression) (rest : Fields) → MeansNames g active (names_in e) (related g e) → (t done pending : ℕ) (others : Stretch) → Meant g active (names_of_fields rest) others →
+      Meant g active (names_in e ++ names_of_fields rest) (ItemBy false g (related g e) active t done pending others)
+  first_item e rest means t done pending others second =
+      next_meant (names_in e) (names_of_fields rest) (related g e) (t + suc pending) _ means (λ p q at. meant_from (set_list_if_passes g (suc pending == 50) t 50 (suc done) p at.mid at.first_at) (second at.mid q at.second_at))
+
+  item_by_meant : (last several_values : Bool) (e : Expression) (rest : Fields) → MeansNames g active (names_in e) (related g e) → is_last_item rest ≡ last → several (form_of e) ≡ several_values →
+      (t done pending : ℕ) (others : Stretch) → Meant g active (names_of_fields rest) others → Meant g active (names_in e ++ names_of_fields rest) (ItemBy (last && several_values) g (related g e) active t done pending others)
+  item_by_meant true true e rest means last is t done pending others second p q at =
+      let several_are = ap several (form_is g e) ∙ is in
+      let first : IsMeant g active (names_in e) p q = meant_on (means.multi several_are (t + suc pending) Op.Call None p at.mid at.first_at) (set_list_passes g t 0 (suc done) at.mid q at.second_at) in
+      meant_then (names_in e) (names_of_fields rest) first (meant_as (last_nameless rest last) (meant_none refl))
+  item_by_meant true false e rest means last is t done pending others second p q at = first_item e rest means t done pending others second p q at
+  item_by_meant false several_values e rest means last is t done pending others second p q at = first_item e rest means t done pending others second p q at
+
+  items_meant : (fields : Fields) → ItemsMeant g active fields → (t done pending : ℕ) → Meant g active (names_of_fields fields) (ItemsAt g fields active t done pending)
+  items_meant no_fields means t done pending p q at = meant_none (set_list_if_passes g (nat_lt 0 pending) t pending done p q at)
+  items_meant (positional e separator rest) means t done pending p q at =
+      item_by_meant (is_last_item rest) (several (form_of e)) e rest means.0 refl refl t done pending _ (items_meant rest means.1 t (suc done) (pending_after (suc pending))) p q at
+  items_meant (named text e separator rest) means t done pending p q at =
+      meant_then (names_in e) (names_of_fields rest) (keyed_meant [] (names_in e) (RkTextAt g text) (related g e) (text_meant text) means.0 t pending p at.mid at.first_at) (items_meant rest means.1 t done pending at.mid q at.second_at)
+  items_meant (keyed key e separator rest) means t done pending p q at =
+      meant_then (names_in key ++ names_in e) (names_of_fields rest) (keyed_meant (names_in key) (names_in e) (RkAt g active (related g key)) (related g e) (rk_meant (names_in key) (related g key) means.0) means.1 t pending p at.mid at.first_at)
+      (items_meant rest means.2 t done pending at.mid q at.second_at)
+
+  table_meant : (fields : Fields) → ItemsMeant g active fields → (free : ℕ) → Meant g active (names_of_fields fields) (TableAt g (λ t. ItemsAt g fields active t 0 0) free)
+  table_meant fields means free p q at = meant_from at.word.ahead (items_meant fields means free 0 0 at.mid q at.items_at)
+
+-- ---- every expression that has a core
+
+mutual
+  pub names_meant : (g : Fn) (active : List Active) (e : Expression) → HasCore e → MeansNames g active (names_in e) (related g e)
+  names_meant g active (nil_literal line) has = loaded_meant (related g (nil_literal line)) (λ free r p q at. at.ahead) (λ free free1 p q at. at) refl refl
+  names_meant g active (true_literal line) has = loaded_meant (related g (true_literal line)) (λ free r p q at. at.ahead) (λ free free1 p q at. at) refl refl
+  names_meant g active (false_literal line) has = loaded_meant (related g (false_literal line)) (λ free r p q at. at.ahead) (λ free free1 p q at. at) refl refl
+  names_meant g active (vararg_expression line) has = record {
+    to_reg = λ free r p q at. meant_none at.ahead;
+    spine = λ free free1 p q at. meant_none at.value_at.ahead;
+    multi = λ is free op want p q at. meant_none at.word.ahead;
+    bare = λ is. absurd cc;
+    nameless = λ k is. refl;
+  }
+  names_meant g active (number_literal line n) has = loaded_meant (related g (number_literal line n)) (λ free r p q at. at.word.ahead) (λ free free1 p q at. at) refl refl
+  names_meant g active (text_literal line text) has = loaded_meant (related g (text_literal line text)) (λ free r p q at. at.word.ahead) (λ free free1 p q at. at) refl refl
+  names_meant g active (name_expression line text) has = name_meant line text
+  names_meant g active (index_expression line on key) has =
+      let value = indexed_meant (names_in on) (names_in key) (related g on) (λ active. RkAt g active (related g key)) (names_meant g active on has.0) (rk_meant (names_in key) (related g key) (names_meant g active key has.1)) in
+      value_meant _ (related g (index_expression line on key)) value (λ free free1 p q at. at) refl refl (λ k is. cc)
+  names_meant g active (field_expression line on text) has =
+      value_meant _ (related g (field_expression line on text)) (field_meant (names_in on) (related g on) text (names_meant g active on has)) (λ free free1 p q at. at) refl refl (λ k is. cc)
+  names_meant g active (call_expression line on args on_line) has =
+      let call = call_meant (names_in on) (names_given args) (related g on) (given_rel g args) (names_meant g active on has.0) (given_meant g active args has.1) in
+      called_meant _ (form_of (call_expression line on args on_line)) (CallAt g (related g on) (given_rel g args)) refl refl call
+  names_meant g active (method_call line on name args on_line) has =
+      let call = method_meant (names_in on) (names_given args) (related g on) name (given_rel g args) (names_meant g active on has.1) (given_meant g active args has.2) in
+      called_meant _ (form_of (method_call line on name args on_line)) (MethodAt g (related g on) name (given_rel g args)) refl refl call
+  names_meant g active (binary_expression line op left right) has = binary_meant line op left right has.0 (names_meant g active left has.1) (names_meant g active right has.2)
+  names_meant g active (unary_expression line op e) has = unary_meant line op e (names_meant g active e has)
+  names_meant g active (constructor line fields) has =
+      let table = table_meant fields (items_meant_all g active fields has) in
+      value_meant _ (related g (constructor line fields)) (λ free r. moved_meant _ (TableAt g (λ t. ItemsAt g fields active t 0 0) free) free r (table free)) (λ free free1 p q at. at) refl refl (λ k is. cc)
+  names_meant g active (parenthesized line e) has = parenthesized_meant line e (names_meant g active e has)
+  names_meant g active e has = absurd has
+
+  given_meant : (g : Fn) (active : List Active) (args : Arguments) → HaveCores args → (free : ℕ) → Meant g active (names_given args) ((given_rel g args).part active free)
+  given_meant g active (argument_list es) have = open_meant es (each_meant g active es have)
+  given_meant g active (text_argument text) have = λ free p q at. meant_none at.value_at.word.ahead
+  given_meant g active (table_argument fields) have = table_meant fields (items_meant_all g active fields have)
+
+  items_meant_all : (g : Fn) (active : List Active) (fields : Fields) → HaveItems fields → ItemsMeant g active fields
+  items_meant_all g active no_fields have = tt
+  items_meant_all g active (positional e separator rest) have = (names_meant g active e have.0, items_meant_all g active rest have.1)
+  items_meant_all g active (named text e separator rest) have = (names_meant g active e have.0, items_meant_all g active rest have.1)
+  items_meant_all g active (keyed key e separator rest) have = (names_meant g active key have.0, names_meant g active e have.1, items_meant_all g active rest have.2)
+
+  each_meant : (g : Fn) (active : List Active) (es : Expressions) → AllHaveCores es → EachMeant g active es
+  each_meant g active no_expressions have = tt
+  each_meant g active (syntax.expression e es) have = (names_meant g active e have.0, each_meant g active es have.1)
+
+-- ---- statements
+
+-- the value goes to what a name means
+set_by : (g : Fn) (text : Text) (w : Where) (r : ℕ) (p q : Spot) → SetAt g text w r p q → q.ahead ≡ p.ahead
+set_by g text (in_register x) r p q at = at.ahead
+set_by g text (in_upvalue slot) r p q at = at.ahead
+set_by g text in_globals r p q at = at.word.ahead
+
+-- declared locals change no name that comes next
+declared_keeps : (texts : List Text) (before behind : Ahead) (locals : List Local) → Declared texts before locals behind → behind.names ≡ before.names
+declared_keeps [] before behind locals declared = ap (λ (ahead : Ahead). ahead.names) declared.1
+declared_keeps (text ∷ texts) before behind locals declared = declared_keeps texts (record before { captures = drop 1 before.captures; declarations = suc before.declarations }) behind declared.0 declared.2
+
+module _ (g : Fn) (active : List Active) where
+  target_meant : (target : Expression) → IsActTarget target → (free : ℕ) (to : Target) (free1 : ℕ) → Meant g active (names_in target) ((related g target).target active free to free1)
+  target_meant (name_expression line text) is free to free1 p q at = record { names = (at.means, tt); behind = at.passed.ahead }
+  target_meant (index_expression line on key) is free to free1 p q at =
+      let first = operand_meant (names_in on) (related g on) (names_meant g active on is.0) free at.t at.free1 p at.mid at.on_at in
+      meant_then (names_in on) (names_in key) first (rk_meant (names_in key) (related g key) (names_meant g active key is.1) at.free1 at.k free1 at.mid q at.key_at)
+  target_meant (field_expression line on text) is free to free1 p q at =
+      let key = text_meant {active = active} text at.free1 at.k free1 at.mid q at.key_at in
+      meant_on (operand_meant (names_in on) (related g on) (names_meant g active on is) free at.t at.free1 p at.mid at.on_at) key.behind
+  target_meant target is free to free1 p q at = absurd is
+
+  module _ (e : Expression) (has : HasCore e) (free : ℕ) where
+    store_name_meant : (text : Text) (w : Where) → Meant g active (names_in e) (StoreNameAt g text w (related g e) active free)
+    store_name_meant text (in_register x) p q at = (names_meant g active e has).to_reg free x p q at
+    store_name_meant text (in_upvalue slot) p q at = meant_on (operand_meant (names_in e) (related g e) (names_meant g active e has) free at.x at.free1 p at.mid at.operand_at) (set_by g text (in_upvalue slot) at.x at.mid q at.words_at)
+    store_name_meant text in_globals p q at = meant_on (operand_meant (names_in e) (related g e) (names_meant g active e has) free at.x at.free1 p at.mid at.operand_at) (set_by g text in_globals at.x at.mid q at.words_at)
+
+    store_meant : (to : Target) → Meant g active (names_in e) (StoreAt g to (related g e) active free)
+    store_meant (name_target text w) p q at = store_name_meant text w p q at
+    store_meant (part_target on key on_local key_local) p q at = meant_on (rk_meant (names_in e) (related g e) (names_meant g active e has) free at.x at.free1 p at.mid at.operand_at) at.words_at.ahead
+
+  return_by_meant : (call dots : Bool) (e : Expression) → HasCore e → (related g e).form.call ≡ call → Meant g active (names_in_all (syntax.expression e no_expressions)) (ReturnBy call dots g (related g e) active)
+  return_by_meant true dots e has is p q at =
+      let values = (names_meant g active e has).multi (ap (λ call. call || (related g e).form.dots) is) (length active) Op.TailCall None p at.mid at.first_at in
+      meant_then (names_in e) [] values (meant_none at.second_at.ahead)
+  return_by_meant false true e has is p q at = meant_on (open_meant (syntax.expression e no_expressions) (names_meant g active e has, tt) (length active) p at.mid at.first_at) at.second_at.ahead
+  return_by_meant false false e has is p q at =
+      let value = operand_meant (names_in e) (related g e) (names_meant g active e has) (length active) at.x at.free1 p at.mid at.operand_at in
+      meant_then (names_in e) [] value (meant_none at.words_at.ahead)
+
+  return_meant : (es : Expressions) → AllHaveCores es → Meant g active (names_in_all es) (ReturnAt g (all_related g es) active)
+  return_meant no_expressions have p q at = meant_none at.ahead
+  return_meant (syntax.expression e no_expressions) have p q at = return_by_meant (related g e).form.call (related g e).form.dots e have.0 refl p q at
+  return_meant (syntax.expression e (syntax.expression d es)) have p q at =
+      meant_on (open_meant (syntax.expression e (syntax.expression d es)) (each_meant g active (syntax.expression e (syntax.expression d es)) have) (length active) p at.mid at.first_at) at.second_at.ahead
+
+-- where the words of a statement stand, the names that it mentions mean what the scope finds by them
+pub statement_meant : (g : Fn) (s : Statement) → IsAct s → (active after : List Active) (p q : Spot) → StatementAt g None s active after p q → AreMeant g.law active (names_of_statement s) p.ahead.names
+statement_meant g (call_statement e) is active after p q at = ((names_meant g active e is.1).multi (ap several (form_is g e) ∙ ap (λ call. call || is_vararg e) is.0) (length active) Op.Call (Some 0) p q at.part_at).names
+statement_meant g (assignment (syntax.expression target no_expressions) (syntax.expression e no_expressions)) is active after p q at =
+    let one = one_target g (related g target) (related g e) active p q at.part_at in
+    let to = target_meant g active target is.0 (length active) one.to one.free p one.mid one.target_at in
+    let value = store_meant g active e is.1 one.free one.to one.begun q one.store_at in
+    (meant_then (names_in target) (names_in e) to (meant_from one.same.ahead value)).names
+statement_meant g (local_statement names es) is active after p q at =
+    let values = adjust_meant es (length names) (each_meant g active es is.1) (length active) at.mid q at.values_at in
+    subst (AreMeant g.law active (names_in_all es)) (declared_keeps names p.ahead at.mid.ahead at.locals at.declared) values.names
+statement_meant g (return_statement es) is active after p q at = (return_meant g active es is p q at.part_at).names
+statement_meant g s is active after p q at = absurd is

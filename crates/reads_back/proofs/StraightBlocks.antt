@@ -1,0 +1,195 @@
+-- A straight block in a function that is being made: what is known before each of its statements, and that what is written of them makes the same function.
+use Rattle.std.proofs.Common.{◌≡◌, ℕ, ◌+◌, ◌≤◌, true, false, not, ◌&&◌, List, [], ◌++◌, length, map, append_assoc, None, Some, refl, sym, ap, ◌∙◌, subst, arith}
+use Rattle.std.specs.Prelude.{Bool}
+use Rattle.lua_tree.specs.OneLine.{one_line_statement}
+use Rattle.lua_tree.specs.Outline.{statement_part, statements_part}
+use Rattle.lua_tree.specs.Syntax as syntax
+use Rattle.lua_tree.specs.Syntax.{Statement, Statements, no_statements}
+use Rattle.lua_tree.specs.WellFormed.{depth_of_statement, depth_of_statements, ends_block, formed_statement, formed_statements, may_follow, statement_begins_with_paren, statement_takes_arguments}
+use Rattle.core_expr.specs.Places.{place}
+use Rattle.recover_expr.specs.Situation.{Function}
+use Rattle.scheme.specs.Making.{Maker, active_count}
+use Rattle.scheme.specs.Scheme.{statement_made, statements_made}
+use Rattle.scheme.specs.Statements.{settle}
+use Rattle.scheme_stands.proofs.Blocks.{Settled}
+use Rattle.scheme_stands.proofs.Growth.{Final, Grown, before, before_free, later, loose, on_free, on_part, spot, start}
+use Rattle.scheme_stands.proofs.Makers.{no_names}
+use Rattle.scheme_stands.proofs.Standing.{statements_room}
+use Rattle.scheme_stands.proofs.Statements.{grow_statement}
+use Rattle.scheme_stands.specs.Words.{Fn}
+use Rattle.reads_back.specs.Acted.{Acted, IsActed, act_statement, taken_behind_act}
+use Rattle.reads_back.specs.ReadAs.{ArePlain}
+use Rattle.reads_back.specs.Straight.{AreStraight}
+use Rattle.reads_back.proofs.ActsRead.{numbers_from}
+use Rattle.reads_back.proofs.BlockMakers.{AllStand, AreAllActs, all_made, entries_by, entries_from, made_by, statement_listed, statement_moves}
+use Rattle.reads_back.proofs.ListedLocals.{ended}
+use Rattle.reads_back.proofs.Marks.{SamePart, both_same, part_then}
+use Rattle.reads_back.proofs.NamesAhead.{IsAhead}
+use Rattle.reads_back.proofs.NamesMeant.{statement_meant}
+use Rattle.reads_back.proofs.PlainStraight.{AreOnLine}
+use Rattle.reads_back.proofs.Rewriting.{IsMadeBy, names_of_statement}
+use Rattle.reads_back.proofs.StraightActs.{written, written_closed, written_ends, written_formed, written_marks, written_shallow}
+use Rattle.reads_back.proofs.StraightScopes.{IsListing, are_listed, is_certain}
+use Rattle.reads_back.proofs.Tests.{and_not, both_hold, first_of_both, second_of_both}
+use Rattle.reads_back.proofs.WordsRead.{IsFunction}
+
+pub all_acts : (block : Statements) → AreStraight block → AreAllActs block
+all_acts no_statements are = tt
+all_acts (syntax.statement line semi s rest) are = (are.0.0, all_acts rest are.1)
+
+-- ---- what is known of a function that is made whole, and before some of its statements
+
+-- the function that is read is the one that is made in the end; it has no upvalues
+pub record IsWhole (f : Function) (g : Fn) (z : Maker) : Type 0 where
+  pub is_function : IsFunction f g
+  pub law : g.law ≡ Some no_names
+  pub constants : g.constants ≡ z.constants
+  pub few : length z.constants ≤ 262144
+
+-- these statements are made behind the others
+pub record ComesNext (f : Function) (g : Fn) (z : Maker) (block : Statements) (m : Maker) : Type 0 where
+  pub settled : Settled m
+  pub listing : IsListing f m.active m.locals (entries_from block m)
+  pub room : length m.active ≤ g.size
+  pub final : Final (length m.labels) (all_made block m) z
+  pub stand : AllStand g block m
+  pub straight : AreStraight block
+  pub shallow : depth_of_statements block ≤ 66
+  pub on_line : AreOnLine block
+
+-- the places in the list of the locals that are active
+abbrev pub listed_by : Maker → List ℕ
+listed_by m = numbers_from 0 (length m.active)
+
+all_grow : (block : Statements) (m : Maker) → Settled m → Grown loose m (all_made block m)
+all_grow no_statements m settled = start m
+all_grow (syntax.statement line semi s rest) m settled = on_part (all_grow rest (settle (made_by s m)) refl) (on_free (active_count (made_by s m)) (grow_statement (one_line_statement s) 1 None m settled))
+
+module _ {f : Function} {g : Fn} {z : Maker} (whole : IsWhole f g z) where
+  pub made_there : {block : Statements} {m : Maker} → ComesNext f g z block m → IsMadeBy f g m.active (listed_by m) z
+  made_there {m = m} next = record {
+    is_function = whole.is_function;
+    all = are_listed next.listing whole.law (omega (arith, next.room, whole.is_function.few));
+    constants = whole.constants;
+    few = whole.few;
+    certain = is_certain g m.active whole.law;
+  }
+
+  module _ {line : ℕ} {semi : Bool} {s : Statement} {rest : Statements} {m : Maker} (next : ComesNext f g z (syntax.statement line semi s rest) m) where
+    -- behind the first of them
+    abbrev n : Maker
+    n = made_by s m
+
+    pub here_final : Final (length m.labels) n z
+    here_final = before_free (active_count n) n (before (all_grow rest (settle n) refl) next.final)
+
+    pub names_next : IsAhead g m.active (names_of_statement s) m
+    names_next = record { active_are = refl; names = statement_meant g s next.straight.0.0 m.active n.active (spot m) (spot n) next.stand.0 }
+
+    listing_behind : IsListing f n.active n.locals (entries_from rest (settle n))
+    listing_behind =
+        let moves = statement_moves s next.straight.0.0 m in
+        record {
+          are = statement_listed s next.straight.0.0 m next.listing.are;
+          listed =
+              next.listing.listed
+              ∙ ap (map (ended f.last)) (sym (append_assoc m.locals (entries_by s n) (entries_from rest (settle n))))
+              ∙ ap (λ entries. map (ended f.last) (entries ++ entries_from rest (settle n))) (sym moves.locals);
+        }
+
+    pub comes_behind : ComesNext f g z rest (settle n)
+    comes_behind = record {
+      settled = refl;
+      listing = listing_behind;
+      room =
+          statements_room g None (syntax.statement 1 false s no_statements) m.active n.active (spot m) (spot n) next.room
+          (record { between = n.active; mid = spot n; first_at = next.stand.0; rest_at = record { stays = refl; part_at = record { pc = refl; ahead = refl } } });
+      final = let grown = grow_statement (one_line_statement s) 1 None m next.settled in later grown.more next.final;
+      stand = next.stand.1;
+      straight = next.straight.1;
+      shallow = omega (arith, next.shallow);
+      on_line = next.on_line.2;
+    }
+
+    pub low : depth_of_statement s ≤ 65
+    low = omega (arith, next.shallow)
+
+-- ---- what is written of a block
+
+-- statements on line 1 without semicolons, each of which is written of the act that a statement is, where so many constants were taken before the first
+abbrev pub AreWritten : Function → Fn → (taken : ℕ) → (block written : Statements) → Maker → Type 0
+AreWritten f g n no_statements written m = written ≡ no_statements
+AreWritten f g n (syntax.statement line semi s rest) written m =
+    (acted : Acted) × (others : Statements) × IsActed g m.active s acted × AreWritten f g (taken_behind_act acted n) rest others (settle (made_by s m))
+    × (written ≡ syntax.statement 1 false (act_statement (place f.of (listed_by m) f.short) n [] acted) others)
+
+module _ {f : Function} {g : Fn} {z : Maker} (whole : IsWhole f g z) where
+  pub block_same : (block tree : Statements) (taken : ℕ) (m : Maker) → ComesNext f g z block m → AreWritten f g taken block tree m → taken ≡ length m.constants → statements_made tree None m ≡ all_made block m
+  block_same no_statements tree taken m next are count = ap (λ block. statements_made block None m) are
+  block_same (syntax.statement line semi s rest) tree taken m next are count =
+      let acted = are.0 in
+      let one = written (made_there whole next) s next.straight.0.0 (low whole next) acted are.2 in
+      let later_on = settle (made_by s m) in
+      let counted : taken_behind_act acted taken ≡ length later_on.constants = ap (taken_behind_act acted) count ∙ sym (one.taken m (names_next whole next) (here_final whole next)) in
+      ap (λ block. statements_made block None m) are.4
+      ∙ ap (λ taken. statements_made are.1 None (settle (statement_made (act_statement (place f.of (listed_by m) f.short) taken [] acted) 1 None m))) count
+      ∙ ap (λ m. statements_made are.1 None (settle m)) (one.made m (names_next whole next) (here_final whole next))
+      ∙ block_same rest are.1 (taken_behind_act acted taken) later_on (comes_behind whole next) are.3 counted
+
+  -- ---- the rules of form
+
+  -- what follows begins with no parenthesis
+  follows : (s next : Statement) (line : ℕ) (semi : Bool) (rest : Statements) → ends_block s ≡ false → statement_begins_with_paren next ≡ false → may_follow s false (syntax.statement line semi next rest) ≡ true
+  follows s next line semi rest goes_on closed =
+      both_hold _ _ (ap not goes_on) (ap (λ begins. not (statement_takes_arguments s && begins)) closed ∙ ap not (and_not (statement_takes_arguments s)))
+
+  goes_on : (s next : Statement) (line : ℕ) (semi other : Bool) (rest : Statements) → may_follow s semi (syntax.statement line other next rest) ≡ true → ends_block s ≡ false
+  goes_on s next line semi other rest may = by (ends_block s) (first_of_both _ _ may)
+    where
+      by : (ends : Bool) → not ends ≡ true → ends ≡ false
+      by true is = cc
+      by false is = refl
+
+  pub block_formed : (block tree : Statements) (taken : ℕ) (m : Maker) → ComesNext f g z block m → formed_statements block ≡ true → AreWritten f g taken block tree m → formed_statements tree ≡ true
+  block_formed no_statements tree taken m next formed are = ap formed_statements are
+  block_formed (syntax.statement line semi s no_statements) tree taken m next formed are =
+      let one = written_formed (made_there whole next) s next.straight.0.0 (low whole next) are.0 taken are.2 in
+      ap formed_statements (are.4 ∙ ap (syntax.statement 1 false (act_statement (place f.of (listed_by m) f.short) taken [] are.0)) are.3) ∙ both_hold _ true one refl
+  block_formed (syntax.statement line semi s (syntax.statement line' semi' s' rest)) tree taken m next formed are =
+      let more = comes_behind whole next in
+      let made = made_there whole next in
+      let others = second_of_both _ _ (second_of_both (formed_statement s) _ formed) in
+      let one = written_formed made s next.straight.0.0 (low whole next) are.0 taken are.2 in
+      let on = written_ends made s next.straight.0.0 (low whole next) are.0 taken are.2 ∙ goes_on s s' line' semi semi' rest (first_of_both _ _ (second_of_both (formed_statement s) _ formed)) in
+      let behind_taken = taken_behind_act are.0 taken in
+      let closed = written_closed (made_there whole more) s' more.straight.0.0 (low whole more) more.straight.0.1 are.3.0 behind_taken are.3.2 in
+      let first = act_statement (place f.of (listed_by m) f.short) taken [] are.0 in
+      ap formed_statements are.4
+      ∙ both_hold _ _ one
+      (both_hold _ _ (ap (may_follow first false) are.3.4 ∙ follows first (act_statement (place f.of (listed_by (settle (made_by s m))) f.short) behind_taken [] are.3.0) 1 false are.3.1 on closed)
+      (block_formed (syntax.statement line' semi' s' rest) are.1 behind_taken (settle (made_by s m)) more others are.3))
+
+  pub block_shallow : (block tree : Statements) (taken : ℕ) (m : Maker) → ComesNext f g z block m → AreWritten f g taken block tree m → depth_of_statements tree ≤ 200
+  block_shallow no_statements tree taken m next are = omega (arith, ap depth_of_statements are)
+  block_shallow (syntax.statement line semi s rest) tree taken m next are =
+      let one = written_shallow (made_there whole next) s next.straight.0.0 (low whole next) are.0 taken are.2 in
+      let others = block_shallow rest are.1 (taken_behind_act are.0 taken) (settle (made_by s m)) (comes_behind whole next) are.3 in
+      omega (arith, ap depth_of_statements are.4, one, others)
+
+  -- ---- the names
+
+  pub block_marks : (block tree : Statements) (taken : ℕ) (m : Maker) → ComesNext f g z block m → AreWritten f g taken block tree m → SamePart (statements_part tree) (statements_part block)
+  block_marks no_statements tree taken m next are = λ here. ap (λ block. statements_part block here) are
+  block_marks (syntax.statement line semi s rest) tree taken m next are =
+      let on : SamePart (statement_part 1 (one_line_statement s)) (statement_part line s) = λ here. ap (λ s. statement_part 1 s here) next.on_line.1 ∙ ap (λ line. statement_part line s here) (sym next.on_line.0) in
+      let one = part_then (written_marks (made_there whole next) s next.straight.0.0 (low whole next) are.0 taken are.2) on in
+      let others = block_marks rest are.1 (taken_behind_act are.0 taken) (settle (made_by s m)) (comes_behind whole next) are.3 in
+      part_then (λ here. ap (λ block. statements_part block here) are.4) (both_same one others)
+
+  -- ---- lines and semicolons
+
+  pub block_plain : (block tree : Statements) (taken : ℕ) (m : Maker) → ComesNext f g z block m → AreWritten f g taken block tree m → ArePlain tree
+  block_plain no_statements tree taken m next are = subst ArePlain (sym are) tt
+  block_plain (syntax.statement line semi s rest) tree taken m next are =
+      let closed = written_closed (made_there whole next) s next.straight.0.0 (low whole next) next.straight.0.1 are.0 taken are.2 in
+      subst ArePlain (sym are.4) (refl, refl, closed, block_plain rest are.1 (taken_behind_act are.0 taken) (settle (made_by s m)) (comes_behind whole next) are.3)
