@@ -11,13 +11,14 @@ use Rattle.core_expr.specs.Places.{Place}
 use Rattle.core_expr.specs.Values.{Value, nil_value, function_value, table_value, Values, no_values, and_value, Inner, ItemList}
 use Rattle.core_expr.specs.Writing.{can_write, can_write_values, is_multiple}
 use Rattle.recover_expr.specs.Declaring.{captures_itself, ends_with_nil as ends_so, is_nil_entry, is_one_value, is_own_function, without_nil as without_last}
-use Rattle.recover_expr.specs.Entries.{EntryValue, value_entry, maker_entry, missing_entry, more_entry, Entries, and_last_value, is_single, more, single_of, singles_of}
+use Rattle.recover_expr.specs.Entries.{EntryValue, value_entry, maker_entry, missing_entry, more_entry, Entries, and_last_value, more, single_of, singles_of}
 use Rattle.recover_expr.specs.Lists.{adjusted_list, adjusted_to, are_missing, before_last, behind_leading, ends_multiple, fits_places, is_further, is_last, is_missing, is_nil, leading, split_last, value_count}
 use Rattle.reads_back.specs.Acted.{ends_with_nil, with_nil, without_nil}
 use Rattle.reads_back.proofs.Comes.{AreEntries}
 use Rattle.reads_back.proofs.DeclaredValues.{nil_last}
+use Rattle.reads_back.proofs.TableItems.{single_is}
 use Rattle.reads_back.proofs.TakenEntries.{before_some, count_of_entries, more_entries}
-use Rattle.reads_back.proofs.Tests.{and_not, both_hold, first_of_both, not_more, not_so, second_of_both}
+use Rattle.reads_back.proofs.Tests.{and_not, both_hold, first_of_both, given_is, not_more, not_so, second_of_both}
 
 -- ---- single values one by one
 
@@ -49,17 +50,13 @@ singles_end (entry ∷ entries) (and_value w vs) v are = (are.0, singles_end ent
 pub entries_end : (entries : Entries) (vs : Values) (v : Value) → AreEntries entries vs → AreEntries (entries ++ value_entry v ∷ []) (and_last_value vs v)
 entries_end entries vs v are = entries_are _ _ (singles_end entries vs v (singles_are entries vs are))
 
-is_table : (few : Bool) (w v : Value) → ◌≡◌ {A = Option Value} (if few then Some w else None) (Some v) → w ≡ v
-is_table true w v is = same_Some w v is
-is_table false w v is = cc
-
 -- a test that is the same of a constructor and of its value tells of the entry what it tells of its value
 test_same : (P : EntryValue → Bool) → ((items : ItemList) (all : Bool) (depth : ℕ) → P (maker_entry items all) ≡ P (value_entry (table_value items all depth))) →
     (entry : EntryValue) (v : Value) → single_of entry ≡ Some v → P entry ≡ P (value_entry v)
 test_same P tables (value_entry w) v is = ap (λ v. P (value_entry v)) (same_Some w v is)
 test_same P tables (maker_entry items all) v is =
     let depth = suc (deepest_item items) in
-    tables items all depth ∙ ap (λ v. P (value_entry v)) (is_table (nat_lt (deepest_item items) 400) (table_value items all depth) v is)
+    tables items all depth ∙ ap (λ v. P (value_entry v)) (given_is (nat_lt (deepest_item items) 400) (table_value items all depth) v is)
 test_same P tables entry v is = cc
 
 nil_same : (entry : EntryValue) (v : Value) → single_of entry ≡ Some v → is_nil_entry entry ≡ is_nil v
@@ -77,17 +74,12 @@ ends_same entries vs are = absurd (assumption are)
 
 -- ---- single values, and others behind them
 
-single_there : (entry : EntryValue) (v : Value) → single_of entry ≡ Some v → is_single entry ≡ true
-single_there (value_entry w) v is = refl
-single_there (maker_entry items all) v is = refl
-single_there entry v is = cc
-
 leading_are : (before behind : Entries) (vs : Values) → AreSingles before vs → leading behind ≡ 0 → leading (before ++ behind) ≡ length before
 leading_are [] behind vs are none = none
 leading_are (entry ∷ before) behind no_values are none = absurd are
 leading_are (entry ∷ before) behind (and_value v vs) are none =
     let rest = leading_are before behind vs are.1 none in
-    ap (λ single. if single then 1 + leading (before ++ behind) else 0) (single_there entry v are.0) ∙ omega (arith, rest)
+    ap (λ single. if single then 1 + leading (before ++ behind) else 0) (single_is entry v are.0) ∙ omega (arith, rest)
 
 -- what is found where others stand behind the single values
 module _ (count : ℕ) (before behind : Entries) (vs : Values) (are : AreEntries before vs) (none : leading behind ≡ 0) where

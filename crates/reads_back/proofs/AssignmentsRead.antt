@@ -1,13 +1,13 @@
 -- The words of an assignment of one value are read as one step, which is that assignment.
 use Rattle.std.proofs.Common.{◌≡◌, ℕ, zero, suc, ◌+◌, ◌<◌, ◌≤◌, ◌⊎◌, max, is_some, ◌||◌, true, false, Bool, List, [], ◌∷◌, ◌++◌, length, length-append, Option, Some, refl, sym, ap, ◌∙◌, subst, subst₂, arith, le-leb, lt-ltb, inl, inr}
 use Rattle.std.proofs.Math.Nat.{max-zero}
-use Rattle.std.specs.Prelude.{◌-◌, nat_le, option_and_then, option_map, if◌then◌else◌}
+use Rattle.std.specs.Prelude.{nat_le, option_and_then, option_map, if◌then◌else◌}
 use Rattle.lua_num.specs.Bytes.{Text}
 use Rattle.lua_tree.specs.Names.{is_name}
 use Rattle.lua_tree.specs.Syntax.{expression, no_expressions, Expression, name_expression, index_expression, field_expression, Statement, assignment}
 use Rattle.opcode.specs.declared.op.Op.{Op}
 use Rattle.proto.specs.declared.parts.Constant.{Constant}
-use Rattle.core_expr.specs.Counting.{one_more, taken_behind_operand, with_constant}
+use Rattle.core_expr.specs.Counting.{taken_behind_operand, with_constant}
 use Rattle.core_expr.specs.Places.{place, upvalue_name}
 use Rattle.core_expr.specs.Targets.{global_target, index_target, local_target, upvalue_target}
 use Rattle.core_expr.specs.Values.{Value, nil_value, OperandValue, constant_operand, value_operand}
@@ -17,7 +17,7 @@ use Rattle.recover_expr.specs.Effects.{is_from, reads_from}
 use Rattle.recover_expr.specs.Entries.{Entries, place_in}
 use Rattle.recover_expr.specs.Locals.{Scope}
 use Rattle.recover_expr.specs.Reading.{Turn, as_over, over, read_word, turn_at, turn_of, turned, value_as, value_to, words_from}
-use Rattle.recover_expr.specs.Situation.{Function, Situation, see, see_constant, see_operand}
+use Rattle.recover_expr.specs.Situation.{Function, Situation, see}
 use Rattle.recover_expr.specs.Words.{Done, as_end}
 use Rattle.recover_expr.specs.declared.function.Word.{Word}
 use Rattle.scheme.specs.Expressions.{Target}
@@ -35,7 +35,8 @@ use Rattle.reads_back.specs.ReadAs.{part_of}
 use Rattle.reads_back.proofs.ActsRead.{ActRead, CanAct, Declares, act_draft, after_act, kind_of_act, last_word, locals_of, same_declares}
 use Rattle.reads_back.proofs.Comes.{Arrives, Begins, IsOperandWanted, IsValueOperand, IsWanted, Made, Moved, ReadsCore}
 use Rattle.reads_back.proofs.BehindWords.{HasLocals, SameLocals, behind_words, quiet_same, same_then}
-use Rattle.reads_back.proofs.HeldOperands.{Kept, in_word, in_local, in_next, operand_of, entries_in, StandsIn, HeldComes, ReadsHeld, counted, counts_none, operand_held, rk_held, taken_small, taken_up, text_held}
+use Rattle.reads_back.proofs.BothOperands.{counted, seen_with_both}
+use Rattle.reads_back.proofs.HeldOperands.{Kept, in_word, in_local, in_next, operand_of, entries_in, StandsIn, HeldComes, ReadsHeld, counts_none, operand_held, rk_held, taken_small, taken_up, text_held}
 use Rattle.reads_back.proofs.LiteralReads.{constant_there}
 use Rattle.reads_back.proofs.NameReads.{AreListed, IsListed}
 use Rattle.reads_back.proofs.NoFunctions.{no_function, operand_none, value_operand_none}
@@ -314,17 +315,6 @@ store_reads_value pc base x y z from small = ap (λ reads. nat_le base x || (is_
 wanted_before : {f : Function} {from first last : ℕ} (s : Situation) → (first ≡ last) ⊎ Begins f from first → s.base < from → IsWanted f s last → IsWanted f s first
 wanted_before {f} s (inl none) higher wanted = subst (IsWanted f s) (sym none) wanted
 wanted_before s (inr begins) higher wanted = begins_wants s begins higher
-
--- so many constants are taken with those of two operands
-seen_by : (is_constant : Bool) (number : ℕ) (t : Situation) → (if is_constant then see_constant number t else t) ≡ record t { seen = max t.seen (if is_constant then one_more number else 0) }
-seen_by true number t = refl
-seen_by false number t = ap (λ (n : ℕ). record t { seen = n }) (sym (max-zero t.seen))
-
-seen_with : (x : ℕ) (t : Situation) → see_operand x t ≡ record t { seen = max t.seen (counted x) }
-seen_with x t = seen_by (nat_le 256 x) (x - 256) t
-
-seen_with_both : (x y : ℕ) (t : Situation) → see_operand y (see_operand x t) ≡ record t { seen = max (max t.seen (counted x)) (counted y) }
-seen_with_both x y t = ap (see_operand y) (seen_with x t) ∙ seen_with y (record t { seen = max t.seen (counted x) })
 
 -- what is known behind the words of an operand
 abbrev behind_held : {f : Function} {active : List Active} {listed : List ℕ} {Is : OperandValue → Type 0} {free x free1 first last : ℕ} {s : Situation} → HeldComes f active listed Is s free x free1 first last → Situation

@@ -30,13 +30,8 @@ use Rattle.reads_back.proofs.LiteralReads.{constant_there}
 use Rattle.reads_back.proofs.NamesAhead.{IsAhead, Passed, ahead_behind, ahead_front, names_given, names_in}
 use Rattle.reads_back.proofs.PassedNames.{names_passed, next_passes, operand_passes, rk_text_passes}
 use Rattle.reads_back.proofs.Rewriting.{IsMadeBy, Rewritten, RewrittenGiven, arguments_wording, code, wording}
-use Rattle.reads_back.proofs.Tests.{both_hold}
+use Rattle.reads_back.proofs.Tests.{both_hold, given_is}
 use Rattle.reads_back.proofs.WordsSame.{levels_wrapped, next_same, next_taken, next_wrapped, operand_same, operand_taken, operand_wrapped}
-
--- what is made over others is what it is made as
-made_as : (shallow : Bool) (made v : Value) → (if shallow then Some made else None) ≡ Some v → made ≡ v
-made_as true made v is = cc
-made_as false made v is = absurd cc
 
 -- ---- what comes to a register from F
 
@@ -278,7 +273,7 @@ module _ {f : Function} {g : Fn} {active : List Active} {listed : List ℕ} {z :
       RewrittenGiven f g active listed z left args deep values all → deep ≤ max (depth_of_expression on) (depth_of_arguments args) → made_call o values all ≡ Some v → Rewritten f g active listed z left (call_expression line on args on_line) v
   call_rewritten on args line on_line deep o values all v has on_written args_written within is =
       let depth = suc (max (depth_of o) (deepest values)) in
-      subst (λ v. Rewritten f g active listed z left (call_expression line on args on_line) v) (made_as _ (call_value o values all depth) v is)
+      subst (λ v. Rewritten f g active listed z left (call_expression line on args on_line) v) (given_is _ (call_value o values all depth) v is)
       (call_written on args o values all line on_line deep depth made.is_function.natural has on_written args_written within)
 
   pub method_rewritten : (on : Expression) (args : Arguments) (line on_line deep number : ℕ) (name : Text) (o : Value) (values : Values) (all : Bool) (v : Value) → HasCore on → Rewritten f g active listed z left on o →
@@ -286,7 +281,7 @@ module _ {f : Function} {g : Fn} {active : List Active} {listed : List ℕ} {z :
       Rewritten f g active listed z left (method_call line on name args on_line) v
   method_rewritten on args line on_line deep number name o values all v has on_written args_written within numbered named is =
       let depth = suc (max (depth_of o) (deepest values)) in
-      subst (λ v. Rewritten f g active listed z left (method_call line on name args on_line) v) (made_as _ (method_value o number values all depth) v is)
+      subst (λ v. Rewritten f g active listed z left (method_call line on name args on_line) v) (given_is _ (method_value o number values all depth) v is)
       (method_written made on args o values all line on_line deep depth number name has on_written args_written within numbered named)
 
 -- ---- arguments are no deeper than a call needs

@@ -24,7 +24,8 @@ use Rattle.scheme_stands.proofs.Parts.{grows, grows_next}
 use Rattle.scheme_stands.specs.Words.{Fn}
 use Rattle.reads_back.proofs.NamesAhead.{IsAhead, ahead_behind, ahead_front, names_in}
 use Rattle.reads_back.proofs.PassedNames.{PassesNames, next_passes}
-use Rattle.reads_back.proofs.OperatorsSame.{few_more, made_is}
+use Rattle.reads_back.proofs.OperatorsSame.{few_more}
+use Rattle.reads_back.proofs.Tests.{given_is}
 use Rattle.reads_back.proofs.WordsSame.{levels_wrapped, next_wrapped}
 use Rattle.reads_back.proofs.Rewriting.{Rewritten, RewrittenSpine, code, wording}
 
@@ -164,9 +165,6 @@ module _ {f : Function} {g : Fn} {active : List Active} {listed : List ℕ} {z :
 abbrev behind_operands : (to : ℕ) → Maker → Maker → Maker
 behind_operands to m n = free_from m.free (put 1 (Piece.Abc Op.Concat to m.free (n.free - 1)) n)
 
-concat_to : (l r : Expression) (to : ℕ) (m : Maker) → (coded (binary_expression 1 BinaryOp.Concat l r)).to_reg to m ≡ behind_operands to m ((coded r).spine (next_reg (coded l) m))
-concat_to l r to m = refl
-
 module _ {f : Function} {g : Fn} {active : List Active} {listed : List ℕ} {z : Maker} {left : List (Option Inner)} where
   pub spine_of_first : (line : ℕ) (l r : Expression) (v : Value) (rest : Values) → Rewritten f g active listed z left l v → RewrittenSpine f g active listed z left r rest → ends_values rest ≡ false → PassesNames (names_in l) (code l) →
       RewrittenSpine f g active listed z left (binary_expression line BinaryOp.Concat l r) (and_value v rest)
@@ -180,7 +178,7 @@ module _ {f : Function} {g : Fn} {active : List Active} {listed : List ℕ} {z :
 
   pub concat_rewritten : (line : ℕ) (l r : Expression) (first : Value) (rest : Values) (v : Value) → Rewritten f g active listed z left l first → RewrittenSpine f g active listed z left r rest → ends_values rest ≡ false → PassesNames (names_in l) (code l) →
       made_concat (and_value first rest) ≡ Some v → Rewritten f g active listed z left (binary_expression line BinaryOp.Concat l r) v
-  concat_rewritten line l r of rest v first others some kept made = subst (Rewritten f g active listed z left (binary_expression line BinaryOp.Concat l r)) (made_is (nat_lt (deepest (and_value of rest)) 400) _ v made) (record {
+  concat_rewritten line l r of rest v first others some kept made = subst (Rewritten f g active listed z left (binary_expression line BinaryOp.Concat l r)) (given_is (nat_lt (deepest (and_value of rest)) 400) _ v made) (record {
     can = joined_can first others some;
     unused = ap (left_by_values rest) first.unused ∙ others.unused;
     named = λ n. ap (λ w. is_name w.words) (joined_is first others some n (taken_behind of n) refl);

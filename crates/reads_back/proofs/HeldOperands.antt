@@ -1,5 +1,5 @@
 -- An operand, and what of it stands in the registers of the step: nothing where it is a constant or a local.
-use Rattle.std.proofs.Common.{◌≡◌, ℕ, ◌+◌, ◌-◌, ◌<◌, ◌≤◌, ◌⊎◌, max, nat_le, List, [], ◌∷◌, length, Option, Some, None, refl, sym, ap, ◌∙◌, subst, arith, le-leb, inl, inr}
+use Rattle.std.proofs.Common.{◌≡◌, ℕ, ◌+◌, ◌-◌, ◌<◌, ◌≤◌, ◌⊎◌, max, List, [], ◌∷◌, length, Option, Some, None, refl, sym, ap, ◌∙◌, subst, arith, le-leb, inl, inr}
 use Rattle.std.proofs.Math.Nat.{max-zero}
 use Rattle.std.proofs.lemmas.Option.{slice_get_within}
 use Rattle.std.specs.Prelude.{if◌then◌else◌}
@@ -21,6 +21,7 @@ use Rattle.reads_back.specs.Cores.{IsCore, IsKey, IsOperand, IsOperandBy, IsSmal
 use Rattle.reads_back.proofs.OperandReads.{operand_reads, rk_reads, stays, text_key_reads}
 use Rattle.reads_back.proofs.Comes.{Begins, Comes, IsOperandWanted, IsValueOperand, ReadsCore, comes_next}
 use Rattle.reads_back.proofs.BehindWords.{HasLocals, SameLocals, behind_words, same_locals}
+use Rattle.reads_back.proofs.BothOperands.{counted}
 use Rattle.reads_back.proofs.LiteralReads.{constant_reads, constant_there}
 use Rattle.reads_back.proofs.NameReads.{AreListed, IsLocal, local_operand}
 use Rattle.reads_back.proofs.Reaches.{Reaches}
@@ -50,10 +51,6 @@ abbrev pub StandsIn : Function → (count : ℕ) → (listed : List ℕ) → (fr
 StandsIn f count listed free x free1 (in_word number) = (x ≡ number + 256) × (number < length f.of.constants) × (free1 ≡ free)
 StandsIn f count listed free x free1 (in_local r) = (x ≡ r) × (r < count) × (count ≤ 250) × (free1 ≡ free) × (text : Text) × (local_name (place f.of listed f.short) r ≡ Some text)
 StandsIn f count listed free x free1 (in_next entry v) = (x ≡ free) × (free < 250) × (free1 ≡ free + 1) × (single_of entry ≡ Some v)
-
--- so many constants are taken with that of an operand
-abbrev pub counted : (x : ℕ) → ℕ
-counted x = if nat_le 256 x then one_more (x - 256) else 0
 
 -- Words before an operand x of a word come to what stands of it.
 pub record HeldComes (f : Function) (active : List Active) (listed : List ℕ) (Is : OperandValue → Type 0) (s : Situation) (free x free1 first last : ℕ) : Type 0 where

@@ -24,11 +24,13 @@ use Rattle.scheme_stands.proofs.Growth.{calm, Grown, Final, before, before_free,
 use Rattle.scheme_stands.proofs.Parts.{grows, grows_operand, grows_rk, grows_rk_text}
 use Rattle.scheme_stands.specs.Words.{Fn}
 use Rattle.reads_back.proofs.NamesAhead.{AskingPasses, IsAhead, ahead_behind, ahead_front, names_in}
-use Rattle.reads_back.proofs.OperatorsSame.{few_more, made_is, some_depth}
+use Rattle.reads_back.proofs.Operators.{last_taken}
+use Rattle.reads_back.proofs.OperatorsSame.{few_more, some_depth}
 use Rattle.reads_back.proofs.PassedNames.{PassesNames, operand_passes, rk_passes, rk_text_passes}
 use Rattle.reads_back.proofs.Rewriting.{Rewritten, RewrittenOperand, code, keys_of, operand_wording, wording}
 use Rattle.reads_back.proofs.WordsSame.{levels_wrapped, no_local, operand_same, operand_taken, operand_wrapped}
-use Rattle.reads_back.proofs.Tests.{first_of_both, second_of_both}
+use Rattle.reads_back.proofs.Tests.{first_of_both, given_is, second_of_both}
+use Rattle.reads_back.proofs.WrittenFormed.{keyed_prefix, prefix_by}
 
 -- ---- keys one behind the other, and one more
 
@@ -36,10 +38,6 @@ words_last : (at : Place) (n : ℕ) (fs : List (Option Inner)) (on : Wording) (k
     word_keys at n fs on (and_last keys key) ≡ with_key (field_name at key) (word_keys at n fs on keys) (word_operand at (taken_behind_operands keys n) (left_by_operands keys fs) key)
 words_last at n fs on no_operands key = refl
 words_last at n fs on (and_operand o keys) key = words_last at (taken_behind_operand o n) (left_by_operand o fs) (with_key (field_name at o) on (word_operand at n fs o)) keys key
-
-taken_last : (keys : OperandList) (key : OperandValue) (n : ℕ) → taken_behind_operands (and_last keys key) n ≡ taken_behind_operand key (taken_behind_operands keys n)
-taken_last no_operands key n = refl
-taken_last (and_operand o keys) key n = taken_last keys key (taken_behind_operand o n)
 
 left_last : (keys : OperandList) (key : OperandValue) (fs : List (Option Inner)) → left_by_operands (and_last keys key) fs ≡ left_by_operand key (left_by_operands keys fs)
 left_last no_operands key fs = refl
@@ -55,17 +53,9 @@ can_last at fs (and_operand o keys) key can last = and_from _ _ (first_of_both _
 
 -- ---- what a key stands behind
 
-key_behind : (name : Option Text) (on key : Wording) → is_prefix (with_key name on key).words ≡ true
-key_behind None on key = refl
-key_behind (Some name) on key = refl
-
 prefix_keys : (at : Place) (n : ℕ) (fs : List (Option Inner)) (on : Wording) (keys : OperandList) → is_prefix on.words ≡ true → is_prefix (word_keys at n fs on keys).words ≡ true
 prefix_keys at n fs on no_operands is = is
-prefix_keys at n fs on (and_operand o keys) is = prefix_keys at (taken_behind_operand o n) (left_by_operand o fs) (with_key (field_name at o) on (word_operand at n fs o)) keys (key_behind (field_name at o) on (word_operand at n fs o))
-
-wrapped_prefix : (bare : Bool) (w : Wording) → is_prefix w.words ≡ bare → is_prefix (unless bare w).words ≡ true
-wrapped_prefix true w is = is
-wrapped_prefix false w is = refl
+prefix_keys at n fs on (and_operand o keys) is = prefix_keys at (taken_behind_operand o n) (left_by_operand o fs) (with_key (field_name at o) on (word_operand at n fs o)) keys (keyed_prefix (field_name at o) on (word_operand at n fs o))
 
 -- parentheses stand at most once
 prefix_once : (w : Wording) → is_prefix w.words ≡ true → w ≡ as_prefix w
@@ -96,10 +86,10 @@ next_key : (at : Place) (on : Value) (keys : OperandList) (key : OperandValue) (
 next_key at on keys key depth more = record {
   words = λ n fs.
       let w = word at n fs (index_value on keys depth) in
-      let is = prefix_keys at (taken_behind on n) (left_by on fs) (as_prefix (word at n fs on)) keys (wrapped_prefix (is_prefix (word at n fs on).words) (word at n fs on) refl) in
+      let is = prefix_keys at (taken_behind on n) (left_by on fs) (as_prefix (word at n fs on)) keys (prefix_by (is_prefix (word at n fs on).words) (word at n fs on) refl) in
       words_last at (taken_behind on n) (left_by on fs) (as_prefix (word at n fs on)) keys key
       ∙ ap (λ w. with_key (field_name at key) w (word_operand at (taken_behind (index_value on keys depth) n) (left_by (index_value on keys depth) fs) key)) (prefix_once w is);
-  taken = λ n. taken_last keys key (taken_behind on n);
+  taken = λ n. last_taken keys key (taken_behind on n);
   unused = λ fs. left_last keys key (left_by on fs);
   keys = count_last keys key;
   can = λ fs few first last.
@@ -111,8 +101,8 @@ next_key at on keys key depth more = record {
 }
 
 indexes : (at : Place) (on : Value) (key : OperandValue) (v : Value) → made_index on key ≡ Some v → Indexes at on key v
-indexes at (index_value on keys depth) key v made = subst (Indexes at (index_value on keys depth) key) (made_is (nat_lt (depth_of_operand key) 400) _ v made) (next_key at on keys key depth (max depth (suc (depth_of_operand key))))
-indexes at on key v made = subst (Indexes at on key) (made_is (nat_lt (max (depth_of on) (depth_of_operand key)) 400) _ v made) (first_key at on key (suc (max (depth_of on) (depth_of_operand key))) refl)
+indexes at (index_value on keys depth) key v made = subst (Indexes at (index_value on keys depth) key) (given_is (nat_lt (depth_of_operand key) 400) _ v made) (next_key at on keys key depth (max depth (suc (depth_of_operand key))))
+indexes at on key v made = subst (Indexes at on key) (given_is (nat_lt (max (depth_of on) (depth_of_operand key)) 400) _ v made) (first_key at on key (suc (max (depth_of on) (depth_of_operand key))) refl)
 
 -- ---- a key that is written as a field
 

@@ -4,6 +4,7 @@ pub mod WordsRead
 pub mod ValueWords
 pub mod BehindWords
 pub mod Comes
+pub mod BothOperands
 pub mod WordsBegin
 pub mod TakenEntries
 pub mod TableItems

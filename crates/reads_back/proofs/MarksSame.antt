@@ -52,16 +52,13 @@ module _ (at : Place) where
 
 -- ---- folded numbers mention nothing
 
-none_of_two : (a b : Part) → SamePart a nothing → SamePart b nothing → SamePart (both a b) nothing
-none_of_two a b first second = both_same first second
-
-folded_both : (op : Option ArithOp) (a b : Option ℤ) (n : ℤ) → fold_binary op a b ≡ Some n → ((k : ℤ) × (a ≡ Some k)) × ((k : ℤ) × (b ≡ Some k))
+pub folded_both : (op : Option ArithOp) (a b : Option ℤ) (n : ℤ) → fold_binary op a b ≡ Some n → ((k : ℤ) × (a ≡ Some k)) × ((k : ℤ) × (b ≡ Some k))
 folded_both (Some op) (Some a) (Some b) n is = ((a, refl), (b, refl))
 folded_both (Some op) (Some a) None n is = cc
 folded_both (Some op) None b n is = cc
 folded_both None a b n is = cc
 
-folded_one : (op : UnaryOp) (a : Option ℤ) (n : ℤ) → fold_unary op a ≡ Some n → (k : ℤ) × (a ≡ Some k)
+pub folded_one : (op : UnaryOp) (a : Option ℤ) (n : ℤ) → fold_unary op a ≡ Some n → (k : ℤ) × (a ≡ Some k)
 folded_one UnaryOp.Neg (Some a) n is = (a, refl)
 folded_one UnaryOp.Neg None n is = cc
 folded_one UnaryOp.Not a n is = cc

@@ -65,7 +65,7 @@ good_by : (good : Bool) (name text : Text) → (if good then Some name else None
 good_by true name text is = refl
 good_by false name text is = cc
 
-good_text : (name : Option Text) (text : Text) → as_name name ≡ Some text → is_good_text name ≡ true
+pub good_text : (name : Option Text) (text : Text) → as_name name ≡ Some text → is_good_text name ≡ true
 good_text None text is = cc
 good_text (Some name) text is = good_by (is_name name) name text is
 

@@ -2,7 +2,6 @@
 use Rattle.std.proofs.Common.{◌≡◌, ℕ, suc, inl, inr, Bool, true, false, cond, List, [], ◌∷◌, ◌++◌, length, Option, Some, None, refl, sym, ap, ap₂, ◌∙◌, subst, drop}
 use Rattle.std.specs.Prelude.{◌==◌, ◌&&◌, ◌||◌, ◌+◌, ◌-◌, ◌/◌, nat_le, nat_lt, ℤ}
 use Rattle.lua_num.specs.Bytes.{Text}
-use Rattle.lua_num.specs.declared.arith.ArithOp.{ArithOp}
 use Rattle.lua_tree.specs.Scoping.{Use}
 use Rattle.lua_tree.specs.Syntax as syntax
 use Rattle.lua_tree.specs.Syntax.{Expressions, no_expressions, Arguments, argument_list, text_argument, table_argument, Expression, nil_literal, true_literal, false_literal, vararg_expression, number_literal, text_literal, name_expression, index_expression, field_expression, call_expression, method_call, binary_expression, unary_expression, parenthesized, constructor, Fields, no_fields, positional, named, keyed, Statement, assignment, call_statement, local_statement, return_statement}
@@ -10,7 +9,7 @@ use Rattle.lua_tree.specs.declared.tree.BinaryOp.{BinaryOp}
 use Rattle.lua_tree.specs.declared.tree.UnaryOp.{UnaryOp}
 use Rattle.opcode.specs.declared.op.Op.{Op}
 use Rattle.proto.specs.declared.parts.Constant.{Constant}
-use Rattle.scheme.specs.Expressions.{Target, Want, arith_op, fold, fold_binary, fold_unary, is_comparison, is_vararg, literal, name_target, number_or, part_target, plain_literal, register_of}
+use Rattle.scheme.specs.Expressions.{Target, Want, arith_op, fold, is_comparison, is_vararg, literal, name_target, number_or, part_target, plain_literal, register_of}
 use Rattle.scheme.specs.Lists.{pending_after}
 use Rattle.scheme.specs.Making.{Ahead, Where, in_globals, in_register, in_upvalue}
 use Rattle.scheme.specs.declared.making.Active.{Active}
@@ -25,6 +24,7 @@ use Rattle.scheme_stands.specs.Words.{Fn, Spot, Stretch, meaning}
 use Rattle.reads_back.specs.Acted.{IsAct, IsActTarget}
 use Rattle.reads_back.specs.Cores.{AllHaveCores, HasCore, HaveCores, HaveItems}
 use Rattle.reads_back.proofs.AssignmentsRead.{one_target}
+use Rattle.reads_back.proofs.MarksSame.{folded_both, folded_one}
 use Rattle.reads_back.proofs.NamesAhead.{AreMeant, behind_both, both_meant, names_behind, names_given, names_in, names_in_all, names_of_fields}
 use Rattle.reads_back.proofs.Rewriting.{names_of_statement}
 
@@ -72,21 +72,13 @@ module _ {g : Fn} {active : List Active} where
 both_none : (texts others : List Text) → texts ≡ [] → others ≡ [] → texts ++ others ≡ []
 both_none texts others first second = ap₂ (λ (texts others : List Text). texts ++ others) first second
 
-unary_folds : (op : UnaryOp) (a : Option ℤ) (n : ℤ) → fold_unary op a ≡ Some n → (x : ℤ) × (a ≡ Some x)
-unary_folds UnaryOp.Neg (Some a) n is = (a, refl)
-unary_folds op a n is = cc
-
-binary_folds : (op : Option ArithOp) (a b : Option ℤ) (n : ℤ) → fold_binary op a b ≡ Some n → ((x : ℤ) × (a ≡ Some x)) × ((y : ℤ) × (b ≡ Some y))
-binary_folds (Some op) (Some a) (Some b) n is = ((a, refl), (b, refl))
-binary_folds op a b n is = cc
-
 -- only numbers are folded
 folded_nameless : (e : Expression) (n : ℤ) → fold e ≡ Some n → names_in e ≡ []
 folded_nameless (number_literal line x) n is = refl
 folded_nameless (parenthesized line e) n is = folded_nameless e n is
-folded_nameless (unary_expression line op e) n is = let inside = unary_folds op (fold e) n is in folded_nameless e inside.0 inside.1
+folded_nameless (unary_expression line op e) n is = let inside = folded_one op (fold e) n is in folded_nameless e inside.0 inside.1
 folded_nameless (binary_expression line op left right) n is =
-    let sides = binary_folds (arith_op op) (fold left) (fold right) n is in
+    let sides = folded_both (arith_op op) (fold left) (fold right) n is in
     both_none (names_in left) (names_in right) (folded_nameless left sides.0.0 sides.0.1) (folded_nameless right sides.1.0 sides.1.1)
 folded_nameless e n is = cc
 

@@ -218,7 +218,7 @@ module _ {f : Function} {g : Fn} {active : List Active} {listed : List ℕ} (is_
   }
 
 -- the name of a field
-text_forward : (g : Fn) (text : Text) (free x free1 : ℕ) (p q : Spot) → RkTextAt g text free x free1 p q → p.pc ≤ q.pc
+pub text_forward : (g : Fn) (text : Text) (free x free1 : ℕ) (p q : Spot) → RkTextAt g text free x free1 p q → p.pc ≤ q.pc
 text_forward g text free x free1 p q (inl at) = omega (arith, at.same.pc)
 text_forward g text free x free1 p q (inr (large, at)) = let w = at.value_at in omega (arith, w.word.next)
 

@@ -103,9 +103,6 @@ below_255 n is = grind (arith, nat_tests)
 up_to_255 : (n : ℕ) → nat_le n 255 ≡ true → n ≤ 255
 up_to_255 n is = grind (arith, nat_tests)
 
-over_255 : (n : ℕ) → nat_le n 255 ≡ false → nat_lt 255 n ≡ true
-over_255 n is = grind (arith, nat_tests)
-
 not_up_to : (n : ℕ) → 255 < n → nat_le n 255 ≡ false
 not_up_to n more = grind (arith, nat_tests)
 

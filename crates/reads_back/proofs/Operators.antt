@@ -1,5 +1,5 @@
 -- The word of an operator takes its operands off, and makes their value: where its operands are read, so is it.
-use Rattle.std.proofs.Common.{◌≡◌, ℕ, suc, ◌*◌, ◌+◌, ◌-◌, ◌<◌, ◌≤◌, ◌⊎◌, max, nat_le, ◌||◌, true, false, Bool, List, ◌++◌, length-append, Option, Some, None, refl, sym, ap, ◌∙◌, subst, arith, inl, inr, le-leb, lt-ltb}
+use Rattle.std.proofs.Common.{◌≡◌, ℕ, suc, ◌*◌, ◌+◌, ◌-◌, ◌<◌, ◌≤◌, ◌⊎◌, max, nat_le, ◌||◌, true, false, Bool, List, Option, Some, None, refl, sym, ap, ◌∙◌, subst, arith, inl, inr, le-leb, lt-ltb}
 use Rattle.std.proofs.lemmas.Bool.Decides.{nat_tests}
 use Rattle.std.proofs.Math.Nat.{max-le, max-zero}
 use Rattle.std.specs.Prelude.{option_and_then, option_map, if◌then◌else◌}
@@ -14,7 +14,7 @@ use Rattle.core_expr.specs.Values.{Value, index_value, binary_value, unary_value
 use Rattle.recover_expr.specs.Drafts.{makes}
 use Rattle.recover_expr.specs.Effects.{is_from, makes_value, reads_from}
 use Rattle.recover_expr.specs.Reading.{read_word}
-use Rattle.recover_expr.specs.Situation.{Function, Situation, constant_in, instr_at, pop, pop_operand, see, see_constant, see_operand}
+use Rattle.recover_expr.specs.Situation.{Function, Situation, constant_in, instr_at, pop, pop_operand, see, see_operand}
 use Rattle.recover_expr.specs.Words.{arithmetic, arithmetic_right, get_table, get_table_key, made_by, unary}
 use Rattle.recover_expr.specs.declared.function.Word.{Word}
 use Rattle.scheme.specs.Expressions.{is_comparison, unary_word}
@@ -25,27 +25,11 @@ use Rattle.scheme_stands.specs.Words.{Fn, Spot, Stretch, WordAt, instr_by}
 use Rattle.reads_back.specs.Cores.{IsArithmetic, IsIndexed, IsUnary}
 use Rattle.reads_back.proofs.Comes.{Begins, IsOperandWanted, IsWanted, Made, OperandComes, Reads, ReadsOperand, IsValueOperand}
 use Rattle.reads_back.proofs.BehindWords.{HasLocals, SameLocals, behind_words, quiet_same, same_then}
-use Rattle.reads_back.proofs.Reaches.{Reaches, reaches_on, reaches_then}
-use Rattle.reads_back.proofs.Taking.{max_swap, operand_taken_later}
+use Rattle.reads_back.proofs.BothOperands.{behind_operand, both_reach, both_taken, constants_taken, counted, first_popped, next_behind, second_popped, seen_with, seen_with_both, with_seen}
+use Rattle.reads_back.proofs.Reaches.{Reaches, reaches_on}
 use Rattle.reads_back.proofs.ValueWords.{next_free}
 use Rattle.reads_back.proofs.WordsBegin.{begins_wants, word_begins, word_wants}
 use Rattle.reads_back.proofs.WordsRead.{IsFunction, IsQuiet, abc_is_read, quiet_before, quiet_from, turn_there, word_of, word_there}
-
--- ---- constants that operands name
-
--- so many constants are taken with a constant of an operand
-abbrev counted : (x : ℕ) → ℕ
-counted x = if nat_le 256 x then one_more (x - 256) else 0
-
-seen_by : (is_constant : Bool) (number : ℕ) (t : Situation) → (if is_constant then see_constant number t else t) ≡ record t { seen = max t.seen (if is_constant then one_more number else 0) }
-seen_by true number t = refl
-seen_by false number t = ap (λ (n : ℕ). record t { seen = n }) (sym (max-zero t.seen))
-
-seen_with : (x : ℕ) (t : Situation) → see_operand x t ≡ record t { seen = max t.seen (counted x) }
-seen_with x t = seen_by (nat_le 256 x) (x - 256) t
-
-seen_with_both : (x y : ℕ) (t : Situation) → see_operand y (see_operand x t) ≡ record t { seen = max (max t.seen (counted x)) (counted y) }
-seen_with_both x y t = ap (see_operand y) (seen_with x t) ∙ seen_with y (record t { seen = max t.seen (counted x) })
 
 -- ---- operands that are values
 
@@ -72,40 +56,9 @@ value_popped f x t behind operand v is popped = value_by (nat_le 256 x) (constan
 
 -- ---- operands one behind the other
 
-abbrev behind_operand : {f : Function} {Is : OperandValue → Type 0} {deep free x free1 first last : ℕ} {s : Situation} → OperandComes f Is deep s free x free1 first last → Situation
-behind_operand {s = s} one = behind_words one.scope one.seen one.more s
-
 locals_behind : {f : Function} {Is : OperandValue → Type 0} {deep free x free1 first last : ℕ} {s : Situation} {active : List Active} {listed : List ℕ} (one : OperandComes f Is deep s free x free1 first last) → HasLocals active listed s →
     HasLocals active listed (behind_operand one)
 locals_behind one locals = record { base = locals.base; places = one.same.active ∙ locals.places }
-
-next_behind : {f : Function} {Is : OperandValue → Type 0} {deep free x free1 first last : ℕ} {s : Situation} (one : OperandComes f Is deep s free x free1 first last) → free ≡ next_free s → free1 ≡ next_free (behind_operand one)
-next_behind {s = s} one is = omega (arith, one.counts, is, length-append s.entries one.more)
-
-constants_taken : {f : Function} {Is : OperandValue → Type 0} {deep free x free1 first last : ℕ} {s : Situation} (one : OperandComes f Is deep s free x free1 first last) → max one.seen (counted x) ≡ taken_behind_operand one.operand s.seen
-constants_taken {x = x} one = sym (ap (λ (t : Situation). t.seen) (seen_with x (behind_operand one))) ∙ one.taken (behind_operand one) refl
-
-abbrev with_seen : ℕ → Situation → Situation
-with_seen n s = record s { seen = n }
-
-module _ {f : Function} {Left Right : OperandValue → Type 0} {deep free x free1 y free2 first mid last : ℕ} {s : Situation} (one : OperandComes f Left deep s free x free1 first mid)
-    (two : OperandComes f Right deep (behind_operand one) free1 y free2 mid last) where
-  both_reach : Reaches f first s last (behind_operand two)
-  both_reach = reaches_then one.reaches two.reaches
-
-  right_popped : (n : ℕ) → free ≡ next_free s → pop_operand f y (with_seen n (behind_operand two)) ≡ Some (two.operand, with_seen n (behind_words two.scope one.seen one.more s))
-  right_popped n is = two.popped (with_seen n (behind_operand two)) (s.entries ++ one.more) refl two.same.active refl (sym (next_behind one is))
-
-  left_popped : (n : ℕ) → free ≡ next_free s → pop_operand f x (with_seen n (behind_words two.scope one.seen one.more s)) ≡ Some (one.operand, record s { scope = two.scope; seen = n })
-  left_popped n is = one.popped (with_seen n (behind_words two.scope one.seen one.more s)) s.entries refl (two.same.active ∙ one.same.active) refl (sym is)
-
-  -- the word names them together, behind all words of the operands
-  both_taken : max (max two.seen (counted x)) (counted y) ≡ taken_behind_operand two.operand (taken_behind_operand one.operand s.seen)
-  both_taken =
-      max_swap two.seen (counted x) (counted y)
-      ∙ ap (λ n. max n (counted x)) (constants_taken two)
-      ∙ sym (operand_taken_later two.operand one.seen (counted x))
-      ∙ ap (taken_behind_operand two.operand) (constants_taken one)
 
 -- ---- registers of operands
 
@@ -279,7 +232,7 @@ arithmetic_does {f} {x = x} {y = y} {s = s} {op = op} {code = code} as_word pc r
     let n = max (max two.seen (counted x)) (counted y) in
     ap (read_word f w) (as_word.sees pc r x y (behind_operand two) ∙ seen_with_both x y (behind_operand two))
     ∙ as_word.reads f pc r x y (with_seen n (behind_operand two))
-    ∙ arithmetic_made f w op (with_seen n (behind_operand two)) (with_seen n (behind_words two.scope one.seen one.more s)) (record s { scope = two.scope; seen = n }) one.operand two.operand (right_popped one two n is) (left_popped one two n is) few
+    ∙ arithmetic_made f w op (with_seen n (behind_operand two)) (with_seen n (behind_words two.scope one.seen one.more s)) (record s { scope = two.scope; seen = n }) one.operand two.operand (second_popped one two n is) (first_popped one two n is) few
     ∙ ap (λ (n : ℕ). Some (makes (binary_of op one.operand two.operand) (suc pc), record s { scope = two.scope; seen = n })) (both_taken one two)
 
 arithmetic_comes : {f : Function} {g : Fn} {Left Right : OperandValue → Type 0} {deep free x free1 y free2 first mid r : ℕ} {s : Situation} {op : BinaryOp} {code : Op} {p q : Spot} →
@@ -411,7 +364,7 @@ unary_reads op is_function few of = record {
 
 -- ---- indexing
 
-last_taken : (keys : OperandList) (key : OperandValue) (n : ℕ) → taken_behind_operands (and_last keys key) n ≡ taken_behind_operand key (taken_behind_operands keys n)
+pub last_taken : (keys : OperandList) (key : OperandValue) (n : ℕ) → taken_behind_operands (and_last keys key) n ≡ taken_behind_operand key (taken_behind_operands keys n)
 last_taken no_operands key n = refl
 last_taken (and_operand first keys) key n = last_taken keys key (taken_behind_operand first n)
 
@@ -460,7 +413,7 @@ table_does {f} {x = x} {y = y} {s = s} pc r one two alone of is =
     let mid = with_seen n (behind_words two.scope one.seen one.more s) in
     let behind = record s { scope = two.scope; seen = n } in
     ap (get_table f w) (seen_with y (behind_operand two))
-    ∙ table_made f w (with_seen n (behind_operand two)) mid behind alone.value of.value two.operand (right_popped one two n is) (alone.popped mid behind (left_popped one two n is)) of.made
+    ∙ table_made f w (with_seen n (behind_operand two)) mid behind alone.value of.value two.operand (second_popped one two n is) (alone.popped mid behind (first_popped one two n is)) of.made
     ∙ ap (λ (n : ℕ). Some (makes of.value (suc pc), record s { scope = two.scope; seen = n })) (constants_taken two ∙ sym (ap (taken_behind_operand two.operand) alone.taken) ∙ sym (of.taken s.seen))
 
 table_comes : {f : Function} {g : Fn} {On : Value → Type 0} {Key : OperandValue → Type 0} {deep free x free1 y free2 first mid r : ℕ} {s : Situation} {p q : Spot} → IsFunction f g → deep < 200 → free ≡ next_free s → IsQuiet f s.scope first q.pc →

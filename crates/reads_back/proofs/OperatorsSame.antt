@@ -28,17 +28,14 @@ use Rattle.scheme_stands.proofs.Parts.{grows, grows_rk}
 use Rattle.scheme_stands.specs.Words.{Fn}
 use Rattle.reads_back.proofs.NamesAhead.{IsAhead, ahead_behind, ahead_front, names_in}
 use Rattle.reads_back.proofs.PassedNames.{PassesNames, rk_passes}
+use Rattle.reads_back.proofs.Tests.{given_is}
 use Rattle.reads_back.proofs.WordsSame.{fold_wrapped, levels_wrapped, operand_same, operand_taken, operand_wrapped, rk_on_left, rk_on_right, same_fold}
 use Rattle.reads_back.proofs.Rewriting.{Rewritten, RewrittenOperand, code, operand_wording, wording}
 
--- ---- what was made
+-- ---- one level more
 
 pub few_more : (n : ℕ) → one_more n ≤ suc n
 few_more n = omega arith
-
-pub made_is : (small : Bool) (v w : Value) → (if small then Some v else None) ≡ Some w → v ≡ w
-made_is true v w is = cc
-made_is false v w is = cc
 
 -- ---- an operand needs no more levels than a value: what stands in parentheses as an operand has few of its own
 
@@ -193,7 +190,7 @@ module _ {f : Function} {g : Fn} {active : List Active} {listed : List ℕ} {z :
       ((n : ℕ) → (operand_wording f listed z left n x).levels ≤ 3 * depth_of_expression l + 2) → ((n : ℕ) → (operand_wording f listed z left n y).levels ≤ 3 * depth_of_expression r + 2) →
       made_binary op x y ≡ Some v → Rewritten f g active listed z left (binary_expression line op l r) v
   arithmetic_rewritten line op kind l r x y v is none kept first second few_first few_second made =
-      subst (Rewritten f g active listed z left (binary_expression line op l r)) (made_is (nat_lt (max (depth_of_operand x) (depth_of_operand y)) 400) _ v made) (by_op op is none (suc (max (depth_of_operand x) (depth_of_operand y))))
+      subst (Rewritten f g active listed z left (binary_expression line op l r)) (given_is (nat_lt (max (depth_of_operand x) (depth_of_operand y)) 400) _ v made) (by_op op is none (suc (max (depth_of_operand x) (depth_of_operand y))))
     where
       by_op : (op : BinaryOp) → arith_op op ≡ Some kind → fold (binary_expression line op l r) ≡ None → (depth : ℕ) → Rewritten f g active listed z left (binary_expression line op l r) (values.binary_value op x y depth)
       by_op BinaryOp.Add is none depth = binary_rewritten first second BinaryOp.Add kept Op.Add refl none line depth few_first few_second
@@ -244,7 +241,7 @@ module _ {f : Function} {g : Fn} {active : List Active} {listed : List ℕ} {z :
   -- unary operators that are not folded
   pub unary_rewritten : (line : ℕ) (op : UnaryOp) (e : Expression) (of v : Value) → fold (unary_expression line op e) ≡ None → Rewritten f g active listed z left e of →
       made_unary op of ≡ Some v → Rewritten f g active listed z left (unary_expression line op e) v
-  unary_rewritten line op e of v none inside made = subst (Rewritten f g active listed z left (unary_expression line op e)) (made_is (nat_lt (depth_of of) 400) _ v made) (record {
+  unary_rewritten line op e of v none inside made = subst (Rewritten f g active listed z left (unary_expression line op e)) (given_is (nat_lt (depth_of of) 400) _ v made) (record {
     can = inside.can;
     unused = inside.unused;
     named = λ n. refl;

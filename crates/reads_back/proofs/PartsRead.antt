@@ -1,5 +1,5 @@
 -- A SETTABLE that stores the only value of a step ends an assignment to a part of a table.
-use Rattle.std.proofs.Common.{◌≡◌, ℕ, zero, suc, ◌+◌, ◌-◌, ◌≤◌, nat_le, nat_lt, ◌&&◌, Bool, true, false, List, [], ◌∷◌, ◌++◌, length, length-append, Option, Some, None, refl, sym, ap, ◌∙◌, subst, arith, le-leb, lt-ltb}
+use Rattle.std.proofs.Common.{◌≡◌, ℕ, zero, suc, ◌+◌, ◌-◌, ◌≤◌, nat_le, nat_lt, ◌&&◌, true, false, List, [], ◌∷◌, ◌++◌, length, length-append, Option, Some, None, refl, sym, ap, ◌∙◌, subst, arith, le-leb, lt-ltb}
 use Rattle.std.proofs.lemmas.Bool.Decides.{nat_tests}
 use Rattle.std.proofs.lemmas.Option.{same_Some}
 use Rattle.std.specs.Prelude.{not, replicate, option_and_then, option_map, if◌then◌else◌}
@@ -26,7 +26,7 @@ use Rattle.reads_back.proofs.HeldOperands.{Kept, in_word, in_local, in_next, ope
 use Rattle.reads_back.proofs.NoFunctions.{IsNoFunctionOperand}
 use Rattle.reads_back.proofs.StoresRead.{IsEntry, IsInStep, IsValueKept, is_entry, local_there, no_function_in, no_place, operand_there, operand_written, part_written, stored_at, straight_of}
 use Rattle.reads_back.proofs.TakenEntries.{behind_taken}
-use Rattle.reads_back.proofs.Tests.{and_not, both_hold, not_below}
+use Rattle.reads_back.proofs.Tests.{and_not, both_hold, given_is, not_below}
 use Rattle.reads_back.proofs.ValueWords.{place_of_next}
 use Rattle.reads_back.proofs.WordsRead.{word_of}
 
@@ -88,13 +88,9 @@ abbrev pub IsNoTable : Value → Type 0
 IsNoTable (table_value items all depth) = ⊥
 IsNoTable v = Unit {0}
 
-made_is : (few : Bool) (made v : Value) → (if few then Some made else None) ≡ Some v → made ≡ v
-made_is true made v is = same_Some made v is
-made_is false made v is = cc
-
 -- what is no table does not stand in its register as a constructor
 no_maker : (entry : EntryValue) (v : Value) → single_of entry ≡ Some v → IsNoTable v → is_maker entry ≡ false
-no_maker (maker_entry items all) v single none = absurd (subst IsNoTable (sym (made_is (nat_lt (deepest_item items) 400) (table_value items all (suc (deepest_item items))) v single)) none)
+no_maker (maker_entry items all) v single none = absurd (subst IsNoTable (sym (given_is (nat_lt (deepest_item items) 400) (table_value items all (suc (deepest_item items))) v single)) none)
 no_maker entry v single none = refl
 
 -- ---- which registers the parts use

@@ -2,7 +2,6 @@
 use Rattle.std.proofs.Common.{◌≡◌, ℕ, Bool, true, false, cond, List, [], ◌∷◌, ◌++◌, Option, Some, None, refl, sym, ap, ◌∙◌, subst}
 use Rattle.std.specs.Prelude.{◌==◌, ◌&&◌, ◌+◌, ◌-◌, ◌/◌, suc, nat_le, nat_lt, ℤ, not}
 use Rattle.lua_num.specs.Bytes.{Text}
-use Rattle.lua_num.specs.declared.arith.ArithOp.{ArithOp}
 use Rattle.lua_tree.specs.OneLine.{one_line_expression, one_line_expressions, one_line_arguments, one_line_fields}
 use Rattle.lua_tree.specs.Syntax as syntax
 use Rattle.lua_tree.specs.Syntax.{Expressions, no_expressions, Arguments, argument_list, text_argument, table_argument, Expression, nil_literal, true_literal, false_literal, vararg_expression, number_literal, text_literal, name_expression, index_expression, field_expression, call_expression, method_call, binary_expression, unary_expression, parenthesized, constructor, Fields, no_fields, positional, named, keyed}
@@ -10,12 +9,13 @@ use Rattle.lua_tree.specs.declared.tree.BinaryOp.{BinaryOp}
 use Rattle.lua_tree.specs.declared.tree.UnaryOp.{UnaryOp}
 use Rattle.opcode.specs.declared.op.Op.{Op}
 use Rattle.proto.specs.declared.parts.Constant.{Constant}
-use Rattle.scheme.specs.Expressions.{Coded, Want, is_name, arith_op, arithmetic, binary_spine, binary_value, concat, fold, fold_binary, fold_unary, indexed_value, is_comparison, is_multiple, is_small, literal, load_or, local_register, name_value, next_reg, next_text, number_or, operand, operand_by, plain_literal, read_where, register_of, rk, rk_by, rk_text, small_constant, unary_value}
+use Rattle.scheme.specs.Expressions.{Coded, Want, is_name, arith_op, arithmetic, binary_spine, binary_value, concat, fold, indexed_value, is_comparison, is_multiple, is_small, literal, load_or, local_register, name_value, next_reg, next_text, number_or, operand, operand_by, plain_literal, read_where, register_of, rk, rk_by, rk_text, small_constant, unary_value}
 use Rattle.scheme.specs.Lists.{Given, all_multi, all_next, by_base, call_at, coded_call, ends_open, entries_from, is_last, keyed_item, large_block, method_at, moved, open_entry, open_list, other_count, pending_after, positional_count, results_at, set_list, size_hint, small_block, table_at}
 use Rattle.scheme.specs.Making.{Asks, Maker, Part, Where, in_globals, in_register, in_upvalue, free_from, freeing, next_name, pass_name, put, take_registers, when}
 use Rattle.scheme.specs.Scheme.{all_coded, coded, entries, given}
 use Rattle.scheme.specs.declared.making.Piece.{Piece}
 use Rattle.reads_back.specs.Cores.{AllHaveCores, HasCore, HaveCores, HaveItems}
+use Rattle.reads_back.proofs.MarksSame.{folded_both, folded_one}
 use Rattle.reads_back.proofs.NamesAhead.{AskingPasses, Passed, Passes, names_given, names_in, names_in_all, names_of_fields, passed_none, passed_then}
 use Rattle.reads_back.proofs.Rewriting.{code}
 use Rattle.reads_back.proofs.Tests.{first_of_both, second_of_both}
@@ -131,14 +131,6 @@ load_or_passes texts (Some n) line to nameless passes r m = passed_as (nameless 
 load_or_passes texts None line to nameless passes r m = passes r m
 
 -- only numbers are folded
-unary_folds : (op : UnaryOp) (a : Option ℤ) (n : ℤ) → fold_unary op a ≡ Some n → (x : ℤ) × (a ≡ Some x)
-unary_folds UnaryOp.Neg (Some a) n is = (a, refl)
-unary_folds op a n is = cc
-
-binary_folds : (op : Option ArithOp) (a b : Option ℤ) (n : ℤ) → fold_binary op a b ≡ Some n → ((x : ℤ) × (a ≡ Some x)) × ((y : ℤ) × (b ≡ Some y))
-binary_folds (Some op) (Some a) (Some b) n is = ((a, refl), (b, refl))
-binary_folds op a b n is = cc
-
 folded_nameless : (texts : List Text) (x : Expression) → PassesNames texts (coded x) → (n : ℤ) → fold x ≡ Some n → texts ≡ []
 folded_nameless texts x passes n is = passes.nameless (Constant.Number n) (ap literal (coded_is x) ∙ ap (λ folded. number_or folded (plain_literal x)) is)
 
@@ -182,7 +174,7 @@ binary_passes texts others op l r plain first second = record {
   where
     nameless : (n : ℤ) → fold (binary_expression 1 op l r) ≡ Some n → texts ++ others ≡ []
     nameless n is =
-        let both = binary_folds (arith_op op) (fold l) (fold r) n is in
+        let both = folded_both (arith_op op) (fold l) (fold r) n is in
         ap (λ (texts : List Text). texts ++ others) (folded_nameless texts l first both.0.0 both.0.1) ∙ folded_nameless others r second both.1.0 both.1.1
 
     to : (register : ℕ) → Passes (texts ++ others) (freeing (load_or (fold (binary_expression 1 op l r)) 1 (binary_value 1 op (coded l) (coded r)) register))
@@ -194,7 +186,7 @@ unary_passes texts op x passes =
     (λ k is. let folded = literal_folded (fold (unary_expression 1 op x)) k is in nameless folded.0 folded.1)
   where
     nameless : (n : ℤ) → fold (unary_expression 1 op x) ≡ Some n → texts ≡ []
-    nameless n is = let inside = unary_folds op (fold x) n is in folded_nameless texts x passes inside.0 inside.1
+    nameless n is = let inside = folded_one op (fold x) n is in folded_nameless texts x passes inside.0 inside.1
 
     to : (r : ℕ) → Passes texts (unary_value 1 op (coded x) r)
     to r m = passed_on (operand_passes texts (coded x) passes m) (record { around = refl; names = refl })

@@ -1,13 +1,12 @@
 -- What is written of the value of an expression is a string, nil, true or false only where the value is one.
-use Rattle.std.proofs.Common.{◌≡◌, ℕ, suc, max, Bool, true, false, nat_lt, ℤ, List, Option, Some, None, is_some, refl, sym, ap, ◌∙◌, subst}
-use Rattle.std.specs.Prelude.{if◌then◌else◌}
+use Rattle.std.proofs.Common.{◌≡◌, ℕ, suc, max, Bool, true, false, ℤ, List, Option, Some, None, is_some, refl, sym, ap, ◌∙◌, subst}
 use Rattle.lua_num.specs.Bytes.{Text}
 use Rattle.lua_tree.specs.Syntax.{Expression, nil_literal, true_literal, false_literal, vararg_expression, number_literal, text_literal, name_expression, index_expression, field_expression, call_expression, method_call, binary_expression, unary_expression, parenthesized, constructor}
 use Rattle.lua_tree.specs.WellFormed.{is_prefix}
 use Rattle.lua_tree.specs.declared.tree.BinaryOp.{BinaryOp}
 use Rattle.proto.specs.declared.parts.Constant.{Constant}
 use Rattle.core_expr.specs.Counting.{left_by, left_by_operand, taken_behind, taken_behind_operand}
-use Rattle.core_expr.specs.Making.{and_last, deepest, depth_of, depth_of_operand, made_index, made_over, deepest_item}
+use Rattle.core_expr.specs.Making.{and_last, deepest, depth_of, depth_of_operand, made_index, deepest_item}
 use Rattle.core_expr.specs.Places.{Place, constant_name, field_name, local_name, upvalue_name}
 use Rattle.core_expr.specs.Values.{Value, nil_value, bool_value, vararg_value, constant_value, local_value, upvalue_value, global_value, index_value, binary_value, unary_value, concat_value, call_value, method_value, Values, no_values, and_value, OperandValue, OperandList, no_operands, and_operand, Inner, table_value}
 use Rattle.core_expr.specs.Writing.{Wording, as_prefix, can_write, name_word, unless, with_key, word, word_keys, word_operand}
@@ -16,15 +15,9 @@ use Rattle.scheme.specs.Making.{Where, in_globals, in_register, in_upvalue}
 use Rattle.scheme.specs.declared.making.Active.{Active}
 use Rattle.scheme_stands.specs.Words.{Fn}
 use Rattle.reads_back.specs.Cores.{HasNumber, IsArithmetic, IsConcat, IsConstant, IsCore, IsFoldedOr, IsIndexed, IsFirst, IsOperandBy, IsOperator, IsUnary, IsVariable, core}
+use Rattle.reads_back.proofs.MarksSame.{over_made}
 
 -- ---- what is made
-
-made_is : (depth : ℕ) (make : ℕ → Value) (v : Value) → made_over depth make ≡ Some v → v ≡ make (suc depth)
-made_is depth make v is = by (nat_lt depth 400) is
-  where
-    by : (low : Bool) → (if low then Some (make (suc depth)) else None) ≡ Some v → v ≡ make (suc depth)
-    by true is = cc
-    by false is = cc
 
 record IsIndexValue (v : Value) : Type 0 where
   on : Value
@@ -34,9 +27,9 @@ record IsIndexValue (v : Value) : Type 0 where
 
 index_is : (on : Value) (key : OperandValue) (v : Value) → made_index on key ≡ Some v → IsIndexValue v
 index_is (index_value on keys depth) key v is =
-    record { on = on; keys = and_last keys key; depth = max depth (suc (depth_of_operand key)); is = made_is (depth_of_operand key) (λ d. index_value on (and_last keys key) (max depth d)) v is }
+    record { on = on; keys = and_last keys key; depth = max depth (suc (depth_of_operand key)); is = over_made (depth_of_operand key) (λ d. index_value on (and_last keys key) (max depth d)) v is }
 index_is on key v is =
-    record { on = on; keys = and_operand key no_operands; depth = suc (max (depth_of on) (depth_of_operand key)); is = made_is (max (depth_of on) (depth_of_operand key)) (λ d. index_value on (and_operand key no_operands) d) v is }
+    record { on = on; keys = and_operand key no_operands; depth = suc (max (depth_of on) (depth_of_operand key)); is = over_made (max (depth_of on) (depth_of_operand key)) (λ d. index_value on (and_operand key no_operands) d) v is }
 
 -- ---- words that are no plain literal
 
@@ -117,12 +110,12 @@ module _ (g : Fn) (active : List Active) (at : Place) (left : List (Option Inner
       let more = spine_is_some g active second rest are_rest in
       let both : values ≡ and_value one (and_value more.first more.rest) = is ∙ ap (and_value one) more.is in
       shown_words v (concat_value (and_value one (and_value more.first more.rest)) (suc (deepest values)))
-      (made_is (deepest values) (λ d. concat_value values d) v made ∙ ap (λ (operands : Values). concat_value operands (suc (deepest values))) both) (λ n. refl)
+      (over_made (deepest values) (λ d. concat_value values d) v made ∙ ap (λ (operands : Values). concat_value operands (suc (deepest values))) both) (λ n. refl)
 
   shown_arithmetic : (op : BinaryOp) (Left Right : OperandValue → Type 0) (v : Value) → IsArithmetic op Left Right v → IsShown g at left v
   shown_arithmetic op Left Right v (plain, x, y, is_x, is_y, is) =
       let depth = max (depth_of_operand x) (depth_of_operand y) in
-      shown_words v (binary_value op x y (suc depth)) (made_is depth (λ d. binary_value op x y d) v is) (λ n. refl)
+      shown_words v (binary_value op x y (suc depth)) (over_made depth (λ d. binary_value op x y d) v is) (λ n. refl)
 
   shown_operator : (op : BinaryOp) (Left Right : OperandValue → Type 0) (first second : Expression) (v : Value) → IsOperator op Left Right (IsFirst (core g active first).value (core g active second).spine) v → IsShown g at left v
   shown_operator BinaryOp.Concat Left Right first second v is = shown_concat first second v is
@@ -140,10 +133,10 @@ module _ (g : Fn) (active : List Active) (at : Place) (left : List (Option Inner
   shown (field_expression line on text) v is can = shown_index _ _ v is
   shown (call_expression line on args on_line) v (callee, values, all, is_callee, given, is) can =
       let depth = max (depth_of callee) (deepest values) in
-      shown_words v (call_value callee values all (suc depth)) (made_is depth (λ d. call_value callee values all d) v is) (λ n. refl)
+      shown_words v (call_value callee values all (suc depth)) (over_made depth (λ d. call_value callee values all d) v is) (λ n. refl)
   shown (method_call line on name args on_line) v (callee, number, values, all, is_callee, has, given, is) can =
       let depth = max (depth_of callee) (deepest values) in
-      shown_words v (method_value callee number values all (suc depth)) (made_is depth (λ d. method_value callee number values all d) v is) (λ n. refl)
+      shown_words v (method_value callee number values all (suc depth)) (over_made depth (λ d. method_value callee number values all d) v is) (λ n. refl)
   shown (binary_expression line op first second) v is can =
       let operands = IsFirst (core g active first).value (core g active second).spine in
       let Left = IsOperandBy (literal first) g (core g active first).value in
@@ -152,7 +145,7 @@ module _ (g : Fn) (active : List Active) (at : Place) (left : List (Option Inner
   shown (unary_expression line op e) v is can = shown_folded (fold (unary_expression line op e)) (IsUnary op (core g active e).value) v unary is
     where
       unary : IsUnary op (core g active e).value v → IsShown g at left v
-      unary (of, is_of, is) = shown_words v (unary_value op of (suc (depth_of of))) (made_is (depth_of of) (λ d. unary_value op of d) v is) (λ n. refl)
-  shown (constructor line items) v (made, all, are, is) can = shown_words v (table_value made all (suc (deepest_item made))) (made_is (deepest_item made) (λ d. table_value made all d) v is) (λ n. refl)
+      unary (of, is_of, is) = shown_words v (unary_value op of (suc (depth_of of))) (over_made (depth_of of) (λ d. unary_value op of d) v is) (λ n. refl)
+  shown (constructor line items) v (made, all, are, is) can = shown_words v (table_value made all (suc (deepest_item made))) (over_made (deepest_item made) (λ d. table_value made all d) v is) (λ n. refl)
   shown (parenthesized line e) v is can = shown e v is can
   shown e v is can = absurd is

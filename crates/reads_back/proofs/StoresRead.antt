@@ -1,5 +1,5 @@
 -- One store ends an assignment of one value, with what is written of it.
-use Rattle.std.proofs.Common.{◌≡◌, ℕ, ◌+◌, ◌-◌, ◌<◌, max, ◌&&◌, Bool, true, false, List, [], ◌∷◌, length, Option, Some, None, refl, sym, ap, ◌∙◌, arith, le-leb, lt-ltb}
+use Rattle.std.proofs.Common.{◌≡◌, ℕ, ◌+◌, ◌-◌, ◌<◌, max, ◌&&◌, true, List, [], ◌∷◌, length, Option, Some, None, refl, sym, ap, ◌∙◌, arith, le-leb, lt-ltb}
 use Rattle.std.proofs.lemmas.Option.{same_Some}
 use Rattle.std.specs.Prelude.{slice_get, option_and_then, option_map, if◌then◌else◌}
 use Rattle.lua_num.specs.Bytes.{Text}
@@ -7,7 +7,7 @@ use Rattle.lua_tree.specs.Syntax.{expression, no_expressions, assignment}
 use Rattle.opcode.specs.declared.op.Op.{Op}
 use Rattle.core_expr.specs.Counting.{left_by, one_more, taken_behind, taken_behind_operand}
 use Rattle.core_expr.specs.Held.{wordings_with}
-use Rattle.core_expr.specs.Places.{as_name, local_name, place, upvalue_name}
+use Rattle.core_expr.specs.Places.{local_name, place, upvalue_name}
 use Rattle.core_expr.specs.Targets.{TargetValue, local_target, upvalue_target, global_target, index_target, word_target, can_write_target, taken_behind_target, left_by_target}
 use Rattle.core_expr.specs.Values.{Value, no_values, and_value, OperandValue, value_operand, constant_operand, local_value}
 use Rattle.core_expr.specs.Writing.{Wording, Wordings, no_wordings, can_write, can_write_operand, word, word_operand, word_values}
@@ -16,7 +16,7 @@ use Rattle.recover_expr.specs.Drafts.{Drafted, drafted, statement_part}
 use Rattle.recover_expr.specs.Entries.{Entries, EntryValue, value_entry, maker_entry, before_values, single_of, place_in}
 use Rattle.recover_expr.specs.Lists.{Straight, straight_operand, straight_value, stored_singles, stored_values}
 use Rattle.recover_expr.specs.Locals.{has_name, name_of}
-use Rattle.recover_expr.specs.Situation.{Function, Situation, place_in_step, with_left, constant_in, local_in, global_in, is_good_name, is_good_text, upvalue_in}
+use Rattle.recover_expr.specs.Situation.{Function, Situation, place_in_step, with_left, constant_in, local_in, global_in, is_good_name, upvalue_in}
 use Rattle.recover_expr.specs.Stores.{StoredValue, operand_stored, register_stored, register_of, store_of, stored_operand, stored_register, to_local, to_place}
 use Rattle.recover_expr.specs.Writing.{WroteList}
 use Rattle.recover_expr.specs.declared.draft.DraftKind.{DraftKind}
@@ -29,7 +29,7 @@ use Rattle.reads_back.specs.Acted.{assigned as act_assigned, can_act, word_store
 use Rattle.reads_back.proofs.ActsRead.{act_draft, after_act}
 use Rattle.reads_back.proofs.Comes.{IsValueOperand}
 use Rattle.reads_back.proofs.HeldOperands.{Kept, in_word, in_local, in_next, operand_of, entries_in, StandsIn}
-use Rattle.reads_back.proofs.NameReads.{entry_named}
+use Rattle.reads_back.proofs.NameReads.{entry_named, good_text}
 use Rattle.reads_back.proofs.NoFunctions.{IsNoFunction, IsNoFunctionOperand}
 use Rattle.reads_back.proofs.Tests.{first_of_both, second_of_both, not_below}
 use Rattle.reads_back.proofs.ValueWords.{place_of_next}
@@ -64,14 +64,6 @@ pub record IsGlobalName (f : Function) (number : ℕ) (text : Text) : Type 0 whe
 pub global_there : (f : Function) (op : Op) (pc r number : ℕ) (text : Text) → IsGlobalName f number text → global_in f (word_of pc (Piece.Abx op r number)).instr ≡ Some number
 global_there f op pc r number text name =
     ap (λ constant. if is_good_name constant then Some number else None) name.there ∙ ap (λ good. if good then Some number else None) name.named
-
-good_by : (good : Bool) (name text : Text) → (if good then Some name else None) ≡ Some text → good ≡ true
-good_by true name text is = refl
-good_by false name text is = cc
-
-good_text : (name : Option Text) (text : Text) → as_name name ≡ Some text → is_good_text name ≡ true
-good_text None text is = cc
-good_text (Some name) text is = good_by (is_name name) name text is
 
 -- the name of an upvalue
 upvalue_there : (f : Function) (listed : List ℕ) (op : Op) (pc r slot : ℕ) (text : Text) → upvalue_name (place f.of listed f.short) slot ≡ Some text → upvalue_in f (word_of pc (Piece.Abc op r slot 0)).instr ≡ Some slot

@@ -210,7 +210,7 @@ maker_found base a before items all behind entries is are =
 abbrev pub IsKept : (base free x : ℕ) → Entries → Type 0
 IsKept base free x more = ((more ≡ []) × (is_temporary base x ≡ false)) ⊎ ((entry : EntryValue) × (v : Value) × (more ≡ entry ∷ []) × (single_of entry ≡ Some v) × (x ≡ free) × (x < 256))
 
-single_is : (entry : EntryValue) (v : Value) → single_of entry ≡ Some v → is_single entry ≡ true
+pub single_is : (entry : EntryValue) (v : Value) → single_of entry ≡ Some v → is_single entry ≡ true
 single_is (value_entry of) v is = refl
 single_is (maker_entry items all) v is = refl
 single_is more_entry v is = cc

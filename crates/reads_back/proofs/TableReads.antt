@@ -20,13 +20,14 @@ use Rattle.scheme_stands.specs.Lists.{SetListAt, SetListIf, ItemBy, TableAt, is_
 use Rattle.scheme_stands.specs.Relation.{related, ItemsAt}
 use Rattle.scheme_stands.specs.Words.{Fn, Spot, Stretch, Seq, WordAt, instr_by}
 use Rattle.reads_back.proofs.BehindWords.{HasLocals, behind_words, quiet_same, same_locals, same_then}
+use Rattle.reads_back.proofs.BothOperands.{behind_operand, both_reach, next_behind}
 use Rattle.reads_back.proofs.Comes.{Begins, Comes, IsElementRead, OpenComes, OperandComes, ReadsOperand, ReadsTable, comes_next}
 use Rattle.reads_back.proofs.Reaches.{Reaches, here, word, reaches_then}
 use Rattle.reads_back.proofs.TableItems.{Ahead, begins_value, adds_item, ends_here, IsWantedAt, join_assoc, join_none, keyed_held, open_listed, positional_items, some_listed, with_maker, held_count}
-use Rattle.reads_back.proofs.TableWords.{Making, ItemsCome, turn_is, new_table_turn, with_entries, list_reached, list_later, list_ahead, IsBounded, no_words, begins_lower, begins_at, behind_operand, next_behind, both_reach, keyed_turn, behind_keyed, some_pending, no_pending, is_full, making_next, wanted_same, none_pending, making_more, making_held, instr_is, rk_small, text_small}
+use Rattle.reads_back.proofs.TableWords.{Making, ItemsCome, turn_is, new_table_turn, with_entries, list_reached, list_later, list_if_forward, list_ahead, IsBounded, no_words, begins_lower, begins_at, keyed_turn, behind_keyed, some_pending, no_pending, is_full, making_next, wanted_same, none_pending, making_more, making_held, rk_small, text_small}
 use Rattle.reads_back.proofs.Tests.{second_of_both}
 use Rattle.reads_back.proofs.ValueWords.{and_entry}
-use Rattle.reads_back.proofs.WordsBegin.{word_begins, wanted_above}
+use Rattle.reads_back.proofs.WordsBegin.{instr_is, word_begins, wanted_above}
 use Rattle.reads_back.proofs.WordsRead.{IsFunction, IsQuiet, abc_is_read, quiet_before, quiet_from}
 use Rattle.reads_back.specs.Cores.{AreItems, AreNoItems, IsTable, IsCore, IsItem, IsKeyedItem, IsKey, IsOperand, Items}
 
@@ -51,10 +52,6 @@ module _ {f : Function} {g : Fn} (active : List Active) (listed : List ℕ) (is_
       is_function quiet (omega arith) at making.at making.is (ap (list_items (length before) n) making.is ∙ listed))
 
   -- ---- no item
-
-  list_if_forward : (some : Bool) (t n done : ℕ) (p q : Spot) → SetListIf some g t n done p q → p.pc ≤ q.pc
-  list_if_forward true t n done p q at = let block = (done - 1) / 50 + 1 in omega (arith, list_later g (nat_le block 511) t n block p q at)
-  list_if_forward false t n done p q at = omega (arith, at.pc)
 
   list_if_ahead : (some : Bool) (base t n pending done last : ℕ) (p q : Spot) → (some ≡ false → pending ≡ 0) → last ≡ q.pc → SetListIf some g t n done p q → Ahead f base t pending p.pc last
   list_if_ahead true base t n pending done last p q none ends at = let block = (done - 1) / 50 + 1 in list_ahead (nat_le block 511) base t n block pending last p q is_function at
@@ -92,7 +89,7 @@ module _ {f : Function} {g : Fn} (active : List Active) (listed : List ℕ) (is_
 
   none_read : (deep t done pending : ℕ) → ReadsItems f active listed AreNoItems deep t pending (SetListIf (nat_lt 0 pending) g t pending done)
   none_read deep t done pending = record {
-    forward = list_if_forward (nat_lt 0 pending) t pending done;
+    forward = list_if_forward g (nat_lt 0 pending) t pending done;
     ahead = λ p q s locals above within at. list_if_ahead (nat_lt 0 pending) s.base t pending pending done q.pc p q (no_pending pending) refl at;
     comes = λ p q s before given making quiet wanted at. last_comes (nat_lt 0 pending) deep t pending done p q s before given refl making quiet at;
   }
@@ -172,7 +169,7 @@ module _ {f : Function} {g : Fn} (active : List Active) (listed : List ℕ) (is_
       let given_more = join_items given (and_positional one.value no_items) in
       let quiet_behind = quiet_same one.same quiet in
       let between = listed_if full t (suc pending) done p mid behind before given_more refl (making_more making one.entry one.value one.scope one.seen one.single one.same) (quiet_before mid.pc (rest_read.forward mid q rest_at) quiet_behind) list_at in
-      let quiet_rest : IsQuiet f one.scope mid.pc q.pc = quiet_from mid.pc (list_if_forward full t 50 done p mid list_at) quiet_behind in
+      let quiet_rest : IsQuiet f one.scope mid.pc q.pc = quiet_from mid.pc (list_if_forward g full t 50 done p mid list_at) quiet_behind in
       positional_then one between.entries between.reaches
       (rest_read.comes mid q (with_entries between.entries behind) before given_more between.making quiet_rest (wanted_same f s.base (length before) q.pc one.same wanted) rest_at)
 
@@ -198,14 +195,14 @@ module _ {f : Function} {g : Fn} (active : List Active) (listed : List ℕ) (is_
         record {
           forward = λ p q at.
               let others = at.others in
-              omega (arith, reads.one.forward free free p at.mid at.first, list_if_forward full t 50 (suc done) at.mid others.mid others.first_at, rest_read.forward others.mid q others.second_at);
+              omega (arith, reads.one.forward free free p at.mid at.first, list_if_forward g full t 50 (suc done) at.mid others.mid others.first_at, rest_read.forward others.mid q others.second_at);
           ahead = λ p q s locals above within at.
               let others = at.others in
-              begins_value (begins_lower (omega arith) (reads.one.begins free p at.mid (omega (arith, within, list_if_forward full t 50 (suc done) at.mid others.mid others.first_at, rest_read.forward others.mid q others.second_at)) at.first));
+              begins_value (begins_lower (omega arith) (reads.one.begins free p at.mid (omega (arith, within, list_if_forward g full t 50 (suc done) at.mid others.mid others.first_at, rest_read.forward others.mid q others.second_at)) at.first));
           comes = λ p q s before given making quiet wanted at.
               let others = at.others in
               let on = reads.one.forward free free p at.mid at.first in
-              let list = list_if_forward full t 50 (suc done) at.mid others.mid others.first_at in
+              let list = list_if_forward g full t 50 (suc done) at.mid others.mid others.first_at in
               let back = rest_read.forward others.mid q others.second_at in
               let some : 0 < length s.entries = omega (arith, making_next making, making.at) in
               let one = comes_next reads.one free p at.mid s making.locals (making_next making) (quiet_before at.mid.pc (omega (arith, list, back)) quiet) (wanted_above f s at.mid.pc some) at.first in

@@ -1,17 +1,15 @@
 -- What the words of a constructor do to what is known: NEWTABLE, SETLIST, and SETTABLE as an item; and what is known between items.
-use Rattle.std.proofs.Common.{◌≡◌, ◌⊎◌, ℕ, zero, suc, ◌*◌, ◌+◌, ◌-◌, ◌<◌, ◌≤◌, max, nat_lt, nat_le, Bool, true, false, List, [], ◌∷◌, ◌++◌, length, length-append, append_assoc, take, Option, Some, None, drop, refl, sym, ap, ap₂, ◌∙◌, subst, arith, le-leb, inl, inr}
-use Rattle.std.proofs.Math.Nat.{max-zero}
+use Rattle.std.proofs.Common.{◌≡◌, ◌⊎◌, ℕ, zero, suc, ◌*◌, ◌+◌, ◌-◌, ◌/◌, ◌<◌, ◌≤◌, max, nat_lt, nat_le, Bool, true, false, List, [], ◌∷◌, ◌++◌, length, length-append, append_assoc, take, Option, Some, None, drop, refl, sym, ap, ap₂, ◌∙◌, subst, arith, le-leb, inl, inr}
 use Rattle.std.proofs.lemmas.Bool.Decides.{nat_tests}
 use Rattle.std.proofs.lemmas.Option.{same_Some}
 use Rattle.std.specs.List.{prefix_len}
-use Rattle.std.specs.Prelude.{option_map, option_and_then, slice_get, if◌then◌else◌, ◌==◌, not}
+use Rattle.std.specs.Prelude.{option_map, option_and_then, if◌then◌else◌, ◌==◌, not}
 use Rattle.lua_num.specs.Bytes.{Text}
 use Rattle.lua_tree.specs.Syntax.{Expression}
-use Rattle.opcode.specs.Reading.{instr_of}
 use Rattle.opcode.specs.declared.op.Op.{Op}
 use Rattle.proto.specs.declared.parts.Constant.{Constant}
 use Rattle.proto.specs.declared.parts.LocVar.{LocVar}
-use Rattle.core_expr.specs.Counting.{one_more, taken_behind_operand, taken_behind_items}
+use Rattle.core_expr.specs.Counting.{taken_behind_operand, taken_behind_items}
 use Rattle.core_expr.specs.Making.{deepest_item}
 use Rattle.core_expr.specs.Values as values
 use Rattle.core_expr.specs.Values.{Value, Values, no_values, OperandValue, ItemList, no_items, and_positional, and_keyed}
@@ -22,29 +20,26 @@ use Rattle.recover_expr.specs.Entries.{Entries, EntryValue, maker_entry, held_en
 use Rattle.recover_expr.specs.Items.{is_item, is_item_at, is_item_of_height}
 use Rattle.recover_expr.specs.Locals.{Scope}
 use Rattle.recover_expr.specs.Reading.{Turn, on, read_word, turned, turn_at, turn_of, value_as}
-use Rattle.recover_expr.specs.Situation.{Function, Situation, instr_at, pop_operand, see_constant, see_operand}
+use Rattle.recover_expr.specs.Situation.{Function, Situation, instr_at, pop_operand}
 use Rattle.recover_expr.specs.Words.{gone, as_end}
 use Rattle.scheme.specs.declared.making.Active.{Active}
 use Rattle.scheme.specs.declared.making.Piece.{Piece}
 use Rattle.scheme_stands.specs.Expressions.{OperandBy, RkAt, RkBy, RkTextAt, local_at}
-use Rattle.scheme_stands.specs.Lists.{SetListBy}
+use Rattle.scheme_stands.specs.Lists.{SetListBy, SetListIf}
 use Rattle.scheme_stands.specs.Relation.{related}
-use Rattle.scheme_stands.specs.Words.{Fn, Spot, Stretch, WordAt, IsRead, instr_by}
+use Rattle.scheme_stands.specs.Words.{Fn, Spot, Stretch, WordAt, instr_by}
 use Rattle.reads_back.proofs.BehindWords.{HasLocals, SameLocals, behind_words}
+use Rattle.reads_back.proofs.BothOperands.{behind_operand, both_taken, counted, first_popped, second_popped, seen_with_both, with_seen}
 use Rattle.reads_back.proofs.Comes.{AreEntries, Begins, OperandComes, ReadsOperand}
-use Rattle.reads_back.proofs.Reaches.{Reaches, here, word, reaches_on, reaches_then}
+use Rattle.reads_back.proofs.Reaches.{Reaches, here, word, reaches_on}
 use Rattle.reads_back.proofs.TableItems.{Ahead, adds_list, IsKept, IsWantedAt, not_none, below_both, item_below, join_assoc, join_none, maker_found, positional_items, take_up_to, height_of, with_maker, held_count}
 use Rattle.reads_back.proofs.TakenEntries.{before_some, more_entries}
-use Rattle.reads_back.proofs.Taking.{max_swap, operand_taken_later}
 use Rattle.reads_back.proofs.ValueWords.{and_entry, entry_next, next_free}
-use Rattle.reads_back.proofs.WordsBegin.{wanted_above}
-use Rattle.reads_back.proofs.WordsRead.{IsFunction, IsQuiet, abc_is_read, instr_there, turn_there, word_of, word_there}
+use Rattle.reads_back.proofs.WordsBegin.{instr_is, wanted_above}
+use Rattle.reads_back.proofs.WordsRead.{IsFunction, IsQuiet, abc_is_read, turn_there, word_of, word_there}
 use Rattle.reads_back.specs.Cores.{Items}
 
 -- ---- words
-
-pub instr_is : {f : Function} {g : Fn} {w : Piece} {p q : Spot} → IsFunction f g → WordAt g w p q → IsRead p.pc w → instr_at f p.pc ≡ Some (instr_by p.pc w)
-instr_is {g = g} {w} {p} is_function at read = ap (λ code. option_and_then instr_of (slice_get code p.pc)) is_function.code ∙ instr_there g.code p.pc w at.has read
 
 -- where no local starts, the word does what it does
 pub turn_is : {f : Function} {g : Fn} {op : Op} {a b c : ℕ} {p q : Spot} (s : Situation) (last : ℕ) → IsFunction f g → WordAt g (Piece.Abc op a b c) p q → IsQuiet f s.scope p.pc last → p.pc < last →
@@ -102,6 +97,10 @@ pub list_later : (g : Fn) (small : Bool) (t n block : ℕ) (p q : Spot) → SetL
 list_later g true t n block p q at = omega (arith, at.next)
 list_later g false t n block p q at = let first = at.first_at in let second = at.second_at in omega (arith, first.next, second.next)
 
+pub list_if_forward : (g : Fn) (some : Bool) (t n done : ℕ) (p q : Spot) → SetListIf some g t n done p q → p.pc ≤ q.pc
+list_if_forward g true t n done p q at = let block = (done - 1) / 50 + 1 in omega (arith, list_later g (nat_le block 511) t n block p q at)
+list_if_forward g false t n done p q at = omega (arith, at.pc)
+
 pub list_ahead : {f : Function} {g : Fn} (small : Bool) (base t n block pending last : ℕ) (p q : Spot) → IsFunction f g → SetListBy small g t n block p q → Ahead f base t pending p.pc last
 list_ahead true base t n block pending last p q is_function at = adds_list (instr_by p.pc (Piece.Abc Op.SetList t n block)) (instr_is is_function at (abc_is_read is_function at)) refl refl
 list_ahead false base t n block pending last p q is_function at = let first = at.first_at in adds_list (instr_by p.pc (Piece.Abc Op.SetList t n 0)) (instr_is is_function first (abc_is_read is_function first)) refl refl
@@ -142,28 +141,6 @@ begins_lower lower begins = record { instr = begins.instr; there = begins.there;
 pub begins_at : {f : Function} {from pc other : ℕ} → pc ≡ other → Begins f from pc → Begins f from other
 begins_at {f} same begins = record { instr = begins.instr; there = sym (ap (instr_at f) same) ∙ begins.there; makes = begins.makes; above = begins.above }
 
--- ---- operands one behind the other
-
--- so many constants are taken with a constant of an operand
-abbrev counted : (x : ℕ) → ℕ
-counted x = if nat_le 256 x then one_more (x - 256) else 0
-
-seen_by : (is_constant : Bool) (number : ℕ) (t : Situation) → (if is_constant then see_constant number t else t) ≡ record t { seen = max t.seen (if is_constant then one_more number else 0) }
-seen_by true number t = refl
-seen_by false number t = ap (λ (n : ℕ). record t { seen = n }) (sym (max-zero t.seen))
-
-seen_with : (x : ℕ) (t : Situation) → see_operand x t ≡ record t { seen = max t.seen (counted x) }
-seen_with x t = seen_by (nat_le 256 x) (x - 256) t
-
-seen_with_both : (x y : ℕ) (t : Situation) → see_operand y (see_operand x t) ≡ record t { seen = max (max t.seen (counted x)) (counted y) }
-seen_with_both x y t = ap (see_operand y) (seen_with x t) ∙ seen_with y (record t { seen = max t.seen (counted x) })
-
-abbrev pub behind_operand : {f : Function} {Is : OperandValue → Type 0} {deep free x free1 first last : ℕ} {s : Situation} → OperandComes f Is deep s free x free1 first last → Situation
-behind_operand {s = s} one = behind_words one.scope one.seen one.more s
-
-constants_taken : {f : Function} {Is : OperandValue → Type 0} {deep free x free1 first last : ℕ} {s : Situation} (one : OperandComes f Is deep s free x free1 first last) → max one.seen (counted x) ≡ taken_behind_operand one.operand s.seen
-constants_taken {x = x} one = sym (ap (λ (t : Situation). t.seen) (seen_with x (behind_operand one))) ∙ one.taken (behind_operand one) refl
-
 is_kept : {f : Function} {Is : OperandValue → Type 0} {deep free x free1 first last : ℕ} {s : Situation} (one : OperandComes f Is deep s free x free1 first last) → (free1 ≡ free + 1 → x < 256) → IsKept s.base free x one.more
 is_kept {free = free} {x} {free1} {s = s} one small = of_kept one.kept
   where
@@ -171,30 +148,7 @@ is_kept {free = free} {x} {free1} {s = s} one small = of_kept one.kept
     of_kept (inl none) = inl none
     of_kept (inr (entry, v, is, single, next)) = inr (entry, v, is, single, next, small (omega (arith, one.counts, ap (λ (some : Entries). length some) is)))
 
-abbrev with_seen : ℕ → Situation → Situation
-with_seen n s = record s { seen = n }
-
-pub next_behind : {f : Function} {Is : OperandValue → Type 0} {deep free x free1 first last : ℕ} {s : Situation} (one : OperandComes f Is deep s free x free1 first last) → free ≡ next_free s → free1 ≡ next_free (behind_operand one)
-next_behind {s = s} one is = omega (arith, one.counts, is, length-append s.entries one.more)
-
 module _ {f : Function} {Key Item : OperandValue → Type 0} {deep free x free1 y free2 first mid last : ℕ} {s : Situation} (one : OperandComes f Key deep s free x free1 first mid) (two : OperandComes f Item deep (behind_operand one) free1 y free2 mid last) where
-  pub both_reach : Reaches f first s last (behind_operand two)
-  both_reach = reaches_then one.reaches two.reaches
-
-  item_popped : (n : ℕ) → free ≡ next_free s → pop_operand f y (with_seen n (behind_operand two)) ≡ Some (two.operand, with_seen n (behind_words two.scope one.seen one.more s))
-  item_popped n is = two.popped (with_seen n (behind_operand two)) (s.entries ++ one.more) refl two.same.active refl (sym (next_behind one is))
-
-  key_popped : (n : ℕ) → free ≡ next_free s → pop_operand f x (with_seen n (behind_words two.scope one.seen one.more s)) ≡ Some (one.operand, record s { scope = two.scope; seen = n })
-  key_popped n is = one.popped (with_seen n (behind_words two.scope one.seen one.more s)) s.entries refl (two.same.active ∙ one.same.active) refl (sym is)
-
-  -- the word names them together, behind all words of the operands
-  both_taken : max (max two.seen (counted x)) (counted y) ≡ taken_behind_operand two.operand (taken_behind_operand one.operand s.seen)
-  both_taken =
-      max_swap two.seen (counted x) (counted y)
-      ∙ ap (λ n. max n (counted x)) (constants_taken two)
-      ∙ sym (operand_taken_later two.operand one.seen (counted x))
-      ∙ ap (taken_behind_operand two.operand) (constants_taken one)
-
   -- ---- SETTABLE
 
   -- the word is an item of the constructor below what is held and pending
@@ -217,10 +171,10 @@ module _ {f : Function} {Key Item : OperandValue → Type 0} {deep free x free1 
       ap (λ u. turns (read_word f w u)) (seen_with_both x y (behind_operand two))
       ∙ ap (λ is. turns (if not is then option_map as_end (assignment_from f w u) else value_as Op.SetTable f w u)) item_is
       ∙ ap (λ found. turns (item_at f w u found)) found
-      ∙ ap (λ popped. turns (option_and_then (λ (item : OperandValue × Situation). option_and_then (item_of w place item.0) (pop_operand f x item.1)) popped)) (item_popped n next)
-      ∙ ap (λ popped. turns (option_and_then (item_of w place two.operand) popped)) (key_popped n next)
+      ∙ ap (λ popped. turns (option_and_then (λ (item : OperandValue × Situation). option_and_then (item_of w place item.0) (pop_operand f x item.1)) popped)) (second_popped one two n next)
+      ∙ ap (λ popped. turns (option_and_then (item_of w place two.operand) popped)) (first_popped one two n next)
       ∙ ap (λ entries. turns (gone (suc pc) (option_map (λ es. record s { scope = two.scope; entries = es; seen = n }) entries))) given_is
-      ∙ ap (λ n. Some (on (suc pc), record s { scope = two.scope; entries = behind; seen = n })) both_taken
+      ∙ ap (λ n. Some (on (suc pc), record s { scope = two.scope; entries = behind; seen = n })) (both_taken one two)
 
 -- the constructor has the item of these operands more, and so many registers above it are held
 abbrev pub behind_keyed : {f : Function} {Key Item : OperandValue → Type 0} {deep free x free1 y free2 first mid last : ℕ} {s : Situation} (one : OperandComes f Key deep s free x free1 first mid) →

@@ -1,7 +1,8 @@
 -- Tests that hold together.
-use Rattle.std.proofs.Common.{◌≡◌, ℕ, ◌<◌, nat_lt, nat_le, Bool, true, false, refl, arith}
+use Rattle.std.proofs.Common.{◌≡◌, ℕ, ◌<◌, nat_lt, nat_le, Bool, true, false, Some, None, refl, arith}
 use Rattle.std.proofs.lemmas.Bool.Decides.{nat_tests}
-use Rattle.std.specs.Prelude.{◌&&◌}
+use Rattle.std.proofs.lemmas.Option.{same_Some}
+use Rattle.std.specs.Prelude.{◌&&◌, if◌then◌else◌}
 
 pub first_of_both : (a b : Bool) → (a && b) ≡ true → a ≡ true
 first_of_both true b both = refl
@@ -27,3 +28,8 @@ and_not false = refl
 
 pub not_so : {A : Type 0} → false ≡ true → A
 not_so is = absurd cc
+
+-- what a test lets through
+pub given_is : {A : Type 0} (holds : Bool) (given some : A) → (if holds then Some given else None) ≡ Some some → given ≡ some
+given_is true given some is = same_Some given some is
+given_is false given some is = cc

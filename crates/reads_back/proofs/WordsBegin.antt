@@ -11,7 +11,7 @@ use Rattle.reads_back.proofs.Comes.{Begins, IsWanted, wants_lowest}
 use Rattle.reads_back.proofs.Tests.{both_hold}
 use Rattle.reads_back.proofs.WordsRead.{IsFunction, instr_there}
 
-instr_is : {f : Function} {g : Fn} {w : Piece} {p q : Spot} → IsFunction f g → WordAt g w p q → IsRead p.pc w → instr_at f p.pc ≡ Some (instr_by p.pc w)
+pub instr_is : {f : Function} {g : Fn} {w : Piece} {p q : Spot} → IsFunction f g → WordAt g w p q → IsRead p.pc w → instr_at f p.pc ≡ Some (instr_by p.pc w)
 instr_is {g = g} {w} {p} is_function at read = ap (λ code. option_and_then instr_of (slice_get code p.pc)) is_function.code ∙ instr_there g.code p.pc w at.has read
 
 pub word_begins : {f : Function} {g : Fn} {w : Piece} {p q : Spot} (from : ℕ) → IsFunction f g → WordAt g w p q → IsRead p.pc w → makes_value (instr_by p.pc w).op ≡ true → from ≤ (instr_by p.pc w).a → Begins f from p.pc

@@ -12,13 +12,13 @@ use Rattle.scheme.specs.Lists.{pending_after}
 use Rattle.scheme.specs.Making.{Where, in_register, in_upvalue, in_globals}
 use Rattle.scheme.specs.declared.making.Active.{Active}
 use Rattle.scheme_stands.specs.Expressions.{ArithmeticAt, BinaryAt, LoadOr, NameBy, RkAt, RkTextAt, UnaryAt}
-use Rattle.scheme_stands.specs.Lists.{CallAt, ItemBy, KeyedAt, MethodAt, MovedFrom, SetListIf, is_last_item}
+use Rattle.scheme_stands.specs.Lists.{CallAt, ItemBy, KeyedAt, MethodAt, MovedFrom, is_last_item}
 use Rattle.scheme_stands.specs.Relation.{ItemsAt, given_rel, related}
 use Rattle.scheme_stands.specs.Words.{Fn, Spot, Stretch, meaning}
 use Rattle.reads_back.specs.Cores.{HasCore, HaveCores, HaveItems}
 use Rattle.reads_back.proofs.NameReads.{AreListed}
-use Rattle.reads_back.proofs.OperandReads.{operand_reads, rk_reads}
-use Rattle.reads_back.proofs.TableWords.{list_later}
+use Rattle.reads_back.proofs.OperandReads.{operand_reads, rk_reads, text_forward}
+use Rattle.reads_back.proofs.TableWords.{list_later, list_if_forward}
 use Rattle.reads_back.proofs.Tests.{not_so, second_of_both}
 use Rattle.reads_back.proofs.ValueReads.{given_reads, reads_all}
 use Rattle.reads_back.proofs.WordsRead.{IsFunction}
@@ -31,10 +31,6 @@ name_later : (g : Fn) (text : Text) (w : Where) (r : ℕ) (p q : Spot) → NameB
 name_later g text (in_register x) r p q at = omega (arith, at.next)
 name_later g text (in_upvalue slot) r p q at = omega (arith, at.next)
 name_later g text in_globals r p q at = omega (arith, at.word.next)
-
-text_forward : (g : Fn) (text : Text) (free x free1 : ℕ) (p q : Spot) → RkTextAt g text free x free1 p q → p.pc ≤ q.pc
-text_forward g text free x free1 p q (inl small) = omega (arith, small.same.pc)
-text_forward g text free x free1 p q (inr (large, far)) = omega (arith, far.value_at.word.next)
 
 module _ {f : Function} {g : Fn} {active : List Active} {listed : List ℕ} (is_function : IsFunction f g) (all : AreListed f g active listed) where
   -- ---- calls
@@ -61,10 +57,6 @@ module _ {f : Function} {g : Fn} {active : List Active} {listed : List ℕ} (is_
 
   -- ---- the items of a constructor
 
-  list_if_forward : (some : Bool) (t n done : ℕ) (p q : Spot) → SetListIf some g t n done p q → p.pc ≤ q.pc
-  list_if_forward true t n done p q at = let block = (done - 1) / 50 + 1 in omega (arith, list_later g (nat_le block 511) t n block p q at)
-  list_if_forward false t n done p q at = omega (arith, at.pc)
-
   item_forward : (e : Expression) (t done pending : ℕ) (rest : Stretch) → HasCore e → depth_of_expression e ≤ 199 → ((p q : Spot) → rest p q → p.pc ≤ q.pc) → (left_open : Bool) →
       (left_open ≡ true → is_multiple e ≡ true) → (p q : Spot) → ItemBy left_open g (related g e) active t done pending rest p q → p.pc ≤ q.pc
   item_forward e t done pending rest has few rest_on true many p q at =
@@ -74,7 +66,7 @@ module _ {f : Function} {g : Fn} {active : List Active} {listed : List ℕ} (is_
       let free = t + suc pending in
       let others = at.others in
       let on = (reads_all is_function all e has (omega (arith, few))).one.forward free free p at.mid at.first in
-      omega (arith, on, list_if_forward (suc pending == 50) t 50 (suc done) at.mid others.mid others.first_at, rest_on others.mid q others.second_at)
+      omega (arith, on, list_if_forward g (suc pending == 50) t 50 (suc done) at.mid others.mid others.first_at, rest_on others.mid q others.second_at)
 
   value_forward : (e : Expression) → HasCore e → depth_of_expression e ≤ 199 → (free x free1 : ℕ) (p q : Spot) → RkAt g active (related g e) free x free1 p q → p.pc ≤ q.pc
   value_forward e has few = (rk_reads is_function all e (reads_all is_function all e has (omega (arith, few))).one).forward
@@ -86,7 +78,7 @@ module _ {f : Function} {g : Fn} {active : List Active} {listed : List ℕ} (is_
       omega (arith, key_on (t + suc pending) at.x at.free1 p at.mid at.left_at, value_forward e has few at.free1 at.y at.free2 at.mid at.last at.right_at, word.next)
 
   items_forward : (fields : Fields) → HaveItems fields → depth_of_fields fields ≤ 199 → (t done pending : ℕ) (p q : Spot) → ItemsAt g fields active t done pending p q → p.pc ≤ q.pc
-  items_forward no_fields has few t done pending p q at = list_if_forward (nat_lt 0 pending) t pending done p q at
+  items_forward no_fields has few t done pending p q at = list_if_forward g (nat_lt 0 pending) t pending done p q at
   items_forward (positional e separator rest) has few t done pending p q at =
       item_forward e t done pending (ItemsAt g rest active t (suc done) (pending_after (suc pending))) has.0 (omega (arith, few))
       (items_forward rest has.1 (omega (arith, few)) t (suc done) (pending_after (suc pending))) (is_last_item rest && is_multiple e) (λ both. second_of_both (is_last_item rest) (is_multiple e) both) p q at

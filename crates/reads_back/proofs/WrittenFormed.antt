@@ -77,7 +77,7 @@ unless_fine : (b : Bool) (w : Wording) → IsFine w → IsFine (unless b w)
 unless_fine true w fine = fine
 unless_fine false w fine = parenthesized_fine w fine
 
-prefix_by : (b : Bool) (w : Wording) → is_prefix w.words ≡ b → is_prefix (unless b w).words ≡ true
+pub prefix_by : (b : Bool) (w : Wording) → is_prefix w.words ≡ b → is_prefix (unless b w).words ≡ true
 prefix_by true w is = is
 prefix_by false w is = refl
 
@@ -273,7 +273,7 @@ keyed_fine : (at : Place) (key : OperandValue) (on word : Wording) (name : Optio
 keyed_fine at key on word None is prefix fine other = index_fine on word prefix fine other
 keyed_fine at key on word (Some name) is prefix fine other = field_fine on name prefix (number_as_name at (field_number key) name is) fine
 
-keyed_prefix : (name : Option Text) (on word : Wording) → is_prefix (with_key name on word).words ≡ true
+pub keyed_prefix : (name : Option Text) (on word : Wording) → is_prefix (with_key name on word).words ≡ true
 keyed_prefix None on word = refl
 keyed_prefix (Some name) on word = refl
 

@@ -1,4 +1,4 @@
--- Serves the laws. What a call, an assignment of one value, a declaration of locals or a return does, from the words of its parts, and how it is written.
+-- Serves the laws; which statements are such (`IsAct`, at the end) is to be believed. What a call, an assignment of one value, a declaration of locals or a return does, from the words of its parts, and how it is written.
 use Rattle.std.specs.Prelude.{◌≡◌, ◌&&◌, ◌==◌, nat_lt, not, ℕ, suc, max, Bool, true, false, List, length, Option}
 use Rattle.lua_num.specs.Bytes.{Text}
 use Rattle.lua_tree.specs.Names.{are_some_names, is_name}

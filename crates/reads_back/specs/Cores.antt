@@ -1,4 +1,4 @@
--- Serves the laws. Which value the words of an expression make, where they stand in a function: locals by their registers, and constants and upvalues by their numbers. Functions, `and`, `or` and comparisons have none here.
+-- Serves the laws; which expressions have one (`HasCore`, at the end) is to be believed. Which value the words of an expression make, where they stand in a function: locals by their registers, and constants and upvalues by their numbers. Functions, `and`, `or` and comparisons have none here.
 use Rattle.std.specs.Prelude.{◌≡◌, ◌≤◌, ◌⊎◌, ◌&&◌, ℕ, ℤ, Bool, true, false, List, slice_get, Option, Some, None}
 use Rattle.lua_num.specs.Bytes.{Text}
 use Rattle.lua_tree.specs.Names.{is_name}
