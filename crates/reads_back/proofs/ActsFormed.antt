@@ -1,26 +1,29 @@
 -- What is written of an act is well formed, no deeper than its levels tell, does not begin with a parenthesis, and ends no block.
-use Rattle.std.proofs.Common.{◌≡◌, ℕ, ◌≤◌, Bool, true, false, ◌&&◌, List, [], Option, Some, None, is_some, max, refl, sym, ap, ◌∙◌, subst, arith}
-use Rattle.std.specs.Prelude.{suc}
+use Rattle.std.proofs.Common.{◌≡◌, ℕ, ◌≤◌, Bool, true, false, ◌&&◌, ◌||◌, ◌⊎◌, inl, inr, List, [], ◌∷◌, Option, Some, None, is_some, max, refl, sym, ap, ◌∙◌, subst, arith}
+use Rattle.std.specs.Prelude.{suc, length, nat_lt, not, ◌==◌, if◌then◌else◌}
 use Rattle.lua_num.specs.Bytes.{Text}
+use Rattle.lua_tree.specs.Joins.{join_expressions}
 use Rattle.lua_tree.specs.Names.{are_some_names}
 use Rattle.lua_tree.specs.Syntax as syntax
-use Rattle.lua_tree.specs.Syntax.{Expression, Statement, assignment, call_expression, call_statement, field_expression, index_expression, local_statement, method_call, name_expression, no_expressions, parenthesized, return_statement}
-use Rattle.lua_tree.specs.WellFormed.{begins_with_paren, depth_of_statement, ends_block, formed_statement, is_call, is_prefix, is_target, statement_begins_with_paren}
-use Rattle.core_expr.specs.Counting.{left_by, left_by_operand, taken_behind, taken_behind_operand}
+use Rattle.lua_tree.specs.Syntax.{Expression, Expressions, Statement, assignment, call_expression, call_statement, field_expression, index_expression, local_statement, method_call, name_expression, no_expressions, parenthesized, return_statement}
+use Rattle.lua_tree.specs.WellFormed.{are_targets, begins_with_paren, depth_of_expression, depth_of_expressions, depth_of_statement, ends_block, formed_expression, formed_expressions, formed_statement, has_expressions, is_call, is_prefix, is_target, statement_begins_with_paren}
+use Rattle.core_expr.specs.Counting.{left_by, left_by_operand, left_by_values, taken_behind, taken_behind_operand, taken_behind_values}
 use Rattle.core_expr.specs.Making.{and_last, deepest, depth_of, depth_of_operand, made_index}
 use Rattle.core_expr.specs.Places.{Place, constant_name, field_name, local_name, upvalue_name}
 use Rattle.core_expr.specs.Targets.{TargetValue, can_write_target, global_target, index_target, left_by_target, local_target, taken_behind_target, upvalue_target, word_target}
-use Rattle.core_expr.specs.Values.{Inner, OperandList, OperandValue, Value, and_operand, call_value, constant_operand, global_value, index_value, local_value, method_value, no_operands, upvalue_value, value_operand}
-use Rattle.core_expr.specs.Writing.{Wording, as_prefix, can_write, can_write_operand, name_word, unless, with_key, word, word_keys}
+use Rattle.core_expr.specs.Values.{Inner, OperandList, OperandValue, Value, Values, and_operand, and_value, nil_value, no_values, call_value, global_value, index_value, local_value, method_value, no_operands, upvalue_value}
+use Rattle.core_expr.specs.Writing.{Wording, as_prefix, can_write, can_write_values, name_word, unless, with_key, word, word_keys, word_operand, word_values}
+use Rattle.recover_expr.specs.Entries.{and_last_value}
+use Rattle.recover_expr.specs.Lists.{value_count}
 use Rattle.scheme.specs.Making.{Where, in_globals, in_register, in_upvalue}
 use Rattle.scheme.specs.declared.making.Active.{Active}
 use Rattle.scheme_stands.specs.Words.{Fn}
-use Rattle.reads_back.specs.Acted.{Acted, IsAct, IsActed, IsTarget, IsVariableTarget, act_levels, act_statement, assigned, called, can_act, declared, returned, word_stored}
-use Rattle.reads_back.specs.Cores.{IsCore, IsVariable}
+use Rattle.reads_back.specs.Acted.{Acted, AreTargets, AreValues, AreWithOperand, Assigned, IsAct, IsActed, IsTarget, IsVariableTarget, act_levels, act_statement, assigned, called, can_act, can_write_last, can_write_targets, declared, last_target, left_by_targets, returned, some_missing, taken_behind_targets, with_last_nil, words_assigned, words_targets}
+use Rattle.reads_back.specs.Cores.{AreCores, IsCore, IsVariable, ends_open}
 use Rattle.reads_back.specs.Straight.{BeginsWithName, StatementBeginsWithName}
 use Rattle.reads_back.proofs.MarksSame.{over_made}
-use Rattle.reads_back.proofs.Tests.{both_hold, first_of_both, not_so, second_of_both}
-use Rattle.reads_back.proofs.WrittenFormed.{IsFine, none_by, none_by_operand, operand_fine, values_fine, word_fine}
+use Rattle.reads_back.proofs.Tests.{both_hold, first_of_both, not_so, or_first, or_second, second_of_both}
+use Rattle.reads_back.proofs.WrittenFormed.{AreFine, IsFine, none_by, none_by_operand, none_by_values, operand_fine, values_fine, word_fine}
 
 -- ---- a target is written as the value that is read there
 
@@ -68,21 +71,110 @@ pub none_by_target : (t : TargetValue) → left_by_target t [] ≡ []
 none_by_target (index_target on key) = ap (left_by_operand key) (none_by on) ∙ none_by_operand key
 none_by_target t = refl
 
--- what is stored
-stored_fine : (at : Place) (n : ℕ) (fs : List (Option Inner)) (t : TargetValue) (o : OperandValue) → fs ≡ [] → can_write_operand at fs o ≡ true → IsFine (word_stored at n fs t o)
-stored_fine at n fs (index_target on key) o none can = operand_fine at o n fs none can
-stored_fine at n fs (local_target r) (value_operand v) none can = word_fine at v n fs none can
-stored_fine at n fs (upvalue_target u) (value_operand v) none can = word_fine at v n fs none can
-stored_fine at n fs (global_target k) (value_operand v) none can = word_fine at v n fs none can
-stored_fine at n fs t (constant_operand k) none can = operand_fine at (constant_operand k) n fs none can
+-- ---- values that go to targets
 
-assigned_parts : (at : Place) (t : TargetValue) (o : OperandValue) (n : ℕ) → can_act at [] (assigned t o) ≡ true → IsFine (word_target at n [] t) × IsFine (word_stored at (taken_behind_target t n) (left_by_target t []) t o)
-assigned_parts at t o n can = (target_fine at n t (first_of_both _ _ can), stored_fine at (taken_behind_target t n) (left_by_target t []) t o (none_by_target t) (second_of_both (can_write_target at [] t) _ can))
+-- no function is left behind targets
+pub none_by_targets : (ts : List TargetValue) (fs : List (Option Inner)) → fs ≡ [] → left_by_targets ts fs ≡ []
+none_by_targets [] fs none = none
+none_by_targets (t ∷ ts) fs none = none_by_targets ts (left_by_target t fs) (ap (left_by_target t) none ∙ none_by_target t)
 
-assigned_formed : (at : Place) (t : TargetValue) (o : OperandValue) (n : ℕ) → can_act at [] (assigned t o) ≡ true → formed_statement (act_statement at n [] (assigned t o)) ≡ true
-assigned_formed at t o n can =
-    let fine = assigned_parts at t o n can in
-    both_hold _ _ (and_true _ (target_is at n t (first_of_both _ _ can))) (both_hold _ _ (and_true _ fine.0.formed) (and_true _ fine.1.formed))
+-- they keep the rules of form
+targets_fine : (at : Place) (ts : List TargetValue) (n : ℕ) (fs : List (Option Inner)) → fs ≡ [] → can_write_targets at fs ts ≡ true → AreFine (words_targets at n fs ts) × (are_targets (words_targets at n fs ts).words ≡ true)
+targets_fine at [] n fs none can = (record { formed = refl; shallow = λ few. omega arith }, refl)
+targets_fine at (t ∷ ts) n fs none can =
+    let first = subst (λ (fs : List (Option Inner)). can_write_target at fs t ≡ true) none (first_of_both _ _ can) in
+    let one = subst (λ (fs : List (Option Inner)). IsFine (word_target at n fs t)) (sym none) (target_fine at n t first) in
+    let is = subst (λ (fs : List (Option Inner)). is_target (word_target at n fs t).words ≡ true) (sym none) (target_is at n t first) in
+    let rest = targets_fine at ts (taken_behind_target t n) (left_by_target t fs) (ap (left_by_target t) none ∙ none_by_target t) (second_of_both (can_write_target at fs t) _ can) in
+    let fine = rest.0 in (
+      record {
+        formed = both_hold _ _ one.formed fine.formed;
+        shallow = λ few. let low = one.shallow (omega (arith, few)) in let more = fine.shallow (omega (arith, few)) in omega (arith, low, more);
+      },
+      both_hold _ _ is rest.1,
+    )
+
+-- an expression more at the end
+end_formed : (es : Expressions) (e : Expression) → formed_expressions es ≡ true → formed_expression e ≡ true → formed_expressions (join_expressions es (syntax.expression e no_expressions)) ≡ true
+end_formed no_expressions e first last = and_true _ last
+end_formed (syntax.expression d es) e first last = both_hold _ _ (first_of_both _ _ first) (end_formed es e (second_of_both (formed_expression d) _ first) last)
+
+end_depth : (es : Expressions) (e : Expression) → depth_of_expressions (join_expressions es (syntax.expression e no_expressions)) ≡ max (depth_of_expressions es) (depth_of_expression e)
+end_depth no_expressions e = omega arith
+end_depth (syntax.expression d es) e = let rest = end_depth es e in omega (arith, rest)
+
+values_assigned_fine : (at : Place) (vs : Values) (all : Bool) (last : Option OperandValue) (n : ℕ) (fs : List (Option Inner)) → fs ≡ [] → can_write_values at fs vs ≡ true → can_write_last at (left_by_values vs fs) last ≡ true → AreFine (words_assigned at n fs vs all last)
+values_assigned_fine at vs all None n fs none can can_last = values_fine at vs all n fs none can
+values_assigned_fine at vs all (Some o) n fs none can can_last =
+    let front = values_fine at vs all n fs none can in
+    let words = (word_values at n fs vs all).words in
+    let one = operand_fine at o (taken_behind_values vs n) (left_by_values vs fs) (ap (left_by_values vs) none ∙ none_by_values vs) can_last in
+    let operand = word_operand at (taken_behind_values vs n) (left_by_values vs fs) o in
+    record {
+      formed = end_formed words operand.words front.formed one.formed;
+      shallow = λ few.
+          let low = front.shallow (omega (arith, few)) in
+          let high = one.shallow (omega (arith, few)) in
+          omega (arith, low, high, end_depth words operand.words);
+    }
+
+assigned_parts : (at : Place) (ts : List TargetValue) (vs : Values) (all : Bool) (last : Option OperandValue) (n : ℕ) → can_act at [] (assigned ts vs all last) ≡ true →
+    (AreFine (words_targets at n [] ts) × (are_targets (words_targets at n [] ts).words ≡ true)) × AreFine (words_assigned at (taken_behind_targets ts n) (left_by_targets ts []) vs all last)
+assigned_parts at ts vs all last n can =
+    let values = second_of_both (can_write_targets at [] ts) _ can in (
+      targets_fine at ts n [] refl (first_of_both _ _ can),
+      values_assigned_fine at vs all last (taken_behind_targets ts n) (left_by_targets ts []) (none_by_targets ts [] refl) (first_of_both _ _ values) (second_of_both (can_write_values at (left_by_targets ts []) vs) _ values),
+    )
+
+-- ---- there are some of both
+
+abbrev has_values : Values → Bool
+has_values no_values = false
+has_values (and_value v vs) = true
+
+some_last : (vs : Values) (v : Value) → has_values (and_last_value vs v) ≡ true
+some_last no_values v = refl
+some_last (and_value w vs) v = refl
+
+-- values, or an operand
+abbrev has_assigned : Assigned → Bool
+has_assigned to = has_values to.values || is_some to.last
+
+some_nil : (t : Option TargetValue) (from : Values) → has_values from ≡ true → has_assigned (with_last_nil t from) ≡ true
+some_nil None from some = or_first _ _ (some_last from nil_value)
+some_nil (Some (local_target r)) from some = or_first _ _ some
+some_nil (Some (upvalue_target slot)) from some = or_first _ _ (some_last from nil_value)
+some_nil (Some (global_target number)) from some = or_first _ _ (some_last from nil_value)
+some_nil (Some (index_target on key)) from some = or_first _ _ some
+
+some_by : (fewer one : Bool) (t : Option TargetValue) (from : Values) → has_values from ≡ true → has_assigned (if fewer then some_missing one t from else record { values = from; all = true; last = None }) ≡ true
+some_by true true t from some = some_nil t from some
+some_by true false t from some = or_first _ _ some
+some_by false one t from some = or_first _ _ some
+
+some_end : (es : Expressions) (e : Expression) → has_expressions (join_expressions es (syntax.expression e no_expressions)) ≡ true
+some_end no_expressions e = refl
+some_end (syntax.expression d es) e = refl
+
+some_words : (at : Place) (n : ℕ) (fs : List (Option Inner)) (vs : Values) (all : Bool) (last : Option OperandValue) → has_assigned (record { values = vs; all = all; last = last }) ≡ true → has_expressions (words_assigned at n fs vs all last).words ≡ true
+some_words at n fs no_values all None some = some
+some_words at n fs (and_value v vs) all None some = refl
+some_words at n fs vs all (Some o) some = some_end (word_values at n fs vs all).words (word_operand at (taken_behind_values vs n) (left_by_values vs fs) o).words
+
+module _ (g : Fn) (active : List Active) where
+  some_values : (es : Expressions) (from : Values) → has_expressions es ≡ true → AreCores g active es from → has_values from ≡ true
+  some_values no_expressions from some are = not_so some
+  some_values (syntax.expression e es) from some are = ap has_values are.4
+
+  some_assigned : (es : Expressions) (ts : List TargetValue) (to : Assigned) → has_expressions es ≡ true → AreWithOperand g active ts es to ⊎ AreValues g active ts es to → has_assigned to ≡ true
+  some_assigned es ts to some (inl is) = ap (λ (last : Option OperandValue). has_values to.values || is_some last) is.5 ∙ or_second (has_values to.values) _ refl
+  some_assigned es ts to some (inr is) =
+      ap has_assigned (sym is.3) ∙ some_by (not (ends_open es) && nat_lt (value_count is.0) (length ts)) (suc (value_count is.0) == length ts) (last_target ts) is.0 (some_values es is.0 some is.1)
+
+  some_targets : (at : Place) (n : ℕ) (targets : Expressions) (ts : List TargetValue) → has_expressions targets ≡ true → AreTargets g active targets ts → has_expressions (words_targets at n [] ts).words ≡ true
+  some_targets at n no_expressions ts some are = not_so some
+  some_targets at n (syntax.expression target targets) [] some are = absurd are
+  some_targets at n (syntax.expression target targets) (t ∷ ts) some are = refl
 
 -- ---- a value that begins with a variable is written as it begins
 
@@ -159,9 +251,9 @@ module _ (g : Fn) (active : List Active) where
 
   target_begins : (e : Expression) (t : TargetValue) → BeginsWithName e → IsTarget g active e t → BeginsWithVariable (value_of_target t)
   target_begins (name_expression line text) t begins is = target_variable text is.0 t is.2
-  target_begins (index_expression line on key) t begins is = subst (λ t. BeginsWithVariable (value_of_target t)) (sym is.4) (name_begins on is.0 begins is.2)
-  target_begins (field_expression line on text) t begins is = subst (λ t. BeginsWithVariable (value_of_target t)) (sym is.4) (name_begins on is.0 begins is.2)
-  target_begins e t begins is = absurd is
+  target_begins (index_expression line on key) (index_target o k) begins is = name_begins on o begins is.0
+  target_begins (field_expression line on text) (index_target o k) begins is = name_begins on o begins is.0
+  target_begins e t begins is = absurd (assumption is)
 
 -- ---- acts; calls are written as calls
 
@@ -173,7 +265,12 @@ called_is at g active left e v n call is = not_so call
 module _ (at : Place) (g : Fn) (active : List Active) where
   pub act_formed : (s : Statement) (acted : Acted) (n : ℕ) → IsAct s → IsActed g active s acted → can_act at [] acted ≡ true → formed_statement (act_statement at n [] acted) ≡ true
   act_formed (call_statement e) (called v) n has is can = let fine = word_fine at v n [] refl can in both_hold _ _ (called_is at g active [] e v n has.0 is) fine.formed
-  act_formed (assignment (syntax.expression target no_expressions) (syntax.expression e no_expressions)) (assigned t o) n has is can = assigned_formed at t o n can
+  act_formed (assignment targets es) (assigned ts vs all last) n has is can =
+      let fine = assigned_parts at ts vs all last n can in
+      let to = fine.0.0 in
+      let values = fine.1 in
+      let some = some_words at (taken_behind_targets ts n) (left_by_targets ts []) vs all last (some_assigned g active es ts (record { values = vs; all = all; last = last }) has.given is.1) in
+      both_hold _ _ (some_targets g active at n targets ts has.some is.0) (both_hold _ _ fine.0.1 (both_hold _ _ to.formed (both_hold _ _ some values.formed)))
   act_formed (local_statement names es) (declared others vs all) n has is can =
       let fine = values_fine at vs all n [] refl can in
       both_hold _ _ (ap are_some_names is.0 ∙ has.0) fine.formed
@@ -182,18 +279,22 @@ module _ (at : Place) (g : Fn) (active : List Active) where
 
   pub act_shallow : (s : Statement) (acted : Acted) (n : ℕ) → IsAct s → IsActed g active s acted → can_act at [] acted ≡ true → act_levels at n [] acted ≤ 400 → suc (depth_of_statement (act_statement at n [] acted)) ≤ act_levels at n [] acted
   act_shallow s (called v) n has is can few = let fine = word_fine at v n [] refl can in let low = fine.shallow (omega (arith, few)) in omega (arith, few, low)
-  act_shallow s (assigned t o) n has is can few =
-      let fine = assigned_parts at t o n can in
-      let low = fine.0.shallow (omega (arith, few)) in
-      let high = fine.1.shallow (omega (arith, few)) in
+  act_shallow s (assigned ts vs all last) n has is can few =
+      let fine = assigned_parts at ts vs all last n can in
+      let targets = fine.0.0 in
+      let values = fine.1 in
+      let low = targets.shallow (omega (arith, few)) in
+      let high = values.shallow (omega (arith, few)) in
       omega (arith, few, low, high)
   act_shallow s (declared names vs all) n has is can few = let fine = values_fine at vs all n [] refl can in let low = fine.shallow (omega (arith, few)) in omega (arith, few, low)
   act_shallow s (returned vs all) n has is can few = let fine = values_fine at vs all n [] refl can in let low = fine.shallow (omega (arith, few)) in omega (arith, few, low)
 
   pub act_closed : (s : Statement) (acted : Acted) (n : ℕ) → StatementBeginsWithName s → IsAct s → IsActed g active s acted → can_act at [] acted ≡ true → statement_begins_with_paren (act_statement at n [] acted) ≡ false
   act_closed (call_statement e) (called v) n begins has is can = let open_words = variable_open at v n [] (name_begins g active e v begins is) can in open_words.bare
-  act_closed (assignment (syntax.expression target no_expressions) (syntax.expression e no_expressions)) (assigned t o) n begins has is can =
-      let open_words = variable_open at (value_of_target t) n [] (target_begins g active target t begins is.0) (can_be_read at [] t (first_of_both _ _ can)) in
+  act_closed (assignment targets es) (assigned [] vs all last) n begins has is can = refl
+  act_closed (assignment no_expressions es) (assigned (t ∷ ts) vs all last) n begins has is can = absurd is.0
+  act_closed (assignment (syntax.expression target targets) es) (assigned (t ∷ ts) vs all last) n begins has is can =
+      let open_words = variable_open at (value_of_target t) n [] (target_begins g active target t begins.0 is.0.0) (can_be_read at [] t (first_of_both _ _ (first_of_both _ _ can))) in
       ap (λ w. begins_with_paren w.words) (written_as_value at n [] t) ∙ open_words.bare
   act_closed (local_statement names es) (declared others vs all) n begins has is can = refl
   act_closed (return_statement es) (returned vs all) n begins has is can = refl
@@ -202,7 +303,7 @@ module _ (at : Place) (g : Fn) (active : List Active) where
 -- a return ends its block, and nothing else does
 pub act_ends : (at : Place) (g : Fn) (active : List Active) (s : Statement) (acted : Acted) (n : ℕ) → IsActed g active s acted → ends_block (act_statement at n [] acted) ≡ ends_block s
 act_ends at g active (call_statement e) (called v) n is = refl
-act_ends at g active (assignment (syntax.expression target no_expressions) (syntax.expression e no_expressions)) (assigned t o) n is = refl
+act_ends at g active (assignment targets es) (assigned ts vs all last) n is = refl
 act_ends at g active (local_statement names es) (declared others vs all) n is = refl
 act_ends at g active (return_statement es) (returned vs all) n is = refl
 act_ends at g active s acted n is = absurd is

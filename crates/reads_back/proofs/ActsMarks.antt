@@ -1,46 +1,39 @@
 -- What is written of an act mentions the same names as the act, in the same order.
-use Rattle.std.proofs.Common.{◌≡◌, ℕ, false, List, [], length, Option, refl, ap, ◌∙◌, true}
+use Rattle.std.proofs.Common.{◌≡◌, ℕ, ◌⊎◌, inl, inr, Bool, false, List, [], ◌∷◌, length, Option, Some, None, refl, sym, ap, ◌∙◌, subst, true}
 use Rattle.lua_num.specs.Bytes.{Text}
-use Rattle.lua_tree.specs.OneLine.{one_line_expression, one_line_statement}
+use Rattle.lua_tree.specs.Joins.{join_expressions}
+use Rattle.lua_tree.specs.OneLine.{one_line_expression, one_line_expressions, one_line_statement}
 use Rattle.lua_tree.specs.Outline.{both, come, declares, expression_part, expressions_part, nothing, statement_part}
 use Rattle.lua_tree.specs.Syntax as syntax
-use Rattle.lua_tree.specs.Syntax.{Expression, Statement, assignment, call_statement, field_expression, index_expression, local_statement, name_expression, no_expressions, return_statement}
+use Rattle.lua_tree.specs.Syntax.{Expression, Expressions, Statement, assignment, call_statement, field_expression, index_expression, local_statement, name_expression, no_expressions, return_statement}
+use Rattle.core_expr.specs.Counting.{left_by_values, taken_behind_values}
 use Rattle.core_expr.specs.Places.{Place, place}
-use Rattle.core_expr.specs.Targets.{TargetValue, can_write_target, global_target, index_target, left_by_target, local_target, upvalue_target, taken_behind_target, word_target}
-use Rattle.core_expr.specs.Values.{Inner, OperandValue, Value, constant_operand, value_operand}
-use Rattle.core_expr.specs.Writing.{can_write_operand, word_values}
+use Rattle.core_expr.specs.Targets.{TargetValue, can_write_target, index_target, left_by_target, taken_behind_target, word_target}
+use Rattle.core_expr.specs.Values.{Inner, OperandValue, Values}
+use Rattle.core_expr.specs.Writing.{can_write_values, word_operand, word_values}
 use Rattle.recover_expr.specs.Situation.{Function}
 use Rattle.scheme.specs.Expressions.{literal}
 use Rattle.scheme.specs.Making.{Where, in_globals, in_register, in_upvalue}
 use Rattle.scheme.specs.declared.making.Active.{Active}
 use Rattle.scheme_stands.specs.Words.{Fn}
-use Rattle.reads_back.specs.Acted.{Acted, IsAct, IsActTarget, IsActed, IsStored, IsTarget, IsVariableTarget, act_statement, assigned, called, can_act, declared, returned, word_stored}
-use Rattle.reads_back.specs.Cores.{HasCore, IsVariable, ends_open}
-use Rattle.reads_back.proofs.ActsFormed.{can_be_read, none_by_target, value_of_target, written_as_value}
-use Rattle.reads_back.proofs.Marks.{SamePart, both_same, nothing_behind, operand_part, part_of, part_of_operand, part_then, same_part, values_part, word_part}
-use Rattle.reads_back.proofs.DeclaredValues.{declared_parts}
+use Rattle.reads_back.specs.Acted.{Acted, AreActTargets, AreTargets, AreValues, AreWithOperand, Assigned, EndWithOperand, IsAct, IsActTarget, IsActed, IsTarget, IsVariableTarget, act_statement, assigned, called, can_act, can_write_last, can_write_targets, declared, last_target, left_by_targets, returned, taken_behind_targets, words_assigned, words_targets}
+use Rattle.reads_back.specs.Cores.{AllHaveCores, IsVariable, ends_open}
+use Rattle.reads_back.proofs.ActsFormed.{can_be_read, none_by_target, none_by_targets, value_of_target, written_as_value}
+use Rattle.reads_back.proofs.Marks.{SamePart, both_assoc, both_same, nothing_behind, operand_part, part_back, part_of, part_of_operand, part_then, parts_of, same_part, values_part, word_part}
+use Rattle.reads_back.proofs.DeclaredValues.{assigned_part, assigned_parts, declared_parts, last_part}
 use Rattle.reads_back.proofs.MarksSame.{key_part, list_part, marks_of, of_operand}
 use Rattle.reads_back.proofs.NameReads.{AreListed}
 use Rattle.reads_back.proofs.Tests.{first_of_both, second_of_both}
 use Rattle.reads_back.proofs.WordsRead.{IsFunction}
+use Rattle.reads_back.proofs.WrittenFormed.{none_by_values}
 
 module _ (at : Place) (natural : at.short ≡ false) where
   target_part : (t : TargetValue) (n : ℕ) → can_write_target at [] t ≡ true → SamePart (expression_part (word_target at n [] t).words) (part_of at (value_of_target t))
   target_part t n can = part_then (λ here. ap (λ w. expression_part w.words here) (written_as_value at n [] t)) (word_part at natural (value_of_target t) n [] refl (can_be_read at [] t can))
 
-  stored_part : (t : TargetValue) (o : OperandValue) (n : ℕ) (fs : List (Option Inner)) → fs ≡ [] → can_write_operand at fs o ≡ true → SamePart (expression_part (word_stored at n fs t o).words) (part_of_operand at o)
-  stored_part (index_target on key) o n fs none can = operand_part at natural o n fs none can
-  stored_part (local_target r) (value_operand v) n fs none can = word_part at natural v n fs none can
-  stored_part (upvalue_target u) (value_operand v) n fs none can = word_part at natural v n fs none can
-  stored_part (global_target k) (value_operand v) n fs none can = word_part at natural v n fs none can
-  stored_part t (constant_operand k) n fs none can = operand_part at natural (constant_operand k) n fs none can
-
 module _ {f : Function} {g : Fn} {active : List Active} {listed : List ℕ} (is_function : IsFunction f g) (listed_names : AreListed f g active listed) where
   abbrev at : Place
   at = place f.of listed f.short
-
-  index_marks : (t : TargetValue) (on : Value) (key : OperandValue) → t ≡ index_target on key → SamePart (part_of at (value_of_target t)) (both (part_of at on) (part_of_operand at key))
-  index_marks t on key is = part_then (λ here. ap (λ t. part_of at (value_of_target t) here) is) (both_same (same_part (part_of at on)) (nothing_behind (part_of_operand at key)))
 
   variable_value : (text : Text) (w : Where) (t : TargetValue) → IsVariableTarget g text w t → IsVariable g text w (value_of_target t)
   variable_value text (in_register r) t is = ap value_of_target is
@@ -51,23 +44,60 @@ module _ {f : Function} {g : Fn} {active : List Active} {listed : List ℕ} (is_
   target_marks : (e : Expression) (t : TargetValue) → IsActTarget e → IsTarget g active e t → SamePart (part_of at (value_of_target t)) (expression_part (one_line_expression e))
   target_marks (name_expression line text) t has is =
       (marks_of is_function listed_names (name_expression line text) has).one (value_of_target t) (is.0, is.1, variable_value text is.0 t is.2)
-  target_marks (index_expression line on key) t has is =
-      part_then (index_marks t is.0 is.1 is.4) (both_same ((marks_of is_function listed_names on has.0).one is.0 is.2) (of_operand is_function listed_names key is.1 (literal key) refl (marks_of is_function listed_names key has.1).one is.3))
-  target_marks (field_expression line on text) t has is =
-      part_then (index_marks t is.0 is.1 is.4) (part_then (both_same ((marks_of is_function listed_names on has).one is.0 is.2) (key_part is_function listed_names text is.1 is.3)) (nothing_behind (expression_part (one_line_expression on))))
-  target_marks e t has is = absurd is
+  target_marks (index_expression line on key) (index_target o k) has is =
+      both_same ((marks_of is_function listed_names on has.0).one o is.0) (part_then (nothing_behind (part_of_operand at k)) (of_operand is_function listed_names key k (literal key) refl (marks_of is_function listed_names key has.1).one is.1))
+  target_marks (field_expression line on text) (index_target o k) has is =
+      part_then (both_same ((marks_of is_function listed_names on has).one o is.0) (part_then (nothing_behind (part_of_operand at k)) (key_part is_function listed_names text k is.1))) (nothing_behind (expression_part (one_line_expression on)))
+  target_marks e t has is = absurd (assumption is)
 
-  -- what is stored
-  stored_marks : (t : TargetValue) (e : Expression) (o : OperandValue) → HasCore e → IsStored g active t e o → SamePart (part_of_operand at o) (expression_part (one_line_expression e))
-  stored_marks (index_target on key) e o has is = of_operand is_function listed_names e o (literal e) refl (marks_of is_function listed_names e has).one is
-  stored_marks t e o has is = part_then (λ here. ap (λ o. part_of_operand at o here) is.2) ((marks_of is_function listed_names e has).one is.0 is.1)
+  targets_marks : (es : Expressions) (ts : List TargetValue) (n : ℕ) (fs : List (Option Inner)) → fs ≡ [] → AreActTargets es → AreTargets g active es ts → can_write_targets at fs ts ≡ true →
+      SamePart (expressions_part (words_targets at n fs ts).words) (expressions_part (one_line_expressions es))
+  targets_marks no_expressions [] n fs none are is can = same_part nothing
+  targets_marks no_expressions (t ∷ ts) n fs none are is can = absurd is
+  targets_marks (syntax.expression e es) [] n fs none are is can = absurd is
+  targets_marks (syntax.expression e es) (t ∷ ts) n fs none are is can =
+      let there = subst (λ (fs : List (Option Inner)). can_write_target at fs t ≡ true) none (first_of_both _ _ can) in
+      let one = part_then (target_part at is_function.natural t n there) (target_marks e t are.0 is.0) in
+      both_same (subst (λ (fs : List (Option Inner)). SamePart (expression_part (word_target at n fs t).words) (expression_part (one_line_expression e))) (sym none) one)
+      (targets_marks es ts (taken_behind_target t n) (left_by_target t fs) (ap (left_by_target t) none ∙ none_by_target t) are.1 is.1 (second_of_both (can_write_target at fs t) _ can))
+
+  -- ---- the values that are assigned
+
+  -- an expression more at the end
+  end_part : (es : Expressions) (e : Expression) → SamePart (expressions_part (join_expressions es (syntax.expression e no_expressions))) (both (expressions_part es) (expression_part e))
+  end_part no_expressions e = nothing_behind (expression_part e)
+  end_part (syntax.expression d es) e = part_then (both_same (same_part (expression_part d)) (end_part es e)) (part_back (both_assoc (expression_part d) (expressions_part es) (expression_part e)))
+
+  assigned_words : (vs : Values) (all : Bool) (last : Option OperandValue) (n : ℕ) (fs : List (Option Inner)) → fs ≡ [] → can_write_values at fs vs ≡ true → can_write_last at (left_by_values vs fs) last ≡ true →
+      SamePart (expressions_part (words_assigned at n fs vs all last).words) (assigned_part at (record { values = vs; all = all; last = last }))
+  assigned_words vs all None n fs none can can_last = part_then (values_part at is_function.natural vs all n fs none can) (part_back (nothing_behind (parts_of at vs)))
+  assigned_words vs all (Some o) n fs none can can_last =
+      let operand = word_operand at (taken_behind_values vs n) (left_by_values vs fs) o in
+      part_then (end_part (word_values at n fs vs all).words operand.words)
+      (both_same (values_part at is_function.natural vs all n fs none can) (operand_part at is_function.natural o (taken_behind_values vs n) (left_by_values vs fs) (ap (left_by_values vs) none ∙ none_by_values vs) can_last))
+
+  -- as many values as targets, with an operand behind them
+  ended_part : (es : Expressions) (vs : Values) (o : OperandValue) → AllHaveCores es → EndWithOperand g active es vs o → SamePart (both (parts_of at vs) (part_of_operand at o)) (expressions_part (one_line_expressions es))
+  ended_part no_expressions vs o has is = absurd is
+  ended_part (syntax.expression e no_expressions) vs o has is =
+      let last = of_operand is_function listed_names e o (literal e) refl (marks_of is_function listed_names e has.0).one is.1 in
+      part_then (both_same (λ place. ap (λ vs. parts_of at vs place) is.0) last) (part_back (nothing_behind (expression_part (one_line_expression e))))
+  ended_part (syntax.expression e (syntax.expression d es)) vs o has is =
+      let front : SamePart (parts_of at vs) (both (part_of at is.0) (parts_of at is.1)) = λ place. ap (λ vs. parts_of at vs place) is.4 in
+      part_then (both_same front (same_part (part_of_operand at o)))
+      (part_then (both_assoc (part_of at is.0) (parts_of at is.1) (part_of_operand at o)) (both_same ((marks_of is_function listed_names e has.0).one is.0 is.2) (ended_part (syntax.expression d es) is.1 o has.1 is.3)))
+
+  values_marks : (es : Expressions) (ts : List TargetValue) (to : Assigned) → AllHaveCores es → AreWithOperand g active ts es to ⊎ AreValues g active ts es to → SamePart (assigned_part at to) (expressions_part (one_line_expressions es))
+  values_marks es ts to has (inl is) = part_then (both_same (same_part (parts_of at to.values)) (λ place. ap (λ (last : Option OperandValue). last_part at last place) is.5)) (ended_part es to.values is.2 has is.3)
+  values_marks es ts to has (inr is) = part_then (assigned_parts at (length ts) (last_target ts) (ends_open es) is.0 to is.3) (list_part is_function listed_names es has is.0 is.1)
 
   pub act_marks : (s : Statement) (acted : Acted) (n line : ℕ) → IsAct s → IsActed g active s acted → can_act at [] acted ≡ true → SamePart (statement_part line (act_statement at n [] acted)) (statement_part line (one_line_statement s))
   act_marks (call_statement e) (called v) n line has is can = part_then (word_part at is_function.natural v n [] refl can) ((marks_of is_function listed_names e has.1).one v is)
-  act_marks (assignment (syntax.expression target no_expressions) (syntax.expression e no_expressions)) (assigned t o) n line has is can =
-      both_same
-      (both_same (part_then (target_part at is_function.natural t n (first_of_both _ _ can)) (target_marks target t has.0 is.0)) (same_part nothing))
-      (both_same (part_then (stored_part at is_function.natural t o (taken_behind_target t n) (left_by_target t []) (none_by_target t) (second_of_both (can_write_target at [] t) _ can)) (stored_marks t e o has.1 is.1)) (same_part nothing))
+  act_marks (assignment targets es) (assigned ts vs all last) n line has is can =
+      let values = second_of_both (can_write_targets at [] ts) _ can in
+      both_same (targets_marks targets ts n [] refl has.targets is.0 (first_of_both _ _ can))
+      (part_then (assigned_words vs all last (taken_behind_targets ts n) (left_by_targets ts []) (none_by_targets ts [] refl) (first_of_both _ _ values) (second_of_both (can_write_values at (left_by_targets ts []) vs) _ values))
+      (values_marks es ts (record { values = vs; all = all; last = last }) has.values is.1))
   act_marks (local_statement names es) (declared others vs all) n line has is can =
       let values = part_then (values_part at is_function.natural vs all n [] refl can) (part_then (declared_parts at (length names) (ends_open es) is.1 vs all is.3) (list_part is_function listed_names es has.1 is.1 is.2)) in
       λ here. ap (λ names. both (declares line 0 names) (both (expressions_part (word_values at n [] vs all).words) (come 0 names here.declarations)) here) is.0

@@ -1,5 +1,5 @@
 -- Which values so many locals are given by what stands in registers: single values, behind which some are missing, or further ones of the last value.
-use Rattle.std.proofs.Common.{◌≡◌, ℕ, zero, suc, ◌+◌, ◌-◌, ◌<◌, ◌≤◌, nat_lt, nat_le, Bool, true, false, ◌&&◌, List, [], ◌∷◌, ◌++◌, append-nil, append_assoc, length, length-append, take, drop, Option, Some, None, refl, sym, ap, ap₂, ◌∙◌, subst, arith, le-leb, lt-ltb, eq-eqb}
+use Rattle.std.proofs.Common.{◌≡◌, ℕ, zero, suc, ◌+◌, ◌-◌, ◌<◌, ◌≤◌, nat_lt, nat_le, Bool, true, false, ◌&&◌, List, [], ◌∷◌, ◌++◌, append-nil, append_assoc, length, length-append, take, take_all, drop, Option, Some, None, refl, sym, ap, ap₂, ◌∙◌, subst, arith, le-leb, lt-ltb, eq-eqb}
 use Rattle.std.proofs.Math.Seq.{drop-append_seam, take-append_seam}
 use Rattle.std.proofs.lemmas.Bool.{eqb-true, ne_eqb}
 use Rattle.std.proofs.lemmas.Option.{same_Some}
@@ -81,8 +81,12 @@ leading_are (entry ∷ before) behind (and_value v vs) are none =
     let rest = leading_are before behind vs are.1 none in
     ap (λ single. if single then 1 + leading (before ++ behind) else 0) (single_is entry v are.0) ∙ omega (arith, rest)
 
+-- single values alone
+pub all_lead : (entries : Entries) (vs : Values) → AreEntries entries vs → leading entries ≡ length entries
+all_lead entries vs are = ap leading (sym (append-nil entries)) ∙ leading_are entries [] vs (singles_are entries vs are) refl
+
 -- what is found where others stand behind the single values
-module _ (count : ℕ) (before behind : Entries) (vs : Values) (are : AreEntries before vs) (none : leading behind ≡ 0) where
+module _ (before behind : Entries) (vs : Values) (are : AreEntries before vs) (none : leading behind ≡ 0) where
   abbrev whole : Entries
   whole = before ++ behind
 
@@ -92,35 +96,40 @@ module _ (count : ℕ) (before behind : Entries) (vs : Values) (are : AreEntries
   rest_is : behind_leading whole ≡ behind
   rest_is = ap (λ n. drop n whole) up_to ∙ drop-append_seam before behind
 
-  values_found : adjusted_list count true whole ≡ adjusted_to count true whole vs
-  values_found =
-      ap (λ front. option_and_then (adjusted_to count true whole) (singles_of front)) (ap (λ n. take n whole) up_to ∙ take-append_seam before behind)
-      ∙ ap (option_and_then (adjusted_to count true whole)) are
-
-  module _ (some : 0 < length behind) (counts : count ≡ length before + length behind) where
+  module _ (some : 0 < length behind) where
     size : length whole ≡ length before + length behind
     size = length-append before behind
 
+    pub others_follow : nat_lt (leading whole) (length whole) ≡ true
+    others_follow = lt-ltb (leading whole) (length whole) (omega (arith, up_to, some, size))
+
     missing_there : are_missing whole ≡ list_all is_missing behind
-    missing_there =
-        ap₂ (λ (n : ℕ) (rest : Entries). nat_lt n (length whole) && list_all is_missing rest) up_to rest_is
-        ∙ ap (λ more. more && list_all is_missing behind) (lt-ltb (length before) (length whole) (omega (arith, some, size)))
+    missing_there = ap₂ (λ (more : Bool) (rest : Entries). more && list_all is_missing rest) others_follow rest_is
 
-    fits_as : (missing : Bool) → list_all is_missing behind ≡ missing → fits_places count true whole vs ≡ (if missing then true else (list_all is_further behind && ends_multiple vs))
-    fits_as missing is =
-        let further = λ (rest : Entries). list_all is_further rest && ends_multiple vs in
-        let others = λ (missing : Bool) (rest : Entries). if missing then (count == length whole) && true else (count == length whole) && further rest in
-        let either = λ (all : Bool). if all then nat_le count (length whole) else others (are_missing whole) (behind_leading whole) in
-        ap (λ n. either (n == length whole)) up_to
-        ∙ ap either (ne_eqb (length before) (length whole) (λ same. omega (arith, some, size, same)))
-        ∙ ap₂ others (missing_there ∙ is) rest_is
-        ∙ ap (λ all. if missing then all && true else all && further behind) (eq-eqb count (length whole) (omega (arith, counts, size)))
+    module _ (count : ℕ) (may_be_none : Bool) (counts : count ≡ length before + length behind) where
+      abbrev allowed : Bool
+      allowed = may_be_none || nat_lt 0 (length before)
 
-    adjusted_where : (missing : Bool) → list_all is_missing behind ≡ missing → (if missing then true else (list_all is_further behind && ends_multiple vs)) ≡ true →
-        adjusted_list count true whole ≡ Some (record { values = vs; all = not missing })
-    adjusted_where missing is fits =
-        values_found
-        ∙ ap₂ (λ (fits missing : Bool). if fits then Some (record { values = vs; all = not missing }) else None) (fits_as missing is ∙ fits) (missing_there ∙ is)
+      values_found : adjusted_list count may_be_none whole ≡ adjusted_to count may_be_none whole vs
+      values_found =
+          ap (λ front. option_and_then (adjusted_to count may_be_none whole) (singles_of front)) (ap (λ n. take n whole) up_to ∙ take-append_seam before behind)
+          ∙ ap (option_and_then (adjusted_to count may_be_none whole)) are
+
+      fits_as : (missing : Bool) → list_all is_missing behind ≡ missing → fits_places count may_be_none whole vs ≡ (if missing then allowed else (list_all is_further behind && ends_multiple vs))
+      fits_as missing is =
+          let further = λ (rest : Entries). list_all is_further rest && ends_multiple vs in
+          let others = λ (n : ℕ) (missing : Bool) (rest : Entries). if missing then (count == length whole) && (may_be_none || nat_lt 0 n) else (count == length whole) && further rest in
+          let either = λ (n : ℕ) (all : Bool). if all then nat_le count (length whole) else others n (are_missing whole) (behind_leading whole) in
+          ap (λ n. either n (n == length whole)) up_to
+          ∙ ap (either (length before)) (ne_eqb (length before) (length whole) (λ same. omega (arith, some, size, same)))
+          ∙ ap₂ (others (length before)) (missing_there ∙ is) rest_is
+          ∙ ap (λ all. if missing then all && allowed else all && further behind) (eq-eqb count (length whole) (omega (arith, counts, size)))
+
+      adjusted_where : (missing : Bool) → list_all is_missing behind ≡ missing → (if missing then allowed else (list_all is_further behind && ends_multiple vs)) ≡ true →
+          adjusted_list count may_be_none whole ≡ Some (record { values = vs; all = not missing })
+      adjusted_where missing is fits =
+          values_found
+          ∙ ap₂ (λ (fits missing : Bool). if fits then Some (record { values = vs; all = not missing }) else None) (fits_as missing is ∙ fits) (missing_there ∙ is)
 
 -- ---- some are missing, or are further ones of the last value
 
@@ -132,19 +141,20 @@ all_more : (P : EntryValue → Bool) (entry : EntryValue) → P entry ≡ true �
 all_more P entry is zero = refl
 all_more P entry is (suc n) = both_hold _ _ is (all_more P entry is n)
 
-missing_adjusted : (count n : ℕ) (before : Entries) (vs : Values) → AreEntries before vs → count ≡ length before + suc n →
-    adjusted_list count true (before ++ more (suc n) missing_entry) ≡ Some (record { values = vs; all = false })
-missing_adjusted count n before vs are counts =
+-- all of them only where that is allowed
+pub missing_adjusted : (count : ℕ) (may_be_none : Bool) (n : ℕ) (before : Entries) (vs : Values) → AreEntries before vs → (may_be_none || nat_lt 0 (length before)) ≡ true → count ≡ length before + suc n →
+    adjusted_list count may_be_none (before ++ more (suc n) missing_entry) ≡ Some (record { values = vs; all = false })
+missing_adjusted count may_be_none n before vs are allowed counts =
     let behind = more (suc n) missing_entry in
     let size = length_more (suc n) missing_entry in
-    adjusted_where count before behind vs are refl (omega (arith, size)) (omega (arith, counts, size)) true (all_more is_missing missing_entry refl (suc n)) refl
+    adjusted_where before behind vs are refl (omega (arith, size)) count may_be_none (omega (arith, counts, size)) true (all_more is_missing missing_entry refl (suc n)) allowed
 
-further_adjusted : (count n : ℕ) (before : Entries) (vs : Values) → AreEntries before vs → count ≡ length before + suc n → ends_multiple vs ≡ true →
-    adjusted_list count true (before ++ more (suc n) more_entry) ≡ Some (record { values = vs; all = true })
-further_adjusted count n before vs are counts several =
+pub further_adjusted : (count : ℕ) (may_be_none : Bool) (n : ℕ) (before : Entries) (vs : Values) → AreEntries before vs → count ≡ length before + suc n → ends_multiple vs ≡ true →
+    adjusted_list count may_be_none (before ++ more (suc n) more_entry) ≡ Some (record { values = vs; all = true })
+further_adjusted count may_be_none n before vs are counts several =
     let behind = more (suc n) more_entry in
     let size = length_more (suc n) more_entry in
-    adjusted_where count before behind vs are refl (omega (arith, size)) (omega (arith, counts, size)) false refl (both_hold _ _ (all_more is_further more_entry refl (suc n)) several)
+    adjusted_where before behind vs are refl (omega (arith, size)) count may_be_none (omega (arith, counts, size)) false refl (both_hold _ _ (all_more is_further more_entry refl (suc n)) several)
 
 -- what stands last is no nil
 ends_other : (entries : Entries) (last : EntryValue) → is_nil_entry last ≡ false → ends_so (entries ++ last ∷ []) ≡ false
@@ -166,36 +176,33 @@ all_stay count n before entry other =
 
 pub with_missing : (count n : ℕ) (before : Entries) (vs : Values) → AreEntries before vs → count ≡ length before + suc n →
     adjusted_list count true (without_last count (before ++ more (suc n) missing_entry)) ≡ Some (record { values = vs; all = false })
-with_missing count n before vs are counts = ap (adjusted_list count true) (all_stay count n before missing_entry refl) ∙ missing_adjusted count n before vs are counts
+with_missing count n before vs are counts = ap (adjusted_list count true) (all_stay count n before missing_entry refl) ∙ missing_adjusted count true n before vs are refl counts
 
 pub with_further : (count n : ℕ) (before : Entries) (vs : Values) → AreEntries before vs → count ≡ length before + suc n → ends_multiple vs ≡ true →
     adjusted_list count true (without_last count (before ++ more (suc n) more_entry)) ≡ Some (record { values = vs; all = true })
-with_further count n before vs are counts several = ap (adjusted_list count true) (all_stay count n before more_entry refl) ∙ further_adjusted count n before vs are counts several
+with_further count n before vs are counts several = ap (adjusted_list count true) (all_stay count n before more_entry refl) ∙ further_adjusted count true n before vs are counts several
 
 -- ---- as many as there are locals, or more: a last nil is left out where they are as many
 
 as_many : (count : ℕ) (entries : Entries) (vs : Values) → AreEntries entries vs → count ≤ length entries → adjusted_list count true entries ≡ Some (record { values = vs; all = true })
-as_many count entries vs are enough = subst (λ (entries : Entries). adjusted_list count true entries ≡ Some (record { values = vs; all = true })) (append-nil entries) found
+as_many count entries vs are enough =
+    ap (λ front. option_and_then (adjusted_to count true entries) (singles_of front)) (take_all (leading entries) entries (omega (arith, all)))
+    ∙ ap (option_and_then (adjusted_to count true entries)) are
+    ∙ ap₂ (λ (fits missing : Bool). if fits then Some (record { values = vs; all = not missing }) else None) fits none_missing
   where
-    whole : Entries
-    whole = entries ++ []
+    all : leading entries ≡ length entries
+    all = all_lead entries vs are
 
-    all : leading whole ≡ length whole
-    all = omega (arith, up_to count entries [] vs are refl, length-append entries [])
-
-    fits : fits_places count true whole vs ≡ true
+    fits : fits_places count true entries vs ≡ true
     fits =
-        let others = if are_missing whole then (count == length whole) && true else (count == length whole) && (list_all is_further (behind_leading whole) && ends_multiple vs) in
-        let either = λ (all : Bool). if all then nat_le count (length whole) else others in
-        ap (λ n. either (n == length whole)) all ∙ ap either (eq-eqb (length whole) (length whole) refl) ∙ le-leb count (length whole) (omega (arith, enough, length-append entries []))
+        let others = if are_missing entries then (count == length entries) && true else (count == length entries) && (list_all is_further (behind_leading entries) && ends_multiple vs) in
+        let either = λ (all : Bool). if all then nat_le count (length entries) else others in
+        ap either (eq-eqb (leading entries) (length entries) all) ∙ le-leb count (length entries) enough
 
-    none_missing : are_missing whole ≡ false
+    none_missing : are_missing entries ≡ false
     none_missing =
-        let rest = list_all is_missing (behind_leading whole) in
-        ap (λ n. nat_lt n (length whole) && rest) all ∙ ap (λ more. more && rest) (not_more (length whole))
-
-    found : adjusted_list count true (entries ++ []) ≡ Some (record { values = vs; all = true })
-    found = values_found count entries [] vs are refl ∙ ap₂ (λ (fits missing : Bool). if fits then Some (record { values = vs; all = not missing }) else None) fits none_missing
+        let rest = list_all is_missing (behind_leading entries) in
+        ap (λ n. nat_lt n (length entries) && rest) all ∙ ap (λ more. more && rest) (not_more (length entries))
 
 pub count_last : (ws : Values) (v : Value) → value_count (and_last_value ws v) ≡ suc (value_count ws)
 count_last no_values v = refl
@@ -231,7 +238,7 @@ with_singles count entries vs are enough =
         let singles = all_but_last entries ws nil_value (subst (AreSingles entries) (sym last) (singles_are entries vs are)) in
         let counts = eqb-true (value_count vs) count (first_of_both (value_count vs == count) (ends_with_nil vs) is) in
         let there = entries_are front ws singles in
-        missing_adjusted count 0 front ws there (omega (arith, counts, count_of_entries front ws there, count_last ws nil_value, ap value_count last))
+        missing_adjusted count true 0 front ws there refl (omega (arith, counts, count_of_entries front ws there, count_last ws nil_value, ap value_count last))
 
 -- ---- what a last value takes, and whether it is several
 

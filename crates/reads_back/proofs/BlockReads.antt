@@ -193,7 +193,7 @@ module _ {f : Function} {g : Fn} {z : Maker} (whole : IsWhole f g z) where
   kind_is : (s : Statement) → IsAct s → (m : Maker) (acted : Acted) (n first listed : ℕ) (kind : DraftKind) → IsActed g m.active s acted → kind ≡ kind_of_act first acted → first + length (entries_by s (made_by s m)) ≤ listed →
       KindIs listed (act_statement (place f.of (listed_by m) f.short) n [] acted) kind
   kind_is (call_statement e) is m (called v) n first listed kind acts same room = same
-  kind_is (assignment (syntax.expression target syntax.no_expressions) (syntax.expression e syntax.no_expressions)) is m (assigned t o) n first listed kind acts same room = same
+  kind_is (assignment targets es) is m (assigned ts vs all last) n first listed kind acts same room = same
   kind_is (local_statement names es) is m (declared others vs all) n first listed kind acts same room =
       let some = some_names names is.0 in
       let as_many = entries_count names (length (made_by (local_statement names es) m).items) in
@@ -204,7 +204,7 @@ module _ {f : Function} {g : Fn} {z : Maker} (whole : IsWhole f g z) where
   -- how many locals it declares
   declares_count : (s : Statement) → IsAct s → (m : Maker) (acted : Acted) → IsActed g m.active s acted → locals_of acted ≡ length (actives_by s m)
   declares_count (call_statement e) is m (called v) acts = refl
-  declares_count (assignment (syntax.expression target syntax.no_expressions) (syntax.expression e syntax.no_expressions)) is m (assigned t o) acts = refl
+  declares_count (assignment targets es) is m (assigned ts vs all last) acts = refl
   declares_count (local_statement names es) is m (declared others vs all) acts = ap length acts.0 ∙ sym (actives_count names m.ahead.captures m.ahead.declarations (length m.locals))
   declares_count (return_statement es) is m (returned vs all) acts = refl
   declares_count s is m acted acts = absurd acts

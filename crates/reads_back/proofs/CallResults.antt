@@ -1,13 +1,15 @@
 -- What comes of the words of a call and of `...`: one value, in the register of its function or moved from there, or all of them.
-use Rattle.std.proofs.Common.{◌≡◌, ℕ, suc, ◌<◌, ◌≤◌, List, [], ◌∷◌, ◌++◌, append-nil, Option, Some, None, refl, sym, ap, ap₂, ◌∙◌, inl, inr, arith}
-use Rattle.std.specs.Prelude.{option_map, option_and_then}
+use Rattle.std.proofs.Common.{◌≡◌, ℕ, suc, ◌+◌, ◌-◌, ◌<◌, ◌≤◌, max, nat_lt, Bool, true, false, List, [], ◌∷◌, ◌++◌, append-nil, Option, Some, None, refl, sym, ap, ap₂, ◌∙◌, subst, inl, inr, arith}
+use Rattle.std.specs.Prelude.{◌==◌, slice_get, option_map, option_and_then, if◌then◌else◌}
 use Rattle.opcode.specs.declared.op.Op.{Op}
-use Rattle.core_expr.specs.Values.{Value, vararg_value}
+use Rattle.core_expr.specs.Making.{deepest, depth_of}
+use Rattle.core_expr.specs.Values.{Value, call_value, method_value, vararg_value}
 use Rattle.recover_expr.specs.Drafts.{makes}
-use Rattle.recover_expr.specs.Entries.{EntryValue, Entries, value_entry, open_entry}
+use Rattle.recover_expr.specs.Entries.{EntryValue, Entries, value_entry, is_at, is_method, open_entry, place_in, take_at, take_list, take_method}
+use Rattle.recover_expr.specs.Lists.{is_nil}
 use Rattle.recover_expr.specs.Reading.{Turn, on as goes_to, turn_of, turned}
 use Rattle.recover_expr.specs.Situation.{Function, Situation}
-use Rattle.recover_expr.specs.Words.{Done, call_made, gone, with_more, with_register}
+use Rattle.recover_expr.specs.Words.{Done, call_made, call_on, gone, made_call_at, made_call_of, method_call, method_on, plain_call, with_entries, with_more, with_register}
 use Rattle.recover_expr.specs.declared.function.Word.{Word}
 use Rattle.scheme.specs.Expressions.{Want}
 use Rattle.scheme.specs.declared.making.Piece.{Piece}
@@ -51,6 +53,40 @@ call_to {f} {free = free} {first = first} {last = last} {s = s} is call =
       reaches = reaches_then call.reaches (word (omega (arith, call.next)) turn here);
     }
 
+-- what a call gives is no nil
+abbrev IsNoNil : Option (Value × Situation) → Type 0
+IsNoNil None = Unit {0}
+IsNoNil (Some p) = is_nil p.0 ≡ false
+
+then_no_nil : {A : Type 0} (some : Option A) (make : A → Option (Value × Situation)) → ((a : A) → IsNoNil (make a)) → IsNoNil (option_and_then make some)
+then_no_nil None make each = tt
+then_no_nil (Some a) make each = each a
+
+given_no_nil : (few : Bool) (v : Value) (s : Situation) (entries : Entries) → is_nil v ≡ false → IsNoNil (with_entries s entries (if few then Some v else None))
+given_no_nil true v s entries other = other
+given_no_nil false v s entries other = tt
+
+either_no_nil : (first : Bool) (one other : Option (Value × Situation)) → IsNoNil one → IsNoNil other → IsNoNil (if first then one else other)
+either_no_nil true one other is also = is
+either_no_nil false one other is also = also
+
+call_no_nil : (w : Word) (s : Situation) → IsNoNil (made_call_of w s)
+call_no_nil w s = at (place_in s.base w.instr.a)
+  where
+    plain : (place : ℕ) → IsNoNil (plain_call w place s)
+    plain place =
+        then_no_nil (take_list (place + 1) w.instr.b s.entries) _ (λ args. then_no_nil (take_at place args.1) (call_on s args.0)
+        (λ on. given_no_nil (nat_lt (max (depth_of on.0) (deepest args.0.values)) 400) (call_value on.0 args.0.values args.0.all _) s on.1 refl))
+
+    method : (place : ℕ) → IsNoNil (method_call w place s)
+    method place =
+        either_no_nil (w.instr.b == 1) None _ tt (then_no_nil (take_list (place + 2) (w.instr.b - 1) s.entries) _ (λ args. then_no_nil (take_method place args.1) (method_on s args.0)
+        (λ m. given_no_nil (nat_lt (max (depth_of m.0.0) (deepest args.0.values)) 400) (method_value m.0.0 m.0.1 args.0.values args.0.all _) s m.1 refl)))
+
+    at : (place : Option ℕ) → IsNoNil (made_call_at w s place)
+    at None = tt
+    at (Some place) = either_no_nil (is_at is_method (slice_get s.entries place)) _ _ (method place) (plain place)
+
 module _ {f : Function} {g : Fn} {active : List Active} {listed : List ℕ} {Is : Value → Type 0} {deep : ℕ} (part : (free : ℕ) → Op → Want → Stretch) (is_function : IsFunction f g) (reads : ReadsCall f g active listed Is deep part) where
   value_forward : (free r : ℕ) (p q : Spot) → MovedFrom g (part free Op.Call (Some 1)) free r p q → p.pc ≤ q.pc
   value_forward free r p q (inl (same, at)) = reads.forward free Op.Call (Some 1) p q at
@@ -62,16 +98,19 @@ module _ {f : Function} {g : Fn} {active : List Active} {listed : List ℕ} {Is 
 
   value_moved : (free r : ℕ) (p q : Spot) (s : Situation) → HasLocals active listed s → free ≡ next_free s → IsQuiet f s.scope p.pc q.pc → (free ≡ r → ⊥) → Seq (part free Op.Call (Some 1)) (WordAt g (Piece.Abc Op.Move r free 0)) p q →
       Moved f Is deep s r p.pc q.pc
+  unfolding call_to
   value_moved free r p q s locals is quiet other at =
       let later : at.mid.pc < q.pc = omega (arith, at.second_at.next) in
       let on = reads.forward free Op.Call (Some 1) p at.mid at.first_at in
-      let comes = call_to is (reads.comes free Op.Call (Some 1) p at.mid s locals is (quiet_before at.mid.pc (omega (arith, later)) quiet) (inl refl) at.first_at) in
+      let call = reads.comes free Op.Call (Some 1) p at.mid s locals is (quiet_before at.mid.pc (omega (arith, later)) quiet) (inl refl) at.first_at in
+      let comes = call_to is call in
       let t = behind_words comes.scope comes.seen (comes.entry ∷ []) s in
       let there = word_there is_function at.second_at (abc_is_read is_function at.second_at) (omega (arith, later, quiet.within)) in
       let turn = turn_there at.mid.pc t (quiet_same comes.same quiet) on later there in
       record {
         mid = at.mid.pc;
         comes = comes;
+        no_nil = subst IsNoNil call.makes (call_no_nil (word_of call.pc (Piece.Abc Op.Call free call.b 2)) (behind_words call.scope call.seen call.more s));
         other = λ same. other (is ∙ same);
         later = later;
         turn = turn ∙ ap₂ (λ (next from : ℕ). turn_of f t (record { pc = at.mid.pc; next = next; instr = instr_by at.mid.pc (Piece.Abc Op.Move r from 0) })) (sym at.second_at.next) is;

@@ -25,7 +25,7 @@ use Rattle.scheme_stands.proofs.Parts.{grows, grows_given, grows_next, grows_ope
 use Rattle.scheme_stands.specs.Words.{Fn}
 use Rattle.reads_back.specs.Cores.{HasCore, HasNumber}
 use Rattle.reads_back.proofs.ConstantsSame.{constant_taken}
-use Rattle.reads_back.proofs.LeavesSame.{some_depth}
+use Rattle.reads_back.proofs.Deeper.{some_depth}
 use Rattle.reads_back.proofs.LiteralReads.{constant_there}
 use Rattle.reads_back.proofs.NamesAhead.{IsAhead, Passed, ahead_behind, ahead_front, names_given, names_in}
 use Rattle.reads_back.proofs.PassedNames.{names_passed, next_passes, operand_passes, rk_text_passes}

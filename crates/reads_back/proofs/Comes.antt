@@ -10,8 +10,8 @@ use Rattle.core_expr.specs.Values.{Value, Values, OperandValue, value_operand}
 use Rattle.recover_expr.specs.Drafts.{makes}
 use Rattle.recover_expr.specs.Effects.{makes_value, reads_from}
 use Rattle.recover_expr.specs.Entries.{Entries, EntryValue, value_entry, open_entry, single_of, singles_of, take_list, is_temporary}
-use Rattle.recover_expr.specs.Items.{is_so}
-use Rattle.recover_expr.specs.Lists.{value_count}
+use Rattle.recover_expr.specs.Items.{is_read_behind, is_so, stores_alone}
+use Rattle.recover_expr.specs.Lists.{is_nil, value_count}
 use Rattle.recover_expr.specs.Locals.{Scope, starting}
 use Rattle.recover_expr.specs.Reading.{read_word, turn_at, turn_of}
 use Rattle.recover_expr.specs.Situation.{Function, Situation, instr_at, pop_operand, see, see_operand}
@@ -42,13 +42,13 @@ pub record Begins (f : Function) (from pc : ℕ) : Type 0 where
   pub makes : makes_value instr.op ≡ true
   pub above : from ≤ instr.a
 
--- a word wants what stands in the lowest register of the statement: it reads a register of the statement, or makes a value for a higher one
-abbrev pub wants_lowest : (base : ℕ) → Instr → Bool
-wants_lowest base i = reads_from i base || (makes_value i.op && nat_lt base i.a)
+-- a word at a pc wants what stands in the lowest register of the statement: it reads a register of the statement, or makes a value for a higher one, or it is a store behind which the next word reads one
+abbrev pub wants_lowest : Function → (base pc : ℕ) → Instr → Bool
+wants_lowest f base pc i = reads_from i base || ((makes_value i.op && nat_lt base i.a) || (stores_alone i base && is_read_behind f base pc i))
 
 -- what comes to the next free register is not the lowest of the statement; or a local starts behind it; or the word behind it wants it
 abbrev pub IsWanted : Function → Situation → (last : ℕ) → Type 0
-IsWanted f s last = (0 < length s.entries) ⊎ (0 < starting f.of.locals last s.scope) ⊎ (is_so (wants_lowest s.base) (instr_at f last) ≡ true)
+IsWanted f s last = (0 < length s.entries) ⊎ (0 < starting f.of.locals last s.scope) ⊎ (is_so (wants_lowest f s.base last) (instr_at f last) ≡ true)
 
 -- ---- one value
 
@@ -86,6 +86,7 @@ pub record Made (f : Function) (Is : Value → Type 0) (deep : ℕ) (s : Situati
 pub record Moved (f : Function) (Is : Value → Type 0) (deep : ℕ) (s : Situation) (r first last : ℕ) : Type 0 where
   pub mid : ℕ
   pub comes : Comes f Is deep s first mid
+  pub no_nil : is_nil comes.value ≡ false
   pub other : next_free s ≢ r
   pub later : mid < last
   pub turn : turn_at f mid (behind_words comes.scope comes.seen (comes.entry ∷ []) s) ≡ turn_of f (behind_words comes.scope comes.seen (comes.entry ∷ []) s) (record { pc = mid; next = last; instr = instr_by mid (Piece.Abc Op.Move r (next_free s) 0) })

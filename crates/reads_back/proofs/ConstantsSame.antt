@@ -30,6 +30,7 @@ use Rattle.scheme_stands.specs.Expressions.{IsLarge}
 use Rattle.scheme_stands.specs.Words.{Fn}
 use Rattle.reads_back.specs.Cores.{HasNumber}
 use Rattle.reads_back.proofs.Rewriting.{IsMadeBy, code}
+use Rattle.reads_back.proofs.Tests.{or_second}
 use Rattle.reads_back.proofs.WholeNumbers.{IsWhole, wraps_back}
 use Rattle.reads_back.proofs.WordsSame.{same_fold}
 
@@ -102,15 +103,11 @@ number_stands k constants within =
     by_not true is = refl
     by_not false is = cc
 
-any_or : (a b : Bool) → b ≡ true → (a || b) ≡ true
-any_or true b is = refl
-any_or false b is = is
-
 pub passes_among : (test : Constant → Bool) (k : Constant) (constants : List Constant) (limit i : ℕ) → i < limit → slice_get constants i ≡ Some k → test k ≡ true → list_any test (take limit constants) ≡ true
 passes_among test k [] limit i below there passes = cc
 passes_among test k (c ∷ constants) zero i below there passes = absurd (omega (arith, below))
 passes_among test k (c ∷ constants) (suc limit) zero below there passes = ap (λ passes. passes || list_any test (take limit constants)) (ap test (same_Some c k there) ∙ passes)
-passes_among test k (c ∷ constants) (suc limit) (suc i) below there passes = any_or (test c) (list_any test (take limit constants)) (passes_among test k constants limit i (omega (arith, below)) there passes)
+passes_among test k (c ∷ constants) (suc limit) (suc i) below there passes = or_second (test c) (list_any test (take limit constants)) (passes_among test k constants limit i (omega (arith, below)) there passes)
 
 -- ---- numerals
 

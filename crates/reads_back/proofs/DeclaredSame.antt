@@ -1,4 +1,4 @@
--- What is written of a `local` statement makes the same code as the statement, whichever of its values are written.
+-- What is written of values that are adjusted to a count makes the same code as the expressions, whichever of the values are written; and so does what is written of a `local` statement.
 use Rattle.std.proofs.Common.{◌≡◌, ℕ, suc, ◌+◌, ◌-◌, ◌*◌, ◌≤◌, ◌<◌, Bool, true, false, cond, List, [], ◌∷◌, length, nat_lt, lt-ltb, Option, Some, None, refl, sym, ap, ◌∙◌, subst, arith}
 use Rattle.std.proofs.lemmas.Bool.{eqb-true, eqb-false, le-ltb, ltb-false, ltb-true}
 use Rattle.std.specs.Prelude.{◌&&◌, ◌==◌, not}
@@ -46,13 +46,13 @@ no_nil v several = refl
 -- ---- the registers of the locals
 
 -- one register is cleared as by a nil
-nils_one : (m : Maker) → nils 1 1 m ≡ next_reg (coded (nil_literal 1)) m
+pub nils_one : (m : Maker) → nils 1 1 m ≡ next_reg (coded (nil_literal 1)) m
 nils_one m = let same : m.free + 1 - 1 ≡ m.free = omega arith in ap (λ last. put 1 (Piece.Abc Op.LoadNil m.free last 0) (take_registers 1 m)) same
 
 before_nils : {k : ℕ} {z : Maker} (n : ℕ) (m : Maker) → Final k (nils 1 n m) z → Final k m z
 before_nils n m final = before_take n m (before_put 1 (Piece.Abc Op.LoadNil m.free (m.free + n - 1) 0) (take_registers n m) final)
 
-adjust_more : (cs : List Coded) (n : ℕ) (m : Maker) → n ≤ length cs → adjust 1 cs n m ≡ free_from (m.free + n) (all_next cs m)
+pub adjust_more : (cs : List Coded) (n : ℕ) (m : Maker) → n ≤ length cs → adjust 1 cs n m ≡ free_from (m.free + n) (all_next cs m)
 adjust_more cs n m enough = ap (λ fewer. cond fewer (filled 1 cs (n - length cs)) (λ k. free_from (m.free + n) (all_next cs k)) m) (le-ltb (length cs) n enough)
 
 adjust_fewer : (cs : List Coded) (n : ℕ) (m : Maker) → length cs < n → adjust 1 cs n m ≡ filled 1 cs (n - length cs) m
@@ -61,11 +61,11 @@ adjust_fewer cs n m fewer = ap (λ fewer. cond fewer (filled 1 cs (n - length cs
 adjust_open : (cs : List Coded) (n : ℕ) (m : Maker) → length cs < n → opens cs ≡ true → adjust 1 cs n m ≡ all_multi Op.Call (Some (n - length cs + 1)) cs m
 adjust_open cs n m fewer is = adjust_fewer cs n m fewer ∙ ap (λ several. cond several (all_multi Op.Call (Some (n - length cs + 1)) cs) (λ m. nils 1 (n - length cs) (all_next cs m)) m) is
 
-adjust_closed : (cs : List Coded) (n : ℕ) (m : Maker) → length cs < n → opens cs ≡ false → adjust 1 cs n m ≡ nils 1 (n - length cs) (all_next cs m)
+pub adjust_closed : (cs : List Coded) (n : ℕ) (m : Maker) → length cs < n → opens cs ≡ false → adjust 1 cs n m ≡ nils 1 (n - length cs) (all_next cs m)
 adjust_closed cs n m fewer is = adjust_fewer cs n m fewer ∙ ap (λ several. cond several (all_multi Op.Call (Some (n - length cs + 1)) cs) (λ m. nils 1 (n - length cs) (all_next cs m)) m) is
 
 -- F is there already
-free_there : (r : ℕ) (m : Maker) → m.free ≡ r → free_from r m ≡ m
+pub free_there : (r : ℕ) (m : Maker) → m.free ≡ r → free_from r m ≡ m
 free_there r m is = ap (λ r. free_from r m) (sym is)
 
 -- ---- what is declared
@@ -103,16 +103,16 @@ module _ (f : Function) (g : Fn) (active : List Active) (listed : List ℕ) (z :
 
   -- ---- what is asked of the values that are written
 
-  record Adjusts (names : List Text) (es : Expressions) (vs : Values) (all : Bool) : Type 0 where
-    can : can_write_values (place f.of listed f.short) left vs ≡ true
-    unused : left_by_values vs left ≡ left
-    fine : (n : ℕ) → EachFine (place f.of listed f.short) (3 * depth_of_expressions es + 2) n left vs
-    same : (m : Maker) → IsAhead g active (names_in_all es) m → Final (length m.labels) (adjust 1 (codes_of es) (length names) m) z →
-        adjust 1 (values_coded (place f.of listed f.short) (length m.constants) left vs all) (length names) m ≡ adjust 1 (codes_of es) (length names) m
-    taken : (m : Maker) → IsAhead g active (names_in_all es) m → Final (length m.labels) (adjust 1 (codes_of es) (length names) m) z → length (adjust 1 (codes_of es) (length names) m).constants ≡ taken_behind_values vs (length m.constants)
+  pub record Adjusts (count : ℕ) (es : Expressions) (vs : Values) (all : Bool) : Type 0 where
+    pub can : can_write_values (place f.of listed f.short) left vs ≡ true
+    pub unused : left_by_values vs left ≡ left
+    pub fine : (n : ℕ) → EachFine (place f.of listed f.short) (3 * depth_of_expressions es + 2) n left vs
+    pub same : (m : Maker) → IsAhead g active (names_in_all es) m → Final (length m.labels) (adjust 1 (codes_of es) count m) z →
+        adjust 1 (values_coded (place f.of listed f.short) (length m.constants) left vs all) count m ≡ adjust 1 (codes_of es) count m
+    pub taken : (m : Maker) → IsAhead g active (names_in_all es) m → Final (length m.labels) (adjust 1 (codes_of es) count m) z → length (adjust 1 (codes_of es) count m).constants ≡ taken_behind_values vs (length m.constants)
 
   -- the names are declared before the values, and active behind them
-  adjusts_act : (names : List Text) (es : Expressions) (vs : Values) (all : Bool) → Adjusts names es vs all → RewrittenAct f g active listed z left (local_statement names es) (declared names vs all)
+  adjusts_act : (names : List Text) (es : Expressions) (vs : Values) (all : Bool) → Adjusts (length names) es vs all → RewrittenAct f g active listed z left (local_statement names es) (declared names vs all)
   adjusts_act names es vs all adjusts = record {
     can = adjusts.can;
     unused = adjusts.unused;
@@ -142,10 +142,10 @@ module _ (f : Function) (g : Fn) (active : List Active) (listed : List ℕ) (z :
 
 -- ---- which values are written
 
-module _ {f : Function} {g : Fn} {active : List Active} {listed : List ℕ} {z : Maker} (left : List (Option Inner)) (made : IsMadeBy f g active listed z) (names : List Text) (es : Expressions) (from : Values)
+module _ {f : Function} {g : Fn} {active : List Active} {listed : List ℕ} {z : Maker} (left : List (Option Inner)) (made : IsMadeBy f g active listed z) (count : ℕ) (es : Expressions) (from : Values)
     (has : AllHaveCores es) (written : AllRewritten f g active listed z left es) (are : AreCores g active es from) where
   abbrev IsWritten : Values → (all : Bool) → Type 0
-  IsWritten vs all = Adjusts f g active listed z left names es vs all
+  IsWritten vs all = Adjusts f g active listed z left count es vs all
 
   abbrev written_as : ℕ → Values → (all : Bool) → List Coded
   written_as n vs all = values_coded (place f.of listed f.short) n left vs all
@@ -174,36 +174,36 @@ module _ {f : Function} {g : Fn} {active : List Active} {listed : List ℕ} {z :
   closed_code : ends_open es ≡ false → opens cs ≡ false
   closed_code closed = opens_is es ∙ closed
 
-  -- as many as names or more
-  module _ (enough : length names ≤ value_count from) where
-    more_is : (m : Maker) → adjust 1 cs (length names) m ≡ free_from (m.free + length names) (all_next cs m)
-    more_is m = adjust_more cs (length names) m (omega (arith, enough, as_many))
+  -- as many as are wanted or more
+  module _ (enough : count ≤ value_count from) where
+    more_is : (m : Maker) → adjust 1 cs count m ≡ free_from (m.free + count) (all_next cs m)
+    more_is m = adjust_more cs count m (omega (arith, enough, as_many))
 
-    more_final : (m : Maker) → Final (length m.labels) (adjust 1 cs (length names) m) z → Final (length m.labels) (all_next cs m) z
-    more_final m final = before_free (m.free + length names) (all_next cs m) (subst (λ (n : Maker). Final (length m.labels) n z) (more_is m) final)
+    more_final : (m : Maker) → Final (length m.labels) (adjust 1 cs count m) z → Final (length m.labels) (all_next cs m) z
+    more_final m final = before_free (m.free + count) (all_next cs m) (subst (λ (n : Maker). Final (length m.labels) n z) (more_is m) final)
 
-    more_taken : (m : Maker) → IsAhead g active (names_in_all es) m → Final (length m.labels) (adjust 1 cs (length names) m) z → length (adjust 1 cs (length names) m).constants ≡ taken_behind_values from (length m.constants)
+    more_taken : (m : Maker) → IsAhead g active (names_in_all es) m → Final (length m.labels) (adjust 1 cs count m) z → length (adjust 1 cs count m).constants ≡ taken_behind_values from (length m.constants)
     more_taken m ahead final = ap (λ (n : Maker). length n.constants) (more_is m) ∙ next_all_taken f g active listed z left es from has written are m ahead (more_final m final)
 
-    more_written : IsWritten from true
+    pub more_written : IsWritten from true
     more_written = record {
       can = given.can;
       unused = given.unused;
       fine = fine;
       same = λ m ahead final.
           let ds = written_as (length m.constants) from true in
-          adjust_more ds (length names) m (omega (arith, enough, count_written (length m.constants) from true))
-          ∙ ap (free_from (m.free + length names)) (next_all f g active listed z left es from true has written are m ahead (more_final m final))
+          adjust_more ds count m (omega (arith, enough, count_written (length m.constants) from true))
+          ∙ ap (free_from (m.free + count)) (next_all f g active listed z left es from true has written are m ahead (more_final m final))
           ∙ sym (more_is m);
       taken = more_taken;
     }
 
   -- fewer, and the last one gives all that are missing
-  module _ (fewer : value_count from < length names) (open_last : ends_open es ≡ true) where
-    open_is : (m : Maker) → adjust 1 cs (length names) m ≡ all_multi Op.Call (Some (length names - length cs + 1)) cs m
-    open_is m = adjust_open cs (length names) m (omega (arith, fewer, as_many)) (opens_is es ∙ open_last)
+  module _ (fewer : value_count from < count) (open_last : ends_open es ≡ true) where
+    open_is : (m : Maker) → adjust 1 cs count m ≡ all_multi Op.Call (Some (count - length cs + 1)) cs m
+    open_is m = adjust_open cs count m (omega (arith, fewer, as_many)) (opens_is es ∙ open_last)
 
-    open_final : (m : Maker) → Final (length m.labels) (adjust 1 cs (length names) m) z → Final (length m.labels) (all_multi Op.Call (Some (length names - length cs + 1)) cs m) z
+    open_final : (m : Maker) → Final (length m.labels) (adjust 1 cs count m) z → Final (length m.labels) (all_multi Op.Call (Some (count - length cs + 1)) cs m) z
     open_final m final = subst (λ (n : Maker). Final (length m.labels) n z) (open_is m) final
 
     -- what is written is open too
@@ -212,49 +212,49 @@ module _ {f : Function} {g : Fn} {active : List Active} {listed : List ℕ} {z :
         let counts = (list_rewritten made es from true has written are (sym open_last)).counts n in
         count_opens (opens (written_as n from true)) (opens cs) (length (written_as n from true)) (length cs) counts ∙ opens_is es ∙ open_last
 
-    open_written : IsWritten from true
+    pub open_written : IsWritten from true
     open_written = record {
       can = given.can;
       unused = given.unused;
       fine = fine;
       same = λ m ahead final.
           let ds = written_as (length m.constants) from true in
-          let count = count_written (length m.constants) from true in
-          adjust_open ds (length names) m (omega (arith, fewer, count)) (written_open (length m.constants))
-          ∙ ap (λ k. all_multi Op.Call (Some (length names - k + 1)) ds m) (count ∙ sym as_many)
-          ∙ multi_all f g active listed z left Op.Call (Some (length names - length cs + 1)) es from has written are open_last m ahead (open_final m final)
+          let counted = count_written (length m.constants) from true in
+          adjust_open ds count m (omega (arith, fewer, counted)) (written_open (length m.constants))
+          ∙ ap (λ k. all_multi Op.Call (Some (count - k + 1)) ds m) (counted ∙ sym as_many)
+          ∙ multi_all f g active listed z left Op.Call (Some (count - length cs + 1)) es from has written are open_last m ahead (open_final m final)
           ∙ sym (open_is m);
-      taken = λ m ahead final. ap (λ (n : Maker). length n.constants) (open_is m) ∙ multi_all_taken f g active listed z left Op.Call (Some (length names - length cs + 1)) es from has written are open_last m ahead (open_final m final);
+      taken = λ m ahead final. ap (λ (n : Maker). length n.constants) (open_is m) ∙ multi_all_taken f g active listed z left Op.Call (Some (count - length cs + 1)) es from has written are open_last m ahead (open_final m final);
     }
 
   -- fewer, and the others are nils
-  module _ (fewer : value_count from < length names) (closed : ends_open es ≡ false) where
-    closed_is : (m : Maker) → adjust 1 cs (length names) m ≡ nils 1 (length names - length cs) (all_next cs m)
-    closed_is m = adjust_closed cs (length names) m (omega (arith, fewer, as_many)) (closed_code closed)
+  module _ (fewer : value_count from < count) (closed : ends_open es ≡ false) where
+    closed_is : (m : Maker) → adjust 1 cs count m ≡ nils 1 (count - length cs) (all_next cs m)
+    closed_is m = adjust_closed cs count m (omega (arith, fewer, as_many)) (closed_code closed)
 
-    closed_final : (m : Maker) → Final (length m.labels) (adjust 1 cs (length names) m) z → Final (length m.labels) (all_next cs m) z
-    closed_final m final = before_nils (length names - length cs) (all_next cs m) (subst (λ (n : Maker). Final (length m.labels) n z) (closed_is m) final)
+    closed_final : (m : Maker) → Final (length m.labels) (adjust 1 cs count m) z → Final (length m.labels) (all_next cs m) z
+    closed_final m final = before_nils (count - length cs) (all_next cs m) (subst (λ (n : Maker). Final (length m.labels) n z) (closed_is m) final)
 
-    closed_taken : (m : Maker) → IsAhead g active (names_in_all es) m → Final (length m.labels) (adjust 1 cs (length names) m) z → length (adjust 1 cs (length names) m).constants ≡ taken_behind_values from (length m.constants)
+    closed_taken : (m : Maker) → IsAhead g active (names_in_all es) m → Final (length m.labels) (adjust 1 cs count m) z → length (adjust 1 cs count m).constants ≡ taken_behind_values from (length m.constants)
     closed_taken m ahead final = ap (λ (n : Maker). length n.constants) (closed_is m) ∙ next_all_taken f g active listed z left es from has written are m ahead (closed_final m final)
 
-    closed_written : IsWritten from false
+    pub closed_written : IsWritten from false
     closed_written = record {
       can = given.can;
       unused = given.unused;
       fine = fine;
       same = λ m ahead final.
           let ds = written_as (length m.constants) from false in
-          let count = count_written (length m.constants) from false in
-          adjust_closed ds (length names) m (omega (arith, fewer, count)) (list_closed (place f.of listed f.short) deep (length m.constants) left from (fine (length m.constants)))
-          ∙ ap (λ k. nils 1 (length names - k) (all_next ds m)) (count ∙ sym as_many)
-          ∙ ap (nils 1 (length names - length cs)) (next_all f g active listed z left es from false has written are m ahead (closed_final m final))
+          let counted = count_written (length m.constants) from false in
+          adjust_closed ds count m (omega (arith, fewer, counted)) (list_closed (place f.of listed f.short) deep (length m.constants) left from (fine (length m.constants)))
+          ∙ ap (λ k. nils 1 (count - k) (all_next ds m)) (counted ∙ sym as_many)
+          ∙ ap (nils 1 (count - length cs)) (next_all f g active listed z left es from false has written are m ahead (closed_final m final))
           ∙ sym (closed_is m);
       taken = closed_taken;
     }
 
     -- the only one that is missing is written as a nil
-    nil_written : suc (value_count from) ≡ length names → IsWritten (and_last_value from nil_value) true
+    pub nil_written : suc (value_count from) ≡ count → IsWritten (and_last_value from nil_value) true
     nil_written exact = record {
       can = can_last (place f.of listed f.short) left from ∙ given.can;
       unused = left_last from left ∙ given.unused;
@@ -262,12 +262,12 @@ module _ {f : Function} {g : Fn} {active : List Active} {listed : List ℕ} {z :
       same = λ m ahead final.
           let ds = written_as (length m.constants) (and_last_value from nil_value) true in
           let behind = next_reg (coded (nil_literal 1)) (all_next cs m) in
-          let one : 1 ≡ length names - length cs = omega (arith, exact, as_many) in
-          adjust_more ds (length names) m (omega (arith, exact, count_written (length m.constants) (and_last_value from nil_value) true, count_last from nil_value))
-          ∙ ap (free_from (m.free + length names))
+          let one : 1 ≡ count - length cs = omega (arith, exact, as_many) in
+          adjust_more ds count m (omega (arith, exact, count_written (length m.constants) (and_last_value from nil_value) true, count_last from nil_value))
+          ∙ ap (free_from (m.free + count))
           (nil_next (place f.of listed f.short) (length m.constants) left from true m
           ∙ ap (next_reg (coded (nil_literal 1))) (next_all f g active listed z left es from true has written are m ahead (closed_final m final)))
-          ∙ free_there (m.free + length names) behind (omega (arith, all_free m, exact))
+          ∙ free_there (m.free + count) behind (omega (arith, all_free m, exact))
           ∙ sym (nils_one (all_next cs m))
           ∙ ap (λ k. nils 1 k (all_next cs m)) one
           ∙ sym (closed_is m);
@@ -275,7 +275,7 @@ module _ {f : Function} {g : Fn} {active : List Active} {listed : List ℕ} {z :
     }
 
   -- the last one is a nil, which is left out
-  module _ (exact : value_count from ≡ length names) (is : ends_with_nil from ≡ true) where
+  module _ (exact : value_count from ≡ count) (is : ends_with_nil from ≡ true) where
     abbrev front : Values
     front = before_last (split_last from)
 
@@ -285,7 +285,7 @@ module _ {f : Function} {g : Fn} {active : List Active} {listed : List ℕ} {z :
     more : value_count from ≡ suc (value_count front)
     more = ap value_count split ∙ count_last front nil_value
 
-    enough : length names ≤ value_count from
+    enough : count ≤ value_count from
     enough = omega (arith, exact)
 
     front_fine : (n : ℕ) → EachFine (place f.of listed f.short) deep n left front
@@ -301,15 +301,15 @@ module _ {f : Function} {g : Fn} {active : List Active} {listed : List ℕ} {z :
           same = λ m ahead final.
               let n = length m.constants in
               let ds = written_as n front false in
-              let count = count_written n front false in
-              let one : length names - length ds ≡ 1 = omega (arith, exact, count, more) in
-              adjust_closed ds (length names) m (omega (arith, exact, count, more)) (list_closed at deep n left front (front_fine n))
+              let counted = count_written n front false in
+              let one : count - length ds ≡ 1 = omega (arith, exact, counted, more) in
+              adjust_closed ds count m (omega (arith, exact, counted, more)) (list_closed at deep n left front (front_fine n))
               ∙ ap (λ k. nils 1 k (all_next ds m)) one
               ∙ nils_one (all_next ds m)
               ∙ sym (nil_next at n left front false m)
               ∙ ap (λ vs. all_next (written_as n vs false) m) (sym split)
               ∙ next_all f g active listed z left es from false has written are m ahead (more_final enough m final)
-              ∙ sym (free_there (m.free + length names) (all_next cs m) (omega (arith, all_free m, exact)))
+              ∙ sym (free_there (m.free + count) (all_next cs m) (omega (arith, all_free m, exact)))
               ∙ sym (more_is enough m);
           taken = λ m ahead final. more_taken enough m ahead final ∙ ap (λ vs. taken_behind_values vs (length m.constants)) split ∙ taken_end front nil_value (length m.constants);
         }
@@ -319,20 +319,20 @@ module _ {f : Function} {g : Fn} {active : List Active} {listed : List ℕ} {z :
   abbrev IsListed : Listed → Type 0
   IsListed list = IsWritten list.values list.all
 
-  open_listed : ends_open es ≡ true → (fewer : Bool) → nat_lt (value_count from) (length names) ≡ fewer → IsWritten from true
+  open_listed : ends_open es ≡ true → (fewer : Bool) → nat_lt (value_count from) count ≡ fewer → IsWritten from true
   open_listed is true fewer = open_written (ltb-true _ _ fewer) is
   open_listed is false fewer = more_written (ltb-false _ _ fewer)
 
-  last_listed : value_count from < length names → ends_open es ≡ false → suc (value_count from) ≡ length names → (left_out : Bool) → IsListed (without_nil left_out (and_last_value from nil_value))
+  last_listed : value_count from < count → ends_open es ≡ false → suc (value_count from) ≡ count → (left_out : Bool) → IsListed (without_nil left_out (and_last_value from nil_value))
   last_listed fewer is exact true = subst (λ vs. IsWritten vs false) (sym (ap before_last (last_split from nil_value))) (closed_written fewer is)
   last_listed fewer is exact false = nil_written fewer is exact
 
-  exact_listed : length names ≤ value_count from → (left_out : Bool) → ((value_count from == length names) && ends_with_nil from) ≡ left_out → IsListed (without_nil left_out from)
+  exact_listed : count ≤ value_count from → (left_out : Bool) → ((value_count from == count) && ends_with_nil from) ≡ left_out → IsListed (without_nil left_out from)
   exact_listed low true both = front_written (eqb-true _ _ (first_of_both _ _ both)) (second_of_both _ _ both)
   exact_listed low false both = more_written low
 
-  closed_listed : ends_open es ≡ false → (missing_some : Bool) → nat_lt (suc (value_count from)) (length names) ≡ missing_some → (missing_one : Bool) → (suc (value_count from) == length names) ≡ missing_one →
-      IsListed (filled_values missing_some (length names) missing_one from)
+  closed_listed : ends_open es ≡ false → (missing_some : Bool) → nat_lt (suc (value_count from)) count ≡ missing_some → (missing_one : Bool) → (suc (value_count from) == count) ≡ missing_one →
+      IsListed (filled_values missing_some count missing_one from)
   closed_listed is true some missing_one one = let fewer = ltb-true _ _ some in closed_written (omega (arith, fewer)) is
   closed_listed is false some true one =
       let exact = eqb-true _ _ one in
@@ -342,15 +342,17 @@ module _ {f : Function} {g : Fn} {active : List Active} {listed : List ℕ} {z :
       let other = eqb-false _ _ one in
       exact_listed (omega (arith, low, other)) _ refl
 
-  all_listed : (is_open : Bool) → ends_open es ≡ is_open → IsListed (declared_values (length names) is_open from)
+  all_listed : (is_open : Bool) → ends_open es ≡ is_open → IsListed (declared_values count is_open from)
   all_listed true is =
-      let no_nil = ap (λ nil. (value_count from == length names) && nil) (open_no_nil f g active listed z left es from written are is) ∙ and_not (value_count from == length names) in
+      let no_nil = ap (λ nil. (value_count from == count) && nil) (open_no_nil f g active listed z left es from written are is) ∙ and_not (value_count from == count) in
       subst (λ left_out. IsListed (without_nil left_out from)) (sym no_nil) (open_listed is _ refl)
   all_listed false is = closed_listed is _ refl _ refl
 
+module _ {f : Function} {g : Fn} {active : List Active} {listed : List ℕ} {z : Maker} (left : List (Option Inner)) (made : IsMadeBy f g active listed z) (names : List Text) (es : Expressions) (from : Values)
+    (has : AllHaveCores es) (written : AllRewritten f g active listed z left es) (are : AreCores g active es from) where
   pub local_rewritten_act : (others : List Text) (vs : Values) (all : Bool) → others ≡ names → declared_values (length names) (ends_open es) from ≡ record { values = vs; all = all } →
       RewrittenAct f g active listed z left (local_statement names es) (declared others vs all)
   local_rewritten_act others vs all same is =
-      let list : Listed = record { values = vs; all = all } in
-      let adjusts : IsListed list = subst IsListed is (all_listed (ends_open es) refl) in
+      let adjusts : Adjusts f g active listed z left (length names) es vs all =
+      subst (λ (list : Listed). Adjusts f g active listed z left (length names) es list.values list.all) is (all_listed left made (length names) es from has written are (ends_open es) refl) in
       subst (λ others. RewrittenAct f g active listed z left (local_statement names es) (declared others vs all)) (sym same) (adjusts_act f g active listed z left names es vs all adjusts)

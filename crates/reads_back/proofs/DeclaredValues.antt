@@ -1,13 +1,14 @@
--- Which values are written of those of a declaration: a nil more or less at the end.
+-- Which values are written of those of a declaration or an assignment to names: a nil more or less at the end.
 use Rattle.std.proofs.Common.{◌≡◌, ℕ, suc, Bool, true, false, Option, Some, None, refl, sym, ap, ◌∙◌, ◌&&◌}
-use Rattle.std.specs.Prelude.{option_map, is_some, not, nat_lt, ◌==◌}
-use Rattle.lua_tree.specs.Outline.{nothing}
+use Rattle.std.specs.Prelude.{option_map, is_some, not, nat_lt, ◌==◌, if◌then◌else◌}
+use Rattle.lua_tree.specs.Outline.{Part, both, nothing}
 use Rattle.core_expr.specs.Places.{Place}
-use Rattle.core_expr.specs.Values.{Value, nil_value, Values, no_values, and_value}
+use Rattle.core_expr.specs.Targets.{TargetValue, global_target, index_target, local_target, upvalue_target}
+use Rattle.core_expr.specs.Values.{Value, nil_value, Values, no_values, and_value, OperandValue}
 use Rattle.recover_expr.specs.Entries.{Listed, and_last_value}
 use Rattle.recover_expr.specs.Lists.{before_last, is_nil, split_last, value_count}
-use Rattle.reads_back.specs.Acted.{declared_values, ends_with_nil, filled, with_nil, without_nil}
-use Rattle.reads_back.proofs.Marks.{SamePart, both_same, nothing_behind, part_back, part_of, part_then, parts_of, same_part}
+use Rattle.reads_back.specs.Acted.{Assigned, declared_values, ends_with_nil, filled, some_missing, values_assigned, with_last_nil, with_nil, without_nil}
+use Rattle.reads_back.proofs.Marks.{SamePart, both_same, nothing_behind, part_back, part_of, part_of_operand, part_then, parts_of, same_part}
 use Rattle.reads_back.proofs.Tests.{first_of_both, not_so, second_of_both}
 
 nil_is : (v : Value) → is_nil v ≡ true → v ≡ nil_value
@@ -64,3 +65,28 @@ module _ (at : Place) where
   pub declared_parts : (count : ℕ) (is_open : Bool) (from vs : Values) (all : Bool) → declared_values count is_open from ≡ record { values = vs; all = all } → SamePart (parts_of at vs) (parts_of at from)
   declared_parts count is_open from vs all is =
       part_then (λ place. ap (λ (list : Listed). parts_of at list.values place) (sym is)) (filled_parts (not is_open && nat_lt (suc (value_count from)) count) count (not is_open && (suc (value_count from) == count)) from)
+
+  -- ---- of an assignment, with the operand that goes to a part of a table
+
+  abbrev pub last_part : Option OperandValue → Part
+  last_part None = nothing
+  last_part (Some o) = part_of_operand at o
+
+  abbrev pub assigned_part : Assigned → Part
+  assigned_part to = both (parts_of at to.values) (last_part to.last)
+
+  nil_parts : (t : Option TargetValue) (vs : Values) → SamePart (assigned_part (with_last_nil t vs)) (parts_of at vs)
+  nil_parts None vs = part_then (nothing_behind (parts_of at (and_last_value vs nil_value))) (nil_behind vs)
+  nil_parts (Some (local_target r)) vs = nothing_behind (parts_of at vs)
+  nil_parts (Some (upvalue_target slot)) vs = part_then (nothing_behind (parts_of at (and_last_value vs nil_value))) (nil_behind vs)
+  nil_parts (Some (global_target number)) vs = part_then (nothing_behind (parts_of at (and_last_value vs nil_value))) (nil_behind vs)
+  nil_parts (Some (index_target on key)) vs = nothing_behind (parts_of at vs)
+
+  missing_parts : (fewer one : Bool) (t : Option TargetValue) (vs : Values) → SamePart (assigned_part (if fewer then some_missing one t vs else record { values = vs; all = true; last = None })) (parts_of at vs)
+  missing_parts true true t vs = nil_parts t vs
+  missing_parts true false t vs = nothing_behind (parts_of at vs)
+  missing_parts false one t vs = nothing_behind (parts_of at vs)
+
+  pub assigned_parts : (count : ℕ) (t : Option TargetValue) (is_open : Bool) (from : Values) (to : Assigned) → values_assigned count t is_open from ≡ to → SamePart (assigned_part to) (parts_of at from)
+  assigned_parts count t is_open from to is =
+      part_then (λ place. ap (λ (to : Assigned). assigned_part to place) (sym is)) (missing_parts (not is_open && nat_lt (value_count from) count) (suc (value_count from) == count) t from)

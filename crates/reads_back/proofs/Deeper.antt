@@ -1,5 +1,7 @@
 -- What is known of values may be less: how deep they are, and what holds of them.
 use Rattle.std.proofs.Common.{ℕ, ◌≤◌, Bool, List, inl, inr, arith}
+use Rattle.lua_tree.specs.Syntax.{Expression, nil_literal}
+use Rattle.lua_tree.specs.WellFormed.{depth_of_expression}
 use Rattle.opcode.specs.declared.op.Op.{Op}
 use Rattle.core_expr.specs.Values.{Value, Values, OperandValue}
 use Rattle.recover_expr.specs.Situation.{Function, Situation}
@@ -8,6 +10,11 @@ use Rattle.scheme.specs.declared.making.Active.{Active}
 use Rattle.scheme_stands.specs.Lists.{GivenRel}
 use Rattle.scheme_stands.specs.Words.{Fn, Stretch}
 use Rattle.reads_back.proofs.Comes.{Comes, Made, Moved, Arrives, Reads, OperandComes, ReadsOperand, SpineComes, ReadsSpine, CallComes, ReadsCall, OpenComes, ReadsOpen, GivenComes, ReadsGiven}
+
+-- an expression is a level deep at least
+pub some_depth : (e : Expression) → 1 ≤ depth_of_expression e
+some_depth (nil_literal line) = omega arith
+some_depth e = omega arith
 
 -- ---- one value
 
@@ -44,7 +51,7 @@ made_so deeper less one = record {
 }
 
 moved_so : {f : Function} {Is Less : Value → Type 0} {deep more : ℕ} {s : Situation} {r first last : ℕ} → deep ≤ more → ((v : Value) → Is v → Less v) → Moved f Is deep s r first last → Moved f Less more s r first last
-moved_so deeper less moved = record { mid = moved.mid; comes = comes_so deeper less moved.comes; other = moved.other; later = moved.later; turn = moved.turn }
+moved_so deeper less moved = record { mid = moved.mid; comes = comes_so deeper less moved.comes; no_nil = moved.no_nil; other = moved.other; later = moved.later; turn = moved.turn }
 
 arrives_so : {f : Function} {Is Less : Value → Type 0} {deep more : ℕ} {s : Situation} {r first last : ℕ} → deep ≤ more → ((v : Value) → Is v → Less v) → Arrives f Is deep s r first last → Arrives f Less more s r first last
 arrives_so deeper less (inl made) = inl (made_so deeper less made)

@@ -59,8 +59,8 @@ call_is_low line on_line on es named simple formed = not_so named
 assignment_is_low : (target e : Expression) → is_bare_name target ≡ true → is_simple e ≡ true → formed_statement (assignment (syntax.expression target no_expressions) (syntax.expression e no_expressions)) ≡ true →
     IsLowAct (assignment (syntax.expression target no_expressions) (syntax.expression e no_expressions))
 assignment_is_low (name_expression line text) e named simple formed = record {
-  act = (first_of_both _ _ (first_of_both _ _ formed), simple_has_core e simple (first_of_both _ _ (second_of_both _ _ formed)));
-  begins = tt;
+  act = record { some = refl; targets = (first_of_both _ _ (first_of_both _ _ formed), tt); given = refl; values = (simple_has_core e simple (first_of_both _ _ (second_of_both _ _ formed)), tt) };
+  begins = (tt, tt);
   shallow = omega (arith, simple_depth e simple);
 }
 assignment_is_low target e named simple formed = not_so named

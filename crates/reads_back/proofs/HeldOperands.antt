@@ -71,11 +71,6 @@ pub taken_up : {free x free1 : ℕ} → IsTaken free x free1 → free ≤ free1
 taken_up (inl same) = omega (arith, same)
 taken_up (inr next) = omega (arith, next.2)
 
--- the register that is taken is no constant
-pub taken_small : {free x free1 : ℕ} → IsTaken free x free1 → free1 ≡ free + 1 → x < 256
-taken_small (inl same) more = omega (arith, same, more)
-taken_small (inr next) more = omega (arith, next.0, next.1)
-
 -- where its words stand, if there are any
 pub record ReadsHeld (f : Function) (g : Fn) (active : List Active) (listed : List ℕ) (Is : OperandValue → Type 0) (to : (free x free1 : ℕ) → Stretch) : Type 0 where
   pub forward : (free x free1 : ℕ) (p q : Spot) → to free x free1 p q → p.pc ≤ q.pc

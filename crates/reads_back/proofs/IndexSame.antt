@@ -23,9 +23,10 @@ use Rattle.scheme.specs.declared.making.Piece.{Piece}
 use Rattle.scheme_stands.proofs.Growth.{calm, Grown, Final, before, before_free, before_put, later}
 use Rattle.scheme_stands.proofs.Parts.{grows, grows_operand, grows_rk, grows_rk_text}
 use Rattle.scheme_stands.specs.Words.{Fn}
+use Rattle.reads_back.proofs.Deeper.{some_depth}
 use Rattle.reads_back.proofs.NamesAhead.{AskingPasses, IsAhead, ahead_behind, ahead_front, names_in}
 use Rattle.reads_back.proofs.Operators.{last_taken}
-use Rattle.reads_back.proofs.OperatorsSame.{few_more, some_depth}
+use Rattle.reads_back.proofs.OperatorsSame.{few_more}
 use Rattle.reads_back.proofs.PassedNames.{PassesNames, operand_passes, rk_passes, rk_text_passes}
 use Rattle.reads_back.proofs.Rewriting.{Rewritten, RewrittenOperand, code, keys_of, operand_wording, wording}
 use Rattle.reads_back.proofs.WordsSame.{levels_wrapped, no_local, operand_same, operand_taken, operand_wrapped}
@@ -141,7 +142,7 @@ bare_words true other w is = refl
 bare_words false other w is = cc
 
 -- it is that string
-named_key : (at : Place) (n : ℕ) (fs : List (Option Inner)) (key : OperandValue) (name : Text) → field_name at key ≡ Some name → (word_operand at n fs key).words ≡ text_literal 1 name
+pub named_key : (at : Place) (n : ℕ) (fs : List (Option Inner)) (key : OperandValue) (name : Text) → field_name at key ≡ Some name → (word_operand at n fs key).words ≡ text_literal 1 name
 named_key at n fs (constant_operand c) name is = name_is (constant_at at c) name is
 named_key at n fs (value_operand (constant_value c)) name is =
     let large = large_named at c (nat_le c 255) name refl is in

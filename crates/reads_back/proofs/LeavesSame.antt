@@ -5,7 +5,6 @@ use Rattle.lua_num.specs.Bytes.{Text}
 use Rattle.lua_tree.specs.Names.{is_name as is_good_name}
 use Rattle.lua_tree.specs.Scoping.{global_use}
 use Rattle.lua_tree.specs.Syntax.{Expression, nil_literal, true_literal, false_literal, vararg_expression, text_literal, name_expression, parenthesized}
-use Rattle.lua_tree.specs.WellFormed.{depth_of_expression}
 use Rattle.opcode.specs.declared.op.Op.{Op}
 use Rattle.proto.specs.declared.parts.Constant.{Constant}
 use Rattle.core_expr.specs.Counting.{left_by, taken_behind}
@@ -23,6 +22,7 @@ use Rattle.scheme_stands.proofs.Growth.{Final, before_free, before_put}
 use Rattle.scheme_stands.specs.Words.{Fn, Means}
 use Rattle.reads_back.specs.Cores.{HasNumber, IsConstant, IsNamed, IsVariable}
 use Rattle.reads_back.proofs.ConstantsSame.{before_load, constant_is, constant_taken, fold_numeral, loads, number_loads, number_no_name, number_single, numeral_few, numeral_loads, numeral_plain, numeral_single}
+use Rattle.reads_back.proofs.Deeper.{some_depth}
 use Rattle.reads_back.proofs.Rewriting.{IsMadeBy, Rewritten, code, keys_of}
 use Rattle.reads_back.proofs.WholeNumbers.{IsWhole}
 use Rattle.reads_back.proofs.WordsSame.{no_local}
@@ -30,10 +30,6 @@ use Rattle.reads_back.proofs.NameReads.{IsListed}
 use Rattle.reads_back.proofs.NamesAhead.{IsAhead}
 
 -- ---- no expression is without depth
-
-pub some_depth : (e : Expression) → 1 ≤ depth_of_expression e
-some_depth (nil_literal line) = omega arith
-some_depth e = omega arith
 
 -- what is no call and no `...` gives no several values
 never_several : {A : Type 0} (e : Expression) → is_multiple e ≡ false → is_multiple e ≡ true → A
@@ -188,11 +184,11 @@ variable_single g text (in_upvalue slot) v is = ap can_be_several is
 variable_single g text in_globals v (number, has, is) = ap can_be_several is
 
 -- a variable can be written, and it is written as its name
-record IsWritten (f : Function) (listed : List ℕ) (left : List (Option Inner)) (text : Text) (v : Value) : Type 0 where
-  can : can_write (place f.of listed f.short) left v ≡ true
-  unused : left_by v left ≡ left
-  word_is : (n : ℕ) → word (place f.of listed f.short) n left v ≡ single_word (name_expression 1 text)
-  keys : keys_of v ≡ 0
+pub record IsWritten (f : Function) (listed : List ℕ) (left : List (Option Inner)) (text : Text) (v : Value) : Type 0 where
+  pub can : can_write (place f.of listed f.short) left v ≡ true
+  pub unused : left_by v left ≡ left
+  pub word_is : (n : ℕ) → word (place f.of listed f.short) n left v ≡ single_word (name_expression 1 text)
+  pub keys : keys_of v ≡ 0
 
 module _ {f : Function} {g : Fn} {active : List Active} {listed : List ℕ} {z : Maker} (made : IsMadeBy f g active listed z) where
   -- the name that comes next means what the scope finds
@@ -216,7 +212,7 @@ module _ {f : Function} {g : Fn} {active : List Active} {listed : List ℕ} {z :
         let there : constant_name (place f.of listed f.short) number ≡ Some text = ap (λ k. as_name (as_text k)) (constant_is made (Constant.Text text) number has) ∙ ap (λ good. if good then Some text else None) good in
         record { can = ap is_some there; unused = refl; word_is = λ n. ap name_word there; keys = refl }
 
-    variable_written : (text : Text) (w : Where) (v : Value) → is_good_name text ≡ true → IsListed f (length active) listed text w → IsVariable g text w v → IsWritten f listed left text v
+    pub variable_written : (text : Text) (w : Where) (v : Value) → is_good_name text ≡ true → IsListed f (length active) listed text w → IsVariable g text w v → IsWritten f listed left text v
     variable_written text (in_register x) v good there is =
         subst (IsWritten f listed left text) (sym is) (record { can = ap is_some there.1; unused = refl; word_is = λ n. ap name_word there.1; keys = refl })
     variable_written text (in_upvalue slot) v good there is =

@@ -8,7 +8,7 @@ use Rattle.lua_tree.specs.WellFormed.{depth_of_expressions}
 use Rattle.opcode.specs.declared.op.Op.{Op}
 use Rattle.core_expr.specs.Counting.{taken_behind, taken_behind_values, left_by, left_by_values}
 use Rattle.core_expr.specs.Places.{Place, place}
-use Rattle.core_expr.specs.Values.{nil_value, Values, no_values, and_value, Inner}
+use Rattle.core_expr.specs.Values.{Value, Values, no_values, and_value, Inner, nil_value}
 use Rattle.core_expr.specs.Writing.{can_write, can_write_values, ends_values, is_multiple as can_be_several, single as single_word, unless, word, word_values}
 use Rattle.recover_expr.specs.Entries.{and_last_value}
 use Rattle.recover_expr.specs.Lists.{value_count}
@@ -100,12 +100,32 @@ cores_few f g active listed z left es vs all written are n =
     let deep = depth_of_expressions es in
     omega (arith, list_few (place f.of listed f.short) (3 * deep + 2) n left vs all (cores_fine f g active listed z left deep es vs (omega arith) written are n))
 
--- ---- a nil behind them
+-- ---- one more behind them
+
+pub and_true : (a : Bool) → (a && true) ≡ a
+and_true true = refl
+and_true false = refl
+
+both_then : (a b c : Bool) → (a && (b && c)) ≡ ((a && b) && c)
+both_then true b c = refl
+both_then false b c = refl
+
+pub left_end : (front : Values) (v : Value) (fs : List (Option Inner)) → left_by_values (and_last_value front v) fs ≡ left_by v (left_by_values front fs)
+left_end no_values v fs = refl
+left_end (and_value u rest) v fs = left_end rest v (left_by u fs)
+
+-- a nil uses no function
+pub left_last : (vs : Values) (fs : List (Option Inner)) → left_by_values (and_last_value vs nil_value) fs ≡ left_by_values vs fs
+left_last vs fs = left_end vs nil_value fs
 
 module _ (at : Place) where
+  pub can_end : (fs : List (Option Inner)) (front : Values) (v : Value) → can_write_values at fs (and_last_value front v) ≡ (can_write_values at fs front && can_write at (left_by_values front fs) v)
+  can_end fs no_values v = and_true (can_write at fs v)
+  can_end fs (and_value u rest) v = ap (λ can. can_write at fs u && can) (can_end (left_by u fs) rest v) ∙ both_then (can_write at fs u) _ _
+
+  -- a nil can be written
   pub can_last : (fs : List (Option Inner)) (vs : Values) → can_write_values at fs (and_last_value vs nil_value) ≡ can_write_values at fs vs
-  can_last fs no_values = refl
-  can_last fs (and_value v rest) = ap (λ can. can_write at fs v && can) (can_last (left_by v fs) rest)
+  can_last fs vs = can_end fs vs nil_value ∙ and_true (can_write_values at fs vs)
 
   -- each goes to the next register, in parentheses or not
   pub nil_next : (n : ℕ) (fs : List (Option Inner)) (vs : Values) (all : Bool) (m : Maker) → all_next (values_coded at n fs (and_last_value vs nil_value) all) m ≡ next_reg (coded (nil_literal 1)) (all_next (values_coded at n fs vs all) m)
@@ -117,18 +137,14 @@ module _ (at : Place) where
       nil_next (taken_behind v n) (left_by v fs) rest all _
       ∙ ap (λ m. next_reg (coded (nil_literal 1)) (all_next behind m)) (next_wrapped _ w m ∙ sym (next_wrapped bare w m))
 
-pub left_last : (vs : Values) (fs : List (Option Inner)) → left_by_values (and_last_value vs nil_value) fs ≡ left_by_values vs fs
-left_last no_values fs = refl
-left_last (and_value v rest) fs = left_last rest (left_by v fs)
-
 -- ---- the code
 
 -- what is known between the first one and the others
 module _ {g : Fn} {active : List Active} (e : Expression) (es : Expressions) (has : AllHaveCores (syntax.expression e es)) (m : Maker) (ahead : IsAhead g active (names_in e ++ names_in_all es) m) where
-  first_ahead : IsAhead g active (names_in e) m
+  pub first_ahead : IsAhead g active (names_in e) m
   first_ahead = ahead_front (names_in e) (names_in_all es) ahead
 
-  others_ahead : IsAhead g active (names_in_all es) (next_reg (code e) m)
+  pub others_ahead : IsAhead g active (names_in_all es) (next_reg (code e) m)
   others_ahead = ahead_behind (names_in e) (names_in_all es) (next_passes (names_in e) (code e) (names_passed e has.0) m) ahead
 
 module _ {z : Maker} (e : Expression) (es : Expressions) (m : Maker) where
@@ -138,7 +154,7 @@ module _ {z : Maker} (e : Expression) (es : Expressions) (m : Maker) where
   first_multi : (op : Op) (want : Want) → Final (length m.labels) (all_multi op want (codes_of es) (next_reg (code e) m)) z → Final (length m.labels) (next_reg (code e) m) z
   first_multi op want final = before (grows_multi {v = calm} op want (codes_of es) (grow_all calm (one_line_expressions es)) (next_reg (code e) m)) final
 
-  others_final : {n : Maker} → Final (length m.labels) n z → Final (length (next_reg (code e) m).labels) n z
+  pub others_final : {n : Maker} → Final (length m.labels) n z → Final (length (next_reg (code e) m).labels) n z
   others_final final = let grown = grows_next {v = calm} (code e) (grows calm (one_line_expression e)) m in later grown.more final
 
 module _ (f : Function) (g : Fn) (active : List Active) (listed : List ℕ) (z : Maker) (left : List (Option Inner)) where

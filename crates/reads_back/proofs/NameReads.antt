@@ -51,7 +51,7 @@ pub entry_named : (at : Place) (text : Text) (entry : Option ℕ) → name_of_en
 entry_named at text None is = is
 entry_named at text (Some entry) is = is
 
-local_makes : (f : Function) (pc to r : ℕ) (text : Text) (s : Situation) → r < s.base → local_name (place_in_step f s) r ≡ Some text → MakesValue f pc (Piece.Abc Op.Move to r 0) s (local_value r)
+pub local_makes : (f : Function) (pc to r : ℕ) (text : Text) (s : Situation) → r < s.base → local_name (place_in_step f s) r ≡ Some text → MakesValue f pc (Piece.Abc Op.Move to r 0) s (local_value r)
 local_makes f pc to r text s below is =
     let w = word_of pc (Piece.Abc Op.Move to r 0) in
     let does : Option ℕ → Done = λ place. if is_some place then option_map as_end (assignment_from f w s) else value_as Op.Move f w s in

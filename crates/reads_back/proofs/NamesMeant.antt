@@ -1,32 +1,26 @@
 -- Where words of an expression stand with their law, each name that it mentions means what the scope finds by it, and the names are passed one by one.
-use Rattle.std.proofs.Common.{◌≡◌, ℕ, suc, inl, inr, Bool, true, false, cond, List, [], ◌∷◌, ◌++◌, length, Option, Some, None, refl, sym, ap, ap₂, ◌∙◌, subst, drop}
-use Rattle.std.specs.Prelude.{◌==◌, ◌&&◌, ◌||◌, ◌+◌, ◌-◌, ◌/◌, nat_le, nat_lt, ℤ}
+use Rattle.std.proofs.Common.{◌≡◌, ℕ, suc, inl, inr, Bool, true, false, cond, List, [], ◌∷◌, ◌++◌, length, Option, Some, None, refl, sym, ap, ap₂, ◌∙◌, subst}
+use Rattle.std.specs.Prelude.{◌==◌, ◌&&◌, ◌+◌, ◌-◌, ◌/◌, nat_le, nat_lt, ℤ}
 use Rattle.lua_num.specs.Bytes.{Text}
 use Rattle.lua_tree.specs.Scoping.{Use}
 use Rattle.lua_tree.specs.Syntax as syntax
-use Rattle.lua_tree.specs.Syntax.{Expressions, no_expressions, Arguments, argument_list, text_argument, table_argument, Expression, nil_literal, true_literal, false_literal, vararg_expression, number_literal, text_literal, name_expression, index_expression, field_expression, call_expression, method_call, binary_expression, unary_expression, parenthesized, constructor, Fields, no_fields, positional, named, keyed, Statement, assignment, call_statement, local_statement, return_statement}
+use Rattle.lua_tree.specs.Syntax.{Expressions, no_expressions, Arguments, argument_list, text_argument, table_argument, Expression, nil_literal, true_literal, false_literal, vararg_expression, number_literal, text_literal, name_expression, index_expression, field_expression, call_expression, method_call, binary_expression, unary_expression, parenthesized, constructor, Fields, no_fields, positional, named, keyed}
 use Rattle.lua_tree.specs.declared.tree.BinaryOp.{BinaryOp}
 use Rattle.lua_tree.specs.declared.tree.UnaryOp.{UnaryOp}
 use Rattle.opcode.specs.declared.op.Op.{Op}
 use Rattle.proto.specs.declared.parts.Constant.{Constant}
-use Rattle.scheme.specs.Expressions.{Target, Want, arith_op, fold, is_comparison, is_vararg, literal, name_target, number_or, part_target, plain_literal, register_of}
+use Rattle.scheme.specs.Expressions.{Want, arith_op, fold, is_comparison, literal, number_or, plain_literal, register_of}
 use Rattle.scheme.specs.Lists.{pending_after}
 use Rattle.scheme.specs.Making.{Ahead, Where, in_globals, in_register, in_upvalue}
 use Rattle.scheme.specs.declared.making.Active.{Active}
-use Rattle.scheme.specs.declared.making.Local.{Local}
 use Rattle.scheme_stands.proofs.Forms.{form_is}
 use Rattle.scheme_stands.specs.Expressions.{ArithmeticAt, BinaryAt, BinarySpine, ConcatAt, Form, IndexAt, LoadOr, NameBy, OperandAt, OperandBy, Rel, RkAt, RkBy, RkTextAt, SpineAt, TwoAt, UnaryAt, form_of, in_next, several}
-use Rattle.scheme_stands.specs.Functions.{Declared}
 use Rattle.scheme_stands.specs.Lists.{AdjustAt, AdjustBy, AllMultiAt, AllNextAt, CallAt, FilledAt, FirstAt, GivenRel, ItemBy, KeyedAt, MethodAt, MovedFrom, OpenBy, OpenListAt, SetListAt, SetListBy, SetListIf, TableAt, is_last_item, rel_call, rels_open}
-use Rattle.scheme_stands.specs.Relation.{ItemsAt, StatementAt, all_related, given_rel, related}
-use Rattle.scheme_stands.specs.Statements.{ReturnAt, ReturnBy, SetAt, StoreAt, StoreNameAt}
+use Rattle.scheme_stands.specs.Relation.{ItemsAt, all_related, given_rel, related}
 use Rattle.scheme_stands.specs.Words.{Fn, Spot, Stretch, meaning}
-use Rattle.reads_back.specs.Acted.{IsAct, IsActTarget}
 use Rattle.reads_back.specs.Cores.{AllHaveCores, HasCore, HaveCores, HaveItems}
-use Rattle.reads_back.proofs.AssignmentsRead.{one_target}
 use Rattle.reads_back.proofs.MarksSame.{folded_both, folded_one}
 use Rattle.reads_back.proofs.NamesAhead.{AreMeant, behind_both, both_meant, names_behind, names_given, names_in, names_in_all, names_of_fields}
-use Rattle.reads_back.proofs.Rewriting.{names_of_statement}
 
 -- ---- what a stretch of words means and passes
 
@@ -39,10 +33,10 @@ abbrev pub Meant : Fn → List Active → List Text → Stretch → Type 0
 Meant g active texts part = (p q : Spot) → part p q → IsMeant g active texts p q
 
 module _ {g : Fn} {active : List Active} where
-  meant_none : {p q : Spot} → q.ahead ≡ p.ahead → IsMeant g active [] p q
+  pub meant_none : {p q : Spot} → q.ahead ≡ p.ahead → IsMeant g active [] p q
   meant_none same = record { names = tt; behind = same }
 
-  meant_then : {p m q : Spot} (texts others : List Text) → IsMeant g active texts p m → IsMeant g active others m q → IsMeant g active (texts ++ others) p q
+  pub meant_then : {p m q : Spot} (texts others : List Text) → IsMeant g active texts p m → IsMeant g active others m q → IsMeant g active (texts ++ others) p q
   meant_then {p} {m} {q} texts others first second =
       let passed : m.ahead.names ≡ names_behind texts p.ahead.names = ap (λ (ahead : Ahead). ahead.names) first.behind in
       record {
@@ -54,17 +48,17 @@ module _ {g : Fn} {active : List Active} where
       }
 
   -- words that pass no name, behind these or before them
-  meant_on : {p m q : Spot} {texts : List Text} → IsMeant g active texts p m → q.ahead ≡ m.ahead → IsMeant g active texts p q
+  pub meant_on : {p m q : Spot} {texts : List Text} → IsMeant g active texts p m → q.ahead ≡ m.ahead → IsMeant g active texts p q
   meant_on first same = record { names = first.names; behind = same ∙ first.behind }
 
-  meant_from : {p m q : Spot} {texts : List Text} → m.ahead ≡ p.ahead → IsMeant g active texts m q → IsMeant g active texts p q
+  pub meant_from : {p m q : Spot} {texts : List Text} → m.ahead ≡ p.ahead → IsMeant g active texts m q → IsMeant g active texts p q
   meant_from {p} {m} {q} {texts} same second = record {
     names = subst (λ (ahead : Ahead). AreMeant g.law active texts ahead.names) same second.names;
     behind = second.behind ∙ ap (λ (ahead : Ahead). record ahead { names = names_behind texts ahead.names }) same;
   }
 
   -- the same names
-  meant_as : {p q : Spot} {texts others : List Text} → texts ≡ others → IsMeant g active others p q → IsMeant g active texts p q
+  pub meant_as : {p q : Spot} {texts others : List Text} → texts ≡ others → IsMeant g active others p q → IsMeant g active texts p q
   meant_as {p} {q} are meant = subst (λ (texts : List Text). IsMeant g active texts p q) (sym are) meant
 
 -- ---- literals name nothing
@@ -149,7 +143,7 @@ module _ {g : Fn} {active : List Active} where
   operand_by texts c means true None is free x free1 p q at = means.to_reg free free p q at.value_at
   operand_by texts c means false local is free x free1 p q at = means.to_reg free free p q at.value_at
 
-  operand_meant : (texts : List Text) (c : Rel) → MeansNames g active texts c → (free x free1 : ℕ) → Meant g active texts (OperandAt g active c free x free1)
+  pub operand_meant : (texts : List Text) (c : Rel) → MeansNames g active texts c → (free x free1 : ℕ) → Meant g active texts (OperandAt g active c free x free1)
   operand_meant texts c means free x free1 p q at = operand_by texts c means c.form.name (register_of (meaning active p)) refl free x free1 p q at
 
   rk_by : (texts : List Text) (c : Rel) → MeansNames g active texts c → (k : Option Constant) → c.form.literal ≡ k → (free x free1 : ℕ) → Meant g active texts (RkBy k g active c free x free1)
@@ -157,11 +151,11 @@ module _ {g : Fn} {active : List Active} where
   rk_by texts c means (Some k) is free x free1 p q (inr (large, at)) = operand_meant texts c means free x free1 p q at
   rk_by texts c means None is free x free1 p q at = operand_meant texts c means free x free1 p q at
 
-  rk_meant : (texts : List Text) (c : Rel) → MeansNames g active texts c → (free x free1 : ℕ) → Meant g active texts (RkAt g active c free x free1)
+  pub rk_meant : (texts : List Text) (c : Rel) → MeansNames g active texts c → (free x free1 : ℕ) → Meant g active texts (RkAt g active c free x free1)
   rk_meant texts c means = rk_by texts c means c.form.literal refl
 
   -- the name of a field is none of these names
-  text_meant : (text : Text) (free x free1 : ℕ) → Meant g active [] (RkTextAt g text free x free1)
+  pub text_meant : (text : Text) (free x free1 : ℕ) → Meant g active [] (RkTextAt g text free x free1)
   text_meant text free x free1 p q (inl at) = meant_none at.same.ahead
   text_meant text free x free1 p q (inr (large, at)) = meant_none at.value_at.word.ahead
 
@@ -277,7 +271,7 @@ module _ {g : Fn} {active : List Active} where
 
   -- ---- lists and calls
 
-  next_meant : (texts others : List Text) (c : Rel) (free : ℕ) (rest : Stretch) → MeansNames g active texts c → Meant g active others rest → Meant g active (texts ++ others) (FirstAt g c active free rest)
+  pub next_meant : (texts others : List Text) (c : Rel) (free : ℕ) (rest : Stretch) → MeansNames g active texts c → Meant g active others rest → Meant g active (texts ++ others) (FirstAt g c active free rest)
   next_meant texts others c free rest first second p q at = meant_then texts others (first.to_reg free free p at.mid at.first) (second at.mid q at.others)
 
   next_each_meant : (es : Expressions) → EachMeant g active es → (free : ℕ) → Meant g active (names_in_all es) (AllNextAt g (all_related g es) active free)
@@ -295,7 +289,7 @@ module _ {g : Fn} {active : List Active} where
   open_by_meant true es each is = multi_each_meant Op.Call None es each is
   open_by_meant false es each is = next_each_meant es each
 
-  open_meant : (es : Expressions) → EachMeant g active es → (free : ℕ) → Meant g active (names_in_all es) (OpenListAt g (all_related g es) active free)
+  pub open_meant : (es : Expressions) → EachMeant g active es → (free : ℕ) → Meant g active (names_in_all es) (OpenListAt g (all_related g es) active free)
   open_meant es each = open_by_meant (rels_open (all_related g es)) es each refl
 
   filled_meant : (several : Bool) (es : Expressions) (missing : ℕ) → EachMeant g active es → rels_open (all_related g es) ≡ several → (free : ℕ) → Meant g active (names_in_all es) (FilledAt several g (all_related g es) missing active free)
@@ -306,7 +300,7 @@ module _ {g : Fn} {active : List Active} where
   adjust_by_meant true es n each = filled_meant (rels_open (all_related g es)) es (n - length (all_related g es)) each refl
   adjust_by_meant false es n each = next_each_meant es each
 
-  adjust_meant : (es : Expressions) (n : ℕ) → EachMeant g active es → (free : ℕ) → Meant g active (names_in_all es) (AdjustAt g (all_related g es) n active free)
+  pub adjust_meant : (es : Expressions) (n : ℕ) → EachMeant g active es → (free : ℕ) → Meant g active (names_in_all es) (AdjustAt g (all_related g es) n active free)
   adjust_meant es n = adjust_by_meant (nat_lt (length (all_related g es)) n) es n
 
   call_meant : (texts others : List Text) (on : Rel) (given : GivenRel) → MeansNames g active texts on → ((free : ℕ) → Meant g active others (given.part active free)) → (free : ℕ) (op : Op) (want : Want) →
@@ -417,69 +411,6 @@ mutual
   items_meant_all g active (named text e separator rest) have = (names_meant g active e have.0, items_meant_all g active rest have.1)
   items_meant_all g active (keyed key e separator rest) have = (names_meant g active key have.0, names_meant g active e have.1, items_meant_all g active rest have.2)
 
-  each_meant : (g : Fn) (active : List Active) (es : Expressions) → AllHaveCores es → EachMeant g active es
+  pub each_meant : (g : Fn) (active : List Active) (es : Expressions) → AllHaveCores es → EachMeant g active es
   each_meant g active no_expressions have = tt
   each_meant g active (syntax.expression e es) have = (names_meant g active e have.0, each_meant g active es have.1)
-
--- ---- statements
-
--- the value goes to what a name means
-set_by : (g : Fn) (text : Text) (w : Where) (r : ℕ) (p q : Spot) → SetAt g text w r p q → q.ahead ≡ p.ahead
-set_by g text (in_register x) r p q at = at.ahead
-set_by g text (in_upvalue slot) r p q at = at.ahead
-set_by g text in_globals r p q at = at.word.ahead
-
--- declared locals change no name that comes next
-declared_keeps : (texts : List Text) (before behind : Ahead) (locals : List Local) → Declared texts before locals behind → behind.names ≡ before.names
-declared_keeps [] before behind locals declared = ap (λ (ahead : Ahead). ahead.names) declared.1
-declared_keeps (text ∷ texts) before behind locals declared = declared_keeps texts (record before { captures = drop 1 before.captures; declarations = suc before.declarations }) behind declared.0 declared.2
-
-module _ (g : Fn) (active : List Active) where
-  target_meant : (target : Expression) → IsActTarget target → (free : ℕ) (to : Target) (free1 : ℕ) → Meant g active (names_in target) ((related g target).target active free to free1)
-  target_meant (name_expression line text) is free to free1 p q at = record { names = (at.means, tt); behind = at.passed.ahead }
-  target_meant (index_expression line on key) is free to free1 p q at =
-      let first = operand_meant (names_in on) (related g on) (names_meant g active on is.0) free at.t at.free1 p at.mid at.on_at in
-      meant_then (names_in on) (names_in key) first (rk_meant (names_in key) (related g key) (names_meant g active key is.1) at.free1 at.k free1 at.mid q at.key_at)
-  target_meant (field_expression line on text) is free to free1 p q at =
-      let key = text_meant {active = active} text at.free1 at.k free1 at.mid q at.key_at in
-      meant_on (operand_meant (names_in on) (related g on) (names_meant g active on is) free at.t at.free1 p at.mid at.on_at) key.behind
-  target_meant target is free to free1 p q at = absurd is
-
-  module _ (e : Expression) (has : HasCore e) (free : ℕ) where
-    store_name_meant : (text : Text) (w : Where) → Meant g active (names_in e) (StoreNameAt g text w (related g e) active free)
-    store_name_meant text (in_register x) p q at = (names_meant g active e has).to_reg free x p q at
-    store_name_meant text (in_upvalue slot) p q at = meant_on (operand_meant (names_in e) (related g e) (names_meant g active e has) free at.x at.free1 p at.mid at.operand_at) (set_by g text (in_upvalue slot) at.x at.mid q at.words_at)
-    store_name_meant text in_globals p q at = meant_on (operand_meant (names_in e) (related g e) (names_meant g active e has) free at.x at.free1 p at.mid at.operand_at) (set_by g text in_globals at.x at.mid q at.words_at)
-
-    store_meant : (to : Target) → Meant g active (names_in e) (StoreAt g to (related g e) active free)
-    store_meant (name_target text w) p q at = store_name_meant text w p q at
-    store_meant (part_target on key on_local key_local) p q at = meant_on (rk_meant (names_in e) (related g e) (names_meant g active e has) free at.x at.free1 p at.mid at.operand_at) at.words_at.ahead
-
-  return_by_meant : (call dots : Bool) (e : Expression) → HasCore e → (related g e).form.call ≡ call → Meant g active (names_in_all (syntax.expression e no_expressions)) (ReturnBy call dots g (related g e) active)
-  return_by_meant true dots e has is p q at =
-      let values = (names_meant g active e has).multi (ap (λ call. call || (related g e).form.dots) is) (length active) Op.TailCall None p at.mid at.first_at in
-      meant_then (names_in e) [] values (meant_none at.second_at.ahead)
-  return_by_meant false true e has is p q at = meant_on (open_meant (syntax.expression e no_expressions) (names_meant g active e has, tt) (length active) p at.mid at.first_at) at.second_at.ahead
-  return_by_meant false false e has is p q at =
-      let value = operand_meant (names_in e) (related g e) (names_meant g active e has) (length active) at.x at.free1 p at.mid at.operand_at in
-      meant_then (names_in e) [] value (meant_none at.words_at.ahead)
-
-  return_meant : (es : Expressions) → AllHaveCores es → Meant g active (names_in_all es) (ReturnAt g (all_related g es) active)
-  return_meant no_expressions have p q at = meant_none at.ahead
-  return_meant (syntax.expression e no_expressions) have p q at = return_by_meant (related g e).form.call (related g e).form.dots e have.0 refl p q at
-  return_meant (syntax.expression e (syntax.expression d es)) have p q at =
-      meant_on (open_meant (syntax.expression e (syntax.expression d es)) (each_meant g active (syntax.expression e (syntax.expression d es)) have) (length active) p at.mid at.first_at) at.second_at.ahead
-
--- where the words of a statement stand, the names that it mentions mean what the scope finds by them
-pub statement_meant : (g : Fn) (s : Statement) → IsAct s → (active after : List Active) (p q : Spot) → StatementAt g None s active after p q → AreMeant g.law active (names_of_statement s) p.ahead.names
-statement_meant g (call_statement e) is active after p q at = ((names_meant g active e is.1).multi (ap several (form_is g e) ∙ ap (λ call. call || is_vararg e) is.0) (length active) Op.Call (Some 0) p q at.part_at).names
-statement_meant g (assignment (syntax.expression target no_expressions) (syntax.expression e no_expressions)) is active after p q at =
-    let one = one_target g (related g target) (related g e) active p q at.part_at in
-    let to = target_meant g active target is.0 (length active) one.to one.free p one.mid one.target_at in
-    let value = store_meant g active e is.1 one.free one.to one.begun q one.store_at in
-    (meant_then (names_in target) (names_in e) to (meant_from one.same.ahead value)).names
-statement_meant g (local_statement names es) is active after p q at =
-    let values = adjust_meant es (length names) (each_meant g active es is.1) (length active) at.mid q at.values_at in
-    subst (AreMeant g.law active (names_in_all es)) (declared_keeps names p.ahead at.mid.ahead at.locals at.declared) values.names
-statement_meant g (return_statement es) is active after p q at = (return_meant g active es is p q at.part_at).names
-statement_meant g s is active after p q at = absurd is

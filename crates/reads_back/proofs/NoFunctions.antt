@@ -13,7 +13,6 @@ use Rattle.scheme.specs.Making.{Where, in_register, in_upvalue, in_globals}
 use Rattle.scheme.specs.declared.making.Active.{Active}
 use Rattle.scheme_stands.specs.Words.{Fn}
 use Rattle.reads_back.specs.Cores.{IsConstant, IsCore, IsFoldedOr, IsIndexed, IsOperand, IsOperandBy, IsOperator, IsVariable}
-use Rattle.reads_back.proofs.Comes.{IsValueOperand}
 
 -- a value that is no function
 abbrev pub IsNoFunction : Value → Type 0
@@ -81,9 +80,6 @@ IsNoFunctionOperand (value_operand v) = IsNoFunction v
 module _ (g : Fn) (active : List Active) (e : Expression) where
   value_none : (o : OperandValue) (v : Value) → IsCore g active e v → o ≡ value_operand v → IsNoFunctionOperand o
   value_none o v is same = subst IsNoFunctionOperand (sym same) (no_function g active e v is)
-
-  pub value_operand_none : (o : OperandValue) → IsValueOperand (IsCore g active e) o → IsNoFunctionOperand o
-  value_operand_none o is = value_none o is.0 is.1 is.2
 
   operand_by_none : (k : Option Constant) (o : OperandValue) → IsOperandBy k g (IsCore g active e) o → IsNoFunctionOperand o
   operand_by_none (Some k) o (inl small) = subst IsNoFunctionOperand (sym small.3) tt

@@ -3,8 +3,8 @@ use Rattle.std.proofs.Common.{◌≡◌, true, refl, ap}
 use Rattle.lua_tree.specs.OneLine.{one_line_arguments, one_line_expression, one_line_expressions, one_line_fields, one_line_statement}
 use Rattle.lua_tree.specs.Syntax as syntax
 use Rattle.lua_tree.specs.Syntax.{Arguments, Expression, Expressions, Statement, argument_list, assignment, binary_expression, call_expression, call_statement, constructor, Fields, no_fields, positional, named, keyed, table_argument, false_literal, field_expression, index_expression, local_statement, method_call, name_expression, nil_literal, no_expressions, number_literal, parenthesized, return_statement, text_argument, text_literal, true_literal, unary_expression, vararg_expression}
-use Rattle.lua_tree.specs.WellFormed.{depth_of_arguments, depth_of_expression, depth_of_expressions, depth_of_fields, depth_of_statement, is_call}
-use Rattle.reads_back.specs.Acted.{IsAct, IsActTarget}
+use Rattle.lua_tree.specs.WellFormed.{depth_of_arguments, depth_of_expression, depth_of_expressions, depth_of_fields, depth_of_statement, has_expressions, is_call}
+use Rattle.reads_back.specs.Acted.{AreActTargets, IsAct, IsActTarget}
 use Rattle.reads_back.specs.Cores.{AllHaveCores, HasCore, HaveCores, HaveItems}
 
 -- ---- it is an act
@@ -54,19 +54,32 @@ target_on_line (index_expression line on key) is = (core_on_line on is.0, core_o
 target_on_line (field_expression line on text) is = core_on_line on is
 target_on_line e is = absurd is
 
+targets_on_line : (targets : Expressions) → AreActTargets targets → AreActTargets (one_line_expressions targets)
+targets_on_line no_expressions are = are
+targets_on_line (syntax.expression e targets) are = (target_on_line e are.0, targets_on_line targets are.1)
+
+some_on_line : (es : Expressions) → has_expressions es ≡ true → has_expressions (one_line_expressions es) ≡ true
+some_on_line no_expressions some = some
+some_on_line (syntax.expression e es) some = refl
+
 pub act_on_line : (s : Statement) → IsAct s → IsAct (one_line_statement s)
 act_on_line (call_statement e) is = (call_on_line e is.0, core_on_line e is.1)
-act_on_line (assignment (syntax.expression target no_expressions) (syntax.expression e no_expressions)) is = (target_on_line target is.0, core_on_line e is.1)
+act_on_line (assignment targets es) is =
+    record { some = some_on_line targets is.some; targets = targets_on_line targets is.targets; given = some_on_line es is.given; values = cores_on_line es is.values }
 act_on_line (local_statement names es) is = (is.0, cores_on_line es is.1)
 act_on_line (return_statement es) is = cores_on_line es is
 act_on_line s is = absurd is
 
--- a target can be read as well
-pub target_has_core : (e : Expression) → IsActTarget e → HasCore e
+-- targets can be read as well
+target_has_core : (e : Expression) → IsActTarget e → HasCore e
 target_has_core (name_expression line text) is = is
 target_has_core (index_expression line on key) is = is
 target_has_core (field_expression line on text) is = is
 target_has_core e is = absurd is
+
+pub targets_have_cores : (targets : Expressions) → AreActTargets targets → AllHaveCores targets
+targets_have_cores no_expressions are = tt
+targets_have_cores (syntax.expression e targets) are = (target_has_core e are.0, targets_have_cores targets are.1)
 
 -- ---- it stays as it is
 
@@ -106,7 +119,7 @@ mutual
 
 pub again_on_line : (s : Statement) → IsAct s → one_line_statement (one_line_statement s) ≡ one_line_statement s
 again_on_line (call_statement e) is = ap call_statement (again e is.1)
-again_on_line (assignment (syntax.expression target no_expressions) (syntax.expression e no_expressions)) is = cc (again target (target_has_core target is.0), again e is.1)
+again_on_line (assignment targets es) is = cc (all_again targets (targets_have_cores targets is.targets), all_again es is.values)
 again_on_line (local_statement names es) is = ap (local_statement names) (all_again es is.1)
 again_on_line (return_statement es) is = ap return_statement (all_again es is)
 again_on_line s is = absurd is
@@ -149,7 +162,7 @@ mutual
 
 pub act_as_deep : (s : Statement) → IsAct s → depth_of_statement (one_line_statement s) ≡ depth_of_statement s
 act_as_deep (call_statement e) is = as_deep e is.1
-act_as_deep (assignment (syntax.expression target no_expressions) (syntax.expression e no_expressions)) is = cc (as_deep target (target_has_core target is.0), as_deep e is.1)
+act_as_deep (assignment targets es) is = cc (all_as_deep targets (targets_have_cores targets is.targets), all_as_deep es is.values)
 act_as_deep (local_statement names es) is = all_as_deep es is.1
 act_as_deep (return_statement es) is = all_as_deep es is
 act_as_deep s is = absurd is

@@ -4,7 +4,7 @@ use Rattle.std.specs.Prelude.{option_and_then, option_map, slice_get}
 use Rattle.std.proofs.lemmas.Bool.Decides.{nat_tests}
 use Rattle.std.proofs.lemmas.Option.{slice_get_within}
 use Rattle.lua_num.specs.Bytes.{Text}
-use Rattle.lua_tree.specs.Syntax.{Expression, nil_literal}
+use Rattle.lua_tree.specs.Syntax.{Expression}
 use Rattle.lua_tree.specs.WellFormed.{depth_of_expression}
 use Rattle.proto.specs.declared.parts.Constant.{Constant}
 use Rattle.core_expr.specs.Counting.{taken_behind_operand, with_constant}
@@ -21,6 +21,7 @@ use Rattle.scheme_stands.specs.Words.{Fn, Spot}
 use Rattle.reads_back.specs.Cores.{IsCore, IsKey, IsOperand, IsOperandBy, IsSmall}
 use Rattle.reads_back.proofs.Comes.{Begins, Comes, IsOperandWanted, IsValueOperand, OperandComes, ReadsCore, ReadsOperand, comes_next}
 use Rattle.reads_back.proofs.BehindWords.{HasLocals, behind_words, same_locals}
+use Rattle.reads_back.proofs.Deeper.{some_depth}
 use Rattle.reads_back.proofs.LiteralReads.{constant_reads, constant_there}
 use Rattle.reads_back.proofs.NameReads.{AreListed, IsLocal, entry_named, local_operand}
 use Rattle.reads_back.proofs.Reaches.{Reaches, here}
@@ -31,10 +32,6 @@ use Rattle.reads_back.proofs.WordsBegin.{word_begins}
 use Rattle.reads_back.proofs.WordsRead.{IsFunction, IsQuiet, abx_is_read}
 
 -- ---- no expression is without depth
-
-pub some_depth : (e : Expression) → 1 ≤ depth_of_expression e
-some_depth (nil_literal line) = omega arith
-some_depth e = omega arith
 
 -- what is known of an operand may be less
 comes_less : {f : Function} {Is Less : OperandValue → Type 0} {deep more free x free1 first last : ℕ} {s : Situation} → ((o : OperandValue) → Is o → Less o) → deep ≤ more → OperandComes f Is deep s free x free1 first last → OperandComes f Less more s free x free1 first last

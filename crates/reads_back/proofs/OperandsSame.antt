@@ -22,7 +22,8 @@ use Rattle.scheme_stands.specs.Expressions.{IsLarge}
 use Rattle.scheme_stands.specs.Words.{Fn}
 use Rattle.reads_back.specs.Cores.{HasCore, HasNumber, IsConstant, IsCore, IsKey, IsOperand, IsOperandBy}
 use Rattle.reads_back.proofs.ConstantsSame.{before_load, constant_is, constant_taken, fold_numeral, large_there, loads, number_is, number_stands, numeral_few, numeral_folds, passes_among, small_there}
-use Rattle.reads_back.proofs.LeavesSame.{some_depth, text_rewritten}
+use Rattle.reads_back.proofs.Deeper.{some_depth}
+use Rattle.reads_back.proofs.LeavesSame.{text_rewritten}
 use Rattle.reads_back.proofs.PlainWords.{IsLoadable, IsShown, is_constant, is_nil, is_no_literal, is_truth, shown}
 use Rattle.reads_back.proofs.NamesAhead.{IsAhead, names_in}
 use Rattle.reads_back.proofs.Rewriting.{IsMadeBy, Rewritten, RewrittenOperand, code, operand_wording, wording}

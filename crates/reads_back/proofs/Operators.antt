@@ -141,7 +141,7 @@ record ReadsBoth (code : Op) : Type 0 where
   first : (pc r x y base : ℕ) → base ≤ x → x < 256 → reads_from (instr_by pc (Piece.Abc code r x y)) base ≡ true
   second : (pc r x y base : ℕ) → base ≤ y → y < 256 → reads_from (instr_by pc (Piece.Abc code r x y)) base ≡ true
 
-begins_lower : {f : Function} {from lower pc first : ℕ} → lower ≤ from → first ≡ pc → Begins f from pc → Begins f lower first
+pub begins_lower : {f : Function} {from lower pc first : ℕ} → lower ≤ from → first ≡ pc → Begins f from pc → Begins f lower first
 begins_lower {f} low same begins = record { instr = begins.instr; there = ap (instr_at f) same ∙ begins.there; makes = begins.makes; above = omega (arith, begins.above, low) }
 
 module _ {f : Function} {g : Fn} {active : List Active} {listed : List ℕ} {Left Right : OperandValue → Type 0} {deep : ℕ} {left_at right_at : (free x free1 : ℕ) → Stretch} (is_function : IsFunction f g)

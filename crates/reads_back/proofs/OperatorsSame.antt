@@ -7,7 +7,7 @@ use Rattle.lua_tree.specs.declared.tree.BinaryOp.{BinaryOp}
 use Rattle.lua_tree.specs.declared.tree.UnaryOp.{UnaryOp}
 use Rattle.lua_tree.specs.OneLine.{one_line_expression}
 use Rattle.lua_tree.specs.Precedence.{is_right_associative, left_binds, level_of_op, right_binds}
-use Rattle.lua_tree.specs.Syntax.{Expression, nil_literal, binary_expression, unary_expression}
+use Rattle.lua_tree.specs.Syntax.{Expression, binary_expression, unary_expression}
 use Rattle.lua_tree.specs.WellFormed.{depth_of_expression}
 use Rattle.opcode.specs.declared.op.Op.{Op}
 use Rattle.proto.specs.declared.parts.Constant.{Constant}
@@ -26,6 +26,7 @@ use Rattle.scheme.specs.declared.making.Piece.{Piece}
 use Rattle.scheme_stands.proofs.Growth.{calm, Final, before, before_free, before_put, later}
 use Rattle.scheme_stands.proofs.Parts.{grows, grows_rk}
 use Rattle.scheme_stands.specs.Words.{Fn}
+use Rattle.reads_back.proofs.Deeper.{some_depth}
 use Rattle.reads_back.proofs.NamesAhead.{IsAhead, ahead_behind, ahead_front, names_in}
 use Rattle.reads_back.proofs.PassedNames.{PassesNames, rk_passes}
 use Rattle.reads_back.proofs.Tests.{given_is}
@@ -38,10 +39,6 @@ pub few_more : (n : ℕ) → one_more n ≤ suc n
 few_more n = omega arith
 
 -- ---- an operand needs no more levels than a value: what stands in parentheses as an operand has few of its own
-
-pub some_depth : (e : Expression) → 1 ≤ depth_of_expression e
-some_depth (nil_literal line) = omega arith
-some_depth e = omega arith
 
 numeral_few : (n : ℤ) → (numeral n).levels ≤ 3
 numeral_few (pos n) = omega arith

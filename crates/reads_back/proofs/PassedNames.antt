@@ -34,7 +34,7 @@ pub record PassesNames (texts : List Text) (c : Coded) : Type 0 where
 -- ---- what a part passes
 
 -- a part that changes no name, behind these
-passed_on : {texts : List Text} {m n o : Maker} → Passed texts m n → Passed [] n o → Passed texts m o
+pub passed_on : {texts : List Text} {m n o : Maker} → Passed texts m n → Passed [] n o → Passed texts m o
 passed_on first second = record { around = second.around ∙ first.around; names = second.names ∙ first.names }
 
 -- the same names

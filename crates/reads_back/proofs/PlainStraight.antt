@@ -1,17 +1,17 @@
 -- The plain form of a straight source is straight and well formed, and each of its statements is on one line.
-use Rattle.std.proofs.Common.{◌≡◌, ℕ, ◌≤◌, Bool, true, false, refl, sym, ap, ◌∙◌, subst}
+use Rattle.std.proofs.Common.{◌≡◌, ℕ, ◌≤◌, Bool, true, false, refl, sym, ap₂, ◌∙◌, subst}
 use Rattle.std.specs.Prelude.{◌&&◌, not}
 use Rattle.lua_tree.specs.Names.{is_name}
 use Rattle.lua_tree.specs.OneLine.{on_one_line, one_line_statements, one_line_arguments, one_line_expression, one_line_expressions, one_line_fields, one_line_statement}
 use Rattle.lua_tree.specs.Precedence.{binds, is_right_associative, is_unary, left_binds, level_of, level_of_op, right_binds}
 use Rattle.lua_tree.specs.Syntax as syntax
 use Rattle.lua_tree.specs.Syntax.{Arguments, Expression, Expressions, Source, Statement, Statements, and_expression, argument_list, assignment, binary_expression, call_expression, call_statement, constructor, Fields, no_fields, positional, named, keyed, table_argument, false_literal, field_expression, index_expression, local_statement, method_call, name_expression, nil_literal, no_expressions, no_statements, number_literal, or_expression, parenthesized, repeat_loop, return_statement, text_argument, text_literal, true_literal, unary_expression, vararg_expression}
-use Rattle.lua_tree.specs.WellFormed.{WellFormed, begins_with_paren, depth_of_statements, ends_block, ends_item, formed_arguments, formed_expression, formed_expressions, formed_fields, formed_statement, formed_statements, is_call, is_prefix, is_target, last_takes_arguments, may_follow, on_its_line, statement_begins_with_paren, statement_takes_arguments, takes_arguments}
+use Rattle.lua_tree.specs.WellFormed.{WellFormed, are_targets, begins_with_paren, depth_of_statements, ends_block, ends_item, formed_arguments, formed_expression, formed_expressions, formed_fields, formed_statement, formed_statements, has_expressions, is_call, is_prefix, is_target, last_takes_arguments, may_follow, on_its_line, statement_begins_with_paren, statement_takes_arguments, takes_arguments}
 use Rattle.lua_tree.specs.declared.tree.Separator.{Separator}
 use Rattle.reads_back.specs.Acted.{IsAct}
 use Rattle.reads_back.specs.Cores.{AllHaveCores, HasCore, HaveCores, HaveItems}
-use Rattle.reads_back.specs.Straight.{AreStraight, BeginsWithName, StatementBeginsWithName, Straight}
-use Rattle.reads_back.proofs.OneLineActs.{act_as_deep, act_on_line, again_on_line, target_has_core}
+use Rattle.reads_back.specs.Straight.{AllBeginWithName, AreStraight, BeginsWithName, StatementBeginsWithName, Straight}
+use Rattle.reads_back.proofs.OneLineActs.{act_as_deep, act_on_line, again_on_line, targets_have_cores}
 use Rattle.reads_back.proofs.Tests.{both_hold, first_of_both, second_of_both}
 
 -- ---- it is straight
@@ -25,9 +25,13 @@ name_begins (method_call line on name args on_line) begins = name_begins on begi
 name_begins (parenthesized line e) begins = name_begins e begins
 name_begins e begins = absurd begins
 
+all_begin : (targets : Expressions) → AllBeginWithName targets → AllBeginWithName (one_line_expressions targets)
+all_begin no_expressions begins = begins
+all_begin (syntax.expression e targets) begins = (name_begins e begins.0, all_begin targets begins.1)
+
 statement_begins : (s : Statement) → StatementBeginsWithName s → StatementBeginsWithName (one_line_statement s)
 statement_begins (call_statement e) begins = name_begins e begins
-statement_begins (assignment (syntax.expression target es) values) begins = name_begins target begins
+statement_begins (assignment targets values) begins = all_begin targets begins
 statement_begins (local_statement names es) begins = begins
 statement_begins (return_statement es) begins = begins
 statement_begins s begins = absurd begins
@@ -208,14 +212,24 @@ mutual
   all_formed (syntax.expression e es) have formed =
       both_hold _ _ (formed_on_line e have.0 (first_of_both _ _ formed)) (all_formed es have.1 (second_of_both (formed_expression e) _ formed))
 
+same_some : (es : Expressions) → has_expressions (one_line_expressions es) ≡ has_expressions es
+same_some no_expressions = refl
+same_some (syntax.expression e es) = refl
+
+same_targets : (es : Expressions) → are_targets (one_line_expressions es) ≡ are_targets es
+same_targets no_expressions = refl
+same_targets (syntax.expression e es) = ap₂ (λ (first rest : Bool). first && rest) (same_target e) (same_targets es)
+
 act_formed : (s : Statement) → IsAct s → formed_statement s ≡ true → formed_statement (one_line_statement s) ≡ true
 act_formed (call_statement e) is formed = both_hold _ _ (act_on_line (call_statement e) is).0 (formed_on_line e is.1 (second_of_both (is_call e) _ formed))
-act_formed (assignment (syntax.expression target no_expressions) (syntax.expression e no_expressions)) is formed =
-    let targets = is_target target && true in
-    let behind = second_of_both targets _ formed in
-    both_hold _ _ (ap (λ (is : Bool). is && true) (same_target target) ∙ first_of_both targets _ formed)
-    (both_hold _ _ (all_formed (syntax.expression target no_expressions) (target_has_core target is.0, tt) (first_of_both _ _ behind))
-    (all_formed (syntax.expression e no_expressions) (is.1, tt) (second_of_both (formed_expressions (syntax.expression target no_expressions)) _ behind)))
+act_formed (assignment targets es) is formed =
+    let targets_on = second_of_both (has_expressions targets) _ formed in
+    let formed_on = second_of_both (are_targets targets) _ targets_on in
+    let values_on = second_of_both (formed_expressions targets) _ formed_on in
+    both_hold _ _ (same_some targets ∙ first_of_both _ _ formed)
+    (both_hold _ _ (same_targets targets ∙ first_of_both _ _ targets_on)
+    (both_hold _ _ (all_formed targets (targets_have_cores targets is.targets) (first_of_both _ _ formed_on))
+    (both_hold _ _ (same_some es ∙ first_of_both _ _ values_on) (all_formed es is.values (second_of_both (has_expressions es) _ values_on)))))
 act_formed (local_statement names es) is formed = both_hold _ _ is.0 (all_formed es is.1 (second_of_both _ _ formed))
 act_formed (return_statement es) is formed = all_formed es is formed
 act_formed s is formed = absurd is

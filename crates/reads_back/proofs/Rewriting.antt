@@ -2,8 +2,7 @@
 use Rattle.std.proofs.Common.{◌≡◌, ℕ, ◌*◌, ◌+◌, ◌≤◌, Bool, true, List, [], ◌++◌, length, None, Some, Option}
 use Rattle.lua_num.specs.Bytes.{Text}
 use Rattle.lua_tree.specs.OneLine.{one_line_expression, one_line_arguments, one_line_statement}
-use Rattle.lua_tree.specs.Syntax as syntax
-use Rattle.lua_tree.specs.Syntax.{Arguments, Expression, Statement, no_expressions, assignment, call_statement, local_statement, return_statement}
+use Rattle.lua_tree.specs.Syntax.{Arguments, Expression, Statement, assignment, call_statement, local_statement, return_statement}
 use Rattle.lua_tree.specs.WellFormed.{depth_of_expression, depth_of_statement}
 use Rattle.opcode.specs.declared.op.Op.{Op}
 use Rattle.core_expr.specs.Counting.{taken_behind, taken_behind_operand, taken_behind_values, left_by, left_by_operand, left_by_values}
@@ -38,7 +37,7 @@ code e = coded (one_line_expression e)
 -- the names that a statement mentions
 abbrev pub names_of_statement : Statement → List Text
 names_of_statement (call_statement e) = names_in e
-names_of_statement (assignment (syntax.expression target no_expressions) (syntax.expression e no_expressions)) = names_in target ++ names_in e
+names_of_statement (assignment targets es) = names_in_all targets ++ names_in_all es
 names_of_statement (local_statement names es) = names_in_all es
 names_of_statement (return_statement es) = names_in_all es
 names_of_statement s = []

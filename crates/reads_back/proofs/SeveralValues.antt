@@ -1,5 +1,5 @@
 -- A call or `...` at the end of a list gives so many values more to the next registers, and the values before it stand below them.
-use Rattle.std.proofs.Common.{◌≡◌, ℕ, suc, ◌+◌, ◌-◌, ◌<◌, ◌≤◌, max, nat_lt, Bool, true, false, List, [], ◌∷◌, ◌++◌, append_assoc, length, length-append, Option, Some, None, refl, sym, ap, ◌∙◌, subst, arith, inl}
+use Rattle.std.proofs.Common.{◌≡◌, ℕ, suc, ◌+◌, ◌-◌, ◌<◌, ◌≤◌, ◌⊎◌, max, nat_lt, Bool, true, false, List, [], ◌∷◌, ◌++◌, append_assoc, length, length-append, Option, Some, None, refl, sym, ap, ◌∙◌, subst, arith, inl, inr}
 use Rattle.std.proofs.lemmas.Bool.{ne_eqb}
 use Rattle.std.proofs.lemmas.Option.{same_Some}
 use Rattle.std.specs.Prelude.{◌==◌, option_and_then, option_map, if◌then◌else◌}
@@ -28,9 +28,10 @@ use Rattle.scheme_stands.specs.Words.{Fn, Spot, WordAt}
 use Rattle.reads_back.specs.Cores.{AllHaveCores, AreCores, HasCore, IsCore, ends_open}
 use Rattle.reads_back.proofs.AdjustedEntries.{count_last, entries_end, several_last, taken_end}
 use Rattle.reads_back.proofs.BehindWords.{HasLocals, SameLocals, behind_words, quiet_same, same_locals, same_then}
-use Rattle.reads_back.proofs.Comes.{AreEntries, Begins, CallComes}
-use Rattle.reads_back.proofs.GivenLists.{AllCome, AllRead, all_come, all_forward, none_come}
+use Rattle.reads_back.proofs.Comes.{AreEntries, Begins, CallComes, IsWanted}
+use Rattle.reads_back.proofs.GivenLists.{AllCome, AllRead, all_begin, all_come, all_forward, none_come}
 use Rattle.reads_back.proofs.NameReads.{AreListed}
+use Rattle.reads_back.proofs.Operators.{begins_lower}
 use Rattle.reads_back.proofs.Reaches.{Reaches, here, reaches_then, word}
 use Rattle.reads_back.proofs.TakenEntries.{count_of_entries}
 use Rattle.reads_back.proofs.Tests.{not_so}
@@ -223,14 +224,19 @@ last_one g active op want (syntax.expression e (syntax.expression d es)) has end
       several = rest.several;
     }
 
--- ---- single values, above which a word begins a value
+-- ---- single values
 
 module _ (f : Function) (g : Fn) (active : List Active) (listed : List ℕ) (deep : ℕ) where
+  -- if there are any they are wanted behind them
+  pub wanted_come : (es : Expressions) → AllRead f g active listed deep es → (free : ℕ) (p q : Spot) (s : Situation) → HasLocals active listed s → free ≡ next_free s → IsQuiet f s.scope p.pc q.pc →
+      (0 < length (all_related g es) → IsWanted f s q.pc) → AllNextAt g (all_related g es) active free p q → AllCome f (AreCores g active es) deep s (length (all_related g es)) p.pc q.pc
+  wanted_come no_expressions reads free p q s locals is quiet wanted at = none_come f g active deep s p q at.pc
+  wanted_come (syntax.expression e es) reads free p q s locals is quiet wanted at = all_come f g active listed deep (syntax.expression e es) reads free p q s locals is quiet (wanted (omega arith)) at
+
+  -- above them a word begins a value
   pub singles_come : (es : Expressions) → AllRead f g active listed deep es → (free : ℕ) (p q : Spot) (s : Situation) → HasLocals active listed s → free ≡ next_free s → IsQuiet f s.scope p.pc q.pc →
       Begins f (free + length (all_related g es)) q.pc → AllNextAt g (all_related g es) active free p q → AllCome f (AreCores g active es) deep s (length (all_related g es)) p.pc q.pc
-  singles_come no_expressions reads free p q s locals is quiet begins at = none_come f g active deep s p q at.pc
-  singles_come (syntax.expression e es) reads free p q s locals is quiet begins at =
-      all_come f g active listed deep (syntax.expression e es) reads free p q s locals is quiet (begins_wants s begins (omega (arith, is))) at
+  singles_come es reads free p q s locals is quiet begins at = wanted_come es reads free p q s locals is quiet (λ some. begins_wants s begins (omega (arith, is, some))) at
 
 -- ---- single values, and further ones of the last
 
@@ -300,6 +306,16 @@ module _ {f : Function} {g : Fn} {active : List Active} {listed : List ℕ} (is_
 
     pub several_later : p.pc < q.pc
     several_later = omega (arith, to_front, multi_later is_function all cut.last cut.has_last (omega (arith, few, cut.shallow_last)) cut.several above Op.Call (Some (n + 1)) cut.mid q cut.last_at)
+
+    -- the first word begins a value for a free register
+    pub several_begins : q.pc ≤ f.last → Begins f free p.pc
+    several_begins within =
+        let last = reads.begins above cut.mid q within cut.last_at in
+        by_front (all_begin f g active listed 200 cut.front fronts free p cut.mid (omega (arith, reads.forward above cut.mid q cut.last_at, within)) cut.front_at) last
+      where
+        by_front : (p.pc ≡ cut.mid.pc) ⊎ Begins f free p.pc → Begins f above cut.mid.pc → Begins f free p.pc
+        by_front (inr begins) last = begins
+        by_front (inl same) last = begins_lower (omega arith) same last
 
     front_comes : (s : Situation) → HasLocals active listed s → free ≡ next_free s → IsQuiet f s.scope p.pc q.pc →
         AllCome f (AreCores g active cut.front) 200 s (length (all_related g cut.front)) p.pc cut.mid.pc

@@ -3,8 +3,8 @@ use Rattle.std.proofs.Common.{◌≡◌, ℕ, suc, ◌≤◌, false, true, List,
 use Rattle.lua_tree.specs.OneLine.{one_line_statement}
 use Rattle.lua_tree.specs.Outline.{statement_part}
 use Rattle.lua_tree.specs.Syntax as syntax
-use Rattle.lua_tree.specs.Syntax.{Expression, Statement, assignment, call_statement, field_expression, index_expression, local_statement, name_expression, no_expressions, return_statement}
-use Rattle.lua_tree.specs.WellFormed.{depth_of_expression, depth_of_statement, ends_block, formed_statement, statement_begins_with_paren}
+use Rattle.lua_tree.specs.Syntax.{Expression, Expressions, Statement, assignment, call_statement, field_expression, index_expression, name_expression, local_statement, no_expressions, return_statement}
+use Rattle.lua_tree.specs.WellFormed.{depth_of_expression, depth_of_expressions, depth_of_statement, ends_block, formed_statement, statement_begins_with_paren}
 use Rattle.core_expr.specs.Places.{Place, place}
 use Rattle.core_expr.specs.Values.{Value, table_value}
 use Rattle.recover_expr.specs.Situation.{Function, Situation}
@@ -13,19 +13,20 @@ use Rattle.scheme.specs.declared.making.Active.{Active}
 use Rattle.scheme_stands.specs.Relation.{StatementAt}
 use Rattle.scheme_stands.specs.Words.{Fn, Spot}
 use Rattle.reads_back.specs.Cores.{IsCore}
-use Rattle.reads_back.specs.Acted.{Acted, IsAct, IsActTarget, IsActed, act_levels, act_statement}
-use Rattle.reads_back.specs.Straight.{BeginsWithName, StatementBeginsWithName}
+use Rattle.reads_back.specs.Acted.{Acted, AreActTargets, IsAct, IsActTarget, IsActed, act_levels, act_statement}
+use Rattle.reads_back.specs.Straight.{AllBeginWithName, BeginsWithName, StatementBeginsWithName}
 use Rattle.reads_back.proofs.ActsFormed.{BeginsWithVariable, act_closed, act_ends, act_formed, act_shallow, name_begins}
 use Rattle.reads_back.proofs.ActsMarks.{act_marks}
 use Rattle.reads_back.proofs.ActsRead.{ActRead, CanAct, call_statement_read}
 use Rattle.reads_back.proofs.ActsRewritten.{AllWritten, act_rewritten}
-use Rattle.reads_back.proofs.AssignmentsRead.{ReadsTarget, assignment_forward, assignment_read}
 use Rattle.reads_back.proofs.BehindWords.{HasLocals}
 use Rattle.reads_back.proofs.DeclarationsRead.{StartHere, local_forward, local_read}
 use Rattle.reads_back.proofs.Marks.{SamePart}
+use Rattle.reads_back.proofs.AssignmentStands.{assignment_forward, assignment_read}
 use Rattle.reads_back.proofs.PartsRead.{IsNoTable}
 use Rattle.reads_back.proofs.ReturnsRead.{return_forward, return_read}
 use Rattle.reads_back.proofs.Rewriting.{IsMadeBy, RewrittenAct}
+use Rattle.reads_back.proofs.TargetsCome.{ReadsTarget, ReadsTargets}
 use Rattle.reads_back.proofs.ValueReads.{call_read, reads_all}
 use Rattle.reads_back.proofs.WordsRead.{IsQuiet}
 use Rattle.reads_back.proofs.WrittenSame.{rewritten_all}
@@ -88,10 +89,14 @@ module _ {f : Function} {g : Fn} {active : List Active} {listed : List ℕ} {z :
   target_reads (field_expression line on text) is begins few = ((reads_all made.is_function made.all on is (omega (arith, few))).one, no_table on begins)
   target_reads target is begins few = absurd is
 
+  targets_read : (targets : Expressions) → AreActTargets targets → AllBeginWithName targets → depth_of_expressions targets ≤ 200 → ReadsTargets f g active listed targets
+  targets_read no_expressions are begins few = tt
+  targets_read (syntax.expression target targets) are begins few = (target_reads target are.0 begins.0 (omega (arith, few)), targets_read targets are.1 begins.1 (omega (arith, few)))
+
   pub act_forward : (s : Statement) → IsAct s → StatementBeginsWithName s → depth_of_statement s ≤ 65 → (after : List Active) (p q : Spot) → StatementAt g None s active after p q → p.pc ≤ q.pc
   act_forward (call_statement e) is begins few after p q stands = (call_read made.is_function made.all e is.0 is.1 (omega (arith, few))).1.forward (length active) _ _ p q stands.part_at
-  act_forward (assignment (syntax.expression target no_expressions) (syntax.expression e no_expressions)) is begins few after p q stands =
-      assignment_forward made.is_function made.all e (reads_all made.is_function made.all e is.1 (omega (arith, few))).one target is.0 (target_reads target is.0 begins (omega (arith, few))) p q stands.part_at
+  act_forward (assignment targets es) is begins few after p q stands =
+      assignment_forward made.is_function made.all targets es is (targets_read targets is.targets begins (omega (arith, few))) (omega (arith, few)) p q stands.part_at
   act_forward (local_statement names es) is begins few after p q stands = local_forward made.is_function made.all names es is.1 (omega (arith, few)) after p q stands
   act_forward (return_statement es) is begins few after p q stands = return_forward made.is_function made.all es is (omega (arith, few)) p q stands.part_at
   act_forward s is begins few after p q stands = absurd is
@@ -101,9 +106,8 @@ module _ {f : Function} {g : Fn} {active : List Active} {listed : List ℕ} {z :
   act_read (call_statement e) is begins few after p q stands now locals empty taken quiet starts =
       let call = call_read made.is_function made.all e is.0 is.1 (omega (arith, few)) in
       call_statement_read made.is_function e call.0 call.1 (can (call_statement e) is few) p q now locals empty taken quiet stands.part_at
-  act_read (assignment (syntax.expression target no_expressions) (syntax.expression e no_expressions)) is begins few after p q stands now locals empty taken quiet starts =
-      let s = assignment (syntax.expression target no_expressions) (syntax.expression e no_expressions) in
-      assignment_read made.is_function made.all e (reads_all made.is_function made.all e is.1 (omega (arith, few))).one target is.0 (target_reads target is.0 begins (omega (arith, few))) (can s is few) p q now locals empty taken quiet stands.part_at
+  act_read (assignment targets es) is begins few after p q stands now locals empty taken quiet starts =
+      assignment_read made.is_function made.all targets es is (targets_read targets is.targets begins (omega (arith, few))) (omega (arith, few)) (can (assignment targets es) is few) p q now locals empty taken quiet stands.part_at
   act_read (local_statement names es) is begins few after p q stands now locals empty taken quiet starts =
       local_read made.is_function made.all names es is.1 (omega (arith, few)) (can (local_statement names es) is few) after p q now locals empty taken quiet starts stands
   act_read (return_statement es) is begins few after p q stands now locals empty taken quiet starts =

@@ -1,5 +1,5 @@
 -- A straight block in a function that is being made: what is known before each of its statements, and that what is written of them makes the same function.
-use Rattle.std.proofs.Common.{◌≡◌, ℕ, ◌+◌, ◌≤◌, true, false, not, ◌&&◌, List, [], ◌++◌, length, map, append_assoc, None, Some, refl, sym, ap, ◌∙◌, subst, arith}
+use Rattle.std.proofs.Common.{◌≡◌, ℕ, ◌≤◌, true, false, not, ◌&&◌, List, [], ◌++◌, length, map, append_assoc, None, Some, refl, sym, ap, ◌∙◌, subst, arith}
 use Rattle.std.specs.Prelude.{Bool}
 use Rattle.lua_tree.specs.OneLine.{one_line_statement}
 use Rattle.lua_tree.specs.Outline.{statement_part, statements_part}
@@ -25,7 +25,7 @@ use Rattle.reads_back.proofs.BlockMakers.{AllStand, AreAllActs, all_made, entrie
 use Rattle.reads_back.proofs.ListedLocals.{ended}
 use Rattle.reads_back.proofs.Marks.{SamePart, both_same, part_then}
 use Rattle.reads_back.proofs.NamesAhead.{IsAhead}
-use Rattle.reads_back.proofs.NamesMeant.{statement_meant}
+use Rattle.reads_back.proofs.StatementsMeant.{statement_meant}
 use Rattle.reads_back.proofs.PlainStraight.{AreOnLine}
 use Rattle.reads_back.proofs.Rewriting.{IsMadeBy, names_of_statement}
 use Rattle.reads_back.proofs.StraightActs.{written, written_closed, written_ends, written_formed, written_marks, written_shallow}

@@ -15,12 +15,12 @@ use Rattle.recover_expr.specs.Situation.{Function, Situation, instr_at}
 use Rattle.recover_expr.specs.declared.function.Word.{Word}
 use Rattle.reads_back.proofs.Comes.{AreEntries, Begins, wants_lowest}
 use Rattle.reads_back.proofs.TakenEntries.{at_place, before_some, open_taken}
-use Rattle.reads_back.proofs.Tests.{both_hold}
+use Rattle.reads_back.proofs.Tests.{both_hold, or_first, or_second}
 use Rattle.reads_back.proofs.ValueWords.{place_of_next}
 
 -- ---- lists
 
-set_place : {A : Type 0} (before : List A) (x y : A) (behind : List A) → slice_set (before ++ x ∷ behind) (length before) y ≡ before ++ y ∷ behind
+pub set_place : {A : Type 0} (before : List A) (x y : A) (behind : List A) → slice_set (before ++ x ∷ behind) (length before) y ≡ before ++ y ∷ behind
 set_place [] x y behind = refl
 set_place (z ∷ before) x y behind = ap (λ rest. z ∷ rest) (set_place before x y behind)
 
@@ -37,19 +37,6 @@ not_none n some = grind (arith, nat_tests)
 
 not_lower : (m n : ℕ) → n ≤ m → nat_lt m n ≡ false
 not_lower m n above = grind (arith, nat_tests)
-
-or_first : (a b : Bool) → a ≡ true → (a || b) ≡ true
-or_first true b is = refl
-or_first false b is = cc
-
-or_second : (a b : Bool) → b ≡ true → (a || b) ≡ true
-or_second true b is = refl
-or_second false b is = is
-
-either_more : (a b c : Bool) → (a || b) ≡ true → (a || (b || c)) ≡ true
-either_more true b c is = refl
-either_more false true c is = refl
-either_more false false c is = cc
 
 -- ---- items
 
@@ -275,17 +262,12 @@ none_stored (ends_here none at) above some = absurd (omega (arith, none, some))
 
 -- what comes to a place is not the lowest of the statement, or a local starts at a pc, or the word there wants it
 abbrev pub IsWantedAt : Function → (base place last : ℕ) → Scope → Type 0
-IsWantedAt f base place last scope = (0 < place) ⊎ (0 < starting f.of.locals last scope) ⊎ (is_so (wants_lowest base) (instr_at f last) ≡ true)
+IsWantedAt f base place last scope = (0 < place) ⊎ (0 < starting f.of.locals last scope) ⊎ (is_so (wants_lowest f base last) (instr_at f last) ≡ true)
 
-wants_as_lowest : (f : Function) (base : ℕ) (w : Word) (i : Instr) → w.instr.a ≡ base → wants_lowest base i ≡ true → wants f base w i ≡ true
-wants_as_lowest f base w i a wanted =
-    let reads = reads_from i base in
-    let stores = stores_alone i base && is_read_behind f base w.next i in
-    either_more reads (makes_value i.op && nat_lt w.instr.a i.a) stores (ap (λ a. reads || (makes_value i.op && nat_lt a i.a)) a ∙ wanted)
-
-is_so_more : (f : Function) (base : ℕ) (w : Word) (there : Option Instr) → w.instr.a ≡ base → is_so (wants_lowest base) there ≡ true → is_so (wants f base w) there ≡ true
-is_so_more f base w None a wanted = cc
-is_so_more f base w (Some i) a wanted = wants_as_lowest f base w i a wanted
+-- a word that is behind this one wants what is in its register, where that is the lowest
+wants_as_lowest : (f : Function) (base last : ℕ) (w : Word) (there : Option Instr) → w.instr.a ≡ base → w.next ≡ last → is_so (wants f base w) there ≡ is_so (wants_lowest f base last) there
+wants_as_lowest f base last w there a next =
+    ap₂ (λ (a pc : ℕ). is_so (λ i. reads_from i base || ((makes_value i.op && nat_lt a i.a) || (stores_alone i base && is_read_behind f base pc i))) there) a next
 
 wants_begun : (f : Function) (base : ℕ) (w : Word) (i : Instr) → makes_value i.op ≡ true → w.instr.a < i.a → wants f base w i ≡ true
 wants_begun f base w i makes above =
@@ -312,9 +294,9 @@ wanted_next {f} {base} place w scope (adds_list i there op at) is a next wanted 
 wanted_next {f} {base} place w scope (ends_here none at) is a next (inl above) = or_first (nat_lt 0 place) _ (lt-ltb 0 place above)
 wanted_next {f} {base} place w scope (ends_here none at) is a next (inr (inl starts)) =
     or_second (nat_lt 0 place) _ (or_first _ (is_wanted f base w) (ap (λ pc. nat_lt 0 (starting f.of.locals pc scope)) (next ∙ at) ∙ lt-ltb 0 _ starts))
-wanted_next {f} {base} zero w scope (ends_here none at) is a next (inr (inr wanted)) =
+wanted_next {f} {base} {last = last} zero w scope (ends_here none at) is a next (inr (inr wanted)) =
     or_second (nat_lt 0 0) _ (or_second (nat_lt 0 (starting f.of.locals w.next scope)) _
-    (ap (λ pc. is_so (wants f base w) (instr_at f pc)) (next ∙ at) ∙ is_so_more f base w (instr_at f _) (omega (arith, a, is)) wanted))
+    (ap (λ pc. is_so (wants f base w) (instr_at f pc)) (next ∙ at) ∙ wants_as_lowest f base last w (instr_at f last) (omega (arith, a, is)) (next ∙ at) ∙ wanted))
 wanted_next {f} {base} (suc place) w scope (ends_here none at) is a next (inr (inr wanted)) = or_first (nat_lt 0 (suc place)) _ (lt-ltb 0 (suc place) (omega arith))
 
 pub item_below : {f : Function} {t pc last : ℕ} (pending place height : ℕ) (w : Word) (s : Situation) → Ahead f s.base t pending pc last → t ≡ s.base + place → w.instr.a ≡ t → w.next ≡ pc → height ≡ suc (place + pending) →

@@ -1,6 +1,9 @@
 -- A constructor as a value: in the next register, or moved from there.
-use Rattle.std.proofs.Common.{◌≡◌, ℕ, ◌<◌, ◌≤◌, List, [], ◌∷◌, sym, ap₂, ◌∙◌, inl, inr, arith, le-leb, refl}
+use Rattle.std.proofs.Common.{◌≡◌, ℕ, suc, ◌<◌, ◌≤◌, nat_lt, false, List, [], ◌∷◌, sym, ap, ap₂, ◌∙◌, inl, inr, arith, le-leb, refl}
 use Rattle.opcode.specs.declared.op.Op.{Op}
+use Rattle.core_expr.specs.Making.{deepest_item}
+use Rattle.core_expr.specs.Values.{Value, table_value}
+use Rattle.recover_expr.specs.Lists.{is_nil}
 use Rattle.recover_expr.specs.Reading.{turn_of}
 use Rattle.recover_expr.specs.Situation.{Function, Situation}
 use Rattle.scheme.specs.declared.making.Active.{Active}
@@ -10,9 +13,13 @@ use Rattle.scheme_stands.specs.Words.{Fn, Seq, Spot, Stretch, WordAt, instr_by}
 use Rattle.reads_back.specs.Cores.{IsTable, Items}
 use Rattle.reads_back.proofs.BehindWords.{HasLocals, behind_words, quiet_same}
 use Rattle.reads_back.proofs.Comes.{Arrives, Begins, IsWanted, Moved, Reads, ReadsTable}
+use Rattle.reads_back.proofs.Tests.{given_is}
 use Rattle.reads_back.proofs.ValueWords.{next_free}
 use Rattle.reads_back.proofs.WordsBegin.{word_wants}
 use Rattle.reads_back.proofs.WordsRead.{IsFunction, IsQuiet, abc_is_read, quiet_before, turn_there, word_there}
+
+table_no_nil : {Are : Items} (v : Value) → IsTable Are v → is_nil v ≡ false
+table_no_nil v is = ap is_nil (sym (given_is (nat_lt (deepest_item is.0) 400) (table_value is.0 is.1 (suc (deepest_item is.0))) v is.3))
 
 module _ {f : Function} {g : Fn} {active : List Active} {listed : List ℕ} {Are : Items} {deep : ℕ} {part : (free : ℕ) → Stretch} (is_function : IsFunction f g) (reads : ReadsTable f g active listed Are deep part) where
   forward : (free r : ℕ) (p q : Spot) → MovedFrom g (part free) free r p q → p.pc ≤ q.pc
@@ -36,6 +43,7 @@ module _ {f : Function} {g : Fn} {active : List Active} {listed : List ℕ} {Are
       record {
         mid = at.mid.pc;
         comes = comes;
+        no_nil = table_no_nil comes.value comes.is;
         other = λ same. other (is ∙ same);
         later = later;
         turn = turn ∙ ap₂ (λ (next from : ℕ). turn_of f t (record { pc = at.mid.pc; next = next; instr = instr_by at.mid.pc (Piece.Abc Op.Move r from 0) })) (sym at.second_at.next) is;

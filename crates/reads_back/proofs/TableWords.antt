@@ -244,7 +244,7 @@ none_pending {s = s} {before} {given = given} making = making.is ∙ of_none mak
 
 -- ---- values behind those that are pending
 
-and_last_entry : (entries : Entries) (vs : Values) (entry : EntryValue) (v : Value) → AreEntries entries vs → single_of entry ≡ Some v → AreEntries (entries ++ entry ∷ []) (and_last_value vs v)
+pub and_last_entry : (entries : Entries) (vs : Values) (entry : EntryValue) (v : Value) → AreEntries entries vs → single_of entry ≡ Some v → AreEntries (entries ++ entry ∷ []) (and_last_value vs v)
 and_last_entry [] vs entry v are single =
     let none = same_Some no_values vs are in
     ap (λ single. before_values single (Some no_values)) single ∙ ap (λ vs. Some (and_last_value vs v)) none

@@ -22,12 +22,12 @@ use Rattle.reads_back.proofs.CallResults.{call_open_reads, call_value_reads, var
 use Rattle.reads_back.proofs.CallWords.{call_reads}
 use Rattle.reads_back.proofs.Comes.{Reads, ReadsCall, ReadsCore, ReadsGiven, ReadsOpen, ReadsOperand, ReadsSpine}
 use Rattle.reads_back.proofs.Concats.{concat_reads, spine_alone, spine_first}
-use Rattle.reads_back.proofs.Deeper.{given_deeper, open_deeper, operand_deeper, reads_deeper, spine_deeper}
+use Rattle.reads_back.proofs.Deeper.{given_deeper, open_deeper, operand_deeper, reads_deeper, some_depth, spine_deeper}
 use Rattle.reads_back.proofs.GivenLists.{AllRead, list_given, table_given, text_given}
 use Rattle.reads_back.proofs.LiteralReads.{constant_reads, false_reads, nil_reads, true_reads}
 use Rattle.reads_back.proofs.MethodWords.{method_reads}
 use Rattle.reads_back.proofs.NameReads.{AreListed, name_reads}
-use Rattle.reads_back.proofs.OperandReads.{some_depth, operand_reads, rk_reads, text_key_reads}
+use Rattle.reads_back.proofs.OperandReads.{operand_reads, rk_reads, text_key_reads}
 use Rattle.reads_back.proofs.Operators.{TakesNext, rk_takes, text_takes, add_reads, div_reads, indexed_reads, mul_reads, pow_reads, rem_reads, sub_reads, unary_reads}
 use Rattle.reads_back.proofs.TableReads.{ItemsRead, table_reads}
 use Rattle.reads_back.proofs.TableValues.{table_value_reads}

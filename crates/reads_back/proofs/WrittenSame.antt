@@ -21,10 +21,11 @@ use Rattle.scheme_stands.specs.Words.{Fn}
 use Rattle.reads_back.specs.Cores.{AllHaveCores, HasCore, IsCore, IsFirst, IsFoldedOr, IsOnly, IsOperand, IsOperandBy, IsOperator, IsSpineBy, IsUnary, core, HaveItems, AreItems, IsItem, IsTable, IsTableGiven}
 use Rattle.reads_back.proofs.CallsSame.{call_rewritten, list_within, method_rewritten, table_within, text_within}
 use Rattle.reads_back.proofs.ConcatsSame.{is_joined, code_alone, concat_rewritten, spine_of_first, spine_of_one}
+use Rattle.reads_back.proofs.Deeper.{some_depth}
 use Rattle.reads_back.proofs.GivenSame.{AllRewritten, closed_unless, list_rewritten, text_rewritten_given}
 use Rattle.reads_back.proofs.PassedNames.{names_passed}
 use Rattle.reads_back.proofs.IndexSame.{expression_key, field_rewritten, index_rewritten, key_deeper, text_key}
-use Rattle.reads_back.proofs.LeavesSame.{some_depth, false_rewritten, name_rewritten, nil_rewritten, number_rewritten, parenthesized_rewritten, text_rewritten, true_rewritten, vararg_rewritten}
+use Rattle.reads_back.proofs.LeavesSame.{false_rewritten, name_rewritten, nil_rewritten, number_rewritten, parenthesized_rewritten, text_rewritten, true_rewritten, vararg_rewritten}
 use Rattle.reads_back.proofs.MarksSame.{over_made}
 use Rattle.reads_back.proofs.OperandsSame.{key_rewritten, operand_rewritten}
 use Rattle.reads_back.proofs.OperatorsSame.{arithmetic_rewritten, constant_operand_few, unary_rewritten, value_operand_few}

@@ -1,27 +1,28 @@
--- Serves the laws; which statements are such (`IsAct`, at the end) is to be believed. What a call, an assignment of one value, a declaration of locals or a return does, from the words of its parts, and how it is written.
-use Rattle.std.specs.Prelude.{◌≡◌, ◌&&◌, ◌==◌, nat_lt, not, ℕ, suc, max, Bool, true, false, List, length, Option}
+-- Serves the laws; which statements are such (`IsAct`, at the end) is to be believed. What a call, an assignment, a declaration of locals or a return does, from the words of its parts, and how it is written.
+use Rattle.std.specs.Prelude.{◌≡◌, ◌⊎◌, ◌&&◌, ◌==◌, nat_lt, not, ℕ, suc, max, Bool, true, false, List, [], ◌∷◌, length, Option, Some, None, if◌then◌else◌}
 use Rattle.lua_num.specs.Bytes.{Text}
 use Rattle.lua_tree.specs.Names.{are_some_names, is_name}
 use Rattle.lua_tree.specs.Syntax as syntax
-use Rattle.lua_tree.specs.Syntax.{no_expressions, Expression, name_expression, index_expression, field_expression, Statement, assignment, call_statement, local_statement, return_statement}
-use Rattle.lua_tree.specs.WellFormed.{is_call}
+use Rattle.lua_tree.specs.Syntax.{Expressions, no_expressions, Expression, name_expression, index_expression, field_expression, Statement, assignment, call_statement, local_statement, return_statement}
+use Rattle.lua_tree.specs.WellFormed.{has_expressions, is_call}
 use Rattle.proto.specs.declared.parts.Constant.{Constant}
-use Rattle.core_expr.specs.Counting.{one_more, taken_behind, taken_behind_operand, taken_behind_values, left_by, left_by_operand, left_by_values}
+use Rattle.core_expr.specs.Counting.{one_more, taken_behind, taken_behind_operand, taken_behind_values, left_by, left_by_operand, left_by_values, with_constant}
+use Rattle.core_expr.specs.Held.{wordings_with}
 use Rattle.core_expr.specs.Places.{Place}
 use Rattle.core_expr.specs.Targets.{TargetValue, global_target, index_target, local_target, upvalue_target, word_target, taken_behind_target, left_by_target, can_write_target}
-use Rattle.core_expr.specs.Values.{Value, global_value, nil_value, Values, no_values, and_value, OperandValue, value_operand, Inner}
-use Rattle.core_expr.specs.Writing.{Wording, is_multiple, word, word_operand, word_values, can_write, can_write_operand, can_write_values}
+use Rattle.core_expr.specs.Values.{Value, nil_value, Values, no_values, and_value, OperandValue, value_operand, Inner}
+use Rattle.core_expr.specs.Writing.{Wordings, and_wording, no_wordings, is_multiple, word, word_operand, word_values, can_write, can_write_operand, can_write_values}
 use Rattle.recover_expr.specs.Entries.{Listed, and_last_value}
 use Rattle.recover_expr.specs.Lists.{before_last, is_nil, split_last, value_count}
 use Rattle.scheme.specs.Making.{Where, in_register, in_upvalue, in_globals}
 use Rattle.scheme.specs.declared.making.Active.{Active}
 use Rattle.scheme_stands.specs.Words.{Fn, Means}
-use Rattle.reads_back.specs.Cores.{HasNumber, IsCore, AreCores, IsOperand, IsKey, HasCore, AllHaveCores, ends_open}
+use Rattle.reads_back.specs.Cores.{HasNumber, core, IsCore, IsFirst, AreCores, IsOperand, IsKey, HasCore, AllHaveCores, ends_open}
 
--- a call as a statement; an assignment of one value to one target; locals that are declared with values, or a return of values, where the last one gives all its values or one
+-- a call as a statement; values that go to targets, locals that are declared with values, or a return of values, where the last one gives all its values or one; behind the values that go to targets an operand may stand that goes to the last target, a part of a table
 pub data Acted : Type 0 where
   called : Value → Acted
-  assigned : TargetValue → OperandValue → Acted
+  assigned : List TargetValue → Values → (all : Bool) → (last : Option OperandValue) → Acted
   declared : List Text → Values → (all : Bool) → Acted
   returned : Values → (all : Bool) → Acted
 
@@ -34,14 +35,14 @@ IsVariableTarget g text in_globals t = (number : ℕ) × HasNumber g (Constant.T
 -- a name, or what is indexed with its key
 abbrev pub IsTarget : Fn → List Active → Expression → TargetValue → Type 0
 IsTarget g active (name_expression line text) t = (w : Where) × Means g.law active text w × IsVariableTarget g text w t
-IsTarget g active (index_expression line on key) t = (o : Value) × (k : OperandValue) × IsCore g active on o × IsOperand g active key k × (t ≡ index_target o k)
-IsTarget g active (field_expression line on text) t = (o : Value) × (k : OperandValue) × IsCore g active on o × IsKey g text k × (t ≡ index_target o k)
+IsTarget g active (index_expression line on key) (index_target o k) = IsCore g active on o × IsOperand g active key k
+IsTarget g active (field_expression line on text) (index_target o k) = IsCore g active on o × IsKey g text k
 IsTarget g active e t = ⊥
 
--- what goes to a name is a value; what goes into a table is an operand
-abbrev pub IsStored : Fn → List Active → TargetValue → Expression → OperandValue → Type 0
-IsStored g active (index_target on key) e o = IsOperand g active e o
-IsStored g active t e o = (v : Value) × IsCore g active e v × (o ≡ value_operand v)
+abbrev pub AreTargets : Fn → List Active → Expressions → List TargetValue → Type 0
+AreTargets g active no_expressions [] = Unit {0}
+AreTargets g active (syntax.expression e es) (t ∷ ts) = IsTarget g active e t × AreTargets g active es ts
+AreTargets g active es ts = ⊥
 
 -- the last one is a nil, alone or behind a value that cannot be several
 abbrev pub ends_with_nil : Values → Bool
@@ -69,9 +70,56 @@ filled false count missing_one vs = let all = with_nil missing_one vs in without
 abbrev pub declared_values : (count : ℕ) → (is_open : Bool) → Values → Listed
 declared_values count is_open vs = filled (not is_open && nat_lt (suc (value_count vs)) count) count (not is_open && (suc (value_count vs) == count)) vs
 
+-- what is written of the values of an assignment
+pub record Assigned : Type 0 where
+  pub values : Values
+  pub all : Bool
+  pub last : Option OperandValue
+
+abbrev pub last_target : List TargetValue → Option TargetValue
+last_target [] = None
+last_target (t ∷ []) = Some t
+last_target (t ∷ u ∷ ts) = last_target (u ∷ ts)
+
+abbrev pub is_part : Option TargetValue → Bool
+is_part (Some (index_target on key)) = true
+is_part t = false
+
+-- a nil that is missing has the words of one that is written, but where it goes to a local
+abbrev pub with_last_nil : Option TargetValue → Values → Assigned
+with_last_nil (Some (local_target r)) vs = record { values = vs; all = false; last = None }
+with_last_nil (Some (index_target on key)) vs = record { values = vs; all = true; last = Some (value_operand nil_value) }
+with_last_nil t vs = record { values = and_last_value vs nil_value; all = true; last = None }
+
+abbrev pub some_missing : (one : Bool) → Option TargetValue → Values → Assigned
+some_missing true t vs = with_last_nil t vs
+some_missing false t vs = record { values = vs; all = false; last = None }
+
+-- the values for so many targets: where they are fewer and the last one cannot give several, nils are missing
+abbrev pub values_assigned : (count : ℕ) → Option TargetValue → (is_open : Bool) → Values → Assigned
+values_assigned count t is_open vs =
+    if not is_open && nat_lt (value_count vs) count then some_missing (suc (value_count vs) == count) t vs
+    else record { values = vs; all = true; last = None }
+
+-- values, and an operand behind them
+abbrev pub EndWithOperand : Fn → List Active → Expressions → Values → OperandValue → Type 0
+EndWithOperand g active no_expressions vs o = ⊥
+EndWithOperand g active (syntax.expression e no_expressions) vs o = (vs ≡ no_values) × IsOperand g active e o
+EndWithOperand g active (syntax.expression e (syntax.expression d es)) vs o = IsFirst (core g active e).value (λ rest. EndWithOperand g active (syntax.expression d es) rest o) vs
+
+-- as many values as targets, of which the last one goes to a part of a table
+abbrev pub AreWithOperand : Fn → List Active → List TargetValue → Expressions → Assigned → Type 0
+AreWithOperand g active ts es to = (is_part (last_target ts) ≡ true) × (suc (value_count to.values) ≡ length ts) × (o : OperandValue) × EndWithOperand g active es to.values o × (to.all ≡ true) × (to.last ≡ Some o)
+
+abbrev pub AreValues : Fn → List Active → List TargetValue → Expressions → Assigned → Type 0
+AreValues g active ts es to = (from : Values) × AreCores g active es from × ((is_part (last_target ts) && (value_count from == length ts)) ≡ false) × (values_assigned (length ts) (last_target ts) (ends_open es) from ≡ to)
+
+abbrev pub AreAssigned : Fn → List Active → (targets es : Expressions) → List TargetValue → Assigned → Type 0
+AreAssigned g active targets es ts to = AreTargets g active targets ts × (AreWithOperand g active ts es to ⊎ AreValues g active ts es to)
+
 abbrev pub IsActed : Fn → List Active → Statement → Acted → Type 0
 IsActed g active (call_statement e) (called v) = IsCore g active e v
-IsActed g active (assignment (syntax.expression target no_expressions) (syntax.expression e no_expressions)) (assigned t o) = IsTarget g active target t × IsStored g active t e o
+IsActed g active (assignment targets es) (assigned ts vs all last) = AreAssigned g active targets es ts (record { values = vs; all = all; last = last })
 IsActed g active (local_statement names es) (declared others vs all) =
     (others ≡ names) × (from : Values) × AreCores g active es from × (declared_values (length names) (ends_open es) from ≡ record { values = vs; all = all })
 IsActed g active (return_statement es) (returned vs all) = AreCores g active es vs × (all ≡ ends_open es)
@@ -79,42 +127,75 @@ IsActed g active statement acted = ⊥
 
 -- ---- how it is written
 
--- a value that goes to a name stands as it is
-abbrev pub word_stored : Place → ℕ → List (Option Inner) → TargetValue → OperandValue → Wording
-word_stored at n fs (index_target on key) o = word_operand at n fs o
-word_stored at n fs t (value_operand v) = word at n fs v
-word_stored at n fs t o = word_operand at n fs o
+abbrev pub words_targets : Place → ℕ → List (Option Inner) → List TargetValue → Wordings
+words_targets at n fs [] = no_wordings
+words_targets at n fs (t ∷ ts) = and_wording (word_target at n fs t) (words_targets at (taken_behind_target t n) (left_by_target t fs) ts)
+
+abbrev pub taken_behind_targets : List TargetValue → ℕ → ℕ
+taken_behind_targets [] n = n
+taken_behind_targets (t ∷ ts) n = taken_behind_targets ts (taken_behind_target t n)
+
+abbrev pub left_by_targets : List TargetValue → List (Option Inner) → List (Option Inner)
+left_by_targets [] fs = fs
+left_by_targets (t ∷ ts) fs = left_by_targets ts (left_by_target t fs)
+
+abbrev pub can_write_targets : Place → List (Option Inner) → List TargetValue → Bool
+can_write_targets at fs [] = true
+can_write_targets at fs (t ∷ ts) = can_write_target at fs t && can_write_targets at (left_by_target t fs) ts
+
+abbrev pub words_assigned : Place → ℕ → List (Option Inner) → Values → (all : Bool) → (last : Option OperandValue) → Wordings
+words_assigned at n fs vs all None = word_values at n fs vs all
+words_assigned at n fs vs all (Some o) = wordings_with (word_values at n fs vs all) (word_operand at (taken_behind_values vs n) (left_by_values vs fs) o)
+
+abbrev pub taken_behind_last : Option OperandValue → ℕ → ℕ
+taken_behind_last None n = n
+taken_behind_last (Some o) n = taken_behind_operand o n
+
+abbrev pub left_by_last : Option OperandValue → List (Option Inner) → List (Option Inner)
+left_by_last None fs = fs
+left_by_last (Some o) fs = left_by_operand o fs
+
+abbrev pub can_write_last : Place → List (Option Inner) → Option OperandValue → Bool
+can_write_last at fs None = true
+can_write_last at fs (Some o) = can_write_operand at fs o
 
 abbrev pub act_statement : Place → ℕ → List (Option Inner) → Acted → Statement
 act_statement at n fs (called v) = call_statement (word at n fs v).words
-act_statement at n fs (assigned t o) =
-    assignment (syntax.expression (word_target at n fs t).words no_expressions) (syntax.expression (word_stored at (taken_behind_target t n) (left_by_target t fs) t o).words no_expressions)
+act_statement at n fs (assigned ts vs all last) = assignment (words_targets at n fs ts).words (words_assigned at (taken_behind_targets ts n) (left_by_targets ts fs) vs all last).words
 act_statement at n fs (declared names vs all) = local_statement names (word_values at n fs vs all).words
 act_statement at n fs (returned vs all) = return_statement (word_values at n fs vs all).words
 
 abbrev pub act_levels : Place → ℕ → List (Option Inner) → Acted → ℕ
 act_levels at n fs (called v) = one_more (word at n fs v).levels
-act_levels at n fs (assigned t o) = one_more (max (max 1 (word_target at n fs t).levels) (max (word_stored at (taken_behind_target t n) (left_by_target t fs) t o).levels 0))
+act_levels at n fs (assigned ts vs all last) = one_more (max (max 1 (words_targets at n fs ts).levels) (words_assigned at (taken_behind_targets ts n) (left_by_targets ts fs) vs all last).levels)
 act_levels at n fs (declared names vs all) = one_more (word_values at n fs vs all).levels
 act_levels at n fs (returned vs all) = one_more (word_values at n fs vs all).levels
 
 abbrev pub can_act : Place → List (Option Inner) → Acted → Bool
 can_act at fs (called v) = can_write at fs v
-can_act at fs (assigned t o) = can_write_target at fs t && can_write_operand at (left_by_target t fs) o
+can_act at fs (assigned ts vs all last) = can_write_targets at fs ts && (can_write_values at (left_by_targets ts fs) vs && can_write_last at (left_by_values vs (left_by_targets ts fs)) last)
 can_act at fs (declared names vs all) = can_write_values at fs vs
 can_act at fs (returned vs all) = can_write_values at fs vs
 
 abbrev pub left_by_act : Acted → List (Option Inner) → List (Option Inner)
 left_by_act (called v) fs = left_by v fs
-left_by_act (assigned t o) fs = left_by_operand o (left_by_target t fs)
+left_by_act (assigned ts vs all last) fs = left_by_last last (left_by_values vs (left_by_targets ts fs))
 left_by_act (declared names vs all) fs = left_by_values vs fs
 left_by_act (returned vs all) fs = left_by_values vs fs
 
--- the name of a global is taken by its store, behind the value
+-- the name of a global is taken by its store, behind the values
+abbrev pub named_behind : TargetValue → ℕ → ℕ
+named_behind (global_target k) n = with_constant n k
+named_behind t n = n
+
+-- from the last one on
+abbrev pub all_named_behind : List TargetValue → ℕ → ℕ
+all_named_behind [] n = n
+all_named_behind (t ∷ ts) n = named_behind t (all_named_behind ts n)
+
 abbrev pub taken_behind_act : Acted → ℕ → ℕ
 taken_behind_act (called v) n = taken_behind v n
-taken_behind_act (assigned (global_target k) o) n = taken_behind (global_value k) (taken_behind_operand o n)
-taken_behind_act (assigned t o) n = taken_behind_operand o (taken_behind_target t n)
+taken_behind_act (assigned ts vs all last) n = all_named_behind ts (taken_behind_last last (taken_behind_values vs (taken_behind_targets ts n)))
 taken_behind_act (declared names vs all) n = taken_behind_values vs n
 taken_behind_act (returned vs all) n = taken_behind_values vs n
 
@@ -126,9 +207,20 @@ IsActTarget (index_expression line on key) = HasCore on × HasCore key
 IsActTarget (field_expression line on text) = HasCore on
 IsActTarget e = ⊥
 
+abbrev pub AreActTargets : Expressions → Type 0
+AreActTargets no_expressions = Unit {0}
+AreActTargets (syntax.expression e es) = IsActTarget e × AreActTargets es
+
+-- any values go to any targets
+pub record Assigns (to from : Expressions) : Type 0 where
+  pub some : has_expressions to ≡ true
+  pub targets : AreActTargets to
+  pub given : has_expressions from ≡ true
+  pub values : AllHaveCores from
+
 abbrev pub IsAct : Statement → Type 0
 IsAct (call_statement e) = (is_call e ≡ true) × HasCore e
-IsAct (assignment (syntax.expression target no_expressions) (syntax.expression e no_expressions)) = IsActTarget target × HasCore e
+IsAct (assignment targets es) = Assigns targets es
 IsAct (local_statement names es) = (are_some_names names ≡ true) × AllHaveCores es
 IsAct (return_statement es) = AllHaveCores es
 IsAct statement = ⊥

@@ -1,7 +1,7 @@
--- To be believed. Straight sources: calls, assignments of one value to one target and declarations of locals, one after the other, and maybe a return at the end.
+-- To be believed. Straight sources: calls, assignments and declarations of locals, one after the other, and maybe a return at the end.
 use Rattle.std.specs.Prelude.{◌≤◌}
 use Rattle.lua_tree.specs.Syntax as syntax
-use Rattle.lua_tree.specs.Syntax.{Expression, Source, Statement, Statements, assignment, call_expression, call_statement, field_expression, index_expression, local_statement, method_call, name_expression, no_statements, parenthesized, return_statement}
+use Rattle.lua_tree.specs.Syntax.{Expression, Expressions, no_expressions, Source, Statement, Statements, assignment, call_expression, call_statement, field_expression, index_expression, local_statement, method_call, name_expression, no_statements, parenthesized, return_statement}
 use Rattle.lua_tree.specs.WellFormed.{depth_of_statements}
 use Rattle.reads_back.specs.Acted.{IsAct}
 
@@ -15,9 +15,13 @@ BeginsWithName (method_call line on name args on_line) = BeginsWithName on
 BeginsWithName (parenthesized line e) = BeginsWithName e
 BeginsWithName e = ⊥
 
+abbrev pub AllBeginWithName : Expressions → Type 0
+AllBeginWithName no_expressions = Unit {0}
+AllBeginWithName (syntax.expression e es) = BeginsWithName e × AllBeginWithName es
+
 abbrev pub StatementBeginsWithName : Statement → Type 0
 StatementBeginsWithName (call_statement e) = BeginsWithName e
-StatementBeginsWithName (assignment (syntax.expression target es) values) = BeginsWithName target
+StatementBeginsWithName (assignment targets es) = AllBeginWithName targets
 StatementBeginsWithName (local_statement names es) = Unit {0}
 StatementBeginsWithName (return_statement es) = Unit {0}
 StatementBeginsWithName statement = ⊥

@@ -1,0 +1,401 @@
+-- An assignment that is written of what was read makes the same words.
+use Rattle.std.proofs.Common.{◌≡◌, ℕ, suc, ◌+◌, ◌-◌, ◌*◌, ◌≤◌, ◌<◌, Bool, true, false, cond, List, [], ◌∷◌, ◌++◌, length, nat_lt, Option, Some, None, refl, sym, ap, ap₂, ◌∙◌, subst, arith, inl, inr, ◌⊎◌}
+use Rattle.std.proofs.lemmas.Bool.{eq-eqb, eqb-false, eqb-true, ltb-false, ltb-true, ne_eqb}
+use Rattle.std.specs.Prelude.{◌&&◌, ◌==◌, not, if◌then◌else◌}
+use Rattle.lua_tree.specs.OneLine.{one_line_expressions}
+use Rattle.lua_tree.specs.Syntax as syntax
+use Rattle.lua_tree.specs.Syntax.{Expression, Expressions, no_expressions, name_expression, index_expression, field_expression, assignment, nil_literal}
+use Rattle.lua_tree.specs.WellFormed.{depth_of_expressions}
+use Rattle.core_expr.specs.Counting.{left_by, left_by_operand, left_by_values, taken_behind, taken_behind_operand, taken_behind_values}
+use Rattle.core_expr.specs.Places.{Place, place}
+use Rattle.core_expr.specs.Targets.{TargetValue, global_target, index_target, local_target, upvalue_target}
+use Rattle.core_expr.specs.Values.{Value, OperandValue, Values, no_values, and_value, nil_value, value_operand, Inner}
+use Rattle.core_expr.specs.Writing.{can_write_operand, can_write_values, is_bare, single as single_word, word_operand}
+use Rattle.recover_expr.specs.Entries.{and_last_value}
+use Rattle.recover_expr.specs.Lists.{value_count}
+use Rattle.recover_expr.specs.Situation.{Function}
+use Rattle.scheme.specs.Expressions.{Coded, Target}
+use Rattle.scheme.specs.Lists.{adjust, all_next, nils}
+use Rattle.scheme.specs.Making.{Got, Maker, active_count}
+use Rattle.scheme.specs.Scheme.{all_coded}
+use Rattle.scheme.specs.Statements.{all_targets, assign_adjusted, assign_part, copies, each_stored, stored_from}
+use Rattle.scheme.specs.declared.making.Active.{Active}
+use Rattle.scheme_stands.proofs.Growth.{Final, before, calm, later}
+use Rattle.scheme_stands.proofs.Lines.{grows_adjust}
+use Rattle.scheme_stands.proofs.Parts.{AllGrow, grow_all}
+use Rattle.scheme_stands.specs.Words.{Fn}
+use Rattle.reads_back.specs.Acted.{AreActTargets, AreAssigned, AreTargets, AreValues, AreWithOperand, Assigned, EndWithOperand, Assigns, IsActTarget, IsTarget, all_named_behind, assigned, can_write_last, is_part, last_target, left_by_last, left_by_targets, some_missing, taken_behind_last, taken_behind_targets, with_last_nil, words_assigned, words_targets}
+use Rattle.reads_back.specs.Cores.{AllHaveCores, AreCores, IsCore, ends_open}
+use Rattle.reads_back.proofs.AdjustedEntries.{count_last}
+use Rattle.reads_back.proofs.AssignedNames.{copies_pass}
+use Rattle.reads_back.proofs.DeclaredSame.{Adjusts, adjust_closed, closed_written, more_written, nil_written, nils_one, open_written}
+use Rattle.reads_back.proofs.EachStoredSame.{EachSame, LastNoLocal, Placed, and_nil, as_many_places, before_each, before_stored, each_values, each_with_operand, nil_all_rewritten, nil_cores, nil_count, nil_from, nil_have, nil_names, nil_operand, operand_written, placed_of, places, places_are, stored_taken, targets_are, targets_of, with_operand_coded}
+use Rattle.reads_back.proofs.GivenSame.{AllRewritten}
+use Rattle.reads_back.proofs.ListsSame.{coded_count, codes_of, cores_count, list_few, opens_is, values_coded}
+use Rattle.reads_back.proofs.NamesAhead.{IsAhead, ahead_behind, ahead_front, names_in_all}
+use Rattle.reads_back.proofs.Rewriting.{IsMadeBy, Rewritten, RewrittenAct}
+use Rattle.reads_back.proofs.TargetsSame.{ArePlaces, TargetSame, TargetsSame, copies_constants, copies_grow, copies_places, field_same, index_same, more_same, name_same, none_same, targets_grow, written_count}
+use Rattle.reads_back.proofs.Tests.{both_hold}
+use Rattle.reads_back.proofs.WordsSame.{levels_wrapped}
+
+module _ (f : Function) (g : Fn) (active : List Active) (listed : List ℕ) (z : Maker) (left : List (Option Inner)) where
+  -- each value of an expression is written with the same code
+  abbrev pub AreWritten : Expression → Type 0
+  AreWritten e = (v : Value) → IsCore g active e v → Rewritten f g active listed z left e v
+
+  -- those of the parts of a target
+  abbrev pub TargetWritten : Expression → Type 0
+  TargetWritten (index_expression line on key) = AreWritten on × AreWritten key
+  TargetWritten (field_expression line on text) = AreWritten on
+  TargetWritten target = Unit {0}
+
+  abbrev pub TargetsWritten : Expressions → Type 0
+  TargetsWritten no_expressions = Unit {0}
+  TargetsWritten (syntax.expression target targets) = TargetWritten target × TargetsWritten targets
+
+-- ---- where the values go
+
+-- each value goes to its place, or as many as there are places do, from their registers
+abbrev goes_to : {g : Fn} → List (Placed g) → List Coded → Maker → Maker
+goes_to placed cs = cond (length cs == length (places placed)) (each_stored 1 (places placed) cs) (assign_adjusted 1 (places placed) cs)
+
+goes_each : {g : Fn} (placed : List (Placed g)) (cs : List Coded) (m : Maker) → length cs ≡ length (places placed) → goes_to placed cs m ≡ each_stored 1 (places placed) cs m
+goes_each placed cs m same = ap (λ same. cond same (each_stored 1 (places placed) cs) (assign_adjusted 1 (places placed) cs) m) (eq-eqb (length cs) (length (places placed)) same)
+
+goes_adjusted : {g : Fn} (placed : List (Placed g)) (cs : List Coded) (m : Maker) → (length cs ≡ length (places placed) → ⊥) → goes_to placed cs m ≡ assign_adjusted 1 (places placed) cs m
+goes_adjusted placed cs m other = ap (λ same. cond same (each_stored 1 (places placed) cs) (assign_adjusted 1 (places placed) cs) m) (ne_eqb (length cs) (length (places placed)) other)
+
+before_goes : {k : ℕ} {z : Maker} (each : Bool) (to : List Target) (cs : List Coded) → AllGrow calm cs → (m : Maker) → Final k (cond each (each_stored 1 to cs) (assign_adjusted 1 to cs) m) z → Final k m z
+before_goes true to cs grow m final = before_each to cs grow m final
+before_goes false to cs grow m final = before (grows_adjust calm 1 cs grow (length to) m) (before_stored m.free to (adjust 1 cs (length to) m) final)
+
+-- what is written of the values
+abbrev assigned_coded : Place → ℕ → List (Option Inner) → Assigned → List Coded
+assigned_coded at n fs to = all_coded (words_assigned at n fs to.values to.all to.last).words
+
+abbrev taken_by : Assigned → ℕ → ℕ
+taken_by to n = taken_behind_last to.last (taken_behind_values to.values n)
+
+module _ (f : Function) (g : Fn) (active : List Active) (listed : List ℕ) (z : Maker) where
+  -- what is written of the values, where so many constants are taken, goes to these places as the expressions do
+  record Goes (placed : List (Placed g)) (es : Expressions) (written : ℕ → List Coded) (taken : ℕ → ℕ) : Type 0 where
+    same : (m : Maker) → IsAhead g active (names_in_all es) m → Final (length m.labels) (goes_to placed (codes_of es) m) z → goes_to placed (written (length m.constants)) m ≡ goes_to placed (codes_of es) m
+    takes : (m : Maker) → IsAhead g active (names_in_all es) m → Final (length m.labels) (goes_to placed (codes_of es) m) z → length (goes_to placed (codes_of es) m).constants ≡ all_named_behind (targets_of placed) (taken (length m.constants))
+
+module _ (f : Function) (g : Fn) (active : List Active) (listed : List ℕ) (z : Maker) (left : List (Option Inner)) (ts : List TargetValue) (es : Expressions) where
+  -- what is asked of the values that are written, whichever places the targets have
+  record Stores (to : Assigned) : Type 0 where
+    can : (can_write_values (place f.of listed f.short) left to.values && can_write_last (place f.of listed f.short) (left_by_values to.values left) to.last) ≡ true
+    unused : left_by_last to.last (left_by_values to.values left) ≡ left
+    few : (n : ℕ) → (words_assigned (place f.of listed f.short) n left to.values to.all to.last).levels ≤ 3 * depth_of_expressions es + 3
+    goes : (placed : List (Placed g)) → targets_of placed ≡ ts → Goes f g active listed z placed es (λ n. assigned_coded (place f.of listed f.short) n left to) (taken_by to)
+
+-- ---- as many values as targets, and others
+
+module _ {f : Function} {g : Fn} {active : List Active} {listed : List ℕ} {z : Maker} (placed : List (Placed g)) (es : Expressions) where
+  each_goes : (written : ℕ → List Coded) (taken : ℕ → ℕ) → length (codes_of es) ≡ length (places placed) → ((n : ℕ) → length (written n) ≡ length (places placed)) → EachSame f g active listed z placed es written taken →
+      Goes f g active listed z placed es written taken
+  each_goes written taken exact counts each = record {
+    same = λ m ahead final. goes_each placed (written (length m.constants)) m (counts (length m.constants)) ∙ each.same m ahead (inner m final) ∙ sym (goes_each placed (codes_of es) m exact);
+    takes = λ m ahead final. ap (λ (n : Maker). length n.constants) (goes_each placed (codes_of es) m exact) ∙ each.takes m ahead (inner m final);
+  }
+    where
+      inner : (m : Maker) → Final (length m.labels) (goes_to placed (codes_of es) m) z → Final (length m.labels) (each_stored 1 (places placed) (codes_of es) m) z
+      inner m final = subst (λ (n : Maker). Final (length m.labels) n z) (goes_each placed (codes_of es) m exact) final
+
+  adjusted_goes : (left : List (Option Inner)) (made : IsMadeBy f g active listed z) (vs : Values) (all : Bool) → (length (codes_of es) ≡ length (places placed) → ⊥) → (value_count vs ≡ length (places placed) → ⊥) → Adjusts f g active listed z left (length (places placed)) es vs all →
+      Goes f g active listed z placed es (λ n. values_coded (place f.of listed f.short) n left vs all) (taken_behind_values vs)
+  adjusted_goes left made vs all other written_other adjusts = record {
+    same = λ m ahead final.
+        goes_adjusted placed (written (length m.constants)) m (λ same. written_other (sym (coded_count (place f.of listed f.short) (length m.constants) left vs all) ∙ same))
+        ∙ ap (stored_from 1 m.free (places placed)) (adjusts.same m ahead (adjusted_final m final))
+        ∙ sym (goes_adjusted placed (codes_of es) m other);
+    takes = λ m ahead final.
+        ap (λ (n : Maker). length n.constants) (goes_adjusted placed (codes_of es) m other)
+        ∙ stored_taken made m.free placed (adjust 1 (codes_of es) (length (places placed)) m) (inner m final)
+        ∙ ap (all_named_behind (targets_of placed)) (adjusts.taken m ahead (adjusted_final m final));
+  }
+    where
+      written : ℕ → List Coded
+      written n = values_coded (place f.of listed f.short) n left vs all
+
+      inner : (m : Maker) → Final (length m.labels) (goes_to placed (codes_of es) m) z → Final (length m.labels) (assign_adjusted 1 (places placed) (codes_of es) m) z
+      inner m final = subst (λ (n : Maker). Final (length m.labels) n z) (goes_adjusted placed (codes_of es) m other) final
+
+      adjusted_final : (m : Maker) → Final (length m.labels) (goes_to placed (codes_of es) m) z → Final (length m.labels) (adjust 1 (codes_of es) (length (places placed)) m) z
+      adjusted_final m final = before_stored m.free (places placed) (adjust 1 (codes_of es) (length (places placed)) m) (inner m final)
+
+  -- one value is missing: it is a nil, as if one stood there in parentheses
+  nil_goes : (written : ℕ → List Coded) (taken : ℕ → ℕ) → suc (length (codes_of es)) ≡ length (places placed) → ends_open es ≡ false → LastNoLocal (last_target (targets_of placed)) → ((n : ℕ) → length (written n) ≡ length (places placed)) →
+      EachSame f g active listed z placed (and_nil es) written taken → Goes f g active listed z placed es written taken
+  nil_goes written taken exact closed no_local counts each = record {
+    same = λ m ahead final. goes_each placed (written (length m.constants)) m (counts (length m.constants)) ∙ each.same m (nil_ahead m ahead) (inner m final) ∙ sym (nil_is m);
+    takes = λ m ahead final. ap (λ (n : Maker). length n.constants) (nil_is m) ∙ each.takes m (nil_ahead m ahead) (inner m final);
+  }
+    where
+      one : length (places placed) - length (codes_of es) ≡ 1
+      one = omega (arith, exact)
+
+      nil_is : (m : Maker) → goes_to placed (codes_of es) m ≡ each_stored 1 (places placed) (codes_of (and_nil es)) m
+      nil_is m =
+          goes_adjusted placed (codes_of es) m (λ same. omega (arith, same, exact))
+          ∙ ap (stored_from 1 m.free (places placed))
+          (adjust_closed (codes_of es) (length (places placed)) m (omega (arith, exact)) (opens_is es ∙ closed) ∙ ap (λ k. nils 1 k (all_next (codes_of es) m)) one ∙ nils_one (all_next (codes_of es) m))
+          ∙ sym (nil_from placed es m (sym exact) no_local)
+
+      nil_ahead : (m : Maker) → IsAhead g active (names_in_all es) m → IsAhead g active (names_in_all (and_nil es)) m
+      nil_ahead m ahead = subst (λ texts. IsAhead g active texts m) (sym (nil_names es)) ahead
+
+      inner : (m : Maker) → Final (length m.labels) (goes_to placed (codes_of es) m) z → Final (length m.labels) (each_stored 1 (places placed) (codes_of (and_nil es)) m) z
+      inner m final = subst (λ (n : Maker). Final (length m.labels) n z) (nil_is m) final
+
+-- ---- how many there are, and the nil that is missing
+
+-- one operand more
+operand_count : (at : Place) (n : ℕ) (fs : List (Option Inner)) (vs : Values) (o : OperandValue) → length (with_operand_coded at n fs vs o) ≡ suc (value_count vs)
+operand_count at n fs no_values o = refl
+operand_count at n fs (and_value v rest) o = ap suc (operand_count at (taken_behind v n) (left_by v fs) rest o)
+
+end_count : (g : Fn) (active : List Active) (es : Expressions) (vs : Values) (o : OperandValue) → EndWithOperand g active es vs o → length (codes_of es) ≡ suc (value_count vs)
+end_count g active no_expressions vs o are = absurd are
+end_count g active (syntax.expression e no_expressions) vs o are = ap (λ vs. suc (value_count vs)) (sym are.0)
+end_count g active (syntax.expression e (syntax.expression d es)) vs o are = ap suc (end_count g active (syntax.expression d es) are.1 o are.3) ∙ ap (λ vs. suc (value_count vs)) (sym are.4)
+
+nil_few : (at : Place) (n : ℕ) (fs : List (Option Inner)) → (word_operand at n fs (value_operand nil_value)).levels ≤ 2
+nil_few at n fs = levels_wrapped (is_bare at n nil_value) (single_word (nil_literal 1))
+
+first_fails : (a b : Bool) → b ≡ true → (a && b) ≡ false → a ≡ false
+first_fails true b is fails = sym is ∙ fails
+first_fails false b is fails = refl
+
+assigned_is : (to : Assigned) (o : OperandValue) → to.all ≡ true → to.last ≡ Some o → record { values = to.values; all = true; last = Some o } ≡ to
+assigned_is to o all last = ap₂ (λ (all : Bool) (last : Option OperandValue). record { values = to.values; all = all; last = last }) (sym all) (sym last)
+
+-- ---- which values are written
+
+module _ {f : Function} {g : Fn} {active : List Active} {listed : List ℕ} {z : Maker} (left : List (Option Inner)) (made : IsMadeBy f g active listed z) (ts : List TargetValue) (es : Expressions)
+    (has : AllHaveCores es) (written : AllRewritten f g active listed z left es) where
+  abbrev IsStored : Assigned → Type 0
+  IsStored to = Stores f g active listed z left ts es to
+
+  -- how many places there are
+  place_count : (placed : List (Placed g)) → targets_of placed ≡ ts → length (places placed) ≡ length ts
+  place_count placed is = as_many_places placed ∙ ap length is
+
+  last_is : (placed : List (Placed g)) → targets_of placed ≡ ts → last_target (targets_of placed) ≡ last_target ts
+  last_is placed is = ap last_target is
+
+  -- values, and an operand behind them
+  operand_stores : (vs : Values) (o : OperandValue) → is_part (last_target ts) ≡ true → suc (value_count vs) ≡ length ts → EndWithOperand g active es vs o → IsStored (record { values = vs; all = true; last = Some o })
+  operand_stores vs o part exact are =
+      let at = place f.of listed f.short in
+      let all = operand_written left made es vs o has written are in
+      record {
+        can = both_hold _ _ all.can (ap (λ fs. can_write_operand at fs o) all.unused ∙ all.last_can);
+        unused = ap (left_by_operand o) all.unused ∙ all.last_unused;
+        few = λ n. omega (arith, all.few n, ap (λ fs. (word_operand at (taken_behind_values vs n) fs o).levels) all.unused, all.last_few (taken_behind_values vs n));
+        goes = λ placed is.
+            let count = place_count placed is in
+            let counts = end_count g active es vs o are ∙ exact ∙ sym count in
+            each_goes placed es (λ n. with_operand_coded at n left vs o) (λ n. taken_behind_operand o (taken_behind_values vs n)) counts (λ n. operand_count at n left vs o ∙ exact ∙ sym count)
+            (each_with_operand left made placed es vs o counts (ap is_part (last_is placed is) ∙ part) has written are);
+      }
+
+  module _ (from : Values) (are : AreCores g active es from) where
+    as_many : length (codes_of es) ≡ value_count from
+    as_many = cores_count g active es from are
+
+    -- only values
+    values_store : (vs : Values) (all : Bool) → Adjusts f g active listed z left (length ts) es vs all →
+        ((placed : List (Placed g)) → targets_of placed ≡ ts → Goes f g active listed z placed es (λ n. values_coded (place f.of listed f.short) n left vs all) (taken_behind_values vs)) → IsStored (record { values = vs; all = all; last = None })
+    values_store vs all adjusts goes = record {
+      can = both_hold _ _ adjusts.can refl;
+      unused = adjusts.unused;
+      few = λ n. omega (arith, list_few (place f.of listed f.short) (3 * depth_of_expressions es + 2) n left vs all (adjusts.fine n));
+      goes = goes;
+    }
+
+    -- each value is stored
+    each_stores : value_count from ≡ length ts → is_part (last_target ts) ≡ false → IsStored (record { values = from; all = true; last = None })
+    each_stores exact no_part =
+        let at = place f.of listed f.short in
+        values_store from true (more_written left made (length ts) es from has written are (omega (arith, exact))) (λ placed is.
+        let counts = exact ∙ sym (place_count placed is) in
+        each_goes placed es (λ n. values_coded at n left from true) (taken_behind_values from) (as_many ∙ counts) (λ n. coded_count at n left from true ∙ counts)
+        (each_values left made placed es from (as_many ∙ counts) (ap is_part (last_is placed is) ∙ no_part) has written are))
+
+    -- fewer values or more: they are adjusted
+    from_stores : (value_count from ≡ length ts → ⊥) → (all : Bool) → Adjusts f g active listed z left (length ts) es from all → IsStored (record { values = from; all = all; last = None })
+    from_stores other all adjusts =
+        values_store from all adjusts (λ placed is.
+        let count = place_count placed is in
+        adjusted_goes placed es left made from all (λ same. other (sym as_many ∙ same ∙ count)) (λ same. other (same ∙ count))
+        (subst (λ count. Adjusts f g active listed z left count es from all) (sym count) adjusts))
+
+    -- one is missing
+    module _ (exact : suc (value_count from) ≡ length ts) (closed : ends_open es ≡ false) where
+      fewer : value_count from < length ts
+      fewer = omega (arith, exact)
+
+      last_value_stores : (t : Option TargetValue) → last_target ts ≡ t → is_part t ≡ false → LastNoLocal t → IsStored (record { values = and_last_value from nil_value; all = true; last = None })
+      last_value_stores t last no_part no_local =
+          let at = place f.of listed f.short in
+          values_store (and_last_value from nil_value) true (nil_written left made (length ts) es from has written are fewer closed exact) (λ placed is.
+          let count = exact ∙ sym (place_count placed is) in
+          let so = last_is placed is ∙ last in
+          nil_goes placed es (λ n. values_coded at n left (and_last_value from nil_value) true) (taken_behind_values (and_last_value from nil_value)) (ap suc as_many ∙ count) closed (subst LastNoLocal (sym so) no_local)
+          (λ n. coded_count at n left (and_last_value from nil_value) true ∙ count_last from nil_value ∙ count)
+          (each_values left made placed (and_nil es) (and_last_value from nil_value) (nil_count es ∙ ap suc as_many ∙ count) (ap is_part so ∙ no_part) (nil_have es has) (nil_all_rewritten left made es written) (nil_cores g active es from are)))
+
+      last_operand_stores : (t : Option TargetValue) → last_target ts ≡ t → is_part t ≡ true → LastNoLocal t → IsStored (record { values = from; all = true; last = Some (value_operand nil_value) })
+      last_operand_stores t last part no_local =
+          let at = place f.of listed f.short in
+          let nil = value_operand nil_value in
+          let closed_values = closed_written left made (length ts) es from has written are fewer closed in
+          record {
+            can = both_hold _ _ closed_values.can refl;
+            unused = closed_values.unused;
+            few = λ n. omega (arith, list_few at (3 * depth_of_expressions es + 2) n left from true (closed_values.fine n), nil_few at (taken_behind_values from n) (left_by_values from left));
+            goes = λ placed is.
+                let count = exact ∙ sym (place_count placed is) in
+                let so = last_is placed is ∙ last in
+                nil_goes placed es (λ n. with_operand_coded at n left from nil) (λ n. taken_behind_operand nil (taken_behind_values from n)) (ap suc as_many ∙ count) closed (subst LastNoLocal (sym so) no_local)
+                (λ n. operand_count at n left from nil ∙ count)
+                (each_with_operand left made placed (and_nil es) from nil (nil_count es ∙ ap suc as_many ∙ count) (ap is_part so ∙ part) (nil_have es has) (nil_all_rewritten left made es written) (nil_operand g active es from are));
+          }
+
+      -- by what the last target is
+      nil_stores : (t : Option TargetValue) → last_target ts ≡ t → IsStored (with_last_nil t from)
+      nil_stores (Some (local_target r)) last = from_stores (λ same. omega (arith, same, exact)) false (closed_written left made (length ts) es from has written are fewer closed)
+      nil_stores (Some (index_target on key)) last = last_operand_stores (Some (index_target on key)) last refl tt
+      nil_stores (Some (upvalue_target slot)) last = last_value_stores (Some (upvalue_target slot)) last refl tt
+      nil_stores (Some (global_target number)) last = last_value_stores (Some (global_target number)) last refl tt
+      nil_stores None last = last_value_stores None last refl tt
+
+    missing_stores : value_count from < length ts → ends_open es ≡ false → (one : Bool) → (suc (value_count from) == length ts) ≡ one → IsStored (some_missing one (last_target ts) from)
+    missing_stores fewer closed true one = nil_stores (eqb-true _ _ one) closed (last_target ts) refl
+    missing_stores fewer closed false one = from_stores (λ same. omega (arith, same, fewer)) false (closed_written left made (length ts) es from has written are fewer closed)
+
+    enough_stores : length ts ≤ value_count from → (is_part (last_target ts) && (value_count from == length ts)) ≡ false → (exact : Bool) → (value_count from == length ts) ≡ exact → IsStored (record { values = from; all = true; last = None })
+    enough_stores enough no_part true exact = each_stores (eqb-true _ _ exact) (first_fails (is_part (last_target ts)) (value_count from == length ts) exact no_part)
+    enough_stores enough no_part false other = from_stores (eqb-false _ _ other) true (more_written left made (length ts) es from has written are enough)
+
+    values_stores : (is_part (last_target ts) && (value_count from == length ts)) ≡ false → (is_open fewer : Bool) → ends_open es ≡ is_open → nat_lt (value_count from) (length ts) ≡ fewer →
+        IsStored (if not is_open && fewer then some_missing (suc (value_count from) == length ts) (last_target ts) from else record { values = from; all = true; last = None })
+    values_stores no_part true true is fewer = let less = ltb-true _ _ fewer in from_stores (λ same. omega (arith, same, less)) true (open_written left made (length ts) es from has written are less is)
+    values_stores no_part false true is fewer = missing_stores (ltb-true _ _ fewer) is _ refl
+    values_stores no_part true false is enough = enough_stores (ltb-false _ _ enough) no_part _ refl
+    values_stores no_part false false is enough = enough_stores (ltb-false _ _ enough) no_part _ refl
+
+  -- every assignment
+  all_stores : (to : Assigned) → AreWithOperand g active ts es to ⊎ AreValues g active ts es to → IsStored to
+  all_stores to (inl (part, exact, o, are, all, last)) = subst IsStored (assigned_is to o all last) (operand_stores to.values o part exact are)
+  all_stores to (inr (from, are, no_part, is)) = subst IsStored is (values_stores from are no_part _ _ refl refl)
+
+-- ---- the targets, and then the values
+
+abbrev stored_at : (count : ℕ) → List Coded → Got (List Target) → Maker
+stored_at count cs to = cond (length cs == count) (each_stored 1 to.value cs) (assign_adjusted 1 to.value cs) to.after
+
+abbrev with_copies : Got (List Target) → Got (List Target)
+with_copies to = copies 1 (active_count to.after) to.value to.after
+
+module _ {f : Function} {g : Fn} {active : List Active} {listed : List ℕ} {z : Maker} {left : List (Option Inner)} (targets es : Expressions) (ts : List TargetValue) (to : Assigned)
+    (first : TargetsSame f g active listed z left targets ts) (stores : Stores f g active listed z left ts es to) where
+  abbrev places_of : Maker → Got (List Target)
+  places_of m = with_copies (all_targets (codes_of targets) m)
+
+  module _ (m : Maker) (ahead : IsAhead g active (names_in_all targets ++ names_in_all es) m) where
+    targets_ahead : IsAhead g active (names_in_all targets) m
+    targets_ahead = ahead_front (names_in_all targets) (names_in_all es) ahead
+
+    are_there : ArePlaces g ts (places_of m).value
+    are_there = let parts = all_targets (codes_of targets) m in copies_places g (active_count parts.after) ts parts.value parts.after (first.are_places m targets_ahead)
+
+    abbrev placed_there : List (Placed g)
+    placed_there = placed_of g ts (places_of m).value are_there
+
+    es_ahead : IsAhead g active (names_in_all es) (places_of m).after
+    es_ahead = let parts = all_targets (codes_of targets) m in ahead_behind (names_in_all targets) (names_in_all es) (copies_pass (active_count parts.after) parts.value parts.after (first.passes m)) ahead
+
+    count_there : length ts ≡ length (places placed_there)
+    count_there = sym (as_many_places placed_there ∙ ap length (targets_are g ts (places_of m).value are_there))
+
+    goes_there : (cs : List Coded) (count : ℕ) → count ≡ length ts → stored_at count cs (places_of m) ≡ goes_to placed_there cs (places_of m).after
+    goes_there cs count is =
+        ap₂ (λ (count : ℕ) (to : List Target). cond (length cs == count) (each_stored 1 to cs) (assign_adjusted 1 to cs) (places_of m).after) (is ∙ count_there) (sym (places_are g ts (places_of m).value are_there))
+
+    es_go : assign_part 1 (codes_of targets) (codes_of es) m ≡ goes_to placed_there (codes_of es) (places_of m).after
+    es_go = goes_there (codes_of es) (length (codes_of targets)) first.count
+
+    goes : Goes f g active listed z placed_there es (λ n. assigned_coded (place f.of listed f.short) n left to) (taken_by to)
+    goes = stores.goes placed_there (targets_are g ts (places_of m).value are_there)
+
+    module _ (final : Final (length m.labels) (assign_part 1 (codes_of targets) (codes_of es) m) z) where
+      goes_final : Final (length m.labels) (goes_to placed_there (codes_of es) (places_of m).after) z
+      goes_final = subst (λ (n : Maker). Final (length m.labels) n z) es_go final
+
+      places_final : Final (length m.labels) (places_of m).after z
+      places_final = before_goes (length (codes_of es) == length (places placed_there)) (places placed_there) (codes_of es) (grow_all calm (one_line_expressions es)) (places_of m).after goes_final
+
+      targets_final : Final (length m.labels) (all_targets (codes_of targets) m).after z
+      targets_final = let parts = all_targets (codes_of targets) m in before (copies_grow (active_count parts.after) parts.value parts.after) places_final
+
+      goes_later : Final (length (places_of m).after.labels) (goes_to placed_there (codes_of es) (places_of m).after) z
+      goes_later =
+          let parts = all_targets (codes_of targets) m in
+          let one = targets_grow (codes_of targets) (grow_all calm (one_line_expressions targets)) m in
+          let two = copies_grow (active_count parts.after) parts.value parts.after in
+          later (omega (arith, one.more, two.more)) goes_final
+
+      taken_there : taken_behind_targets ts (length m.constants) ≡ length (places_of m).after.constants
+      taken_there = let parts = all_targets (codes_of targets) m in sym (ap length (copies_constants (active_count parts.after) parts.value parts.after) ∙ first.taken m targets_ahead targets_final)
+
+      act_made : assign_part 1 (all_coded (words_targets (place f.of listed f.short) (length m.constants) left ts).words) (assigned_coded (place f.of listed f.short) (taken_behind_targets ts (length m.constants)) (left_by_targets ts left) to) m
+          ≡ assign_part 1 (codes_of targets) (codes_of es) m
+      act_made =
+          let at = place f.of listed f.short in
+          let n = length m.constants in
+          let targets_coded = all_coded (words_targets at n left ts).words in
+          let behind = places_of m in
+          ap (λ parts. stored_at (length targets_coded) (assigned_coded at (taken_behind_targets ts n) (left_by_targets ts left) to) (with_copies parts)) (first.same m targets_ahead targets_final)
+          ∙ ap₂ (λ n fs. stored_at (length targets_coded) (assigned_coded at n fs to) behind) taken_there first.unused
+          ∙ goes_there (assigned_coded at (length behind.after.constants) left to) (length targets_coded) (written_count at n left ts)
+          ∙ goes.same behind.after es_ahead goes_later
+          ∙ sym es_go
+
+      act_taken : length (assign_part 1 (codes_of targets) (codes_of es) m).constants ≡ all_named_behind ts (taken_by to (taken_behind_targets ts (length m.constants)))
+      act_taken =
+          ap (λ (n : Maker). length n.constants) es_go
+          ∙ goes.takes (places_of m).after es_ahead goes_later
+          ∙ ap₂ (λ ts n. all_named_behind ts (taken_by to n)) (targets_are g ts (places_of m).value are_there) (sym taken_there)
+
+  stores_act : RewrittenAct f g active listed z left (assignment targets es) (assigned ts to.values to.all to.last)
+  stores_act =
+      let at = place f.of listed f.short in
+      record {
+        can = both_hold _ _ first.can (ap (λ fs. can_write_values at fs to.values && can_write_last at (left_by_values to.values fs) to.last) first.unused ∙ stores.can);
+        unused = ap (λ fs. left_by_last to.last (left_by_values to.values fs)) first.unused ∙ stores.unused;
+        few = λ n.
+            let behind = taken_behind_targets ts n in
+            omega (arith, first.few n, ap (λ fs. (words_assigned at behind fs to.values to.all to.last).levels) first.unused, stores.few behind);
+        made = act_made;
+        taken = act_taken;
+      }
+
+module _ {f : Function} {g : Fn} {active : List Active} {listed : List ℕ} {z : Maker} (left : List (Option Inner)) (made : IsMadeBy f g active listed z) where
+  target_same : (target : Expression) (t : TargetValue) → IsActTarget target → TargetWritten f g active listed z left target → IsTarget g active target t → TargetSame f g active listed z left target t
+  target_same (name_expression line text) t good written (w, means, is) = name_same made left line text w t good means is
+  target_same (index_expression line on key) (index_target x k) has written is = index_same made line on key x k has.0 has.1 (written.0 x is.0) written.1 is.1
+  target_same (field_expression line on text) (index_target x k) has written is = field_same made line on text x k has (written x is.0) is.1
+  target_same target t has written is = absurd is
+
+  targets_same : (targets : Expressions) (ts : List TargetValue) → AreActTargets targets → TargetsWritten f g active listed z left targets → AreTargets g active targets ts → TargetsSame f g active listed z left targets ts
+  targets_same no_expressions [] has written are = none_same
+  targets_same (syntax.expression target targets) (t ∷ ts) has written are = more_same target targets t ts (target_same target t has.0 written.0 are.0) (targets_same targets ts has.1 written.1 are.1)
+  targets_same targets ts has written are = absurd are
+
+  pub assignment_rewritten_act : (targets es : Expressions) (ts : List TargetValue) (to : Assigned) → Assigns targets es → TargetsWritten f g active listed z left targets → AllRewritten f g active listed z left es → AreAssigned g active targets es ts to →
+      RewrittenAct f g active listed z left (assignment targets es) (assigned ts to.values to.all to.last)
+  assignment_rewritten_act targets es ts to assigns to_written written are =
+      stores_act targets es ts to (targets_same targets ts assigns.targets to_written are.0) (all_stores left made ts es assigns.values written to are.1)

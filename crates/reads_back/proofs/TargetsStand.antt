@@ -1,0 +1,27 @@
+-- How many targets stand, and what the copies of locals leave.
+use Rattle.std.proofs.Common.{◌≡◌, ℕ, zero, suc, Bool, true, false, List, length, ap, ◌∙◌}
+use Rattle.lua_tree.specs.Syntax as syntax
+use Rattle.lua_tree.specs.Syntax.{Expressions, no_expressions}
+use Rattle.scheme.specs.Expressions.{Target}
+use Rattle.scheme.specs.Statements.{clashes}
+use Rattle.scheme.specs.declared.making.Active.{Active}
+use Rattle.scheme_stands.specs.Relation.{all_related}
+use Rattle.scheme_stands.specs.Statements.{CopiesAt, CopyBy, TargetsAt}
+use Rattle.scheme_stands.specs.Words.{Fn, Spot}
+use Rattle.reads_back.proofs.AssignedNames.{with_copy_count}
+
+pub targets_count : (g : Fn) (active : List Active) (targets : Expressions) (to : List Target) (free free1 : ℕ) (p q : Spot) → TargetsAt (all_related g targets) active to free free1 p q → length to ≡ length (all_related g targets)
+targets_count g active no_expressions to free free1 p q at = ap length at.is
+targets_count g active (syntax.expression e targets) to free free1 p q at = ap length at.is ∙ ap suc (targets_count g active targets at.others at.free1 free1 at.mid q at.others_at)
+
+-- as many places as targets; the words pass no name
+copy_stands : (clash : Bool) (g : Fn) (x : ℕ) (targets places : List Target) (free free1 : ℕ) (p q : Spot) → CopyBy clash g x targets places free free1 p q → (length places ≡ length targets) × (q.ahead ≡ p.ahead)
+copy_stands true g x targets places free free1 p q at = (ap length at.is ∙ with_copy_count x free targets, at.word.ahead)
+copy_stands false g x targets places free free1 p q at = (ap length at.is, at.same.ahead)
+
+pub copies_stand : (g : Fn) (count : ℕ) (targets places : List Target) (free free1 : ℕ) (p q : Spot) → CopiesAt g count targets places free free1 p q → (length places ≡ length targets) × (q.ahead ≡ p.ahead)
+copies_stand g zero targets places free free1 p q at = (ap length at.is, at.same.ahead)
+copies_stand g (suc x) targets places free free1 p q at =
+    let before = copies_stand g x targets at.between free at.free1 p at.mid at.earlier_at in
+    let behind = copy_stands (clashes x targets) g x at.between places at.free1 free1 at.mid q at.later_at in
+    (behind.0 ∙ before.0, behind.1 ∙ before.1)
