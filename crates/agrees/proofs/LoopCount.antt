@@ -229,7 +229,7 @@ module _ (z : Setup) (self : Self) (ih : Simulates z self) where
           (subst (λ l. CloseAt (any_captured (drop (length l) w.turn_at.inner)) (code_of x.a) (length l) w.turn_at.mid w.loop) ea w.turn_at.close))
 
       close3 : CloseAt (any_captured (drop (length x.a.active) a3.active)) (code_of x.a) (length x.a.active) w.loop w.loop
-      close3 = subst (λ b. CloseAt b (code_of x.a) (length x.a.active) w.loop w.loop) (sym eu) (record { pc = refl; ahead = refl })
+      close3 = subst (λ b. CloseAt b (code_of x.a) (length x.a.active) w.loop w.loop) (sym eu) (record { pc = refl; ahead = refl; functions = refl })
 
       room : (g1 : Ghost) (high : List Datum) → Ok z s1 g1 (raised x (three i limit by high)) → 1 ≤ length high
       room g1 high ok =

@@ -71,7 +71,7 @@ module _ (z : Setup) (self : Self) (ih : Simulates z self) where
         (λ t s2 o2 p2 h2. decide t s2 o2 p2 h2))
       where
         nothing : (r : Spot) → CloseAt (any_captured (drop (length x.a.active) w.inner)) (code_of x.a) (length x.a.active) r r
-        nothing r = subst (λ c. CloseAt c (code_of x.a) (length x.a.active) r r) (sym ec) (record { pc = refl; ahead = refl })
+        nothing r = subst (λ c. CloseAt c (code_of x.a) (length x.a.active) r r) (sym ec) (record { pc = refl; ahead = refl; functions = refl })
 
         decide : (t : Bool) (s2 : SourceState) (o2 : Outside) (p2 : Place) → JumpPost z (put h.a x.below h.high) 0 false p.pc q.pc (Datum.boolean t) s2 o2 p2 → Goes z.bound self (fail_of z x) 2 0 o2 p2 P (again env t s2)
         decide true s2 o2 p2 h2 =

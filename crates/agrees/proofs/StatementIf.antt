@@ -70,7 +70,7 @@ module _ (z : Setup) (self : Self) (ih : Simulates z self) where
   choose_goes no_branches (otherwise b) s o g x around p mid q ok out small h1 h2 =
       goes_weaken z.bound self (fail_of z x) 2 (size_b b) 2 (inner_branches no_branches + inner_last (otherwise b)) o _ (FlowPost z x around x.a.active q.pc) _ (omega arith) (omega arith)
       (goes_from z.bound self (fail_of z x) 2 (size_b b) o _ _ (FlowPost z x around x.a.active q.pc) _ (ap (λ pc. Now (at s o g x pc)) (sym h1.pc))
-      (arm_goes b false q.pc s o g x around mid q q ok out (omega arith) h2 (record { pc = refl; ahead = refl }) (λ e. refl)))
+      (arm_goes b false q.pc s o g x around mid q q ok out (omega arith) h2 (record { pc = refl; ahead = refl; functions = refl }) (λ e. refl)))
   choose_goes (branch e b rest) last s o g x around p mid q ok out small h1 h2 =
       goes_weaken z.bound self (fail_of z x) 2 (size_e e + (size_b b + (inner_branches rest + inner_last last))) 2 (inner_branches (branch e b rest) + inner_last last) o _ (FlowPost z x around x.a.active q.pc) _ (omega arith) (omega arith)
       (goes_ask z.bound self (fail_of z x) (size_e e) 2 (size_b b + (inner_branches rest + inner_last last)) o (Now (at s o g x p.pc)) (expression (scope x) e) s _ (FlowPost z x around x.a.active q.pc) _

@@ -311,7 +311,7 @@ module _ (z : Setup) (self : Self) where
         deep = t.fine.deep;
       } in (
         g1,
-        word_abx x.a Op.Closure r w.number p w.begun m0 w.word refl refl
+        word_abx x.a Op.Closure r p.functions p w.begun m0 w.word refl refl
             ∙ ap (λ y. after m0 (need y (λ f. check (nat_eq (length (take (own f).upvalues (drop (suc p.pc) (own x.a.chunk).code))) (own f).upvalues) (take_cells m1 (take (own f).upvalues (drop (suc p.pc) (own x.a.chunk).code)) (λ m2 cells. add_closure (at_pc m2 (m2.top.pc + (own f).upvalues)) r f cells))))) w.is
             ∙ ap (λ l. after m0 (check (nat_eq (length l) (own w.chunk).upvalues) (take_cells m1 l (λ m2 cells. add_closure (at_pc m2 (m2.top.pc + (own w.chunk).upvalues)) r w.chunk cells)))) at_words
             ∙ ap (λ y. after m0 (check y (take_cells m1 words (λ m2 cells. add_closure (at_pc m2 (m2.top.pc + (own w.chunk).upvalues)) r w.chunk cells)))) (eq_yes (length words) (own w.chunk).upvalues n_words)

@@ -221,7 +221,7 @@ no_copies g to none (suc count) places free free1 p q at =
     record {
       is = behind.is ∙ before.is;
       at_free = behind.at_free ∙ before.at_free;
-      same = record { pc = behind.same.pc ∙ before.same.pc; ahead = behind.same.ahead ∙ before.same.ahead };
+      same = record { pc = behind.same.pc ∙ before.same.pc; ahead = behind.same.ahead ∙ before.same.ahead; functions = behind.same.functions ∙ before.same.functions };
     }
 
 taken_low : {free x free1 : ℕ} → IsTaken free x free1 → free ≤ 250 → free1 ≤ 250

@@ -1,5 +1,5 @@
 -- Where the words of an assignment stand: behind what is evaluated of its targets the values, and for each target the word of its store, the last one first.
-use Rattle.std.proofs.Common.{◌≡◌, ℕ, suc, ◌+◌, ◌<◌, ◌≤◌, List, [], ◌∷◌, ◌++◌, length, refl, sym, ap, ap₂, subst, subst₂, arith}
+use Rattle.std.proofs.Common.{◌≡◌, ◌∙◌, ℕ, suc, ◌+◌, ◌<◌, ◌≤◌, List, [], ◌∷◌, ◌++◌, length, refl, sym, ap, ap₂, subst, subst₂, arith}
 use Rattle.lua_tree.specs.Syntax as syntax
 use Rattle.lua_tree.specs.Syntax.{Expression, Expressions, no_expressions}
 use Rattle.lua_tree.specs.WellFormed.{depth_of_expression, depth_of_expressions}
@@ -59,7 +59,9 @@ module _ (g : Fn) where
 -- ---- the words
 
 same_spot : {p q : Spot} → Same p q → q ≡ p
-same_spot same = ap₂ (λ (pc : ℕ) (ahead : Ahead). record { pc = pc; ahead = ahead }) same.pc same.ahead
+same_spot {p} {q} same =
+    ap₂ (λ (pc : ℕ) (ahead : Ahead). record { pc = pc; ahead = ahead; functions = q.functions }) same.pc same.ahead
+    ∙ ap (λ (made : ℕ). record { pc = p.pc; ahead = p.ahead; functions = made }) same.functions
 
 -- every target gets what is in its register, from r on: the last one first, then the others
 pub record AllStored (g : Fn) (ds : List Destination) (r : ℕ) (p q : Spot) : Type 0 where
@@ -132,7 +134,7 @@ module _ (g : Fn) where
         is = refl;
         mid = q;
         first_at = subst₂ (λ (r : ℕ) (p : Spot). StoreWordAt g d r p q) here (same_spot at.first_at) (said.0 r at.mid q at.second_at);
-        others_at = record { pc = refl; ahead = refl };
+        others_at = record { pc = refl; ahead = refl; functions = refl };
       }
   all_stored (place ∷ other ∷ places) (d ∷ b ∷ ds) said some r p q at =
       let rest = all_stored (other ∷ places) (b ∷ ds) said.1 (omega arith) (suc r) p at.mid at.first_at in
@@ -165,9 +167,9 @@ module _ (g : Fn) where
         fits = fit.0;
         mid = p;
         stored = q;
-        front_at = record { pc = refl; ahead = refl };
+        front_at = record { pc = refl; ahead = refl; functions = refl };
         last_at = subst (λ (free : ℕ). StoreAt g place (related g e) active free p q) here at;
-        others_at = record { pc = refl; ahead = refl };
+        others_at = record { pc = refl; ahead = refl; functions = refl };
         counts = refl;
         cores = λ values v are is. (v, no_values, is, refl, ap (λ values. and_last_value values v) are);
         operand = λ values o are is. (are, is);

@@ -197,7 +197,7 @@ last_one g active op want (syntax.expression e no_expressions) has ends free p q
       last = e;
       mid = p;
       counts = refl;
-      front_at = record { pc = refl; ahead = refl };
+      front_at = record { pc = refl; ahead = refl; functions = refl };
       last_at = subst (λ (free : ℕ). (related g e).multi active free op want p q) here at;
       are = λ vs v are is. (v, no_values, is, refl, ap (λ vs. and_last_value vs v) are);
       has_front = tt;

@@ -103,7 +103,7 @@ module _ {f : Function} {g : Fn} {z : Maker} (whole : IsWhole f g z) where
       listing = listing_behind;
       room =
           statements_room g None (syntax.statement 1 false s no_statements) m.active n.active (spot m) (spot n) next.room
-          (record { between = n.active; mid = spot n; first_at = next.stand.0; rest_at = record { stays = refl; part_at = record { pc = refl; ahead = refl } } });
+          (record { between = n.active; mid = spot n; first_at = next.stand.0; rest_at = record { stays = refl; part_at = record { pc = refl; ahead = refl; functions = refl } } });
       final = let grown = grow_statement (one_line_statement s) 1 None m next.settled in later grown.more next.final;
       stand = next.stand.1;
       straight = next.straight.1;

@@ -33,7 +33,7 @@ record AreDeclared (all : List Mark) (names : List Text) (place behind : Place) 
   ahead : declared_ahead names a ≡ ahead_at all behind rest
 
 abbrev begins : Ahead → Spot
-begins a = record { pc = 0; ahead = a }
+begins a = record { pc = 0; ahead = a; functions = 0 }
 
 are_declared : (all : List Mark) (line hidden : ℕ) (names : List Text) (place : Place) (rest : List Mark) (a : Ahead) → Reached all place ((declares line hidden names place).marks ++ rest) → a ≡ ahead_at all place ((declares line hidden names place).marks ++ rest) → AreDeclared all names place (declares line hidden names place).next rest a
 are_declared all line hidden names place rest a r e = record {

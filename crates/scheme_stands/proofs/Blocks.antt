@@ -99,7 +99,7 @@ module _ (z : Maker) where
 
   pub close_at : (b : Bool) (line n : ℕ) (m : Maker) {k : ℕ} → Final k (when b (close_from line n) m) z → CloseAt b (fn_of z) n (spot m) (spot (when b (close_from line n) m))
   close_at true line n m f = put_at line (Piece.Abc Op.Close n 0 0) m f
-  close_at false line n m f = record { pc = refl; ahead = refl }
+  close_at false line n m f = record { pc = refl; ahead = refl; functions = refl }
 
   pub block_at : (line : ℕ) (body : Part) (step : Step) → GrowsWell body → StandsWell body step → (m : Maker) → Settled m → Final (length m.labels) (block_part line body m) z →
       BlockAt (fn_of z) step m.active (spot m) (spot (block_part line body m))
@@ -140,7 +140,7 @@ module _ (z : Maker) where
         }
 
   pub break_at : (line : ℕ) (loop : Option Loop) (m : Maker) {k : ℕ} → Final k (break_part line loop m) z → BreakAt (fn_of z) (loop_at loop) m.active (spot m) (spot (break_part line loop m))
-  break_at line None m f = record { pc = refl; ahead = refl }
+  break_at line None m f = record { pc = refl; ahead = refl; functions = refl }
   break_at line (Some loop) m f =
       let b = captured_from loop.before m in
       let m1 = when b (close_from line loop.before) m in

@@ -141,5 +141,5 @@ function_enters all method params vararg block first last place rest before behi
     (reached_first_of all one two inside rest (record { before = r.before; is = r.is; declarations = r.declarations; functions = r.functions })) first_ahead t.declared in (
       is,
       locals_active all [] ps inside p1 [] [] t.active tt refl (subst (λ ls. Activated ls [] t.active) is t.activated) refl refl refl (omega arith) (entered_active vararg place low s),
-      declared_moves all first 0 ps t.locals (record { pc = 0; ahead = before }) t.first t.declared inside ((two p1).marks ++ rest) first_ahead,
+      declared_moves all first 0 ps t.locals (record { pc = 0; ahead = before; functions = 0 }) t.first t.declared inside ((two p1).marks ++ rest) first_ahead,
     )

@@ -45,7 +45,7 @@ table_at_link z line fields l m f = table_stands z line (entries fields) (λ act
 
 mutual
   pub statements_at : (z : Maker) (ss : Statements) (loop : Option Loop) → StandsWell z (statements_made ss loop) (StatementsAt (fn_of z) (loop_at z loop) ss)
-  statements_at z no_statements loop m s f = record { stays = refl; part_at = record { pc = refl; ahead = refl } }
+  statements_at z no_statements loop m s f = record { stays = refl; part_at = record { pc = refl; ahead = refl; functions = refl } }
   statements_at z (syntax.statement line semi one rest) loop m s f =
       let m1 = statement_made one line loop m in
       let g1 = grow_statement one line loop m s in
@@ -133,7 +133,7 @@ mutual
 
   branches_at : (z : Maker) (branches : Branches) (line : ℕ) (loop : Option Loop) (end : ℕ) (more : Bool) (m : Maker) → Settled m → Final (length m.labels) (branches_made branches line loop end more m) z →
       BranchesAt (fn_of z) (loop_at z loop) (get_or z.labels end 0) more branches m.active (spot m) (spot (branches_made branches line loop end more m))
-  branches_at z no_branches line loop end more m s f = record { pc = refl; ahead = refl }
+  branches_at z no_branches line loop end more m s f = record { pc = refl; ahead = refl; functions = refl }
   branches_at z (branch test block rest) line loop end more m s f =
       let on = has_branch rest || more in
       let m1 = arm_part line end on (coded test) (statements_made block loop) m in
@@ -149,7 +149,7 @@ mutual
 
   otherwise_at : (z : Maker) (last : Otherwise) (line : ℕ) (loop : Option Loop) (m : Maker) → Settled m → Final (length m.labels) (otherwise_made last line loop m) z →
       OtherwiseAt (fn_of z) (loop_at z loop) last m.active (spot m) (spot (otherwise_made last line loop m))
-  otherwise_at z no_otherwise line loop m s f = record { pc = refl; ahead = refl }
+  otherwise_at z no_otherwise line loop m s f = record { pc = refl; ahead = refl; functions = refl }
   otherwise_at z (otherwise block) line loop m s f = block_at z line (statements_made block loop) (StatementsAt (fn_of z) (loop_at z loop) block) (grow_statements block loop) (statements_at z block loop) m s f
 
   step_at : (z : Maker) (line : ℕ) (step : ForStep) → StepStands z line (step_coded step) (StepAt (fn_of z) step)

@@ -20,7 +20,7 @@ use Rattle.scheme_stands.specs.Statements.{LoopAt, CloseAt, BlockAt, TurnAt, Num
 use Rattle.scheme_stands.proofs.Growth.{length_end, length_set, calm, loose, Grown, start, on_part, on_put, on_new, on_take, on_used, on_free, on_place, Final, before, later, unplaced, unplaced_below, placed, stood, spot, fn_of, put_at, before_put, before_take, before_used, before_free}
 use Rattle.scheme_stands.proofs.Parts.{Grows, AllGrow, grows_when, grows_next, grows_load}
 use Rattle.scheme_stands.proofs.Links.{Links, AllLinks, next_at, load_at}
-use Rattle.scheme_stands.proofs.Lines.{grows_declare, grows_activate, grows_adjust, declare_active, declare_items, declare_free, declared, activated, activate_spot, activate_free, activate_length, adjust_free, adjust_at}
+use Rattle.scheme_stands.proofs.Lines.{grows_declare, grows_activate, grows_adjust, declare_active, declare_items, declare_functions, declare_free, declared, activated, activate_spot, activate_free, activate_length, adjust_free, adjust_at}
 use Rattle.scheme_stands.proofs.Blocks.{loosen, end_step, Settled, Body, GrowsWell, StandsWell, block_grows, block_at, loop_at, before_end, close_at}
 
 -- ---- turns
@@ -254,6 +254,7 @@ module _ (line : ℕ) (text : Text) (first last : Coded) (step : Option Coded) (
           begin = spot m6;
           loop = spot m8;
           same = refl;
+          as_many = refl;
           declared = declared (text ∷ []) m;
           room = omega (arith, r3, high, high4);
           first_at = subst (λ n. d.to_reg m.active n n (spot m1) (spot m2)) s n1.value_at;
@@ -381,6 +382,7 @@ module _ (line : ℕ) (names : List Text) (values : List Coded) (body : Body) (g
           again = spot m9;
           some = tt;
           same = ap length (declare_items names m);
+          as_many = ap length (declare_functions names m);
           declared = declared names m;
           room = omega (arith, high, eb);
           values_at = subst (λ x. AdjustAt (fn_of z) es 3 m.active x (spot m1) (spot m2)) eb

@@ -13,7 +13,7 @@ use Rattle.scheme.specs.declared.making.Active.{Active}
 use Rattle.std.specs.Prelude.{None}
 use Rattle.scheme_stands.specs.Words.{Law, WordAt, Spot}
 use Rattle.scheme_stands.specs.Functions.{FunctionRel, FurtherAt, ClosureAt, rel_function, FurtherWordAt}
-use Rattle.scheme_stands.proofs.Growth.{at_end, calm, Final, before, spot, fn_of, resolved, put_at, before_put, function_stands, made_fine}
+use Rattle.scheme_stands.proofs.Growth.{at_end, length_end, calm, Final, before, spot, fn_of, resolved, put_at, before_put, function_stands, made_fine}
 use Rattle.scheme_stands.proofs.Parts.{grows_further}
 use Rattle.scheme_stands.proofs.Links.{Links, single_at}
 
@@ -29,10 +29,10 @@ module _ (z : Maker) where
   further_is labels in_globals = refl
 
   no_word : (w : Piece) (p q : Spot) → WordAt (fn_of z) w p q → FurtherWordAt (fn_of z) w p q
-  no_word w p q t = record { has = t.has; reads = tt; next = t.next; ahead = t.ahead }
+  no_word w p q t = record { has = t.has; reads = tt; next = t.next; ahead = t.ahead; functions = t.functions }
 
   further_at : (line : ℕ) (uses : List Use) (active : List Active) (m : Maker) {k : ℕ} → m.active ≡ active → Final k (further_words line uses m) z → FurtherAt (fn_of z) active uses (spot m) (spot (further_words line uses m))
-  further_at line [] active m e f = record { pc = refl; ahead = refl }
+  further_at line [] active m e f = record { pc = refl; ahead = refl; functions = refl }
   further_at line (one ∷ uses) active m e f =
       let word = further_word (where_is one m.active) in
       let m1 = put line word m in
@@ -55,17 +55,17 @@ module _ (z : Maker) where
       let f1 = before_put line word m1 f2 in
       let w = put_at line word m1 f2 in
       record {
-        number = length m.functions;
         chunk = done.chunk;
-        begun = record { pc = length m2.items; ahead = m.ahead };
+        begun = record { pc = length m2.items; ahead = m.ahead; functions = length m.functions };
         mid = spot m2;
         is = function_stands z.functions (length m.functions) done.chunk (f2.functions _ _ (at_end m.functions done.chunk));
         names = [];
         captured = tt;
         made_at = h.made_at names (without_sources m.ahead) (made_fine done m f1);
         upvalues = h.upvalues names (without_sources m.ahead) ∙ length-map (next_sources m) (source_name m);
-        word = record { has = w.has; near = w.near; reads = tt; next = w.next; ahead = refl };
+        word = record { has = w.has; near = w.near; reads = tt; next = w.next; ahead = refl; functions = refl };
         next = refl;
+        one_more = length_end m.functions done.chunk;
         further = further_at line (next_sources m) m.active m2 refl f;
       }
 

@@ -233,7 +233,7 @@ stood c n label b g = g.labels label (omega (arith, b, length_set c.labels label
 -- ---- what stands
 
 abbrev pub spot : Maker → Spot
-spot m = record { pc = length m.items; ahead = m.ahead }
+spot m = record { pc = length m.items; ahead = m.ahead; functions = length m.functions }
 
 -- the finished function
 abbrev pub fn_of : Maker → Fn
@@ -295,6 +295,7 @@ put_at {k} {z} line piece n f =
       reads = tt;
       next = length_end n.items _;
       ahead = refl;
+      functions = refl;
     }
 
 same_is : (a b : Constant) → same_constant a b ≡ true → a ≡ b

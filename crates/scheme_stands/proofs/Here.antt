@@ -148,7 +148,7 @@ here_turn all names number part place rest p t l h = record {
 
 -- inside a function that is opened, whose words begin where its chunk does
 pub here_function : (all : List Mark) (method : Bool) (params : List Text) (vararg : Bool) (block : Statements) (first last : ℕ) (place : Place) (rest : List Mark) (p : Spot) → Here all (body_part method (function_body params vararg block first last)) place rest p →
-    Here all (inside_part method (function_body params vararg block first last)) (in_function vararg place) rest (record { pc = 0; ahead = record (p.ahead) { sources = drop 1 p.ahead.sources } })
+    Here all (inside_part method (function_body params vararg block first last)) (in_function vararg place) rest (record { pc = 0; ahead = record (p.ahead) { sources = drop 1 p.ahead.sources }; functions = 0 })
 here_function all method params vararg block first last place rest p h =
     let part = inside_part method (function_body params vararg block first last) in
     record {

@@ -91,12 +91,14 @@ module _ (all : List Mark) (rules : Kept all) where
         mid = t.mid;
         last = t.last;
         begins = t.begins;
+        none_made = t.none_made;
         declared = t.declared;
         activated = t.activated;
         room = t.room;
         body_at = body.is;
         end = end.is;
         ends = t.ends;
+        all_made = t.all_made;
         goes_on = t.goes_on;
       }
 
@@ -480,6 +482,7 @@ module _ (all : List Mark) (rules : Kept all) where
               begin = r.begin;
               loop = r.loop;
               same = r.same;
+              as_many = r.as_many;
               declared = r.declared;
               room = r.room;
               first_at = one.is;
@@ -543,6 +546,7 @@ module _ (all : List Mark) (rules : Kept all) where
               again = r.again;
               some = some_name names (and_left (are_some_names names) _ h);
               same = r.same;
+              as_many = r.as_many;
               declared = r.declared;
               room = r.room;
               values_at = valued.is;
@@ -572,12 +576,12 @@ module _ (all : List Mark) (rules : Kept all) where
         let one = declared_length (name ∷ []) p.ahead t.locals (t.mid).ahead t.declared in
         let w = closure_lift all n f setting body false (body_lifts body false (and_right (is_name name) (formed_body body) h)) after (length active + 1) (length active) t.room (behind_name line name place) rest t.mid q
         (record { here = here_local_function all line name body place rest t.locals p t.mid t.declared hs; active_at = e.1; named = nm; room = omega (arith, more, one, room); plain = subst (Plain f) (sym t.same) s.plain }) t.closure_at in
-        record { is = record { locals = t.locals; mid = t.mid; same = t.same; declared = t.declared; activated = t.activated; room = t.room; closure_at = w.is }; plain = w.plain }
+        record { is = record { locals = t.locals; mid = t.mid; same = t.same; as_many = t.as_many; declared = t.declared; activated = t.activated; room = t.room; closure_at = w.is }; plain = w.plain }
     statement_lift line (local_statement names es) h n f setting loop place rest active after p q is s t =
         let he = and_right (are_some_names names) (formed_expressions es) h in
         let w = adjust_lifts all n f setting (length names) es (all_move all f es he) (all_lift n f setting es he) active (length active) (declares line 0 names place).next rest t.mid q
         (record { here = here_local all line names es place rest t.locals p t.mid t.declared s.here; active_at = closed_active (declares line 0 names) place active (declares_closed line 0 names place) s.active_at; named = s.named; room = s.room; plain = subst (Plain f) (sym t.same) s.plain }) t.values_at in
-        record { is = record { locals = t.locals; mid = t.mid; same = t.same; declared = t.declared; activated = t.activated; values_at = w.is }; plain = w.plain }
+        record { is = record { locals = t.locals; mid = t.mid; same = t.same; as_many = t.as_many; declared = t.declared; activated = t.activated; values_at = w.is }; plain = w.plain }
     statement_lift line (return_statement es) h n f setting loop place rest active after p q is s t =
         let w = return_lift n f setting es (all_move all f es h) (all_lift n f setting es h) active place rest p q s t.part_at in
         record { is = record { stays = t.stays; part_at = w.is }; plain = w.plain }
@@ -650,12 +654,14 @@ main_lawful source chunk formed scoped m =
         mid = t.mid;
         last = t.last;
         begins = t.begins;
+        none_made = t.none_made;
         declared = t.declared;
         activated = t.activated;
         room = t.room;
         body_at = body.is;
         end = end.is;
         ends = t.ends;
+        all_made = t.all_made;
         goes_on = t.goes_on;
       },
     )

@@ -226,12 +226,11 @@ module _ (all : List Mark) (n : Names) (f : Fn) where
         let c = captures_are all method body place rest active p s.active_at s.here in
         let names = names_of_seen all place active (upvalues_of place.functions all) uses c in
         let captured = closure_captures all place active n uses s.active_at s.named c in
-        let word = closure_word_lift n f r t.number t.chunk setting (field_a n f r setting (omega (arith, hr))) t.is p t.begun s.plain t.word in
+        let word = closure_word_lift n f r p.functions t.chunk setting (field_a n f r setting (omega (arith, hr))) t.is p t.begun s.plain t.word in
         let further = further_lift n f uses active names setting s.room captured t.mid q t.further in
         let lawless = subst (λ l. FunctionOf body method (law_inside l active t.names) (without_sources p.ahead) (t.mid).ahead t.chunk) setting.lawless t.made_at in
         record {
           is = record {
-            number = t.number;
             chunk = t.chunk;
             begun = t.begun;
             mid = t.mid;
@@ -242,6 +241,7 @@ module _ (all : List Mark) (n : Names) (f : Fn) where
             upvalues = t.upvalues;
             word = word.0;
             next = t.next;
+            one_more = t.one_more;
             further = further.0;
           };
           plain = word.1 q.pc (further.1 ∙ ap (λ k. k + length uses) t.next ∙ ap (λ k. (t.begun).pc + k) (sym t.upvalues));

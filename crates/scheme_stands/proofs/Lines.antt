@@ -78,6 +78,10 @@ pub declare_items : (texts : List Text) (m : Maker) → (declare texts m).after.
 declare_items [] m = refl
 declare_items (text ∷ texts) m = declare_items texts _
 
+pub declare_functions : (texts : List Text) (m : Maker) → (declare texts m).after.functions ≡ m.functions
+declare_functions [] m = refl
+declare_functions (text ∷ texts) m = declare_functions texts _
+
 pub declare_free : (texts : List Text) (m : Maker) → (declare texts m).after.free ≡ m.free
 declare_free [] m = refl
 declare_free (text ∷ texts) m = declare_free texts _
@@ -237,6 +241,7 @@ module _ (z : Maker) where
         locals = d.value;
         mid = spot m1;
         same = ap length (declare_items names m);
+        as_many = ap length (declare_functions names m);
         declared = declared names m;
         values_at = subst (λ q. AdjustAt (fn_of z) es n m.active (length m.active) (spot m1) q) (sym (activate_spot d.value m2))
             (subst (λ x. AdjustAt (fn_of z) es n m.active x (spot m1) (spot m2)) (declare_free names m ∙ s)
@@ -263,6 +268,7 @@ module _ (z : Maker) where
         locals = d.value;
         mid = spot m1;
         same = refl;
+        as_many = refl;
         declared = declared (text ∷ []) m;
         activated = subst (λ a. Activated d.value m.active a) (sym g4.active) (activated d.value m2);
         room = subst (λ n. n < (fn_of z).size) s (room_at m1 f2);

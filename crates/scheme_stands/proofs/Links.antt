@@ -42,7 +42,7 @@ module _ (z : Maker) where
 
   operand_by_at : (o : Option ℕ) (c : Coded) (e : Rel) → ToAt c e → (m : Maker) → Final (length m.labels) (operand_by o c m).after z →
       OperandBy o (fn_of z) m.active e m.free (operand_by o c m).value (operand_by o c m).after.free (spot m) (spot (operand_by o c m).after)
-  operand_by_at (Some r) c e l m f = record { at_x = refl; at_free = refl; passed = l.bare m.active (spot m) (spot (pass_name m)) (record { pc = refl; ahead = refl }) }
+  operand_by_at (Some r) c e l m f = record { at_x = refl; at_free = refl; passed = l.bare m.active (spot m) (spot (pass_name m)) (record { pc = refl; ahead = refl; functions = refl }) }
   operand_by_at None c e l m f = record {
     room = subst (λ n. n < (fn_of z).size) (l.to_free m.free m) (room_at _ f);
     at_x = refl;
@@ -66,7 +66,7 @@ module _ (z : Maker) where
     small = leb-true _ _ h;
     at_x = refl;
     at_free = refl;
-    same = record { pc = refl; ahead = refl };
+    same = record { pc = refl; ahead = refl; functions = refl };
   })
   small_or false k c e l m h g f = inr (large_at k m h (before g f), operand_at c e l m f)
 
@@ -160,7 +160,7 @@ module _ (z : Maker) where
 
   pub jump_on : (b : Bool) (line label : ℕ) (m : Maker) → Final (length m.labels) (when b (jump_to line label) m) z → JumpOn (fn_of z) b (get_or z.labels label 0) (spot m) (spot (when b (jump_to line label) m))
   jump_on true line label m f = put_at line (Piece.Jump Op.Jmp 0 label) m f
-  jump_on false line label m f = record { pc = refl; ahead = refl }
+  jump_on false line label m f = record { pc = refl; ahead = refl; functions = refl }
 
   test_by_at : (o : Option Constant) (line : ℕ) (c : Coded) (e : Rel) → ToAt c e → (truth : Bool) (label : ℕ) (m : Maker) → Final (length m.labels) (test_by o line c truth label m) z →
       TestBy o (fn_of z) m.active e m.free truth (get_or z.labels label 0) (spot m) (spot (test_by o line c truth label m))
@@ -179,7 +179,7 @@ module _ (z : Maker) where
         jump_if = λ truth label m f. subst (λ x. TestBy x.literal (fn_of z) m.active (rel_alone (fn_of z) form rel) m.free truth (get_or z.labels label 0) (spot m) (spot (test_by (literal e) line (alone e to) truth label m))) h
             (test_by_at (literal e) line (alone e to) (rel_alone (fn_of z) form rel) one truth label m f);
         spine = λ m f. operand_by_at None (alone e to) (rel_alone (fn_of z) form rel) one m f;
-        multi = λ op want m f. record { pc = refl; ahead = refl };
+        multi = λ op want m f. record { pc = refl; ahead = refl; functions = refl };
         target = λ m f. tt;
       }
 
@@ -198,7 +198,7 @@ module _ (z : Maker) where
       record { number = k.value; is = constant_at (Constant.Text text) m (before_put line (Piece.Abx Op.GetGlobal r k.value) k.after f); first = constant_first (Constant.Text text) m (before_put line (Piece.Abx Op.GetGlobal r k.value) k.after f); word = put_at line (Piece.Abx Op.GetGlobal r k.value) k.after f }
 
   name_at : (line : ℕ) (text : Text) (r : ℕ) (m : Maker) → Final (length m.labels) (name_value line text r m) z → NameAt (fn_of z) text m.active m.free r (spot m) (spot (name_value line text r m))
-  name_at line text r m f = (tt, record { mid = spot (pass_name m); first_at = record { pc = refl; ahead = refl }; second_at = name_by_at line r text (next_name m) (pass_name m) f })
+  name_at line text r m f = (tt, record { mid = spot (pass_name m); first_at = record { pc = refl; ahead = refl; functions = refl }; second_at = name_by_at line r text (next_name m) (pass_name m) f })
 
   pub links_name : (line : ℕ) (text : Text) → Links (coded_name line text) (rel_name (fn_of z) text)
   links_name line text =
@@ -210,7 +210,7 @@ module _ (z : Maker) where
             (record { is_form = refl; bare = λ active p q a. record { means = tt; passed = a }; to_free = λ r m. refl; to_reg = λ r m f. name_at line text r m (before_free m.free (name_value line text r m) f) }) truth label m (before_free m.free _ f);
         spine = l.spine;
         multi = l.multi;
-        target = λ m f. record { is = refl; means = tt; at_free = refl; passed = record { pc = refl; ahead = refl } };
+        target = λ m f. record { is = refl; means = tt; at_free = refl; passed = record { pc = refl; ahead = refl; functions = refl } };
       }
 
   pub links_paren : (e : Expression) (form : Form) (c : Coded) (d : Rel) → form_of e ≡ form → Links c d → Links (coded_paren e c) (rel_paren (fn_of z) form d)
@@ -218,7 +218,7 @@ module _ (z : Maker) where
     to = record { is_form = h; bare = l.to.bare; to_free = l.to.to_free; to_reg = l.to.to_reg };
     jump_if = l.jump_if;
     spine = λ m f. operand_by_at None c d l.to m f;
-    multi = λ op want m f. record { pc = refl; ahead = refl };
+    multi = λ op want m f. record { pc = refl; ahead = refl; functions = refl };
     target = λ m f. tt;
   }
 
@@ -322,7 +322,7 @@ module _ (z : Maker) where
     -- ---- and, or
 
     decide_at : (truth : Bool) (o : Option ℕ) (r : ℕ) (m : Maker) → Final (length m.labels) (decide line truth left r o m) z → DecideBy o (fn_of z) truth d m.active m.free r (spot m) (spot (decide line truth left r o m))
-    decide_at truth (Some x) r m f = record { mid = spot (pass_name m); first_at = l.to.bare m.active (spot m) (spot (pass_name m)) (record { pc = refl; ahead = refl }); second_at = put_at line _ (pass_name m) f }
+    decide_at truth (Some x) r m f = record { mid = spot (pass_name m); first_at = l.to.bare m.active (spot m) (spot (pass_name m)) (record { pc = refl; ahead = refl; functions = refl }); second_at = put_at line _ (pass_name m) f }
     decide_at truth None r m f = record { mid = spot (left.to_reg r m); first_at = l.to.to_reg r m (before_put line _ (left.to_reg r m) f); second_at = put_at line _ (left.to_reg r m) f }
 
     here_at : (truth : Bool) (r : ℕ) (m : Maker) → Final (length m.labels) (logic_here line truth left right r m) z → HereAt (fn_of z) truth d e m.active m.free r (spot m) (spot (logic_here line truth left right r m))
@@ -437,7 +437,7 @@ module _ (z : Maker) where
     small = leb-true _ _ h;
     at_x = refl;
     at_free = refl;
-    same = record { pc = refl; ahead = refl };
+    same = record { pc = refl; ahead = refl; functions = refl };
   })
   text_or false line text m h g f = inr (
     large_at (Constant.Text text) m h (before g f),
@@ -551,13 +551,13 @@ module _ (z : Maker) where
       }
 
   pub all_next_at : (cs : List Coded) (es : List Rel) → AllLinks cs es → (m : Maker) → Final (length m.labels) (all_next cs m) z → AllNextAt (fn_of z) es m.active m.free (spot m) (spot (all_next cs m))
-  all_next_at [] [] l m f = record { pc = refl; ahead = refl }
+  all_next_at [] [] l m f = record { pc = refl; ahead = refl; functions = refl }
   all_next_at [] (e ∷ es) l m f = absurd l
   all_next_at (c ∷ cs) [] l m f = absurd l
   all_next_at (c ∷ cs) (e ∷ es) l m f = first_at c e l.0 l.1 (all_next cs) (AllNextAt (fn_of z) es) (grows_all cs (all_grow cs es l.2)) (all_next_at cs es l.2) m f
 
   pub all_multi_at : (op : Op) (want : Want) (cs : List Coded) (es : List Rel) → AllLinks cs es → (m : Maker) → Final (length m.labels) (all_multi op want cs m) z → AllMultiAt (fn_of z) op want es m.active m.free (spot m) (spot (all_multi op want cs m))
-  all_multi_at op want [] [] l m f = record { pc = refl; ahead = refl }
+  all_multi_at op want [] [] l m f = record { pc = refl; ahead = refl; functions = refl }
   all_multi_at op want [] (e ∷ es) l m f = absurd l
   all_multi_at op want (c ∷ cs) [] l m f = absurd l
   all_multi_at op want (c ∷ []) (e ∷ []) l m f = l.0.multi op want m f

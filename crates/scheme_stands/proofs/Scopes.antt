@@ -81,7 +81,7 @@ module _ (all : List Mark) where
   function_all params vararg block first last method g l before behind' chunk t place rest e =
       let inside = in_function vararg place in
       let ps = all_params method params in
-      let p : Spot = record { pc = 0; ahead = before } in
+      let p : Spot = record { pc = 0; ahead = before; functions = 0 } in
       let body = λ (place : Place). both (declares first 0 ps) (both (come 0 ps place.declarations) (statements_part block)) place in
       let walk = body inside in
       let w = t.end in

@@ -97,7 +97,7 @@ function_onwards all method params vararg block first last place rest p behind c
     let o = h.between in
     let e = function_enters all method params vararg block first last place rest (without_sources p.ahead) behind chunk body t b.reached o.around_it h.scope (ap without_sources h.ahead) in
     record {
-      here = here_entered all method params vararg block first last (in_function vararg place) rest t.locals (record { pc = 0; ahead = without_sources p.ahead }) t.first t.declared inside;
+      here = here_entered all method params vararg block first last (in_function vararg place) rest t.locals (record { pc = 0; ahead = without_sources p.ahead; functions = 0 }) t.first t.declared inside;
       active_at = e.1;
     }
 

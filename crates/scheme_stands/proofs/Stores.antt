@@ -112,12 +112,12 @@ module _ (z : Maker) where
       record { x = v.value; free1 = v.after.free; mid = spot v.after; operand_at = rk_at z c e g l.to m (before_put line word v.after f); words_at = put_at line word v.after f }
 
   each_at : (line : ℕ) (targets : List Target) (cs : List Coded) (es : List Rel) → AllLinks z cs es → (m : Maker) → Final (length m.labels) (each_stored line targets cs m) z → EachStoredAt (fn_of z) targets es m.active m.free (spot m) (spot (each_stored line targets cs m))
-  each_at line [] cs es l m f = record { pc = refl; ahead = refl }
-  each_at line (t ∷ []) [] [] l m f = record { pc = refl; ahead = refl }
+  each_at line [] cs es l m f = record { pc = refl; ahead = refl; functions = refl }
+  each_at line (t ∷ []) [] [] l m f = record { pc = refl; ahead = refl; functions = refl }
   each_at line (t ∷ []) [] (e ∷ es) l m f = absurd l
   each_at line (t ∷ []) (c ∷ cs) [] l m f = absurd l
   each_at line (t ∷ []) (c ∷ cs) (e ∷ es) l m f = store_at line t c e l.1 l.0 m f
-  each_at line (t ∷ o ∷ ts) [] [] l m f = record { pc = refl; ahead = refl }
+  each_at line (t ∷ o ∷ ts) [] [] l m f = record { pc = refl; ahead = refl; functions = refl }
   each_at line (t ∷ o ∷ ts) [] (e ∷ es) l m f = absurd l
   each_at line (t ∷ o ∷ ts) (c ∷ cs) [] l m f = absurd l
   each_at line (t ∷ o ∷ ts) (c ∷ cs) (e ∷ es) l m f =
@@ -141,13 +141,13 @@ module _ (z : Maker) where
       }
 
   stored_from_at : (line r : ℕ) (targets : List Target) (m : Maker) {k : ℕ} → Final k (stored_from line r targets m) z → StoredFromAt (fn_of z) r targets (spot m) (spot (stored_from line r targets m))
-  stored_from_at line r [] m f = record { pc = refl; ahead = refl }
+  stored_from_at line r [] m f = record { pc = refl; ahead = refl; functions = refl }
   stored_from_at line r (t ∷ ts) m f =
       let m1 = stored_from line (suc r) ts m in
       record { mid = spot m1; first_at = stored_from_at line (suc r) ts m (before (grows_store_register line t r m1) f); second_at = store_register_at line t r m1 f }
 
   targets_at : (cs : List Coded) (es : List Rel) → AllLinks z cs es → (m : Maker) → Final (length m.labels) (all_targets cs m).after z → TargetsAt es m.active (all_targets cs m).value m.free (all_targets cs m).after.free (spot m) (spot (all_targets cs m).after)
-  targets_at [] [] l m f = record { is = refl; at_free = refl; same = record { pc = refl; ahead = refl } }
+  targets_at [] [] l m f = record { is = refl; at_free = refl; same = record { pc = refl; ahead = refl; functions = refl } }
   targets_at [] (e ∷ es) l m f = absurd l
   targets_at (c ∷ cs) [] l m f = absurd l
   targets_at (c ∷ cs) (e ∷ es) l m f =
@@ -172,12 +172,12 @@ module _ (z : Maker) where
       let m1 = take_registers 1 m in
       let word = Piece.Abc Op.Move m.free x 0 in
       let w = put_at line word m1 f in
-      record { room = room_at m (before_put line word m1 f); is = refl; at_free = refl; word = record { has = w.has; near = w.near; reads = tt; next = w.next; ahead = w.ahead } }
-  copy_at false line x targets m f = record { is = refl; at_free = refl; same = record { pc = refl; ahead = refl } }
+      record { room = room_at m (before_put line word m1 f); is = refl; at_free = refl; word = record { has = w.has; near = w.near; reads = tt; next = w.next; ahead = w.ahead; functions = w.functions } }
+  copy_at false line x targets m f = record { is = refl; at_free = refl; same = record { pc = refl; ahead = refl; functions = refl } }
 
   copies_at : (line count : ℕ) (targets : List Target) (m : Maker) {k : ℕ} → Final k (copies line count targets m).after z →
       CopiesAt (fn_of z) count targets (copies line count targets m).value m.free (copies line count targets m).after.free (spot m) (spot (copies line count targets m).after)
-  copies_at line zero targets m f = record { is = refl; at_free = refl; same = record { pc = refl; ahead = refl } }
+  copies_at line zero targets m f = record { is = refl; at_free = refl; same = record { pc = refl; ahead = refl; functions = refl } }
   copies_at line (suc x) targets m f =
       let b = copies line x targets m in
       let c = clashes x targets in

@@ -37,7 +37,7 @@ module _ (z : Maker) where
 
   pub set_list_if : (b : Bool) (line t n done : ℕ) (m : Maker) {k : ℕ} → Final k (when b (set_list line t n done) m) z → SetListIf b (fn_of z) t n done (spot m) (spot (when b (set_list line t n done) m))
   set_list_if true line t n done m f = set_list_at line t n done m f
-  set_list_if false line t n done m f = record { pc = refl; ahead = refl }
+  set_list_if false line t n done m f = record { pc = refl; ahead = refl; functions = refl }
 
   -- the rest of the items, behind one
   abbrev pub RestAt : Part → (List Active → Stretch) → (t pending : ℕ) → Type 0

@@ -13,7 +13,7 @@ use Rattle.scheme_stands.specs.Words.{Fn}
 use Rattle.scheme_stands.specs.Functions.{Step, Limits, FunctionAt, Declared, Activated}
 use Rattle.scheme_stands.proofs.Growth.{calm, on_put, on_take, Final, final_self, later, before, before_put, spot, fn_of, put_at, front_empty, back_empty}
 use Rattle.scheme_stands.proofs.Functions.{Made}
-use Rattle.scheme_stands.proofs.Lines.{grows_declare, grows_activate, declare_active, declare_items, declare_free, declare_length, declared, activated, activate_spot, activate_free, activate_length}
+use Rattle.scheme_stands.proofs.Lines.{grows_declare, grows_activate, declare_active, declare_items, declare_functions, declare_free, declare_length, declared, activated, activate_spot, activate_free, activate_length}
 use Rattle.scheme_stands.proofs.Blocks.{Settled, GrowsWell, StandsWell, before_end, end_any}
 
 -- a limit that is no misfit is kept
@@ -101,12 +101,14 @@ module _ (heading : Heading) (end_line : ℕ) (params : List Text) (statements :
         mid = spot m3;
         last = spot z;
         begins = ap (λ x. x.pc) p ∙ ap length (declare_items params m);
+        none_made = ap (λ x. x.functions) p ∙ ap length (declare_functions params m);
         declared = subst (λ x. Declared params ahead d.value x.ahead) (sym p) (declared params m);
         activated = subst (λ a. Activated d.value a m1.active) (declare_active params m) (activated d.value d.after);
         room = omega (arith, high, s);
         body_at = l z m2 s (later (omega arith) f3);
         end = put_at end_line word m4 f;
         ends = sym (words_length z.labels 0 z.items);
+        all_made = sym (counted z.functions);
         goes_on = refl;
       }
 

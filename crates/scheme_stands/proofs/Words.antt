@@ -148,7 +148,7 @@ module _ (n : Names) (f : Fn) where
       let read : IsRead p.pc (Piece.Abc op a b c) = word_is_read i (fits_as i Format.Abc alone.is ha (hb, hc, refl, refl)) in
       let next : q.pc ≡ suc p.pc + 0 = t.next ∙ (let e : suc p.pc ≡ suc p.pc + 0 = omega arith in e) in
       record {
-        is = record { has = t.has; near = t.near; reads = record { is = read; plain = plain }; next = t.next; ahead = t.ahead };
+        is = record { has = t.has; near = t.near; reads = record { is = read; plain = plain }; next = t.next; ahead = t.ahead; functions = t.functions };
         plain = plain_behind f (Piece.Abc op a b c) 0 p q.pc t.has read (alone.none f.functions i) next plain;
       }
 
@@ -158,7 +158,7 @@ module _ (n : Names) (f : Fn) where
       let read : IsRead p.pc (Piece.Abx op a bx) = word_is_read i (fits_as i Format.Abx alone.is ha (refl, refl, hb, refl)) in
       let next : q.pc ≡ suc p.pc + 0 = t.next ∙ (let e : suc p.pc ≡ suc p.pc + 0 = omega arith in e) in
       record {
-        is = record { has = t.has; near = t.near; reads = record { is = read; plain = plain }; next = t.next; ahead = t.ahead };
+        is = record { has = t.has; near = t.near; reads = record { is = read; plain = plain }; next = t.next; ahead = t.ahead; functions = t.functions };
         plain = plain_behind f (Piece.Abx op a bx) 0 p q.pc t.has read (alone.none f.functions i) next plain;
       }
 
@@ -168,7 +168,7 @@ module _ (n : Names) (f : Fn) where
       let read : IsRead p.pc (Piece.Jump op a place) = word_is_read i (fits_as i Format.Asbx alone.is ha (refl, refl, refl, near_low (distance p.pc place) t.near, near_high (distance p.pc place) t.near)) in
       let next : q.pc ≡ suc p.pc + 0 = t.next ∙ (let e : suc p.pc ≡ suc p.pc + 0 = omega arith in e) in
       record {
-        is = record { has = t.has; near = t.near; reads = record { is = read; plain = plain }; next = t.next; ahead = t.ahead };
+        is = record { has = t.has; near = t.near; reads = record { is = read; plain = plain }; next = t.next; ahead = t.ahead; functions = t.functions };
         plain = plain_behind f (Piece.Jump op a place) 0 p q.pc t.has read (alone.none f.functions i) next plain;
       }
 
@@ -224,7 +224,7 @@ module _ (n : Names) (f : Fn) where
         r.0,
         r.1,
         record {
-          is = record { has = has; near = tt; reads = record { is = read; plain = plain }; next = t.next; ahead = t.ahead };
+          is = record { has = has; near = tt; reads = record { is = read; plain = plain }; next = t.next; ahead = t.ahead; functions = t.functions };
           plain = plain_behind f (Piece.Abc Op.NewTable a r.0 r.1) 0 p q.pc has read refl next plain;
         },
       )
@@ -238,7 +238,7 @@ module _ (n : Names) (f : Fn) where
       let none : belonging f.functions (Some i) ≡ 0 = ap (λ b. if b then 1 else 0) (block_not_none d) in
       let next : q.pc ≡ suc p.pc + 0 = w.next ∙ (let e : suc p.pc ≡ suc p.pc + 0 = omega arith in e) in
       record {
-        is = record { has = w.has; near = w.near; reads = record { is = read; plain = plain }; next = w.next; ahead = w.ahead };
+        is = record { has = w.has; near = w.near; reads = record { is = read; plain = plain }; next = w.next; ahead = w.ahead; functions = w.functions };
         plain = plain_behind f (Piece.Abc Op.SetList t k (d + 1)) 0 p q.pc w.has read none next plain;
       }
   set_list_by false t k d ht hk hb p q plain w =
@@ -252,8 +252,8 @@ module _ (n : Names) (f : Fn) where
       record {
         is = record {
           mid = w.mid;
-          first_at = record { has = one.has; near = one.near; reads = record { is = read; plain = plain }; next = one.next; ahead = one.ahead };
-          second_at = record { has = other.has; near = other.near; reads = tt; next = other.next; ahead = other.ahead };
+          first_at = record { has = one.has; near = one.near; reads = record { is = read; plain = plain }; next = one.next; ahead = one.ahead; functions = one.functions };
+          second_at = record { has = other.has; near = other.near; reads = tt; next = other.next; ahead = other.ahead; functions = other.functions };
         };
         plain = plain_behind f (Piece.Abc Op.SetList t k 0) 1 p q.pc one.has read refl next plain;
       }
@@ -288,7 +288,7 @@ module _ (n : Names) (f : Fn) where
   further_one one active text p q s room c t =
       let m = s.limits in
       let l = m.registers in
-      record { has = t.has; reads = further_read (where_is one active) active text p (omega (arith, l, room)) (λ r e. where_low one active r e) s.few c; next = t.next; ahead = t.ahead }
+      record { has = t.has; reads = further_read (where_is one active) active text p (omega (arith, l, room)) (λ r e. where_low one active r e) s.few c; next = t.next; ahead = t.ahead; functions = t.functions }
 
   pub further_lift : (uses : List Use) (active : List Active) (names : List Text) → Setting n f → length active ≤ f.size → CapturedBy n active names uses → (p q : Spot) → FurtherAt f active uses p q → FurtherAt (asking n f) active uses p q × (q.pc ≡ p.pc + length uses)
   further_lift [] active names s room c p q t = (t, t.pc ∙ (let e : p.pc ≡ p.pc + 0 = omega arith in e))
@@ -310,6 +310,6 @@ module _ (n : Names) (f : Fn) where
       let i : Instr = record { op = Op.Closure; a = r; b = 0; c = 0; bx = number; sbx = pos 0 } in
       let read : IsRead p.pc (Piece.Abx Op.Closure r number) = word_is_read i (fits_as i Format.Abx refl hr (refl, refl, omega (arith, l, inside), refl)) in
       let more : belonging f.functions (Some i) ≡ (own chunk).upvalues = ap upvalue_count is in (
-        record { has = t.has; near = t.near; reads = record { is = read; plain = plain }; next = t.next; ahead = t.ahead },
+        record { has = t.has; near = t.near; reads = record { is = read; plain = plain }; next = t.next; ahead = t.ahead; functions = t.functions },
         λ pc e. plain_behind f (Piece.Abx Op.Closure r number) (own chunk).upvalues p pc t.has read more (e ∙ ap (λ k. k + (own chunk).upvalues) t.next) plain,
       )

@@ -4,7 +4,7 @@ use Rattle.lua_num.specs.Bytes.{Text}
 use Rattle.lua_tree.specs.Syntax.{no_statements, function_body, function_expression}
 use Rattle.lua_tree.specs.Scoping.{Use}
 use Rattle.opcode.specs.declared.op.Op.{Op}
-use Rattle.proto.specs.Chunk.{Chunk, own, function_at, function_count}
+use Rattle.proto.specs.Chunk.{Chunk, own, functions, function_at, function_count}
 use Rattle.scheme.specs.Making.{Ahead, head_or, where_is}
 use Rattle.scheme.specs.Functions.{further_word, without_sources, vararg_flags}
 use Rattle.scheme.specs.declared.making.Piece.{Piece}
@@ -39,27 +39,28 @@ pub record FurtherWordAt (f : Fn) (w : Piece) (p q : Spot) : Type 0 where
   pub reads : Lawful f.law (IsRead p.pc w)
   pub next : q.pc ≡ suc p.pc
   pub ahead : q.ahead ≡ p.ahead
+  pub functions : q.functions ≡ p.functions
 
 abbrev pub FurtherAt : Fn → List Active → List Use → Stretch
 FurtherAt f active [] = Same
 FurtherAt f active (one ∷ uses) = Seq (FurtherWordAt f (further_word (where_is one active))) (FurtherAt f active uses)
 
--- a closure of a function, whose chunk is one of those of this function; `mid` is behind the CLOSURE, and the source goes on there
--- where that of the function ends
+-- a closure of a function, whose chunk is the next one of those of this function; `mid` is behind the CLOSURE, and the source goes on
+-- there where that of the function ends
 pub record ClosureAt (f : Fn) (made : Law → FunctionRel) (active : List Active) (free r : ℕ) (p q : Spot) : Type 0 where
-  pub number : ℕ
   pub chunk : Chunk
   pub begun : Spot
   pub mid : Spot
-  pub is : function_at f.functions number ≡ Some chunk
+  pub is : function_at f.functions p.functions ≡ Some chunk
   -- the names of its upvalues
   pub names : List Text
   pub captured : Captured f.law active names (head_or [] p.ahead.sources)
   pub made_at : made (law_inside f.law active names) (without_sources p.ahead) mid.ahead chunk
   -- the upvalues are as many as the further words
   pub upvalues : (own chunk).upvalues ≡ length (head_or [] p.ahead.sources)
-  pub word : WordAt f (Piece.Abx Op.Closure r number) p begun
+  pub word : WordAt f (Piece.Abx Op.Closure r p.functions) p begun
   pub next : mid.pc ≡ begun.pc
+  pub one_more : mid.functions ≡ suc begun.functions
   pub further : FurtherAt f active (head_or [] p.ahead.sources) mid q
 
 abbrev pub rel_function : Fn → (Law → FunctionRel) → Rel
@@ -89,10 +90,13 @@ pub record FunctionAt (l : Law) (params : List Text) (vararg : Bool) (body : Fn 
   pub mid : Spot
   pub last : Spot
   pub begins : first.pc ≡ 0
+  pub none_made : first.functions ≡ 0
   pub declared : Declared params before locals first.ahead
   pub activated : Activated locals [] active
   pub room : length active ≤ (own chunk).registers
   pub body_at : body (fn l chunk) active inner first mid
   pub end : WordAt (fn l chunk) (Piece.Abc Op.Return 0 1 0) mid last
   pub ends : last.pc ≡ length (own chunk).code
+  -- each function of the chunk is made once, in order
+  pub all_made : last.functions ≡ function_count (functions chunk)
   pub goes_on : last.ahead ≡ behind

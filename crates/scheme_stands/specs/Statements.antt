@@ -49,6 +49,7 @@ pub record LocalPartAt (f : Fn) (names : List Text) (values : List Rel) (active 
   pub locals : List Local
   pub mid : Spot
   pub same : mid.pc ≡ p.pc
+  pub as_many : mid.functions ≡ p.functions
   pub declared : Declared names p.ahead locals mid.ahead
   pub values_at : AdjustAt f values (length names) active (length active) mid q
   pub activated : Activated locals active after
@@ -58,6 +59,7 @@ pub record LocalFunctionAt (f : Fn) (text : Text) (made : Law → FunctionRel) (
   pub locals : List Local
   pub mid : Spot
   pub same : mid.pc ≡ p.pc
+  pub as_many : mid.functions ≡ p.functions
   pub declared : Declared (text ∷ []) p.ahead locals mid.ahead
   pub activated : Activated locals active after
   pub room : length active < f.size
@@ -235,6 +237,7 @@ pub record NumericAt (f : Fn) (text : Text) (first last : Rel) (step : List Acti
   pub begin : Spot
   pub loop : Spot
   pub same : declared_by.pc ≡ p.pc
+  pub as_many : declared_by.functions ≡ p.functions
   pub declared : Declared (text ∷ []) p.ahead variables declared_by.ahead
   pub room : length active + 3 ≤ f.size
   pub first_at : first.to_reg active (length active) (length active) declared_by with_first
@@ -258,6 +261,7 @@ pub record GenericAt (f : Fn) (names : List Text) (values : List Rel) (body : Op
   -- there is a name
   pub some : Lawful f.law (0 < length names)
   pub same : declared_by.pc ≡ p.pc
+  pub as_many : declared_by.functions ≡ p.functions
   pub declared : Declared names p.ahead variables declared_by.ahead
   pub room : length active + 6 ≤ f.size
   pub values_at : AdjustAt f values 3 active (length active) declared_by valued

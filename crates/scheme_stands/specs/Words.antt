@@ -3,7 +3,7 @@
 --
 -- What the indices are, here and in the files that follow:
 --   f        the function in which the words stand: its code, constants, functions, number of registers and law
---   p q      the spots before and behind the part: a pc, and what is known of the source ahead
+--   p q      the spots before and behind the part: a pc, what is known of the source ahead, and how many functions were made
 --   active   the active locals before the part, whose registers are their places in this list; `after`, those behind it
 --   free     F before the part, the first register that it may use; `free1`, F behind it, where that is another
 --   r        the register to which a value goes;  x y t k v   registers or constants (RK) in which operands are
@@ -68,6 +68,8 @@ asking n f = record f { law = Some n }
 pub record Spot : Type 0 where
   pub pc : ℕ
   pub ahead : Ahead
+  -- so many functions of the running one have been made before
+  pub functions : ℕ
 
 abbrev pub Stretch : Type 1
 Stretch = (p q : Spot) → Type 0
@@ -122,16 +124,19 @@ pub record WordAt (f : Fn) (w : Piece) (p q : Spot) : Type 0 where
   pub reads : Lawful f.law (Reads f p.pc w)
   pub next : q.pc ≡ suc p.pc
   pub ahead : q.ahead ≡ p.ahead
+  pub functions : q.functions ≡ p.functions
 
 -- nothing stands between
 pub record Same (p q : Spot) : Type 0 where
   pub pc : q.pc ≡ p.pc
   pub ahead : q.ahead ≡ p.ahead
+  pub functions : q.functions ≡ p.functions
 
 -- a name of the source is read, with no word
 pub record Passed (p q : Spot) : Type 0 where
   pub pc : q.pc ≡ p.pc
   pub ahead : q.ahead ≡ record (p.ahead) { names = drop 1 p.ahead.names }
+  pub functions : q.functions ≡ p.functions
 
 -- one part and another behind it
 pub record Seq (first second : Stretch) (p q : Spot) : Type 0 where
