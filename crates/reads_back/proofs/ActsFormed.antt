@@ -162,19 +162,19 @@ some_words at n fs (and_value v vs) all None some = refl
 some_words at n fs vs all (Some o) some = some_end (word_values at n fs vs all).words (word_operand at (taken_behind_values vs n) (left_by_values vs fs) o).words
 
 module _ (g : Fn) (active : List Active) where
-  some_values : (es : Expressions) (from : Values) → has_expressions es ≡ true → AreCores g active es from → has_values from ≡ true
-  some_values no_expressions from some are = not_so some
-  some_values (syntax.expression e es) from some are = ap has_values are.4
+  some_values : (es : Expressions) (before behind : ℕ) (from : Values) → has_expressions es ≡ true → AreCores g active es before behind from → has_values from ≡ true
+  some_values no_expressions before behind from some are = not_so some
+  some_values (syntax.expression e es) before behind from some are = let parts = are.1 in ap has_values parts.4
 
-  some_assigned : (es : Expressions) (ts : List TargetValue) (to : Assigned) → has_expressions es ≡ true → AreWithOperand g active ts es to ⊎ AreValues g active ts es to → has_assigned to ≡ true
-  some_assigned es ts to some (inl is) = ap (λ (last : Option OperandValue). has_values to.values || is_some last) is.5 ∙ or_second (has_values to.values) _ refl
-  some_assigned es ts to some (inr is) =
-      ap has_assigned (sym is.3) ∙ some_by (not (ends_open es) && nat_lt (value_count is.0) (length ts)) (suc (value_count is.0) == length ts) (last_target ts) is.0 (some_values es is.0 some is.1)
+  some_assigned : (es : Expressions) (ts : List TargetValue) (before behind : ℕ) (to : Assigned) → has_expressions es ≡ true → AreWithOperand g active ts es before behind to ⊎ AreValues g active ts es before behind to → has_assigned to ≡ true
+  some_assigned es ts before behind to some (inl is) = ap (λ (last : Option OperandValue). has_values to.values || is_some last) is.5 ∙ or_second (has_values to.values) _ refl
+  some_assigned es ts before behind to some (inr is) =
+      ap has_assigned (sym is.3) ∙ some_by (not (ends_open es) && nat_lt (value_count is.0) (length ts)) (suc (value_count is.0) == length ts) (last_target ts) is.0 (some_values es before behind is.0 some is.1)
 
-  some_targets : (at : Place) (n : ℕ) (targets : Expressions) (ts : List TargetValue) → has_expressions targets ≡ true → AreTargets g active targets ts → has_expressions (words_targets at n [] ts).words ≡ true
-  some_targets at n no_expressions ts some are = not_so some
-  some_targets at n (syntax.expression target targets) [] some are = absurd are
-  some_targets at n (syntax.expression target targets) (t ∷ ts) some are = refl
+  some_targets : (at : Place) (n : ℕ) (targets : Expressions) (before behind : ℕ) (ts : List TargetValue) → has_expressions targets ≡ true → AreTargets g active targets before behind ts → has_expressions (words_targets at n [] ts).words ≡ true
+  some_targets at n no_expressions before behind ts some are = not_so some
+  some_targets at n (syntax.expression target targets) before behind [] some are = absurd are
+  some_targets at n (syntax.expression target targets) before behind (t ∷ ts) some are = refl
 
 -- ---- a value that begins with a variable is written as it begins
 
@@ -233,77 +233,84 @@ module _ (g : Fn) (active : List Active) where
   variable_begins text (in_upvalue slot) v is = begins_as v (upvalue_value slot) is tt
   variable_begins text in_globals v is = begins_as v (global_value is.0) is.2 tt
 
-  pub name_begins : (e : Expression) (v : Value) → BeginsWithName e → IsCore g active e v → BeginsWithVariable v
-  name_begins (name_expression line text) v begins is = variable_begins text is.0 v is.2
-  name_begins (index_expression line on key) v begins is = index_begins is.0 is.1 v is.4 (name_begins on is.0 begins is.2)
-  name_begins (field_expression line on text) v begins is = index_begins is.0 is.1 v is.4 (name_begins on is.0 begins is.2)
-  name_begins (call_expression line on args on_line) v begins is =
-      begins_as v _ (over_made (max (depth_of is.0) (deepest is.1)) (λ d. call_value is.0 is.1 is.2 d) v is.5) (name_begins on is.0 begins is.3)
-  name_begins (method_call line on name args on_line) v begins is =
-      begins_as v _ (over_made (max (depth_of is.0) (deepest is.2)) (λ d. method_value is.0 is.1 is.2 is.3 d) v is.7) (name_begins on is.0 begins is.4)
-  name_begins (parenthesized line e) v begins is = name_begins e v begins is
-  name_begins e v begins is = absurd begins
+  pub name_begins : (e : Expression) (before behind : ℕ) (v : Value) → BeginsWithName e → IsCore g active e before behind v → BeginsWithVariable v
+  name_begins (name_expression line text) before behind v begins is = let means = is.1 in variable_begins text means.0 v means.2
+  name_begins (index_expression line on key) before behind v begins is = let parts = is.1 in index_begins parts.0 parts.1 v parts.4 (name_begins on before is.0 parts.0 begins parts.2)
+  name_begins (field_expression line on text) before behind v begins is = let parts = is.1 in index_begins parts.0 parts.1 v parts.4 (name_begins on before is.0 parts.0 begins parts.2)
+  name_begins (call_expression line on args on_line) before behind v begins is =
+      let parts = is.1 in
+      begins_as v _ (over_made (max (depth_of parts.0) (deepest parts.1)) (λ d. call_value parts.0 parts.1 parts.2 d) v parts.5) (name_begins on before is.0 parts.0 begins parts.3)
+  name_begins (method_call line on name args on_line) before behind v begins is =
+      let parts = is.1 in
+      begins_as v _ (over_made (max (depth_of parts.0) (deepest parts.2)) (λ d. method_value parts.0 parts.1 parts.2 parts.3 d) v parts.7) (name_begins on before is.0 parts.0 begins parts.4)
+  name_begins (parenthesized line e) before behind v begins is = name_begins e before behind v begins is
+  name_begins e before behind v begins is = absurd begins
 
   target_variable : (text : Text) (w : Where) (t : TargetValue) → IsVariableTarget g text w t → BeginsWithVariable (value_of_target t)
   target_variable text (in_register r) t is = subst (λ t. BeginsWithVariable (value_of_target t)) (sym is) tt
   target_variable text (in_upvalue slot) t is = subst (λ t. BeginsWithVariable (value_of_target t)) (sym is) tt
   target_variable text in_globals t is = subst (λ t. BeginsWithVariable (value_of_target t)) (sym is.2) tt
 
-  target_begins : (e : Expression) (t : TargetValue) → BeginsWithName e → IsTarget g active e t → BeginsWithVariable (value_of_target t)
-  target_begins (name_expression line text) t begins is = target_variable text is.0 t is.2
-  target_begins (index_expression line on key) (index_target o k) begins is = name_begins on o begins is.0
-  target_begins (field_expression line on text) (index_target o k) begins is = name_begins on o begins is.0
-  target_begins e t begins is = absurd (assumption is)
+  target_begins : (e : Expression) (before behind : ℕ) (t : TargetValue) → BeginsWithName e → IsTarget g active e before behind t → BeginsWithVariable (value_of_target t)
+  target_begins (name_expression line text) before behind t begins is = target_variable text is.1 t is.3
+  target_begins (index_expression line on key) before behind (index_target o k) begins is = name_begins on before is.0 o begins is.1
+  target_begins (field_expression line on text) before behind (index_target o k) begins is = name_begins on before is.0 o begins is.1
+  target_begins e before behind t begins is = absurd (assumption is)
 
 -- ---- acts; calls are written as calls
 
-pub called_is : (at : Place) (g : Fn) (active : List Active) (left : List (Option Inner)) (e : Expression) (v : Value) (n : ℕ) → is_call e ≡ true → IsCore g active e v → is_call (word at n left v).words ≡ true
-called_is at g active left (call_expression line on args on_line) v n call is = ap (λ v. is_call (word at n left v).words) (over_made (max (depth_of is.0) (deepest is.1)) (λ d. call_value is.0 is.1 is.2 d) v is.5)
-called_is at g active left (method_call line on name args on_line) v n call is = ap (λ v. is_call (word at n left v).words) (over_made (max (depth_of is.0) (deepest is.2)) (λ d. method_value is.0 is.1 is.2 is.3 d) v is.7)
-called_is at g active left e v n call is = not_so call
+pub called_is : (at : Place) (g : Fn) (active : List Active) (left : List (Option Inner)) (e : Expression) (before behind : ℕ) (v : Value) (n : ℕ) → is_call e ≡ true → IsCore g active e before behind v → is_call (word at n left v).words ≡ true
+called_is at g active left (call_expression line on args on_line) before behind v n call is =
+    let parts = is.1 in
+    ap (λ v. is_call (word at n left v).words) (over_made (max (depth_of parts.0) (deepest parts.1)) (λ d. call_value parts.0 parts.1 parts.2 d) v parts.5)
+called_is at g active left (method_call line on name args on_line) before behind v n call is =
+    let parts = is.1 in
+    ap (λ v. is_call (word at n left v).words) (over_made (max (depth_of parts.0) (deepest parts.2)) (λ d. method_value parts.0 parts.1 parts.2 parts.3 d) v parts.7)
+called_is at g active left e before behind v n call is = not_so call
 
 module _ (at : Place) (g : Fn) (active : List Active) where
-  pub act_formed : (s : Statement) (acted : Acted) (n : ℕ) → IsAct s → IsActed g active s acted → can_act at [] acted ≡ true → formed_statement (act_statement at n [] acted) ≡ true
-  act_formed (call_statement e) (called v) n has is can = let fine = word_fine at v n [] refl can in both_hold _ _ (called_is at g active [] e v n has.0 is) fine.formed
-  act_formed (assignment targets es) (assigned ts vs all last) n has is can =
+  pub act_formed : (s : Statement) (before behind : ℕ) (acted : Acted) (n : ℕ) → IsAct s → IsActed g active s before behind acted → can_act at [] acted ≡ true → formed_statement (act_statement at n [] acted) ≡ true
+  act_formed (call_statement e) before behind (called v) n has is can = let fine = word_fine at v n [] refl can in both_hold _ _ (called_is at g active [] e before behind v n has.0 is) fine.formed
+  act_formed (assignment targets es) before behind (assigned ts vs all last) n has is can =
       let fine = assigned_parts at ts vs all last n can in
       let to = fine.0.0 in
       let values = fine.1 in
-      let some = some_words at (taken_behind_targets ts n) (left_by_targets ts []) vs all last (some_assigned g active es ts (record { values = vs; all = all; last = last }) has.given is.1) in
-      both_hold _ _ (some_targets g active at n targets ts has.some is.0) (both_hold _ _ fine.0.1 (both_hold _ _ to.formed (both_hold _ _ some values.formed)))
-  act_formed (local_statement names es) (declared others vs all) n has is can =
+      let some = some_words at (taken_behind_targets ts n) (left_by_targets ts []) vs all last (some_assigned g active es ts is.0 behind (record { values = vs; all = all; last = last }) has.given is.2) in
+      both_hold _ _ (some_targets g active at n targets before is.0 ts has.some is.1) (both_hold _ _ fine.0.1 (both_hold _ _ to.formed (both_hold _ _ some values.formed)))
+  act_formed (local_statement names es) before behind (declared others vs all) n has is can =
       let fine = values_fine at vs all n [] refl can in
       both_hold _ _ (ap are_some_names is.0 ∙ has.0) fine.formed
-  act_formed (return_statement es) (returned vs all) n has is can = let fine = values_fine at vs all n [] refl can in fine.formed
-  act_formed s acted n has is can = absurd is
+  act_formed (return_statement es) before behind (returned vs all) n has is can = let fine = values_fine at vs all n [] refl can in fine.formed
+  act_formed s before behind acted n has is can = absurd is
 
-  pub act_shallow : (s : Statement) (acted : Acted) (n : ℕ) → IsAct s → IsActed g active s acted → can_act at [] acted ≡ true → act_levels at n [] acted ≤ 400 → suc (depth_of_statement (act_statement at n [] acted)) ≤ act_levels at n [] acted
-  act_shallow s (called v) n has is can few = let fine = word_fine at v n [] refl can in let low = fine.shallow (omega (arith, few)) in omega (arith, few, low)
-  act_shallow s (assigned ts vs all last) n has is can few =
+  pub act_shallow : (s : Statement) (before behind : ℕ) (acted : Acted) (n : ℕ) → IsAct s → IsActed g active s before behind acted → can_act at [] acted ≡ true → act_levels at n [] acted ≤ 400 → suc (depth_of_statement (act_statement at n [] acted)) ≤ act_levels at n [] acted
+  act_shallow s before behind (called v) n has is can few = let fine = word_fine at v n [] refl can in let low = fine.shallow (omega (arith, few)) in omega (arith, few, low)
+  act_shallow s before behind (assigned ts vs all last) n has is can few =
       let fine = assigned_parts at ts vs all last n can in
       let targets = fine.0.0 in
       let values = fine.1 in
       let low = targets.shallow (omega (arith, few)) in
       let high = values.shallow (omega (arith, few)) in
       omega (arith, few, low, high)
-  act_shallow s (declared names vs all) n has is can few = let fine = values_fine at vs all n [] refl can in let low = fine.shallow (omega (arith, few)) in omega (arith, few, low)
-  act_shallow s (returned vs all) n has is can few = let fine = values_fine at vs all n [] refl can in let low = fine.shallow (omega (arith, few)) in omega (arith, few, low)
+  act_shallow s before behind (declared names vs all) n has is can few = let fine = values_fine at vs all n [] refl can in let low = fine.shallow (omega (arith, few)) in omega (arith, few, low)
+  act_shallow s before behind (returned vs all) n has is can few = let fine = values_fine at vs all n [] refl can in let low = fine.shallow (omega (arith, few)) in omega (arith, few, low)
 
-  pub act_closed : (s : Statement) (acted : Acted) (n : ℕ) → StatementBeginsWithName s → IsAct s → IsActed g active s acted → can_act at [] acted ≡ true → statement_begins_with_paren (act_statement at n [] acted) ≡ false
-  act_closed (call_statement e) (called v) n begins has is can = let open_words = variable_open at v n [] (name_begins g active e v begins is) can in open_words.bare
-  act_closed (assignment targets es) (assigned [] vs all last) n begins has is can = refl
-  act_closed (assignment no_expressions es) (assigned (t ∷ ts) vs all last) n begins has is can = absurd is.0
-  act_closed (assignment (syntax.expression target targets) es) (assigned (t ∷ ts) vs all last) n begins has is can =
-      let open_words = variable_open at (value_of_target t) n [] (target_begins g active target t begins.0 is.0.0) (can_be_read at [] t (first_of_both _ _ (first_of_both _ _ can))) in
+  pub act_closed : (s : Statement) (before behind : ℕ) (acted : Acted) (n : ℕ) → StatementBeginsWithName s → IsAct s → IsActed g active s before behind acted → can_act at [] acted ≡ true → statement_begins_with_paren (act_statement at n [] acted) ≡ false
+  act_closed (call_statement e) before behind (called v) n begins has is can = let open_words = variable_open at v n [] (name_begins g active e before behind v begins is) can in open_words.bare
+  act_closed (assignment targets es) before behind (assigned [] vs all last) n begins has is can = refl
+  act_closed (assignment no_expressions es) before behind (assigned (t ∷ ts) vs all last) n begins has is can = absurd is.1
+  act_closed (assignment (syntax.expression target targets) es) before behind (assigned (t ∷ ts) vs all last) n begins has is can =
+      let first = is.1 in
+      let open_words = variable_open at (value_of_target t) n [] (target_begins g active target before first.0 t begins.0 first.1) (can_be_read at [] t (first_of_both _ _ (first_of_both _ _ can))) in
       ap (λ w. begins_with_paren w.words) (written_as_value at n [] t) ∙ open_words.bare
-  act_closed (local_statement names es) (declared others vs all) n begins has is can = refl
-  act_closed (return_statement es) (returned vs all) n begins has is can = refl
-  act_closed s acted n begins has is can = absurd is
+  act_closed (local_statement names es) before behind (declared others vs all) n begins has is can = refl
+  act_closed (return_statement es) before behind (returned vs all) n begins has is can = refl
+  act_closed s before behind acted n begins has is can = absurd is
 
 -- a return ends its block, and nothing else does
-pub act_ends : (at : Place) (g : Fn) (active : List Active) (s : Statement) (acted : Acted) (n : ℕ) → IsActed g active s acted → ends_block (act_statement at n [] acted) ≡ ends_block s
-act_ends at g active (call_statement e) (called v) n is = refl
-act_ends at g active (assignment targets es) (assigned ts vs all last) n is = refl
-act_ends at g active (local_statement names es) (declared others vs all) n is = refl
-act_ends at g active (return_statement es) (returned vs all) n is = refl
-act_ends at g active s acted n is = absurd is
+pub act_ends : (at : Place) (g : Fn) (active : List Active) (s : Statement) (before behind : ℕ) (acted : Acted) (n : ℕ) → IsActed g active s before behind acted → ends_block (act_statement at n [] acted) ≡ ends_block s
+act_ends at g active (call_statement e) before behind (called v) n is = refl
+act_ends at g active (assignment targets es) before behind (assigned ts vs all last) n is = refl
+act_ends at g active (local_statement names es) before behind (declared others vs all) n is = refl
+act_ends at g active (return_statement es) before behind (returned vs all) n is = refl
+act_ends at g active s before behind acted n is = absurd is

@@ -41,25 +41,27 @@ module _ {f : Function} {g : Fn} {active : List Active} {listed : List ℕ} (is_
   variable_value text in_globals t (number, has, is) = (number, has, ap value_of_target is)
 
   -- what is assigned to
-  target_marks : (e : Expression) (t : TargetValue) → IsActTarget e → IsTarget g active e t → SamePart (part_of at (value_of_target t)) (expression_part (one_line_expression e))
-  target_marks (name_expression line text) t has is =
-      (marks_of is_function listed_names (name_expression line text) has).one (value_of_target t) (is.0, is.1, variable_value text is.0 t is.2)
-  target_marks (index_expression line on key) (index_target o k) has is =
-      both_same ((marks_of is_function listed_names on has.0).one o is.0) (part_then (nothing_behind (part_of_operand at k)) (of_operand is_function listed_names key k (literal key) refl (marks_of is_function listed_names key has.1).one is.1))
-  target_marks (field_expression line on text) (index_target o k) has is =
-      part_then (both_same ((marks_of is_function listed_names on has).one o is.0) (part_then (nothing_behind (part_of_operand at k)) (key_part is_function listed_names text k is.1))) (nothing_behind (expression_part (one_line_expression on)))
-  target_marks e t has is = absurd (assumption is)
+  target_marks : (e : Expression) (before behind : ℕ) (t : TargetValue) → IsActTarget e → IsTarget g active e before behind t → SamePart (part_of at (value_of_target t)) (expression_part (one_line_expression e))
+  target_marks (name_expression line text) before behind t has is =
+      (marks_of is_function listed_names (name_expression line text) has).one before behind (value_of_target t) (is.0, (is.1, is.2, variable_value text is.1 t is.3))
+  target_marks (index_expression line on key) before behind (index_target o k) has is =
+      both_same ((marks_of is_function listed_names on has.0).one before is.0 o is.1)
+      (part_then (nothing_behind (part_of_operand at k)) (of_operand is_function listed_names key is.0 behind k (literal key) refl (marks_of is_function listed_names key has.1).one is.2))
+  target_marks (field_expression line on text) before behind (index_target o k) has is =
+      let key = key_part is_function listed_names text is.0 behind k is.2 in
+      part_then (both_same ((marks_of is_function listed_names on has).one before is.0 o is.1) (part_then (nothing_behind (part_of_operand at k)) key)) (nothing_behind (expression_part (one_line_expression on)))
+  target_marks e before behind t has is = absurd (assumption is)
 
-  targets_marks : (es : Expressions) (ts : List TargetValue) (n : ℕ) (fs : List (Option Inner)) → fs ≡ [] → AreActTargets es → AreTargets g active es ts → can_write_targets at fs ts ≡ true →
+  targets_marks : (es : Expressions) (before behind : ℕ) (ts : List TargetValue) (n : ℕ) (fs : List (Option Inner)) → fs ≡ [] → AreActTargets es → AreTargets g active es before behind ts → can_write_targets at fs ts ≡ true →
       SamePart (expressions_part (words_targets at n fs ts).words) (expressions_part (one_line_expressions es))
-  targets_marks no_expressions [] n fs none are is can = same_part nothing
-  targets_marks no_expressions (t ∷ ts) n fs none are is can = absurd is
-  targets_marks (syntax.expression e es) [] n fs none are is can = absurd is
-  targets_marks (syntax.expression e es) (t ∷ ts) n fs none are is can =
+  targets_marks no_expressions before behind [] n fs none are is can = same_part nothing
+  targets_marks no_expressions before behind (t ∷ ts) n fs none are is can = absurd is
+  targets_marks (syntax.expression e es) before behind [] n fs none are is can = absurd is
+  targets_marks (syntax.expression e es) before behind (t ∷ ts) n fs none are is can =
       let there = subst (λ (fs : List (Option Inner)). can_write_target at fs t ≡ true) none (first_of_both _ _ can) in
-      let one = part_then (target_part at is_function.natural t n there) (target_marks e t are.0 is.0) in
+      let one = part_then (target_part at is_function.natural t n there) (target_marks e before is.0 t are.0 is.1) in
       both_same (subst (λ (fs : List (Option Inner)). SamePart (expression_part (word_target at n fs t).words) (expression_part (one_line_expression e))) (sym none) one)
-      (targets_marks es ts (taken_behind_target t n) (left_by_target t fs) (ap (left_by_target t) none ∙ none_by_target t) are.1 is.1 (second_of_both (can_write_target at fs t) _ can))
+      (targets_marks es is.0 behind ts (taken_behind_target t n) (left_by_target t fs) (ap (left_by_target t) none ∙ none_by_target t) are.1 is.2 (second_of_both (can_write_target at fs t) _ can))
 
   -- ---- the values that are assigned
 
@@ -77,30 +79,33 @@ module _ {f : Function} {g : Fn} {active : List Active} {listed : List ℕ} (is_
       (both_same (values_part at is_function.natural vs all n fs none can) (operand_part at is_function.natural o (taken_behind_values vs n) (left_by_values vs fs) (ap (left_by_values vs) none ∙ none_by_values vs) can_last))
 
   -- as many values as targets, with an operand behind them
-  ended_part : (es : Expressions) (vs : Values) (o : OperandValue) → AllHaveCores es → EndWithOperand g active es vs o → SamePart (both (parts_of at vs) (part_of_operand at o)) (expressions_part (one_line_expressions es))
-  ended_part no_expressions vs o has is = absurd is
-  ended_part (syntax.expression e no_expressions) vs o has is =
-      let last = of_operand is_function listed_names e o (literal e) refl (marks_of is_function listed_names e has.0).one is.1 in
+  ended_part : (es : Expressions) (o : OperandValue) (before behind : ℕ) (vs : Values) → AllHaveCores es → EndWithOperand g active es o before behind vs → SamePart (both (parts_of at vs) (part_of_operand at o)) (expressions_part (one_line_expressions es))
+  ended_part no_expressions o before behind vs has is = absurd is
+  ended_part (syntax.expression e no_expressions) o before behind vs has is =
+      let last = of_operand is_function listed_names e before behind o (literal e) refl (marks_of is_function listed_names e has.0).one is.1 in
       part_then (both_same (λ place. ap (λ vs. parts_of at vs place) is.0) last) (part_back (nothing_behind (expression_part (one_line_expression e))))
-  ended_part (syntax.expression e (syntax.expression d es)) vs o has is =
+  ended_part (syntax.expression e (syntax.expression d es)) o before behind vs has (mid, is) =
       let front : SamePart (parts_of at vs) (both (part_of at is.0) (parts_of at is.1)) = λ place. ap (λ vs. parts_of at vs place) is.4 in
       part_then (both_same front (same_part (part_of_operand at o)))
-      (part_then (both_assoc (part_of at is.0) (parts_of at is.1) (part_of_operand at o)) (both_same ((marks_of is_function listed_names e has.0).one is.0 is.2) (ended_part (syntax.expression d es) is.1 o has.1 is.3)))
+      (part_then (both_assoc (part_of at is.0) (parts_of at is.1) (part_of_operand at o)) (both_same ((marks_of is_function listed_names e has.0).one before mid is.0 is.2) (ended_part (syntax.expression d es) o mid behind is.1 has.1 is.3)))
 
-  values_marks : (es : Expressions) (ts : List TargetValue) (to : Assigned) → AllHaveCores es → AreWithOperand g active ts es to ⊎ AreValues g active ts es to → SamePart (assigned_part at to) (expressions_part (one_line_expressions es))
-  values_marks es ts to has (inl is) = part_then (both_same (same_part (parts_of at to.values)) (λ place. ap (λ (last : Option OperandValue). last_part at last place) is.5)) (ended_part es to.values is.2 has is.3)
-  values_marks es ts to has (inr is) = part_then (assigned_parts at (length ts) (last_target ts) (ends_open es) is.0 to is.3) (list_part is_function listed_names es has is.0 is.1)
+  values_marks : (es : Expressions) (ts : List TargetValue) (before behind : ℕ) (to : Assigned) → AllHaveCores es → AreWithOperand g active ts es before behind to ⊎ AreValues g active ts es before behind to → SamePart (assigned_part at to) (expressions_part (one_line_expressions es))
+  values_marks es ts before behind to has (inl is) =
+      part_then (both_same (same_part (parts_of at to.values)) (λ place. ap (λ (last : Option OperandValue). last_part at last place) is.5)) (ended_part es is.2 before behind to.values has is.3)
+  values_marks es ts before behind to has (inr is) =
+      part_then (assigned_parts at (length ts) (last_target ts) (ends_open es) is.0 to is.3) (list_part is_function listed_names es has before behind is.0 is.1)
 
-  pub act_marks : (s : Statement) (acted : Acted) (n line : ℕ) → IsAct s → IsActed g active s acted → can_act at [] acted ≡ true → SamePart (statement_part line (act_statement at n [] acted)) (statement_part line (one_line_statement s))
-  act_marks (call_statement e) (called v) n line has is can = part_then (word_part at is_function.natural v n [] refl can) ((marks_of is_function listed_names e has.1).one v is)
-  act_marks (assignment targets es) (assigned ts vs all last) n line has is can =
+  pub act_marks : (s : Statement) (before behind : ℕ) (acted : Acted) (n line : ℕ) → IsAct s → IsActed g active s before behind acted → can_act at [] acted ≡ true → SamePart (statement_part line (act_statement at n [] acted)) (statement_part line (one_line_statement s))
+  act_marks (call_statement e) before behind (called v) n line has is can = part_then (word_part at is_function.natural v n [] refl can) ((marks_of is_function listed_names e has.1).one before behind v is)
+  act_marks (assignment targets es) before behind (assigned ts vs all last) n line has is can =
       let values = second_of_both (can_write_targets at [] ts) _ can in
-      both_same (targets_marks targets ts n [] refl has.targets is.0 (first_of_both _ _ can))
+      both_same (targets_marks targets before is.0 ts n [] refl has.targets is.1 (first_of_both _ _ can))
       (part_then (assigned_words vs all last (taken_behind_targets ts n) (left_by_targets ts []) (none_by_targets ts [] refl) (first_of_both _ _ values) (second_of_both (can_write_values at (left_by_targets ts []) vs) _ values))
-      (values_marks es ts (record { values = vs; all = all; last = last }) has.values is.1))
-  act_marks (local_statement names es) (declared others vs all) n line has is can =
-      let values = part_then (values_part at is_function.natural vs all n [] refl can) (part_then (declared_parts at (length names) (ends_open es) is.1 vs all is.3) (list_part is_function listed_names es has.1 is.1 is.2)) in
+      (values_marks es ts is.0 behind (record { values = vs; all = all; last = last }) has.values is.2))
+  act_marks (local_statement names es) before behind (declared others vs all) n line has is can =
+      let made = part_then (declared_parts at (length names) (ends_open es) is.1 vs all is.3) (list_part is_function listed_names es has.1 before behind is.1 is.2) in
+      let values = part_then (values_part at is_function.natural vs all n [] refl can) made in
       λ here. ap (λ names. both (declares line 0 names) (both (expressions_part (word_values at n [] vs all).words) (come 0 names here.declarations)) here) is.0
       ∙ both_same (same_part (declares line 0 names)) (both_same values (same_part (come 0 names here.declarations))) here
-  act_marks (return_statement es) (returned vs all) n line has is can = part_then (values_part at is_function.natural vs all n [] refl can) (list_part is_function listed_names es has vs is.0)
-  act_marks s acted n line has is can = absurd is
+  act_marks (return_statement es) before behind (returned vs all) n line has is can = part_then (values_part at is_function.natural vs all n [] refl can) (list_part is_function listed_names es has before behind vs is.0)
+  act_marks s before behind acted n line has is can = absurd is

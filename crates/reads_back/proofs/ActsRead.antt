@@ -57,9 +57,9 @@ pub same_declares : {before behind : Scope} → SameLocals before behind → Dec
 same_declares {before} same = record { declared_more = same.declared ∙ sym (add-zero (length before.declared)); active_more = same.active ∙ sym (append-nil before.active); uncaptured = same.uncaptured }
 
 -- the words from one pc up to another are one step, an act that the statement is, and so it is written
-pub record ActRead (f : Function) (g : Fn) (active : List Active) (statement : Statement) (s : Situation) (first last : ℕ) : Type 0 where
+pub record ActRead (f : Function) (g : Fn) (active : List Active) (statement : Statement) (made_before made_behind : ℕ) (s : Situation) (first last : ℕ) : Type 0 where
   pub acted : Acted
-  pub is : IsActed g active statement acted
+  pub is : IsActed g active statement made_before made_behind acted
   pub draft : Drafted
   pub behind : Situation
   pub reads : (count : ℕ) → last < count + first → words_from f count first s ≡ Some (draft, behind)
@@ -75,7 +75,7 @@ pub record ActRead (f : Function) (g : Fn) (active : List Active) (statement : S
 
 -- whatever act the statement is, it can be written
 pub record CanAct (f : Function) (g : Fn) (active : List Active) (listed : List ℕ) (statement : Statement) : Type 0 where
-  pub can : (acted : Acted) → IsActed g active statement acted → (left : List (Option Inner)) → can_act (place f.of listed f.short) left acted ≡ true
+  pub can : (before behind : ℕ) (acted : Acted) → IsActed g active statement before behind acted → (left : List (Option Inner)) → can_act (place f.of listed f.short) left acted ≡ true
 
 -- the step of an act, and what is known behind it
 abbrev pub act_draft : (f : Function) → (next : ℕ) → Acted → Situation → Drafted
@@ -105,13 +105,14 @@ call_is_written f w v s can empty =
     ∙ ap (λ can. option_map (call_ended w) (if can then Some wrote else None)) can
 
 module _ {f : Function} {g : Fn} {active : List Active} {listed : List ℕ} (e : Expression) {deep : ℕ} (can : CanAct f g active listed (call_statement e)) where
-  call_acts : (free : ℕ) (p q : Spot) (s : Situation) → HasLocals active listed s → s.entries ≡ [] → CallComes f (IsCore g active e) deep s Op.Call free 1 p.pc q.pc → ActRead f g active (call_statement e) s p.pc q.pc
+  call_acts : (free : ℕ) (p q : Spot) (s : Situation) → HasLocals active listed s → s.entries ≡ [] → CallComes f (IsCore g active e p.functions q.functions) deep s Op.Call free 1 p.pc q.pc →
+      ActRead f g active (call_statement e) p.functions q.functions s p.pc q.pc
   call_acts free p q s locals empty comes =
       let v = comes.value in
       let w = word_of comes.pc (Piece.Abc Op.Call free comes.b 1) in
       let t = behind_words comes.scope comes.seen comes.more s in
       let u = record s { scope = comes.scope; seen = comes.seen } in
-      let there : can_write (place_in_step f u) s.left v ≡ true = subst (λ (listed : List ℕ). can_write (place f.of listed f.short) s.left v ≡ true) (sym (comes.same.active ∙ locals.places)) (can.can (called v) comes.is s.left) in
+      let there : can_write (place_in_step f u) s.left v ≡ true = subst (λ (listed : List ℕ). can_write (place f.of listed f.short) s.left v ≡ true) (sym (comes.same.active ∙ locals.places)) (can.can p.functions q.functions (called v) comes.is s.left) in
       let does : read_word f w (see w.instr t) ≡ Some (ends (act_draft f (suc comes.pc) (called v) u), after_act (called v) u) =
       ap (option_and_then (call_made f w)) comes.makes ∙ ap (option_map as_end) (call_is_written f w v u there empty) in
       record {
@@ -133,7 +134,7 @@ module _ {f : Function} {g : Fn} {active : List Active} {listed : List ℕ} (e :
 
 pub call_statement_read : {f : Function} {g : Fn} {active : List Active} {listed : List ℕ} → IsFunction f g → (e : Expression) (deep : ℕ) → ReadsCall f g active listed (IsCore g active e) deep ((related g e).multi active) →
     CanAct f g active listed (call_statement e) →
-    (p q : Spot) (s : Situation) → HasLocals active listed s → s.entries ≡ [] → s.taken ≡ s.seen → IsQuiet f s.scope p.pc q.pc → (related g e).multi active (length active) Op.Call (Some 0) p q → ActRead f g active (call_statement e) s p.pc q.pc
+    (p q : Spot) (s : Situation) → HasLocals active listed s → s.entries ≡ [] → s.taken ≡ s.seen → IsQuiet f s.scope p.pc q.pc → (related g e).multi active (length active) Op.Call (Some 0) p q → ActRead f g active (call_statement e) p.functions q.functions s p.pc q.pc
 call_statement_read {active = active} is_function e deep reads can p q s locals empty taken quiet at =
     let next : length active ≡ next_free s = omega (arith, locals.base, ap length empty) in
     call_acts e can (length active) p q s locals empty (reads.comes (length active) Op.Call (Some 0) p q s locals next quiet (inl refl) at)

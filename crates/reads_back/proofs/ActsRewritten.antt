@@ -17,35 +17,36 @@ use Rattle.reads_back.proofs.GivenSame.{AllRewritten}
 use Rattle.reads_back.proofs.ReturnsSame.{return_rewritten_act}
 use Rattle.reads_back.proofs.Rewriting.{IsMadeBy, RewrittenAct}
 
-module _ (f : Function) (g : Fn) (active : List Active) (listed : List ℕ) (z : Maker) (left : List (Option Inner)) where
+module _ (f : Function) (g : Fn) (active : List Active) (listed : List ℕ) (z : Maker) (lefts : ℕ → List (Option Inner)) where
   -- those of all expressions up to a depth
   abbrev pub AllWritten : (deep : ℕ) → Type 0
-  AllWritten deep = (e : Expression) → HasCore e → depth_of_expression e ≤ deep → AreWritten f g active listed z left e
+  AllWritten deep = (e : Expression) → HasCore e → depth_of_expression e ≤ deep → AreWritten f g active listed z lefts e
 
-target_written : {f : Function} {g : Fn} {active : List Active} {listed : List ℕ} {z : Maker} {left : List (Option Inner)} (deep : ℕ) (target : Expression) →
-    AllWritten f g active listed z left deep → IsActTarget target → depth_of_expression target ≤ deep → TargetWritten f g active listed z left target
+target_written : {f : Function} {g : Fn} {active : List Active} {listed : List ℕ} {z : Maker} {lefts : ℕ → List (Option Inner)} (deep : ℕ) (target : Expression) →
+    AllWritten f g active listed z lefts deep → IsActTarget target → depth_of_expression target ≤ deep → TargetWritten f g active listed z lefts target
 target_written deep (index_expression line on key) all is shallow = (all on is.0 (omega (arith, shallow)), all key is.1 (omega (arith, shallow)))
 target_written deep (field_expression line on text) all is shallow = all on is (omega (arith, shallow))
 target_written deep (name_expression line text) all is shallow = tt
 target_written deep target all is shallow = absurd is
 
-targets_written : {f : Function} {g : Fn} {active : List Active} {listed : List ℕ} {z : Maker} {left : List (Option Inner)} (deep : ℕ) (targets : Expressions) →
-    AllWritten f g active listed z left deep → AreActTargets targets → depth_of_expressions targets ≤ deep → TargetsWritten f g active listed z left targets
+targets_written : {f : Function} {g : Fn} {active : List Active} {listed : List ℕ} {z : Maker} {lefts : ℕ → List (Option Inner)} (deep : ℕ) (targets : Expressions) →
+    AllWritten f g active listed z lefts deep → AreActTargets targets → depth_of_expressions targets ≤ deep → TargetsWritten f g active listed z lefts targets
 targets_written deep no_expressions all are shallow = tt
 targets_written deep (syntax.expression e targets) all are shallow = (target_written deep e all are.0 (omega (arith, shallow)), targets_written deep targets all are.1 (omega (arith, shallow)))
 
-each_written : {f : Function} {g : Fn} {active : List Active} {listed : List ℕ} {z : Maker} {left : List (Option Inner)} (deep : ℕ) (es : Expressions) →
-    AllWritten f g active listed z left deep → AllHaveCores es → depth_of_expressions es ≤ deep → AllRewritten f g active listed z left es
+each_written : {f : Function} {g : Fn} {active : List Active} {listed : List ℕ} {z : Maker} {lefts : ℕ → List (Option Inner)} (deep : ℕ) (es : Expressions) →
+    AllWritten f g active listed z lefts deep → AllHaveCores es → depth_of_expressions es ≤ deep → AllRewritten f g active listed z lefts es
 each_written deep no_expressions all have shallow = tt
 each_written deep (syntax.expression e es) all have shallow = (all e have.0 (omega (arith, shallow)), each_written deep es all have.1 (omega (arith, shallow)))
 
-module _ {f : Function} {g : Fn} {active : List Active} {listed : List ℕ} {z : Maker} {left : List (Option Inner)} (made : IsMadeBy f g active listed z) where
+module _ {f : Function} {g : Fn} {active : List Active} {listed : List ℕ} {z : Maker} (lefts : ℕ → List (Option Inner)) (made : IsMadeBy f g active listed z) where
   -- every act
-  pub act_rewritten : (deep : ℕ) (s : Statement) (acted : Acted) → AllWritten f g active listed z left deep → depth_of_statement s ≤ deep → IsAct s → IsActed g active s acted → RewrittenAct f g active listed z left s acted
-  act_rewritten deep (call_statement e) (called v) all shallow is acts = call_rewritten_act e v is.0 is.1 (all e is.1 shallow v acts)
-  act_rewritten deep (assignment targets es) (assigned ts vs several last) all shallow is acts =
-      assignment_rewritten_act left made targets es ts (record { values = vs; all = several; last = last }) is (targets_written deep targets all is.targets (omega (arith, shallow))) (each_written deep es all is.values (omega (arith, shallow))) acts
-  act_rewritten deep (return_statement es) (returned vs several) all shallow is acts = return_rewritten_act made es vs several is (each_written deep es all is shallow) acts.0 acts.1
-  act_rewritten deep (local_statement names es) (declared others vs several) all shallow is acts =
-      local_rewritten_act left made names es acts.1 is.1 (each_written deep es all is.1 shallow) acts.2 others vs several acts.0 acts.3
-  act_rewritten deep s acted all shallow is acts = absurd acts
+  pub act_rewritten : (deep : ℕ) (s : Statement) (before behind : ℕ) (acted : Acted) → AllWritten f g active listed z lefts deep → depth_of_statement s ≤ deep → IsAct s → IsActed g active s before behind acted →
+      RewrittenAct f g active listed z (lefts before) (lefts behind) s acted
+  act_rewritten deep (call_statement e) before behind (called v) all shallow is acts = call_rewritten_act e v is.0 is.1 (all e is.1 shallow before behind v acts)
+  act_rewritten deep (assignment targets es) before behind (assigned ts vs several last) all shallow is acts =
+      assignment_rewritten_act lefts made targets es before behind ts (record { values = vs; all = several; last = last }) is (targets_written deep targets all is.targets (omega (arith, shallow))) (each_written deep es all is.values (omega (arith, shallow))) acts
+  act_rewritten deep (return_statement es) before behind (returned vs several) all shallow is acts = return_rewritten_act lefts made es before behind vs several is (each_written deep es all is shallow) acts.0 acts.1
+  act_rewritten deep (local_statement names es) before behind (declared others vs several) all shallow is acts =
+      local_rewritten_act lefts made names es before behind acts.1 is.1 (each_written deep es all is.1 shallow) acts.2 others vs several acts.0 acts.3
+  act_rewritten deep s before behind acted all shallow is acts = absurd acts

@@ -112,9 +112,9 @@ each_entry {from = from} {entries = entries} (missing_behind singles n are is cl
 each_entry {from = from} {entries = entries} (further_behind singles n are is opens several counts) = omega (arith, more_counted entries singles more_entry (suc n) from are is)
 
 -- the values of a list come, and with them entries for so many
-pub record AdjustedComes (f : Function) (g : Fn) (active : List Active) (es : Expressions) (s : Situation) (count first last : ℕ) : Type 0 where
+pub record AdjustedComes (f : Function) (g : Fn) (active : List Active) (es : Expressions) (before behind : ℕ) (s : Situation) (count first last : ℕ) : Type 0 where
   pub from : Values
-  pub are : AreCores g active es from
+  pub are : AreCores g active es before behind from
   pub counts : value_count from ≡ length (all_related g es)
   pub scope : Scope
   pub same : SameLocals s.scope scope
@@ -133,7 +133,7 @@ module _ {f : Function} {g : Fn} {active : List Active} {listed : List ℕ} (is_
   rels = all_related g es
 
   abbrev ComeHere : Type 0
-  ComeHere = AdjustedComes f g active es s count p.pc q.pc
+  ComeHere = AdjustedComes f g active es p.functions q.functions s count p.pc q.pc
 
   -- as many values as are wanted, or more
   come_alone : IsWanted f s q.pc → count ≤ length rels → AllNextAt g rels active free p q → ComeHere
@@ -171,13 +171,13 @@ module _ {f : Function} {g : Fn} {active : List Active} {listed : List ℕ} (is_
         reaches = come.reaches;
       }
 
-  module _ (closed : ends_open es ≡ false) (mid : Spot) (front : AllCome f (AreCores g active es) 200 s (length rels) p.pc mid.pc)
+  module _ (closed : ends_open es ≡ false) (mid : Spot) (front : AllCome f (AreCores g active es p.functions mid.functions) 200 s (length rels) p.pc mid.pc)
       (next : free + length rels ≡ next_free (behind_all front)) (behind : IsQuiet f front.scope mid.pc q.pc) where
     -- others come above the values
-    and_more : (more : Entries) → Reaches f mid.pc (behind_all front) q.pc (record (behind_all front) { entries = (behind_all front).entries ++ more }) → AdjustedForm (ends_open es) count front.values (front.entries ++ more) → ComeHere
-    and_more more reaches form = record {
+    and_more : (more : Entries) → q.functions ≡ mid.functions → Reaches f mid.pc (behind_all front) q.pc (record (behind_all front) { entries = (behind_all front).entries ++ more }) → AdjustedForm (ends_open es) count front.values (front.entries ++ more) → ComeHere
+    and_more more none_made reaches form = record {
       from = front.values;
-      are = front.are;
+      are = subst (λ (behind : ℕ). AreCores g active es p.functions behind front.values) (sym none_made) front.are;
       counts = front.counts;
       scope = front.scope;
       same = front.same;
@@ -193,10 +193,10 @@ module _ {f : Function} {g : Fn} {active : List Active} {listed : List ℕ} (is_
     then_cleared : (n : ℕ) → 0 < n → count ≡ length rels + n → NilsAt g (free + length rels) n mid q → ComeHere
     then_cleared zero some counts at = absurd (omega (arith, some))
     then_cleared (suc zero) some counts at =
-        and_more (value_entry nil_value ∷ []) (one_cleared is_function (free + length rels) mid q (behind_all front) next behind at)
+        and_more (value_entry nil_value ∷ []) at.word.functions (one_cleared is_function (free + length rels) mid q (behind_all front) next behind at)
         (nil_behind (entries_end front.entries front.values nil_value front.singles) closed (omega (arith, counts, front.counts)))
     then_cleared (suc (suc n)) some counts at =
-        and_more (more (suc (suc n)) missing_entry) (several_cleared is_function (free + length rels) mid q (behind_all front) next behind n at)
+        and_more (more (suc (suc n)) missing_entry) at.word.functions (several_cleared is_function (free + length rels) mid q (behind_all front) next behind n at)
         (missing_behind front.entries n front.singles refl closed (omega (arith, counts, front.counts)))
 
   -- fewer, and the registers above them are cleared

@@ -31,9 +31,9 @@ use Rattle.reads_back.proofs.ValueWords.{next_free}
 use Rattle.reads_back.proofs.WordsRead.{IsFunction, IsQuiet}
 
 -- entries come for so many targets, of which these values are written
-pub record AssignedComes (f : Function) (g : Fn) (active : List Active) (es : Expressions) (s : Situation) (last : Destination) (count first end : ℕ) : Type 0 where
+pub record AssignedComes (f : Function) (g : Fn) (active : List Active) (es : Expressions) (before behind : ℕ) (s : Situation) (last : Destination) (count first end : ℕ) : Type 0 where
   pub from : Values
-  pub are : AreCores g active es from
+  pub are : AreCores g active es before behind from
   pub other : value_count from ≢ count
   pub to : Assigned
   pub written : values_assigned count (Some (target_to last)) (ends_open es) from ≡ to
@@ -84,13 +84,13 @@ nil_writes f entries (to_local r) from are some = nil_written f entries r from a
 nil_writes f entries (to_part on key x y) from are some = last_written f entries (to_part on key x y) (suc (value_count from)) from nil_value are refl refl
 nil_writes f entries last from are some = singles_written f entries last (suc (value_count from)) (and_last_value from nil_value) are (count_last from nil_value) refl (λ r is several. cc)
 
-module _ {f : Function} {g : Fn} {active : List Active} {es : Expressions} {s : Situation} {count first end : ℕ} (come : AdjustedComes f g active es s count first end) (last : Destination) (given : has_expressions es ≡ true)
+module _ {f : Function} {g : Fn} {active : List Active} {es : Expressions} {before behind : ℕ} {s : Situation} {count first end : ℕ} (come : AdjustedComes f g active es before behind s count first end) (last : Destination) (given : has_expressions es ≡ true)
     (other : length (all_related g es) ≢ count) where
   abbrev target : Option TargetValue
   target = Some (target_to last)
 
   abbrev ComeHere : Type 0
-  ComeHere = AssignedComes f g active es s last count first end
+  ComeHere = AssignedComes f g active es before behind s last count first end
 
   some : 0 < value_count come.from
   some = omega (arith, come.counts, some_related g es given)
@@ -135,7 +135,7 @@ module _ {f : Function} {g : Fn} {active : List Active} {es : Expressions} {s : 
 module _ {f : Function} {g : Fn} {active : List Active} {listed : List ℕ} (is_function : IsFunction f g) (all : AreListed f g active listed)
     (es : Expressions) (has : AllHaveCores es) (given : has_expressions es ≡ true) (few : depth_of_expressions es ≤ 200) where
   pub assigned_come : (last : Destination) (count free : ℕ) (p q : Spot) (s : Situation) → length (all_related g es) ≢ count → HasLocals active listed s → free ≡ next_free s → IsQuiet f s.scope p.pc q.pc → IsWanted f s q.pc →
-      AdjustAt g (all_related g es) count active free p q → AssignedComes f g active es s last count p.pc q.pc
+      AdjustAt g (all_related g es) count active free p q → AssignedComes f g active es p.functions q.functions s last count p.pc q.pc
   assigned_come last count free p q s other locals is quiet wanted at =
       let come = adjusted_comes is_function all es has few count free p q s locals is quiet wanted at in
       by_form come last given other come.form

@@ -38,10 +38,10 @@ use Rattle.reads_back.proofs.TargetsSame.{ArePlaces, TargetSame, TargetsSame, co
 use Rattle.reads_back.proofs.Tests.{both_hold}
 use Rattle.reads_back.proofs.WordsSame.{levels_wrapped}
 
-module _ (f : Function) (g : Fn) (active : List Active) (listed : List ℕ) (z : Maker) (left : List (Option Inner)) where
+module _ (f : Function) (g : Fn) (active : List Active) (listed : List ℕ) (z : Maker) (lefts : ℕ → List (Option Inner)) where
   -- each value of an expression is written with the same code
   abbrev pub AreWritten : Expression → Type 0
-  AreWritten e = (v : Value) → IsCore g active e v → Rewritten f g active listed z left e v
+  AreWritten e = (before behind : ℕ) (v : Value) → IsCore g active e before behind v → Rewritten f g active listed z (lefts before) (lefts behind) e v
 
   -- those of the parts of a target
   abbrev pub TargetWritten : Expression → Type 0
@@ -82,11 +82,11 @@ module _ (f : Function) (g : Fn) (active : List Active) (listed : List ℕ) (z :
     same : (m : Maker) → IsAhead g active (names_in_all es) m → Final (length m.labels) (goes_to placed (codes_of es) m) z → goes_to placed (written (length m.constants)) m ≡ goes_to placed (codes_of es) m
     takes : (m : Maker) → IsAhead g active (names_in_all es) m → Final (length m.labels) (goes_to placed (codes_of es) m) z → length (goes_to placed (codes_of es) m).constants ≡ all_named_behind (targets_of placed) (taken (length m.constants))
 
-module _ (f : Function) (g : Fn) (active : List Active) (listed : List ℕ) (z : Maker) (left : List (Option Inner)) (ts : List TargetValue) (es : Expressions) where
+module _ (f : Function) (g : Fn) (active : List Active) (listed : List ℕ) (z : Maker) (left behind : List (Option Inner)) (ts : List TargetValue) (es : Expressions) where
   -- what is asked of the values that are written, whichever places the targets have
   record Stores (to : Assigned) : Type 0 where
     can : (can_write_values (place f.of listed f.short) left to.values && can_write_last (place f.of listed f.short) (left_by_values to.values left) to.last) ≡ true
-    unused : left_by_last to.last (left_by_values to.values left) ≡ left
+    leaves : left_by_last to.last (left_by_values to.values left) ≡ behind
     few : (n : ℕ) → (words_assigned (place f.of listed f.short) n left to.values to.all to.last).levels ≤ 3 * depth_of_expressions es + 3
     goes : (placed : List (Placed g)) → targets_of placed ≡ ts → Goes f g active listed z placed es (λ n. assigned_coded (place f.of listed f.short) n left to) (taken_by to)
 
@@ -103,9 +103,9 @@ module _ {f : Function} {g : Fn} {active : List Active} {listed : List ℕ} {z :
       inner : (m : Maker) → Final (length m.labels) (goes_to placed (codes_of es) m) z → Final (length m.labels) (each_stored 1 (places placed) (codes_of es) m) z
       inner m final = subst (λ (n : Maker). Final (length m.labels) n z) (goes_each placed (codes_of es) m exact) final
 
-  adjusted_goes : (left : List (Option Inner)) (made : IsMadeBy f g active listed z) (vs : Values) (all : Bool) → (length (codes_of es) ≡ length (places placed) → ⊥) → (value_count vs ≡ length (places placed) → ⊥) → Adjusts f g active listed z left (length (places placed)) es vs all →
+  adjusted_goes : (left behind : List (Option Inner)) (made : IsMadeBy f g active listed z) (vs : Values) (all : Bool) → (length (codes_of es) ≡ length (places placed) → ⊥) → (value_count vs ≡ length (places placed) → ⊥) → Adjusts f g active listed z left behind (length (places placed)) es vs all →
       Goes f g active listed z placed es (λ n. values_coded (place f.of listed f.short) n left vs all) (taken_behind_values vs)
-  adjusted_goes left made vs all other written_other adjusts = record {
+  adjusted_goes left behind made vs all other written_other adjusts = record {
     same = λ m ahead final.
         goes_adjusted placed (written (length m.constants)) m (λ same. written_other (sym (coded_count (place f.of listed f.short) (length m.constants) left vs all) ∙ same))
         ∙ ap (stored_from 1 m.free (places placed)) (adjusts.same m ahead (adjusted_final m final))
@@ -156,10 +156,11 @@ operand_count : (at : Place) (n : ℕ) (fs : List (Option Inner)) (vs : Values) 
 operand_count at n fs no_values o = refl
 operand_count at n fs (and_value v rest) o = ap suc (operand_count at (taken_behind v n) (left_by v fs) rest o)
 
-end_count : (g : Fn) (active : List Active) (es : Expressions) (vs : Values) (o : OperandValue) → EndWithOperand g active es vs o → length (codes_of es) ≡ suc (value_count vs)
-end_count g active no_expressions vs o are = absurd are
-end_count g active (syntax.expression e no_expressions) vs o are = ap (λ vs. suc (value_count vs)) (sym are.0)
-end_count g active (syntax.expression e (syntax.expression d es)) vs o are = ap suc (end_count g active (syntax.expression d es) are.1 o are.3) ∙ ap (λ vs. suc (value_count vs)) (sym are.4)
+end_count : (g : Fn) (active : List Active) (es : Expressions) (before behind : ℕ) (vs : Values) (o : OperandValue) → EndWithOperand g active es o before behind vs → length (codes_of es) ≡ suc (value_count vs)
+end_count g active no_expressions before behind vs o are = absurd are
+end_count g active (syntax.expression e no_expressions) before behind vs o are = ap (λ vs. suc (value_count vs)) (sym are.0)
+end_count g active (syntax.expression e (syntax.expression d es)) before behind vs o (mid, (v, rest, core, are, is)) =
+    ap suc (end_count g active (syntax.expression d es) mid behind rest o are) ∙ ap (λ vs. suc (value_count vs)) (sym is)
 
 nil_few : (at : Place) (n : ℕ) (fs : List (Option Inner)) → (word_operand at n fs (value_operand nil_value)).levels ≤ 2
 nil_few at n fs = levels_wrapped (is_bare at n nil_value) (single_word (nil_literal 1))
@@ -173,10 +174,13 @@ assigned_is to o all last = ap₂ (λ (all : Bool) (last : Option OperandValue).
 
 -- ---- which values are written
 
-module _ {f : Function} {g : Fn} {active : List Active} {listed : List ℕ} {z : Maker} (left : List (Option Inner)) (made : IsMadeBy f g active listed z) (ts : List TargetValue) (es : Expressions)
-    (has : AllHaveCores es) (written : AllRewritten f g active listed z left es) where
+module _ {f : Function} {g : Fn} {active : List Active} {listed : List ℕ} {z : Maker} (lefts : ℕ → List (Option Inner)) (made : IsMadeBy f g active listed z) (ts : List TargetValue) (es : Expressions) (before behind : ℕ)
+    (has : AllHaveCores es) (written : AllRewritten f g active listed z lefts es) where
+  abbrev left : List (Option Inner)
+  left = lefts before
+
   abbrev IsStored : Assigned → Type 0
-  IsStored to = Stores f g active listed z left ts es to
+  IsStored to = Stores f g active listed z (lefts before) (lefts behind) ts es to
 
   -- how many places there are
   place_count : (placed : List (Placed g)) → targets_of placed ≡ ts → length (places placed) ≡ length ts
@@ -186,31 +190,31 @@ module _ {f : Function} {g : Fn} {active : List Active} {listed : List ℕ} {z :
   last_is placed is = ap last_target is
 
   -- values, and an operand behind them
-  operand_stores : (vs : Values) (o : OperandValue) → is_part (last_target ts) ≡ true → suc (value_count vs) ≡ length ts → EndWithOperand g active es vs o → IsStored (record { values = vs; all = true; last = Some o })
+  operand_stores : (vs : Values) (o : OperandValue) → is_part (last_target ts) ≡ true → suc (value_count vs) ≡ length ts → EndWithOperand g active es o before behind vs → IsStored (record { values = vs; all = true; last = Some o })
   operand_stores vs o part exact are =
       let at = place f.of listed f.short in
-      let all = operand_written left made es vs o has written are in
+      let all = operand_written lefts made es before behind vs o has written are in
       record {
-        can = both_hold _ _ all.can (ap (λ fs. can_write_operand at fs o) all.unused ∙ all.last_can);
-        unused = ap (left_by_operand o) all.unused ∙ all.last_unused;
-        few = λ n. omega (arith, all.few n, ap (λ fs. (word_operand at (taken_behind_values vs n) fs o).levels) all.unused, all.last_few (taken_behind_values vs n));
+        can = both_hold _ _ all.can (ap (λ fs. can_write_operand at fs o) all.leaves ∙ all.last_can);
+        leaves = ap (left_by_operand o) all.leaves ∙ all.last_leaves;
+        few = λ n. omega (arith, all.few n, ap (λ fs. (word_operand at (taken_behind_values vs n) fs o).levels) all.leaves, all.last_few (taken_behind_values vs n));
         goes = λ placed is.
             let count = place_count placed is in
-            let counts = end_count g active es vs o are ∙ exact ∙ sym count in
+            let counts = end_count g active es before behind vs o are ∙ exact ∙ sym count in
             each_goes placed es (λ n. with_operand_coded at n left vs o) (λ n. taken_behind_operand o (taken_behind_values vs n)) counts (λ n. operand_count at n left vs o ∙ exact ∙ sym count)
-            (each_with_operand left made placed es vs o counts (ap is_part (last_is placed is) ∙ part) has written are);
+            (each_with_operand lefts made placed es before behind vs o counts (ap is_part (last_is placed is) ∙ part) has written are);
       }
 
-  module _ (from : Values) (are : AreCores g active es from) where
+  module _ (from : Values) (are : AreCores g active es before behind from) where
     as_many : length (codes_of es) ≡ value_count from
-    as_many = cores_count g active es from are
+    as_many = cores_count g active es before behind from are
 
     -- only values
-    values_store : (vs : Values) (all : Bool) → Adjusts f g active listed z left (length ts) es vs all →
+    values_store : (vs : Values) (all : Bool) → Adjusts f g active listed z (lefts before) (lefts behind) (length ts) es vs all →
         ((placed : List (Placed g)) → targets_of placed ≡ ts → Goes f g active listed z placed es (λ n. values_coded (place f.of listed f.short) n left vs all) (taken_behind_values vs)) → IsStored (record { values = vs; all = all; last = None })
     values_store vs all adjusts goes = record {
       can = both_hold _ _ adjusts.can refl;
-      unused = adjusts.unused;
+      leaves = adjusts.leaves;
       few = λ n. omega (arith, list_few (place f.of listed f.short) (3 * depth_of_expressions es + 2) n left vs all (adjusts.fine n));
       goes = goes;
     }
@@ -219,18 +223,18 @@ module _ {f : Function} {g : Fn} {active : List Active} {listed : List ℕ} {z :
     each_stores : value_count from ≡ length ts → is_part (last_target ts) ≡ false → IsStored (record { values = from; all = true; last = None })
     each_stores exact no_part =
         let at = place f.of listed f.short in
-        values_store from true (more_written left made (length ts) es from has written are (omega (arith, exact))) (λ placed is.
+        values_store from true (more_written lefts made (length ts) es before behind from has written are (omega (arith, exact))) (λ placed is.
         let counts = exact ∙ sym (place_count placed is) in
         each_goes placed es (λ n. values_coded at n left from true) (taken_behind_values from) (as_many ∙ counts) (λ n. coded_count at n left from true ∙ counts)
-        (each_values left made placed es from (as_many ∙ counts) (ap is_part (last_is placed is) ∙ no_part) has written are))
+        (each_values lefts made placed es before behind from (as_many ∙ counts) (ap is_part (last_is placed is) ∙ no_part) has written are))
 
     -- fewer values or more: they are adjusted
-    from_stores : (value_count from ≡ length ts → ⊥) → (all : Bool) → Adjusts f g active listed z left (length ts) es from all → IsStored (record { values = from; all = all; last = None })
+    from_stores : (value_count from ≡ length ts → ⊥) → (all : Bool) → Adjusts f g active listed z (lefts before) (lefts behind) (length ts) es from all → IsStored (record { values = from; all = all; last = None })
     from_stores other all adjusts =
         values_store from all adjusts (λ placed is.
         let count = place_count placed is in
-        adjusted_goes placed es left made from all (λ same. other (sym as_many ∙ same ∙ count)) (λ same. other (same ∙ count))
-        (subst (λ count. Adjusts f g active listed z left count es from all) (sym count) adjusts))
+        adjusted_goes placed es (lefts before) (lefts behind) made from all (λ same. other (sym as_many ∙ same ∙ count)) (λ same. other (same ∙ count))
+        (subst (λ count. Adjusts f g active listed z (lefts before) (lefts behind) count es from all) (sym count) adjusts))
 
     -- one is missing
     module _ (exact : suc (value_count from) ≡ length ts) (closed : ends_open es ≡ false) where
@@ -240,33 +244,33 @@ module _ {f : Function} {g : Fn} {active : List Active} {listed : List ℕ} {z :
       last_value_stores : (t : Option TargetValue) → last_target ts ≡ t → is_part t ≡ false → LastNoLocal t → IsStored (record { values = and_last_value from nil_value; all = true; last = None })
       last_value_stores t last no_part no_local =
           let at = place f.of listed f.short in
-          values_store (and_last_value from nil_value) true (nil_written left made (length ts) es from has written are fewer closed exact) (λ placed is.
+          values_store (and_last_value from nil_value) true (nil_written lefts made (length ts) es before behind from has written are fewer closed exact) (λ placed is.
           let count = exact ∙ sym (place_count placed is) in
           let so = last_is placed is ∙ last in
           nil_goes placed es (λ n. values_coded at n left (and_last_value from nil_value) true) (taken_behind_values (and_last_value from nil_value)) (ap suc as_many ∙ count) closed (subst LastNoLocal (sym so) no_local)
           (λ n. coded_count at n left (and_last_value from nil_value) true ∙ count_last from nil_value ∙ count)
-          (each_values left made placed (and_nil es) (and_last_value from nil_value) (nil_count es ∙ ap suc as_many ∙ count) (ap is_part so ∙ no_part) (nil_have es has) (nil_all_rewritten left made es written) (nil_cores g active es from are)))
+          (each_values lefts made placed (and_nil es) before behind (and_last_value from nil_value) (nil_count es ∙ ap suc as_many ∙ count) (ap is_part so ∙ no_part) (nil_have es has) (nil_all_rewritten lefts made es written) (nil_cores g active es before behind from are)))
 
       last_operand_stores : (t : Option TargetValue) → last_target ts ≡ t → is_part t ≡ true → LastNoLocal t → IsStored (record { values = from; all = true; last = Some (value_operand nil_value) })
       last_operand_stores t last part no_local =
           let at = place f.of listed f.short in
           let nil = value_operand nil_value in
-          let closed_values = closed_written left made (length ts) es from has written are fewer closed in
+          let closed_values = closed_written lefts made (length ts) es before behind from has written are fewer closed in
           record {
             can = both_hold _ _ closed_values.can refl;
-            unused = closed_values.unused;
+            leaves = closed_values.leaves;
             few = λ n. omega (arith, list_few at (3 * depth_of_expressions es + 2) n left from true (closed_values.fine n), nil_few at (taken_behind_values from n) (left_by_values from left));
             goes = λ placed is.
                 let count = exact ∙ sym (place_count placed is) in
                 let so = last_is placed is ∙ last in
                 nil_goes placed es (λ n. with_operand_coded at n left from nil) (λ n. taken_behind_operand nil (taken_behind_values from n)) (ap suc as_many ∙ count) closed (subst LastNoLocal (sym so) no_local)
                 (λ n. operand_count at n left from nil ∙ count)
-                (each_with_operand left made placed (and_nil es) from nil (nil_count es ∙ ap suc as_many ∙ count) (ap is_part so ∙ part) (nil_have es has) (nil_all_rewritten left made es written) (nil_operand g active es from are));
+                (each_with_operand lefts made placed (and_nil es) before behind from nil (nil_count es ∙ ap suc as_many ∙ count) (ap is_part so ∙ part) (nil_have es has) (nil_all_rewritten lefts made es written) (nil_operand g active es before behind from are));
           }
 
       -- by what the last target is
       nil_stores : (t : Option TargetValue) → last_target ts ≡ t → IsStored (with_last_nil t from)
-      nil_stores (Some (local_target r)) last = from_stores (λ same. omega (arith, same, exact)) false (closed_written left made (length ts) es from has written are fewer closed)
+      nil_stores (Some (local_target r)) last = from_stores (λ same. omega (arith, same, exact)) false (closed_written lefts made (length ts) es before behind from has written are fewer closed)
       nil_stores (Some (index_target on key)) last = last_operand_stores (Some (index_target on key)) last refl tt
       nil_stores (Some (upvalue_target slot)) last = last_value_stores (Some (upvalue_target slot)) last refl tt
       nil_stores (Some (global_target number)) last = last_value_stores (Some (global_target number)) last refl tt
@@ -274,21 +278,21 @@ module _ {f : Function} {g : Fn} {active : List Active} {listed : List ℕ} {z :
 
     missing_stores : value_count from < length ts → ends_open es ≡ false → (one : Bool) → (suc (value_count from) == length ts) ≡ one → IsStored (some_missing one (last_target ts) from)
     missing_stores fewer closed true one = nil_stores (eqb-true _ _ one) closed (last_target ts) refl
-    missing_stores fewer closed false one = from_stores (λ same. omega (arith, same, fewer)) false (closed_written left made (length ts) es from has written are fewer closed)
+    missing_stores fewer closed false one = from_stores (λ same. omega (arith, same, fewer)) false (closed_written lefts made (length ts) es before behind from has written are fewer closed)
 
     enough_stores : length ts ≤ value_count from → (is_part (last_target ts) && (value_count from == length ts)) ≡ false → (exact : Bool) → (value_count from == length ts) ≡ exact → IsStored (record { values = from; all = true; last = None })
     enough_stores enough no_part true exact = each_stores (eqb-true _ _ exact) (first_fails (is_part (last_target ts)) (value_count from == length ts) exact no_part)
-    enough_stores enough no_part false other = from_stores (eqb-false _ _ other) true (more_written left made (length ts) es from has written are enough)
+    enough_stores enough no_part false other = from_stores (eqb-false _ _ other) true (more_written lefts made (length ts) es before behind from has written are enough)
 
     values_stores : (is_part (last_target ts) && (value_count from == length ts)) ≡ false → (is_open fewer : Bool) → ends_open es ≡ is_open → nat_lt (value_count from) (length ts) ≡ fewer →
         IsStored (if not is_open && fewer then some_missing (suc (value_count from) == length ts) (last_target ts) from else record { values = from; all = true; last = None })
-    values_stores no_part true true is fewer = let less = ltb-true _ _ fewer in from_stores (λ same. omega (arith, same, less)) true (open_written left made (length ts) es from has written are less is)
+    values_stores no_part true true is fewer = let less = ltb-true _ _ fewer in from_stores (λ same. omega (arith, same, less)) true (open_written lefts made (length ts) es before behind from has written are less is)
     values_stores no_part false true is fewer = missing_stores (ltb-true _ _ fewer) is _ refl
     values_stores no_part true false is enough = enough_stores (ltb-false _ _ enough) no_part _ refl
     values_stores no_part false false is enough = enough_stores (ltb-false _ _ enough) no_part _ refl
 
   -- every assignment
-  all_stores : (to : Assigned) → AreWithOperand g active ts es to ⊎ AreValues g active ts es to → IsStored to
+  all_stores : (to : Assigned) → AreWithOperand g active ts es before behind to ⊎ AreValues g active ts es before behind to → IsStored to
   all_stores to (inl (part, exact, o, are, all, last)) = subst IsStored (assigned_is to o all last) (operand_stores to.values o part exact are)
   all_stores to (inr (from, are, no_part, is)) = subst IsStored is (values_stores from are no_part _ _ refl refl)
 
@@ -300,8 +304,8 @@ stored_at count cs to = cond (length cs == count) (each_stored 1 to.value cs) (a
 abbrev with_copies : Got (List Target) → Got (List Target)
 with_copies to = copies 1 (active_count to.after) to.value to.after
 
-module _ {f : Function} {g : Fn} {active : List Active} {listed : List ℕ} {z : Maker} {left : List (Option Inner)} (targets es : Expressions) (ts : List TargetValue) (to : Assigned)
-    (first : TargetsSame f g active listed z left targets ts) (stores : Stores f g active listed z left ts es to) where
+module _ {f : Function} {g : Fn} {active : List Active} {listed : List ℕ} {z : Maker} {left mid behind : List (Option Inner)} (targets es : Expressions) (ts : List TargetValue) (to : Assigned)
+    (first : TargetsSame f g active listed z left mid targets ts) (stores : Stores f g active listed z mid behind ts es to) where
   abbrev places_of : Maker → Got (List Target)
   places_of m = with_copies (all_targets (codes_of targets) m)
 
@@ -328,7 +332,7 @@ module _ {f : Function} {g : Fn} {active : List Active} {listed : List ℕ} {z :
     es_go : assign_part 1 (codes_of targets) (codes_of es) m ≡ goes_to placed_there (codes_of es) (places_of m).after
     es_go = goes_there (codes_of es) (length (codes_of targets)) first.count
 
-    goes : Goes f g active listed z placed_there es (λ n. assigned_coded (place f.of listed f.short) n left to) (taken_by to)
+    goes : Goes f g active listed z placed_there es (λ n. assigned_coded (place f.of listed f.short) n mid to) (taken_by to)
     goes = stores.goes placed_there (targets_are g ts (places_of m).value are_there)
 
     module _ (final : Final (length m.labels) (assign_part 1 (codes_of targets) (codes_of es) m) z) where
@@ -357,11 +361,11 @@ module _ {f : Function} {g : Fn} {active : List Active} {listed : List ℕ} {z :
           let at = place f.of listed f.short in
           let n = length m.constants in
           let targets_coded = all_coded (words_targets at n left ts).words in
-          let behind = places_of m in
+          let there = places_of m in
           ap (λ parts. stored_at (length targets_coded) (assigned_coded at (taken_behind_targets ts n) (left_by_targets ts left) to) (with_copies parts)) (first.same m targets_ahead targets_final)
-          ∙ ap₂ (λ n fs. stored_at (length targets_coded) (assigned_coded at n fs to) behind) taken_there first.unused
-          ∙ goes_there (assigned_coded at (length behind.after.constants) left to) (length targets_coded) (written_count at n left ts)
-          ∙ goes.same behind.after es_ahead goes_later
+          ∙ ap₂ (λ n fs. stored_at (length targets_coded) (assigned_coded at n fs to) there) taken_there first.leaves
+          ∙ goes_there (assigned_coded at (length there.after.constants) mid to) (length targets_coded) (written_count at n left ts)
+          ∙ goes.same there.after es_ahead goes_later
           ∙ sym es_go
 
       act_taken : length (assign_part 1 (codes_of targets) (codes_of es) m).constants ≡ all_named_behind ts (taken_by to (taken_behind_targets ts (length m.constants)))
@@ -370,32 +374,35 @@ module _ {f : Function} {g : Fn} {active : List Active} {listed : List ℕ} {z :
           ∙ goes.takes (places_of m).after es_ahead goes_later
           ∙ ap₂ (λ ts n. all_named_behind ts (taken_by to n)) (targets_are g ts (places_of m).value are_there) (sym taken_there)
 
-  stores_act : RewrittenAct f g active listed z left (assignment targets es) (assigned ts to.values to.all to.last)
+  stores_act : RewrittenAct f g active listed z left behind (assignment targets es) (assigned ts to.values to.all to.last)
   stores_act =
       let at = place f.of listed f.short in
       record {
-        can = both_hold _ _ first.can (ap (λ fs. can_write_values at fs to.values && can_write_last at (left_by_values to.values fs) to.last) first.unused ∙ stores.can);
-        unused = ap (λ fs. left_by_last to.last (left_by_values to.values fs)) first.unused ∙ stores.unused;
+        can = both_hold _ _ first.can (ap (λ fs. can_write_values at fs to.values && can_write_last at (left_by_values to.values fs) to.last) first.leaves ∙ stores.can);
+        leaves = ap (λ fs. left_by_last to.last (left_by_values to.values fs)) first.leaves ∙ stores.leaves;
         few = λ n.
-            let behind = taken_behind_targets ts n in
-            omega (arith, first.few n, ap (λ fs. (words_assigned at behind fs to.values to.all to.last).levels) first.unused, stores.few behind);
+            let next = taken_behind_targets ts n in
+            omega (arith, first.few n, ap (λ fs. (words_assigned at next fs to.values to.all to.last).levels) first.leaves, stores.few next);
         made = act_made;
         taken = act_taken;
       }
 
-module _ {f : Function} {g : Fn} {active : List Active} {listed : List ℕ} {z : Maker} (left : List (Option Inner)) (made : IsMadeBy f g active listed z) where
-  target_same : (target : Expression) (t : TargetValue) → IsActTarget target → TargetWritten f g active listed z left target → IsTarget g active target t → TargetSame f g active listed z left target t
-  target_same (name_expression line text) t good written (w, means, is) = name_same made left line text w t good means is
-  target_same (index_expression line on key) (index_target x k) has written is = index_same made line on key x k has.0 has.1 (written.0 x is.0) written.1 is.1
-  target_same (field_expression line on text) (index_target x k) has written is = field_same made line on text x k has (written x is.0) is.1
-  target_same target t has written is = absurd is
+module _ {f : Function} {g : Fn} {active : List Active} {listed : List ℕ} {z : Maker} (lefts : ℕ → List (Option Inner)) (made : IsMadeBy f g active listed z) where
+  target_same : (target : Expression) (before behind : ℕ) (t : TargetValue) → IsActTarget target → TargetWritten f g active listed z lefts target → IsTarget g active target before behind t → TargetSame f g active listed z (lefts before) (lefts behind) target t
+  target_same (name_expression line text) before behind t good written (as_many, w, means, is) =
+      subst (λ (behind : ℕ). TargetSame f g active listed z (lefts before) (lefts behind) (name_expression line text) t) (sym as_many) (name_same made (lefts before) line text w t good means is)
+  target_same (index_expression line on key) before behind (index_target x k) has written (mid, is, is_key) = index_same lefts made line on key before mid behind x k has.0 has.1 (written.0 before mid x is) (written.1 mid behind) is_key
+  target_same (field_expression line on text) before behind (index_target x k) has written (mid, is, is_key) = field_same lefts made line on text before mid behind x k has (written before mid x is) is_key
+  target_same target before behind t has written is = absurd is
 
-  targets_same : (targets : Expressions) (ts : List TargetValue) → AreActTargets targets → TargetsWritten f g active listed z left targets → AreTargets g active targets ts → TargetsSame f g active listed z left targets ts
-  targets_same no_expressions [] has written are = none_same
-  targets_same (syntax.expression target targets) (t ∷ ts) has written are = more_same target targets t ts (target_same target t has.0 written.0 are.0) (targets_same targets ts has.1 written.1 are.1)
-  targets_same targets ts has written are = absurd are
+  targets_same : (targets : Expressions) (before behind : ℕ) (ts : List TargetValue) → AreActTargets targets → TargetsWritten f g active listed z lefts targets → AreTargets g active targets before behind ts →
+      TargetsSame f g active listed z (lefts before) (lefts behind) targets ts
+  targets_same no_expressions before behind [] has written are = none_same (ap lefts (sym are))
+  targets_same (syntax.expression target targets) before behind (t ∷ ts) has written (mid, is, are) =
+      more_same target targets t ts (target_same target before mid t has.0 written.0 is) (targets_same targets mid behind ts has.1 written.1 are)
+  targets_same targets before behind ts has written are = absurd are
 
-  pub assignment_rewritten_act : (targets es : Expressions) (ts : List TargetValue) (to : Assigned) → Assigns targets es → TargetsWritten f g active listed z left targets → AllRewritten f g active listed z left es → AreAssigned g active targets es ts to →
-      RewrittenAct f g active listed z left (assignment targets es) (assigned ts to.values to.all to.last)
-  assignment_rewritten_act targets es ts to assigns to_written written are =
-      stores_act targets es ts to (targets_same targets ts assigns.targets to_written are.0) (all_stores left made ts es assigns.values written to are.1)
+  pub assignment_rewritten_act : (targets es : Expressions) (before behind : ℕ) (ts : List TargetValue) (to : Assigned) → Assigns targets es → TargetsWritten f g active listed z lefts targets → AllRewritten f g active listed z lefts es →
+      AreAssigned g active targets es ts before behind to → RewrittenAct f g active listed z (lefts before) (lefts behind) (assignment targets es) (assigned ts to.values to.all to.last)
+  assignment_rewritten_act targets es before behind ts to assigns to_written written (mid, are, are_values) =
+      stores_act targets es ts to (targets_same targets before mid ts assigns.targets to_written are) (all_stores lefts made ts es mid behind assigns.values written to are_values)

@@ -1,5 +1,5 @@
 -- The words of an assignment are read as one step, which is that assignment.
-use Rattle.std.proofs.Common.{◌≡◌, ◌≢◌, ◌⊎◌, ℕ, zero, suc, ◌+◌, ◌<◌, ◌≤◌, ◌&&◌, ◌||◌, nat_le, max, Bool, true, false, List, [], ◌∷◌, ◌++◌, length, length-append, Option, Some, None, refl, sym, ap, ap₂, ◌∙◌, subst, subst₂, arith, le-leb, lt-ltb, eq-eqb, inl, inr, is_some}
+use Rattle.std.proofs.Common.{add-one, ◌≡◌, ◌≢◌, ◌⊎◌, ℕ, zero, suc, ◌+◌, ◌<◌, ◌≤◌, ◌&&◌, ◌||◌, nat_le, max, Bool, true, false, List, [], ◌∷◌, ◌++◌, length, length-append, Option, Some, None, refl, sym, ap, ap₂, ◌∙◌, subst, subst₂, arith, le-leb, lt-ltb, eq-eqb, inl, inr, is_some}
 use Rattle.std.proofs.lemmas.Bool.{eqb-true, le-ltb, ne_eqb}
 use Rattle.std.specs.Prelude.{◌==◌, not, option_map, if◌then◌else◌, replicate}
 use Rattle.lua_tree.specs.Syntax as syntax
@@ -29,7 +29,7 @@ use Rattle.scheme_stands.specs.Relation.{all_related, related}
 use Rattle.scheme_stands.specs.Statements.{AssignAt, CopiesAt, CopyBy, EachStoredAt, NoTargetsAt, StoreAt, StoreRegisterAt, StoresBy, TargetsAt}
 use Rattle.scheme_stands.specs.Words.{Fn, Spot, Stretch, WordAt, instr_by}
 use Rattle.reads_back.specs.Acted.{Acted, AreActTargets, AreTargets, AreValues, AreWithOperand, Assigned, Assigns, EndWithOperand, IsActTarget, IsActed, all_named_behind, assigned, can_act, is_part, last_target, some_missing, taken_behind_act, taken_behind_last, taken_behind_targets, values_assigned}
-use Rattle.reads_back.specs.Cores.{AllHaveCores, AreCores, HasCore, ends_open}
+use Rattle.reads_back.specs.Cores.{AllHaveCores, AreCores, Counted, HasCore, ends_open}
 use Rattle.reads_back.proofs.ActsRead.{ActRead, CanAct}
 use Rattle.reads_back.proofs.AdjustedEntries.{count_last}
 use Rattle.reads_back.proofs.AdjustedWords.{adjust_begins, adjust_fits, adjust_forward, next_fit}
@@ -52,7 +52,7 @@ use Rattle.reads_back.proofs.StoresRead.{IsInStep}
 use Rattle.reads_back.proofs.Taking.{operand_taken_later, values_taken_later}
 use Rattle.reads_back.proofs.TargetsCome.{AreNoItems, AreSaid, Fits, ReadsTarget, ReadsTargets, TargetsCome, targets_come, targets_forward}
 use Rattle.reads_back.proofs.TargetsStand.{copies_stand, targets_count}
-use Rattle.reads_back.proofs.TargetsStored.{IsNoItem, count_words, register_turn, targets_end, there_last}
+use Rattle.reads_back.proofs.TargetsStored.{IsNoItem, count_words, register_turn, store_keeps, targets_end, there_last, words_keep}
 use Rattle.reads_back.proofs.Tests.{and_not, both_hold, not_so, or_first, or_second}
 use Rattle.reads_back.proofs.ValueReads.{each_read, reads_all}
 use Rattle.reads_back.proofs.ValueWords.{next_free}
@@ -84,9 +84,6 @@ all_counted g [] [] said = refl
 all_counted g (place ∷ places) (d ∷ ds) said = ap suc (all_counted g places ds said.1)
 all_counted g [] (d ∷ ds) said = absurd said
 all_counted g (place ∷ places) [] said = absurd said
-
-add_one : (n : ℕ) → n + 1 ≡ suc n
-add_one n = omega arith
 
 -- what was taken before counts the same behind
 last_taken_later : (last : Option OperandValue) (n m : ℕ) → taken_behind_last last (max n m) ≡ max (taken_behind_last last n) m
@@ -148,7 +145,7 @@ module _ {f : Function} {g : Fn} {active : List Active} {listed : List ℕ} (is_
         store_wants f p.pc q.pc alone.instr s alone.there (makes_alone alone.instr.op alone.instr s.base alone.makes (omega (arith, alone.register, below))) alone.none alone.next before behind
 
     -- the word of the store is one that stores
-    far_wants : {Is : OperandValue → Type 0} {to : (free x free1 : ℕ) → Stretch} (operand : ReadsHeld f g active listed Is to) (words : ℕ → Stretch) → ((x : ℕ) (mid : Spot) → words x mid q → (mid.pc < q.pc) × IsWanted f s mid.pc) → OneAt to free words p q → IsWanted f s p.pc
+    far_wants : {Is : Counted OperandValue} {to : (free x free1 : ℕ) → Stretch} (operand : ReadsHeld f g active listed Is to) (words : ℕ → Stretch) → ((x : ℕ) (mid : Spot) → words x mid q → (mid.pc < q.pc) × IsWanted f s mid.pc) → OneAt to free words p q → IsWanted f s p.pc
     far_wants operand words stores at =
         let store = stores at.x at.mid at.words_at in
         by_operand at.mid store.1 (operand.begins free at.x at.free1 p at.mid (omega (arith, store.0, before)) at.operand_at)
@@ -182,7 +179,7 @@ module _ {f : Function} {g : Fn} {active : List Active} {listed : List ℕ} (is_
     taken_of_two free t free1 k free2 base more (inl none) (inr key) = inr (omega (arith, base, none, key.0), omega (arith, key.0, key.1))
     taken_of_two free t free1 k free2 base more (inr table) key = inl (omega (arith, base, table.0))
 
-    part_wants : {Key : OperandValue → Type 0} (on : Expression) → ReadsCore f g active listed on → (key_at : List Active → (free x free1 : ℕ) → Stretch) → ReadsHeld f g active listed Key (key_at active) → (key_local : List Active → Spot → Bool) (to : Target) (free1 : ℕ) (p mid last q : Spot) →
+    part_wants : {Key : Counted OperandValue} (on : Expression) → ReadsCore f g active listed on → (key_at : List Active → (free x free1 : ℕ) → Stretch) → ReadsHeld f g active listed Key (key_at active) → (key_local : List Active → Spot → Bool) (to : Target) (free1 : ℕ) (p mid last q : Spot) →
         PartTargetAt g (related g on) key_at key_local active (length active) to free1 p mid → length active < free1 → q.pc ≤ f.last → StoreAt g to (related g e) active free1 last q → IsWanted f s last.pc
     part_wants on on_reads key_at keys key_local to free1 p mid last q part more within at =
         let tables = operand_held is_function all on on_reads in
@@ -238,7 +235,7 @@ copies_fit g few (suc x) to places free free1 p q low at =
     copy_fits (clashes x to) g few x at.between places at.free1 free1 at.mid q (copies_fit g few x to at.between free at.free1 p at.mid low at.earlier_at) at.later_at
 
 module _ {f : Function} {g : Fn} {active : List Active} {listed : List ℕ} (is_function : IsFunction f g) (all : AreListed f g active listed) where
-  part_fits : {Key : OperandValue → Type 0} (on : Expression) → ReadsCore f g active listed on → (key_at : List Active → (free x free1 : ℕ) → Stretch) → ReadsHeld f g active listed Key (key_at active) → (key_local : List Active → Spot → Bool) (to : Target) (free free1 : ℕ) (p q : Spot) →
+  part_fits : {Key : Counted OperandValue} (on : Expression) → ReadsCore f g active listed on → (key_at : List Active → (free x free1 : ℕ) → Stretch) → ReadsHeld f g active listed Key (key_at active) → (key_local : List Active → Spot → Bool) (to : Target) (free free1 : ℕ) (p q : Spot) →
       PartTargetAt g (related g on) key_at key_local active free to free1 p q → free ≤ 250 → free1 ≤ 250
   part_fits on reads key_at keys key_local to free free1 p q at low =
       taken_low (keys.takes at.free1 at.k free1 at.mid q at.key_at) (taken_low ((operand_held is_function all on reads).takes free at.t at.free1 p at.mid at.on_at) low)
@@ -337,7 +334,7 @@ several_there targets (suc (suc values)) entries some given other enough each = 
 
 module _ {f : Function} {g : Fn} {active : List Active} {listed : List ℕ} (is_function : IsFunction f g) (all : AreListed f g active listed) (targets es : Expressions) (assigns : Assigns targets es) (few : depth_of_expressions es ≤ 199)
     (can : CanAct f g active listed (assignment targets es)) (places : List Target) (s : Situation) (locals : HasLocals active listed s) (empty : s.entries ≡ []) (free : ℕ) (low : free ≤ 250) (p last q : Spot) (quiet : IsQuiet f s.scope p.pc q.pc)
-    (come : TargetsCome f g active listed targets places s free p.pc last.pc) where
+    (come : TargetsCome f g active listed targets p.functions last.functions places s free p.pc last.pc) where
   abbrev there : Situation
   there = record s { scope = come.scope; entries = come.parts; seen = come.seen }
 
@@ -380,18 +377,19 @@ module _ {f : Function} {g : Fn} {active : List Active} {listed : List ℕ} (is_
         ∙ seen_with_last ds d n
 
     -- the other stores, and the end
-    targets_act : (to : Assigned) → AreWithOperand g active (targets_to (ds ++ d ∷ [])) es to ⊎ AreValues g active (targets_to (ds ++ d ∷ [])) es to → (mid : Spot) → StoreWordsAt g free ds mid q → mid.pc ≤ q.pc → free + length ds ≤ 250 →
-        Begun f (length active) there (length ds) d to last.pc mid.pc → ActRead f g active (assignment targets es) s p.pc q.pc
-    targets_act to values mid at on fit begun =
+    targets_act : (to : Assigned) (mid : Spot) → AreWithOperand g active (targets_to (ds ++ d ∷ [])) es last.functions mid.functions to ⊎ AreValues g active (targets_to (ds ++ d ∷ [])) es last.functions mid.functions to →
+        StoreWordsAt g free ds mid q → mid.pc ≤ q.pc → free + length ds ≤ 250 → Begun f (length active) there (length ds) d to last.pc mid.pc → ActRead f g active (assignment targets es) p.functions q.functions s p.pc q.pc
+    targets_act to mid values at on fit begun =
         let acted : Acted = assigned (targets_to (ds ++ d ∷ [])) to.values to.all to.last in
-        let acts : IsActed g active (assignment targets es) acted = (subst (λ (ds : List Destination). AreTargets g active targets (targets_to ds)) is come.are, values) in
+        let acts : IsActed g active (assignment targets es) p.functions mid.functions acted = (last.functions, subst (λ (ds : List Destination). AreTargets g active targets p.functions last.functions (targets_to ds)) is come.are, values) in
         let u = record there { scope = begun.scope; entries = come.parts ++ begun.values; seen = seen_with d (taken_behind_last to.last (taken_behind_values to.values come.seen)) } in
         let step : IsInStep f (length active) listed u = record { base = locals.base; places = begun.same.active ∙ locals_there.places } in
-        let can_there : can_act (place_in_step f u) s.left acted ≡ true = subst (λ (listed : List ℕ). can_act (place f.of listed f.short) s.left acted ≡ true) (sym step.places) (can.can acted acts s.left) in
+        let can_there : can_act (place_in_step f u) s.left acted ≡ true = subst (λ (listed : List ℕ). can_act (place f.of listed f.short) s.left acted ≡ true) (sym step.places) (can.can p.functions mid.functions acted acts s.left) in
         let used = subst (λ (ds : List Destination). used_by_all (length active) ds (replicate (length come.parts) false) ≡ replicate (length come.parts) true) is come.used in
         let ends = targets_end is_function ds d begun.pc begun.straight begun.used to come.parts begun.values come.behind mid q u step refl stand used begun.enough (omega (arith, fit, come.counts))
         (subst (λ (free : ℕ). StoreWordsAt g free ds mid q) come.counts at) quiet.within begun.writes (λ none. begun.plain (ap length none)) can_there in
-        turn_acts acted begun.scope (seen_with_all ds u.seen) come.behind refl acts (same_then come.same begun.same) (taken to) (reaches_then reached begun.reaches) (omega (arith, begun.later, on)) (begun.turn ∙ ap (option_map as_over) ends)
+        subst (λ (made : ℕ). ActRead f g active (assignment targets es) p.functions made s p.pc q.pc) (sym (words_keep g free ds mid q at))
+        (turn_acts acted begun.scope (seen_with_all ds u.seen) come.behind refl acts (same_then come.same begun.same) (taken to) (reaches_then reached begun.reaches) (omega (arith, begun.later, on)) (begun.turn ∙ ap (option_map as_over) ends))
 
   -- as many values as targets
   module _ (at : EachAt g active come.ds es free last q) where
@@ -417,11 +415,11 @@ module _ {f : Function} {g : Fn} {active : List Active} {listed : List ℕ} (is_
         let below = is_below f (length active) listed stands.0 come.behind at.place at.to at.fits stands.2 in
         last_wants is_function all at.last at.has_last (omega (arith, few, at.shallow_last)) there locals_there at.stored (omega (arith, reads.1, quiet.within)) reads.0 first_above (omega (arith, next, some)) at.mid at.place below at.last_at
 
-    front_come : AllCome f (AreCores g active at.front) 200 there (length (all_related g at.front)) last.pc at.mid.pc
+    front_come : AllCome f (AreCores g active at.front last.functions at.mid.functions) 200 there (length (all_related g at.front)) last.pc at.mid.pc
     front_come =
         wanted_come f g active listed 200 at.front (fronts is_function all es few come.ds free last q at) free last at.mid there locals_there next (quiet_before at.mid.pc (omega (arith, to_stored, to_end)) quiet_there) front_wanted at.front_at
 
-    last_goes : LastStored f g active at.last at.to there (length (all_related g at.front)) front_come.values last.pc at.stored.pc
+    last_goes : LastStored f g active at.last at.mid.functions at.stored.functions at.to there (length (all_related g at.front)) front_come.values last.pc at.stored.pc
     last_goes =
         last_stored is_function all at.place at.to at.said at.fits at.last (last_read is_function all es few come.ds free last q at) there stands.0 come.behind first_above at.mid at.stored locals_there stands.2 (mid_length at.vs at.to at.is) (no_item at.vs at.to at.is) front_come
         (omega (arith, come.counts)) above_low (quiet_from at.mid.pc (front_on is_function all es few come.ds free last q at) (quiet_before at.stored.pc to_end quiet_there)) at.last_at
@@ -429,27 +427,28 @@ module _ {f : Function} {g : Fn} {active : List Active} {listed : List ℕ} (is_
     abbrev ts : List TargetValue
     ts = targets_to (at.vs ++ at.to ∷ [])
 
-    values_are : (vs : Values) (to : Assigned) → AreCores g active at.front vs → value_count vs ≡ length at.vs → GoesTo g active at.last at.to vs to → AreWithOperand g active ts es to ⊎ AreValues g active ts es to
+    values_are : (vs : Values) (to : Assigned) → AreCores g active at.front last.functions at.mid.functions vs → value_count vs ≡ length at.vs → GoesTo g active at.last at.to vs at.mid.functions at.stored.functions to →
+        AreWithOperand g active ts es last.functions at.stored.functions to ⊎ AreValues g active ts es last.functions at.stored.functions to
     values_are vs to are counts (inl goes) =
         let values = and_last_value vs goes.1 in
         let count : value_count values ≡ length ts = omega (arith, count_last vs goes.1, counts, count_targets at.vs at.to) in
-        inr (values, at.cores vs goes.1 are goes.2, ap (λ part. part && (value_count values == length ts)) (ap is_part (ends_as at.vs at.to) ∙ goes.0), as_many (length ts) (last_target ts) (ends_open es) values count ∙ sym goes.3)
+        inr (values, at.cores last.functions at.mid.functions at.stored.functions vs goes.1 are goes.2, ap (λ part. part && (value_count values == length ts)) (ap is_part (ends_as at.vs at.to) ∙ goes.0), as_many (length ts) (last_target ts) (ends_open es) values count ∙ sym goes.3)
     values_are vs to are counts (inr goes) =
         inl (
           ap is_part (ends_as at.vs at.to) ∙ goes.0,
           ap (λ (to : Assigned). suc (value_count to.values)) goes.3 ∙ ap suc counts ∙ sym (count_targets at.vs at.to),
           goes.1,
-          subst (λ (to : Assigned). EndWithOperand g active es to.values goes.1) (sym goes.3) (at.operand vs goes.1 are goes.2),
+          subst (λ (to : Assigned). EndWithOperand g active es goes.1 last.functions at.stored.functions to.values) (sym goes.3) (at.operand last.functions at.mid.functions at.stored.functions vs goes.1 are goes.2),
           ap (λ (to : Assigned). to.all) goes.3,
           ap (λ (to : Assigned). to.last) goes.3,
         )
 
-    each_acts : ActRead f g active (assignment targets es) s p.pc q.pc
+    each_acts : ActRead f g active (assignment targets es) p.functions q.functions s p.pc q.pc
     each_acts =
         let front = front_come in
         let one = last_goes in
         let begun = subst (λ (n : ℕ). Begun f (length active) there n at.to one.to last.pc at.stored.pc) at.counts one.begun in
-        targets_act at.vs at.to at.is one.to (values_are front.values one.to front.are (front.counts ∙ at.counts) one.goes) at.stored at.others_at to_end (omega (arith, above_low, at.counts)) begun
+        targets_act at.vs at.to at.is one.to at.stored (values_are front.values one.to front.are (front.counts ∙ at.counts) one.goes) at.others_at to_end (omega (arith, above_low, at.counts)) begun
 
   -- fewer values or more
   module _ (mid : Spot) (stores : AllStored g come.ds free mid q) (adjust : AdjustAt g (all_related g es) (suc (length stores.front)) active free last mid) (other : length (all_related g es) ≢ suc (length stores.front)) where
@@ -468,12 +467,12 @@ module _ {f : Function} {g : Fn} {active : List Active} {listed : List ℕ} (is_
     stores_on : stores.mid.pc ≤ q.pc
     stores_on = omega (arith, count_words g free stores.front stores.mid q stores.others_at)
 
-    values_come : AssignedComes f g active es there stores.last (suc others) last.pc mid.pc
+    values_come : AssignedComes f g active es last.functions mid.functions there stores.last (suc others) last.pc mid.pc
     values_come =
         let wanted = reads_want f mid.pc there (store_reads is_function there.base stores.last (free + others) mid stores.mid (omega (arith, next)) (omega (arith, all_low)) stores.first_at) in
         assigned_come is_function all es assigns.values assigns.given (omega (arith, few)) stores.last (suc others) free last mid there other locals_there next (quiet_before mid.pc (omega (arith, store_on, stores_on)) quiet_there) wanted adjust
 
-    first_begins : (values : AssignedComes f g active es there stores.last (suc others) last.pc mid.pc) → Begun f (length active) there others stores.last values.to last.pc stores.mid.pc
+    first_begins : (values : AssignedComes f g active es last.functions mid.functions there stores.last (suc others) last.pc mid.pc) → Begun f (length active) there others stores.last values.to last.pc stores.mid.pc
     first_begins values =
         let d = stores.last in
         let stand = last_stands stores.front d stores.is in
@@ -501,7 +500,7 @@ module _ {f : Function} {g : Fn} {active : List Active} {listed : List ℕ} (is_
           plain = λ none. several_plain values.entries (several_there (suc others) (length (all_related g es)) (length values.entries) (omega arith) (some_related g es assigns.given) other values.enough values.each);
         }
 
-    adjusted_acts : ActRead f g active (assignment targets es) s p.pc q.pc
+    adjusted_acts : ActRead f g active (assignment targets es) p.functions q.functions s p.pc q.pc
     adjusted_acts =
         let values = values_come in
         let ts = targets_to (stores.front ++ stores.last ∷ []) in
@@ -509,7 +508,8 @@ module _ {f : Function} {g : Fn} {active : List Active} {listed : List ℕ} (is_
         let fewer : (is_part (last_target ts) && (value_count values.from == length ts)) ≡ false =
         ap (λ same. is_part (last_target ts) && same) (ne_eqb (value_count values.from) (length ts) (λ same. values.other (same ∙ count))) ∙ and_not (is_part (last_target ts)) in
         let written = ap₂ (λ (n : ℕ) (target : Option TargetValue). values_assigned n target (ends_open es) values.from) count (ends_as stores.front stores.last) ∙ values.written in
-        targets_act stores.front stores.last stores.is values.to (inr (values.from, values.are, fewer, written)) stores.mid stores.others_at stores_on (omega (arith, all_low)) (first_begins values)
+        let are = subst (λ (made : ℕ). AreCores g active es last.functions made values.from) (sym (store_keeps stores.last (free + others) mid stores.mid stores.first_at)) values.are in
+        targets_act stores.front stores.last stores.is values.to stores.mid (inr (values.from, are, fewer, written)) stores.others_at stores_on (omega (arith, all_low)) (first_begins values)
 
 -- ---- all words
 
@@ -556,12 +556,12 @@ module _ {f : Function} {g : Fn} {active : List Active} {listed : List ℕ} (is_
           let within : stores.mid.pc ≤ f.last = omega (arith, store_next is_function words.last (at.free2 + length words.front) stores.mid words.mid words.first_at, count_words g at.free2 words.front words.mid q words.others_at, quiet.within) in
           begins_wants s (adjust_begins is_function all es assigns.values (omega (arith, few)) assigns.given (length at.places) at.free2 at.last stores.mid within stores.first_at) (omega (arith, more, locals.base))
 
-      come : s.entries ≡ [] → TargetsCome f g active listed targets at.places s at.free2 p.pc at.last.pc
+      come : s.entries ≡ [] → TargetsCome f g active listed targets p.functions at.last.functions at.places s at.free2 p.pc at.last.pc
       come empty =
           targets_come is_function all targets assigns.targets reads at.parts at.places at.free1 at.free2 p at.mid at.last s locals empty (quiet_before at.last.pc on quiet) (are_wanted _ refl at.stores_at) (are_globals _ refl at.stores_at) at.targets_at at.copies_at
 
       module _ (can : CanAct f g active listed (assignment targets es)) (empty : s.entries ≡ []) where
-        by_count : (as_many : Bool) → (length (all_related g es) == length (all_related g targets)) ≡ as_many → StoresBy as_many g at.places (all_related g es) active at.free2 at.last q → ActRead f g active (assignment targets es) s p.pc q.pc
+        by_count : (as_many : Bool) → (length (all_related g es) == length (all_related g targets)) ≡ as_many → StoresBy as_many g at.places (all_related g es) active at.free2 at.last q → ActRead f g active (assignment targets es) p.functions q.functions s p.pc q.pc
         by_count true same stores =
             let targets_there = come empty in
             let each = each_at g active at.places targets_there.ds es targets_there.said targets_there.fit assigns.values some_places (eqb-true _ _ same ∙ sym counts) at.free2 at.last q stores in
@@ -569,7 +569,7 @@ module _ {f : Function} {g : Fn} {active : List Active} {listed : List ℕ} (is_
         by_count false other stores =
             let targets_there = come empty in
             let words = all_stored g at.places targets_there.ds targets_there.said some_places at.free2 stores.mid q stores.second_at in
-            let count : length at.places ≡ suc (length words.front) = all_counted g at.places targets_there.ds targets_there.said ∙ ap length words.is ∙ length-append words.front (words.last ∷ []) ∙ add_one (length words.front) in
+            let count : length at.places ≡ suc (length words.front) = all_counted g at.places targets_there.ds targets_there.said ∙ ap length words.is ∙ length-append words.front (words.last ∷ []) ∙ add-one (length words.front) in
             adjusted_acts is_function all targets es assigns few can at.places s locals empty at.free2 low p at.last q quiet targets_there stores.mid words
             (subst (λ (count : ℕ). AdjustAt g (all_related g es) count active at.free2 at.last stores.mid) count stores.first_at)
             (λ same. not_so (sym other ∙ eq-eqb _ _ (same ∙ sym count ∙ counts)))
@@ -579,5 +579,5 @@ module _ {f : Function} {g : Fn} {active : List Active} {listed : List ℕ} (is_
       omega (arith, targets_forward is_function all targets assigns.targets reads at.parts at.places at.free1 at.free2 p at.mid at.last at.targets_at at.copies_at, on p q at)
 
   pub assignment_read : CanAct f g active listed (assignment targets es) → (p q : Spot) (s : Situation) → HasLocals active listed s → s.entries ≡ [] → s.taken ≡ s.seen → IsQuiet f s.scope p.pc q.pc →
-      AssignAt g (all_related g targets) (all_related g es) active p q → ActRead f g active (assignment targets es) s p.pc q.pc
+      AssignAt g (all_related g targets) (all_related g es) active p q → ActRead f g active (assignment targets es) p.functions q.functions s p.pc q.pc
   assignment_read can p q s locals empty taken quiet at = by_count p q at s locals quiet can empty _ refl at.stores_at

@@ -25,10 +25,10 @@ abbrev pub known_behind : Acted → Scope → Entries → Situation → (seen : 
 known_behind acted scope entries s seen = record (after_act acted (record s { scope = scope; seen = seen })) { entries = entries }
 
 -- words that are read as the step are this act
-pub act_is_read : {f : Function} {g : Fn} {active : List Active} {statement : Statement} {first last : ℕ} {s : Situation} (acted : Acted) (next : ℕ) (scope : Scope) (entries : Entries) → locals_of acted ≡ 0 → IsActed g active statement acted →
+pub act_is_read : {f : Function} {g : Fn} {active : List Active} {statement : Statement} {before behind first last : ℕ} {s : Situation} (acted : Acted) (next : ℕ) (scope : Scope) (entries : Entries) → locals_of acted ≡ 0 → IsActed g active statement before behind acted →
     SameLocals s.scope scope → next ≡ last → first < last →
     ((count : ℕ) → last < count + first → words_from f count first s ≡ Some (step_of f next acted scope s (taken_behind_act acted s.seen), known_behind acted scope entries s (taken_behind_act acted s.seen))) →
-    ActRead f g active statement s first last
+    ActRead f g active statement before behind s first last
 act_is_read {f} {s = s} acted next scope entries none is same is_next later reads = record {
   acted = acted;
   is = is;
@@ -47,9 +47,9 @@ act_is_read {f} {s = s} acted next scope entries none is same is_next later read
 }
 
 -- a turn ends it
-pub turn_acts : {f : Function} {g : Fn} {active : List Active} {statement : Statement} {first last pc : ℕ} {s t : Situation} (acted : Acted) (scope : Scope) (seen : ℕ) (entries : Entries) → locals_of acted ≡ 0 → IsActed g active statement acted →
+pub turn_acts : {f : Function} {g : Fn} {active : List Active} {statement : Statement} {before behind first last pc : ℕ} {s t : Situation} (acted : Acted) (scope : Scope) (seen : ℕ) (entries : Entries) → locals_of acted ≡ 0 → IsActed g active statement before behind acted →
     SameLocals s.scope scope → taken_behind_act acted s.seen ≡ seen → Reaches f first s pc t → pc < last →
-    turn_at f pc t ≡ Some (over (step_of f last acted scope s seen), known_behind acted scope entries s seen) → ActRead f g active statement s first last
+    turn_at f pc t ≡ Some (over (step_of f last acted scope s seen), known_behind acted scope entries s seen) → ActRead f g active statement before behind s first last
 turn_acts {f} {last = last} {s = s} acted scope seen entries none is same taken reaches later turn =
     let ended : ℕ → Option (Turn × Situation) = λ seen. Some (over (step_of f last acted scope s seen), known_behind acted scope entries s seen) in
     act_is_read acted last scope entries none is same refl (omega (arith, reaches_on reaches, later))

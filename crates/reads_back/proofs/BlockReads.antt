@@ -162,7 +162,7 @@ module _ {f : Function} {g : Fn} {z : Maker} (whole : IsWhole f g z) where
       starts_with other is now as_many active within = absurd (subst IsAct is next.straight.0.0)
 
       -- its words are read
-      act_there : last_pc ≤ f.last → (now : Situation) → length now.scope.declared ≡ length m.active → HasLocals m.active (listed_by m) now → now.entries ≡ [] → now.taken ≡ now.seen → ActRead f g m.active s now first_pc last_pc
+      act_there : last_pc ≤ f.last → (now : Situation) → length now.scope.declared ≡ length m.active → HasLocals m.active (listed_by m) now → now.entries ≡ [] → now.taken ≡ now.seen → ActRead f g m.active s (length m.functions) (length behind.functions) now first_pc last_pc
       act_there within now as_many locals empty taken =
           act_read (made_there whole next) s next.straight.0.0 next.straight.0.1 (low whole next) behind.active (spot m) (spot behind) next.stand.0 now locals empty taken (is_quiet now.scope as_many within) (starts_with s refl now as_many locals.places within)
 
@@ -190,33 +190,33 @@ module _ {f : Function} {g : Fn} {z : Maker} (whole : IsWhole f g z) where
   -- ---- one step
 
   -- what the step is of what is written
-  kind_is : (s : Statement) → IsAct s → (m : Maker) (acted : Acted) (n first listed : ℕ) (kind : DraftKind) → IsActed g m.active s acted → kind ≡ kind_of_act first acted → first + length (entries_by s (made_by s m)) ≤ listed →
+  kind_is : (s : Statement) → IsAct s → (m : Maker) (acted : Acted) (n first listed : ℕ) (kind : DraftKind) (before after : ℕ) → IsActed g m.active s before after acted → kind ≡ kind_of_act first acted → first + length (entries_by s (made_by s m)) ≤ listed →
       KindIs listed (act_statement (place f.of (listed_by m) f.short) n [] acted) kind
-  kind_is (call_statement e) is m (called v) n first listed kind acts same room = same
-  kind_is (assignment targets es) is m (assigned ts vs all last) n first listed kind acts same room = same
-  kind_is (local_statement names es) is m (declared others vs all) n first listed kind acts same room =
+  kind_is (call_statement e) is m (called v) n first listed kind before after acts same room = same
+  kind_is (assignment targets es) is m (assigned ts vs all last) n first listed kind before after acts same room = same
+  kind_is (local_statement names es) is m (declared others vs all) n first listed kind before after acts same room =
       let some = some_names names is.0 in
       let as_many = entries_count names (length (made_by (local_statement names es) m).items) in
       (first, same, omega (arith, some, ap length acts.0), omega (arith, room, as_many, ap length acts.0))
-  kind_is (return_statement es) is m (returned vs all) n first listed kind acts same room = same
-  kind_is s is m acted n first listed kind acts same room = absurd acts
+  kind_is (return_statement es) is m (returned vs all) n first listed kind before after acts same room = same
+  kind_is s is m acted n first listed kind before after acts same room = absurd acts
 
   -- how many locals it declares
-  declares_count : (s : Statement) → IsAct s → (m : Maker) (acted : Acted) → IsActed g m.active s acted → locals_of acted ≡ length (actives_by s m)
-  declares_count (call_statement e) is m (called v) acts = refl
-  declares_count (assignment targets es) is m (assigned ts vs all last) acts = refl
-  declares_count (local_statement names es) is m (declared others vs all) acts = ap length acts.0 ∙ sym (actives_count names m.ahead.captures m.ahead.declarations (length m.locals))
-  declares_count (return_statement es) is m (returned vs all) acts = refl
-  declares_count s is m acted acts = absurd acts
+  declares_count : (s : Statement) → IsAct s → (m : Maker) (before after : ℕ) (acted : Acted) → IsActed g m.active s before after acted → locals_of acted ≡ length (actives_by s m)
+  declares_count (call_statement e) is m before after (called v) acts = refl
+  declares_count (assignment targets es) is m before after (assigned ts vs all last) acts = refl
+  declares_count (local_statement names es) is m before after (declared others vs all) acts = ap length acts.0 ∙ sym (actives_count names m.ahead.captures m.ahead.declarations (length m.locals))
+  declares_count (return_statement es) is m before after (returned vs all) acts = refl
+  declares_count s is m before after acted acts = absurd acts
 
   -- what is known behind the words of the first statement
   there_behind : {line : ℕ} {semi : Bool} {s : Statement} {rest : Statements} {m : Maker} {number : ℕ} {now : Situation} (next : ComesNext f g z (syntax.statement line semi s rest) m) → IsThere f m now → now.scope.active ≡ listed_by m →
-      (act : ActRead f g m.active s (begun number (length m.items) now) (length m.items) (length (made_by s m).items)) → IsThere f (settle (made_by s m)) (left_at f (length (made_by s m).items) act.behind)
+      (act : ActRead f g m.active s (length m.functions) (length (made_by s m).functions) (begun number (length m.items) now) (length m.items) (length (made_by s m).items)) → IsThere f (settle (made_by s m)) (left_at f (length (made_by s m).items) act.behind)
   there_behind {s = s} {rest} {m} next there active act =
       let n = made_by s m in
       let more = comes_behind whole next in
       let moves = statement_moves s next.straight.0.0 m in
-      let count = declares_count s next.straight.0.0 m act.acted act.is in
+      let count = declares_count s next.straight.0.0 m (length m.functions) (length n.functions) act.acted act.is in
       let added : length n.active ≡ length m.active + locals_of act.acted = ap length moves.active ∙ length-append m.active (actives_by s m) ∙ ap (λ more. length m.active + more) (sym count) in
       let zero_more : length m.active ≡ 0 + length m.active = omega arith in
       let all_active : act.behind.scope.active ≡ numbers_from 0 (length n.active) =
@@ -231,7 +231,7 @@ module _ {f : Function} {g : Fn} {z : Maker} (whole : IsWhole f g z) where
             ap (λ locals. (leave locals (length n.items) act.behind.scope).active) more.listing.listed
             ∙ all_left f.last (length n.items) (length n.active) (n.locals ++ entries_from rest (settle n)) act.behind.scope before all_active as_many
             ∙ all_active;
-        left = act.left ∙ ap (left_by_act act.acted) there.left ∙ (written (made_there whole next) s next.straight.0.0 (low whole next) act.acted act.is).unused;
+        left = act.left ∙ ap (left_by_act act.acted) there.left ∙ (written (made_there whole next) s next.straight.0.0 (low whole next) (length m.functions) (length n.functions) act.acted act.is).leaves;
         uncaptured = act.declares.uncaptured there.uncaptured;
       }
 
@@ -272,7 +272,7 @@ module _ {f : Function} {g : Fn} {z : Maker} (whole : IsWhole f g z) where
       reads (suc count) few =
           ap (λ over. if over then Some (drafts, length m.items, now) else option_and_then (λ step. drafts_from f count (and_draft f drafts step)) (step_at f (length drafts) (length m.items) now)) (le-leb f.last (length m.items) (omega (arith, over))) ∙ same
 
-  act_is_read : (m : Maker) {s : Statement} {number last : ℕ} (now : Situation) (act : ActRead f g m.active s (begun number (length m.items) now) (length m.items) last) → starting f.of.locals (length m.items) now.scope ≡ 0 →
+  act_is_read : (m : Maker) {s : Statement} {number last before after : ℕ} (now : Situation) (act : ActRead f g m.active s before after (begun number (length m.items) now) (length m.items) last) → starting f.of.locals (length m.items) now.scope ≡ 0 →
       length now.scope.active ≤ 250 → last ≤ f.last → step_at f number (length m.items) now ≡ Some (act.draft, act.behind)
   act_is_read m {number = number} {last} now act none few within =
       let pc = length m.items in
@@ -282,7 +282,7 @@ module _ {f : Function} {g : Fn} {z : Maker} (whole : IsWhole f g z) where
       ∙ act.reads (suc (f.last - pc)) (omega (arith, act.later, within))
 
   one_step : {s : Statement} {rest : Statements} {m : Maker} (line : ℕ) (semi : Bool) (drafts : List Drafted) (now : Situation) (next : ComesNext f g z (syntax.statement line semi s rest) m) → now.scope.active ≡ listed_by m → IsThere f m now →
-      (act : ActRead f g m.active s (begun (length drafts) (length m.items) now) (length m.items) (length (made_by s m).items)) → step_at f (length drafts) (length m.items) now ≡ Some (act.draft, act.behind) → length (made_by s m).items ≤ f.last →
+      (act : ActRead f g m.active s (length m.functions) (length (made_by s m).functions) (begun (length drafts) (length m.items) now) (length m.items) (length (made_by s m).items)) → step_at f (length drafts) (length m.items) now ≡ Some (act.draft, act.behind) → length (made_by s m).items ≤ f.last →
       StepsRead rest (settle (made_by s m)) (drafts ++ act.draft ∷ []) (left_at f (length (made_by s m).items) act.behind) → StepsRead (syntax.statement line semi s rest) m drafts now
   one_step {s} {rest} {m} line semi drafts now next active there act is_read within others = record {
     written = syntax.statement 1 false here others.written;
@@ -307,7 +307,7 @@ module _ {f : Function} {g : Fn} {z : Maker} (whole : IsWhole f g z) where
       few : act.draft.levels ≤ 200
       few =
           let same = act.levels ∙ ap₂ (λ (listed : List ℕ) (left : List (Option Inner)). act_levels (place f.of listed f.short) now.seen left act.acted) active there.left in
-          omega (arith, same, few_levels (made_there whole next) s next.straight.0.0 (low whole next) act.acted now.seen act.is)
+          omega (arith, same, few_levels (made_there whole next) s next.straight.0.0 (low whole next) (length m.functions) (length n.functions) act.acted now.seen act.is)
 
       room : length now.scope.declared + length (entries_by s n) ≤ length f.of.locals
       room =
@@ -315,7 +315,7 @@ module _ {f : Function} {g : Fn} {z : Maker} (whole : IsWhole f g z) where
           omega (arith, listed, length-append m.locals (entries_by s n ++ entries_from rest (settle n)), length-append (entries_by s n) (entries_from rest (settle n)), as_many_listed 0 m.active m.locals next.listing.are, there.declared)
 
       kind : KindIs (length f.of.locals) here act.draft.kind
-      kind = kind_is s next.straight.0.0 m act.acted now.seen (length now.scope.declared) (length f.of.locals) act.draft.kind act.is act.kind room
+      kind = kind_is s next.straight.0.0 m act.acted now.seen (length now.scope.declared) (length f.of.locals) act.draft.kind (length m.functions) (length n.functions) act.is act.kind room
 
       reads : (count : ℕ) → f.last ≤ count + length m.items → drafts_from f count (drafts, length m.items, now) ≡ Some (drafts ++ act.draft ∷ others.more, f.last, others.behind)
       reads zero over = absurd (omega (arith, over, act.later, within))

@@ -22,6 +22,8 @@ use Rattle.reads_back.proofs.Reaches.{here, word, reaches_then}
 use Rattle.reads_back.proofs.ValueWords.{and_entry, entry_next, next_free}
 use Rattle.reads_back.proofs.WordsBegin.{word_begins}
 use Rattle.reads_back.proofs.WordsRead.{IsFunction, IsQuiet, abc_is_read, quiet_before, turn_there, word_of, word_there}
+use Rattle.reads_back.specs.Cores.{Counted, still}
+use Rattle.reads_back.proofs.Deeper.{comes_so, made_so, open_so}
 
 -- ---- one value of a call
 
@@ -87,7 +89,7 @@ call_no_nil w s = at (place_in s.base w.instr.a)
     at None = tt
     at (Some place) = either_no_nil (is_at is_method (slice_get s.entries place)) _ _ (method place) (plain place)
 
-module _ {f : Function} {g : Fn} {active : List Active} {listed : List ℕ} {Is : Value → Type 0} {deep : ℕ} (part : (free : ℕ) → Op → Want → Stretch) (is_function : IsFunction f g) (reads : ReadsCall f g active listed Is deep part) where
+module _ {f : Function} {g : Fn} {active : List Active} {listed : List ℕ} {Is : Counted Value} {deep : ℕ} (part : (free : ℕ) → Op → Want → Stretch) (is_function : IsFunction f g) (reads : ReadsCall f g active listed Is deep part) where
   value_forward : (free r : ℕ) (p q : Spot) → MovedFrom g (part free Op.Call (Some 1)) free r p q → p.pc ≤ q.pc
   value_forward free r p q (inl (same, at)) = reads.forward free Op.Call (Some 1) p q at
   value_forward free r p q (inr (other, at)) = omega (arith, reads.forward free Op.Call (Some 1) p at.mid at.first_at, at.second_at.next)
@@ -97,13 +99,13 @@ module _ {f : Function} {g : Fn} {active : List Active} {listed : List ℕ} {Is 
   value_begins free p q within (inr (other, at)) = absurd (other refl)
 
   value_moved : (free r : ℕ) (p q : Spot) (s : Situation) → HasLocals active listed s → free ≡ next_free s → IsQuiet f s.scope p.pc q.pc → (free ≡ r → ⊥) → Seq (part free Op.Call (Some 1)) (WordAt g (Piece.Abc Op.Move r free 0)) p q →
-      Moved f Is deep s r p.pc q.pc
+      Moved f (Is p.functions q.functions) deep s r p.pc q.pc
   unfolding call_to
   value_moved free r p q s locals is quiet other at =
       let later : at.mid.pc < q.pc = omega (arith, at.second_at.next) in
       let on = reads.forward free Op.Call (Some 1) p at.mid at.first_at in
       let call = reads.comes free Op.Call (Some 1) p at.mid s locals is (quiet_before at.mid.pc (omega (arith, later)) quiet) (inl refl) at.first_at in
-      let comes = call_to is call in
+      let comes = comes_so (omega arith) (λ v made. subst (λ (behind : ℕ). Is p.functions behind v) (sym at.second_at.functions) made) (call_to is call) in
       let t = behind_words comes.scope comes.seen (comes.entry ∷ []) s in
       let there = word_there is_function at.second_at (abc_is_read is_function at.second_at) (omega (arith, later, quiet.within)) in
       let turn = turn_there at.mid.pc t (quiet_same comes.same quiet) on later there in
@@ -116,11 +118,11 @@ module _ {f : Function} {g : Fn} {active : List Active} {listed : List ℕ} {Is 
         turn = turn ∙ ap₂ (λ (next from : ℕ). turn_of f t (record { pc = at.mid.pc; next = next; instr = instr_by at.mid.pc (Piece.Abc Op.Move r from 0) })) (sym at.second_at.next) is;
       }
 
-  value_arrives : (free r : ℕ) (p q : Spot) (s : Situation) → HasLocals active listed s → free ≡ next_free s → IsQuiet f s.scope p.pc q.pc → MovedFrom g (part free Op.Call (Some 1)) free r p q → Arrives f Is deep s r p.pc q.pc
+  value_arrives : (free r : ℕ) (p q : Spot) (s : Situation) → HasLocals active listed s → free ≡ next_free s → IsQuiet f s.scope p.pc q.pc → MovedFrom g (part free Op.Call (Some 1)) free r p q → Arrives f (Is p.functions q.functions) deep s r p.pc q.pc
   value_arrives free r p q s locals is quiet (inl (same, at)) = inr (inl (sym same ∙ is, call_to is (reads.comes free Op.Call (Some 1) p q s locals is quiet (inl refl) at)))
   value_arrives free r p q s locals is quiet (inr (other, at)) = inr (inr (value_moved free r p q s locals is quiet other at))
 
-pub call_value_reads : {f : Function} {g : Fn} {active : List Active} {listed : List ℕ} {Is : Value → Type 0} {deep : ℕ} (part : (free : ℕ) → Op → Want → Stretch) → IsFunction f g → ReadsCall f g active listed Is deep part →
+pub call_value_reads : {f : Function} {g : Fn} {active : List Active} {listed : List ℕ} {Is : Counted Value} {deep : ℕ} (part : (free : ℕ) → Op → Want → Stretch) → IsFunction f g → ReadsCall f g active listed Is deep part →
     Reads f g active listed Is deep (λ free r. MovedFrom g (part free Op.Call (Some 1)) free r)
 call_value_reads part is_function reads = record {
   forward = value_forward part is_function reads;
@@ -152,7 +154,7 @@ call_opens {f} {free = free} {first = first} {last = last} {s = s} is call =
       reaches = reaches_then call.reaches (word (omega (arith, call.next)) turn here);
     }
 
-pub call_open_reads : {f : Function} {g : Fn} {active : List Active} {listed : List ℕ} {Is : Value → Type 0} {deep : ℕ} {part : (free : ℕ) → Op → Want → Stretch} → IsFunction f g → ReadsCall f g active listed Is deep part →
+pub call_open_reads : {f : Function} {g : Fn} {active : List Active} {listed : List ℕ} {Is : Counted Value} {deep : ℕ} {part : (free : ℕ) → Op → Want → Stretch} → IsFunction f g → ReadsCall f g active listed Is deep part →
     ReadsOpen f g active listed Is deep part
 call_open_reads is_function reads = record {
   forward = reads.forward;
@@ -182,11 +184,11 @@ vararg_made {f} {p = p} {q = q} {s = s} r is_function quiet at =
       makes = ap (λ (next : ℕ). Some (makes vararg_value next, s)) (sym at.next);
     }
 
-pub vararg_reads : {f : Function} {g : Fn} {active : List Active} {listed : List ℕ} → IsFunction f g → Reads f g active listed (λ v. v ≡ vararg_value) 1 (λ free r. WordAt g (Piece.Abc Op.Vararg r 2 0))
+pub vararg_reads : {f : Function} {g : Fn} {active : List Active} {listed : List ℕ} → IsFunction f g → Reads f g active listed (still (λ v. v ≡ vararg_value)) 1 (λ free r. WordAt g (Piece.Abc Op.Vararg r 2 0))
 vararg_reads is_function = record {
   forward = λ free r p q at. omega (arith, at.next);
   begins = λ free p q within at. word_begins free is_function at (abc_is_read is_function at) refl (omega arith);
-  arrives = λ free r p q s locals is goal quiet wanted at. inl (vararg_made r is_function quiet at);
+  arrives = λ free r p q s locals is goal quiet wanted at. inl (made_so (omega arith) (λ v made. (at.functions, made)) (vararg_made r is_function quiet at));
 }
 
 vararg_opens : {f : Function} {g : Fn} {p q : Spot} {s : Situation} (free : ℕ) → IsFunction f g → free ≡ next_free s → IsQuiet f s.scope p.pc q.pc → WordAt g (Piece.Abc Op.Vararg free 0 0) p q → OpenComes f (λ v. v ≡ vararg_value) 1 s p.pc q.pc
@@ -209,9 +211,9 @@ vararg_opens {f} {p = p} {q = q} {s = s} free is_function is quiet at =
       reaches = word later turn here;
     }
 
-pub vararg_open_reads : {f : Function} {g : Fn} {active : List Active} {listed : List ℕ} → IsFunction f g → ReadsOpen f g active listed (λ v. v ≡ vararg_value) 1 (VarargAt g active)
+pub vararg_open_reads : {f : Function} {g : Fn} {active : List Active} {listed : List ℕ} → IsFunction f g → ReadsOpen f g active listed (still (λ v. v ≡ vararg_value)) 1 (VarargAt g active)
 vararg_open_reads is_function = record {
   forward = λ free op want p q at. omega (arith, at.word.next);
   begins = λ free p q within at. word_begins free is_function at.word (abc_is_read is_function at.word) refl (omega arith);
-  comes = λ free p q s locals is quiet at. vararg_opens free is_function is quiet at.word;
+  comes = λ free p q s locals is quiet at. open_so (omega arith) (λ v made. (at.word.functions, made)) (vararg_opens free is_function is quiet at.word);
 }

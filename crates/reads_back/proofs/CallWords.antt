@@ -25,7 +25,8 @@ use Rattle.reads_back.proofs.TakenEntries.{at_place, top_taken}
 use Rattle.reads_back.proofs.ValueWords.{next_free, place_of_next}
 use Rattle.reads_back.proofs.WordsBegin.{begins_wants, word_wants}
 use Rattle.reads_back.proofs.WordsRead.{IsFunction, IsQuiet, abc_is_read, quiet_before, quiet_from, turn_there, word_of, word_there}
-use Rattle.reads_back.specs.Cores.{IsCalled}
+use Rattle.reads_back.specs.Cores.{IsCalled, Counted, CountedValues, called_by}
+use Rattle.reads_back.proofs.Deeper.{call_so}
 
 -- ---- what the word of a call makes
 
@@ -177,7 +178,7 @@ both_called {deep = deep} {last = last} {q = q} {count = count} {s = s} op free 
       makes = call_is_of (word_of last.pc (Piece.Abc op free b c)) (behind_both one args) s.entries args.more one.entry one.value list one.single refl is under (args.listed (s.entries ++ one.entry ∷ []) (length s.entries + 1) b place refl);
     }
 
-module _ {f : Function} {g : Fn} {active : List Active} {listed : List ℕ} {On : Value → Type 0} {Given : Values → Bool → Type 0} {deep : ℕ} (on_part : Rel) (given : GivenRel) (is_function : IsFunction f g) (few : deep < 200)
+module _ {f : Function} {g : Fn} {active : List Active} {listed : List ℕ} {On : Counted Value} {Given : CountedValues} {deep : ℕ} (on_part : Rel) (given : GivenRel) (is_function : IsFunction f g) (few : deep < 200)
     (on_reads : Reads f g active listed On deep (on_part.to_reg active)) (given_reads : ReadsGiven f g active listed Given deep given) where
   call_forward : (free : ℕ) (op : Op) (want : Want) (p q : Spot) → CallAt g on_part given active free op want p q → p.pc ≤ q.pc
   call_forward free op want p q at = omega (arith, on_reads.forward free free p at.mid at.on_at, given_reads.forward (free + 1) at.mid at.last at.given_at, at.word.next)
@@ -195,7 +196,7 @@ module _ {f : Function} {g : Fn} {active : List Active} {listed : List ℕ} {On 
       by_arguments (inl same) = subst (λ (pc : ℕ). IsWanted f s pc) (sym same) (call_wants op free (count_field 1 given.count) (count_field 1 want) s is_function by (omega (arith, is)) at.word)
 
   call_comes : (free : ℕ) (op : Op) (want : Want) (p q : Spot) (s : Situation) → HasLocals active listed s → free ≡ next_free s → IsQuiet f s.scope p.pc q.pc → IsCallWord op → CallAt g on_part given active free op want p q →
-      CallComes f (IsCalled On Given) (suc deep) s op free (count_field 1 want) p.pc q.pc
+      CallComes f (called_by On Given p.functions q.functions) (suc deep) s op free (count_field 1 want) p.pc q.pc
   call_comes free op want p q s locals is quiet by at =
       let on_first = on_reads.forward free free p at.mid at.on_at in
       let later : at.last.pc < q.pc = omega (arith, at.word.next) in
@@ -205,10 +206,11 @@ module _ {f : Function} {g : Fn} {active : List Active} {listed : List ℕ} {On 
       let there : HasLocals active listed (behind_one one) = record { base = locals.base; places = one.same.active ∙ locals.places } in
       let some : 0 < length (behind_one one).entries = omega (arith, length-append s.entries (one.entry ∷ [])) in
       let args = given_reads.comes (free + 1) at.mid at.last (behind_one one) there next (quiet_same one.same (quiet_from at.mid.pc on_first before)) some at.given_at in
-      both_called op free (count_field 1 want) one args is_function few is quiet at.word
+      let mid = at.mid.functions in
+      call_so (omega arith) (λ v made. (mid, subst (λ (behind : ℕ). IsCalled (On p.functions mid) (Given mid behind) v) (sym at.word.functions) made)) (both_called op free (count_field 1 want) one args is_function few is quiet at.word)
 
-pub call_reads : {f : Function} {g : Fn} {active : List Active} {listed : List ℕ} {On : Value → Type 0} {Given : Values → Bool → Type 0} {deep : ℕ} (on : Rel) (given : GivenRel) → IsFunction f g → deep < 200 →
-    Reads f g active listed On deep (on.to_reg active) → ReadsGiven f g active listed Given deep given → ReadsCall f g active listed (IsCalled On Given) (suc deep) (CallAt g on given active)
+pub call_reads : {f : Function} {g : Fn} {active : List Active} {listed : List ℕ} {On : Counted Value} {Given : CountedValues} {deep : ℕ} (on : Rel) (given : GivenRel) → IsFunction f g → deep < 200 →
+    Reads f g active listed On deep (on.to_reg active) → ReadsGiven f g active listed Given deep given → ReadsCall f g active listed (called_by On Given) (suc deep) (CallAt g on given active)
 call_reads on given is_function few on_reads given_reads = record {
   forward = call_forward on given is_function few on_reads given_reads;
   begins = call_begins on given is_function few on_reads given_reads;

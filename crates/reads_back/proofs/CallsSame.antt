@@ -63,26 +63,26 @@ call_at_same on off one other op want m next part count =
     ∙ ap (λ (n : Maker). results_at m.free want (put 1 (Piece.Abc op m.free (count_field 1 one.count) (count_field 1 want)) n)) part
     ∙ ap (λ (c : Want). results_at m.free want (put 1 (Piece.Abc op m.free (count_field 1 c) (count_field 1 want)) (other.part (next_reg off m)))) count
 
-module _ {f : Function} {g : Fn} {active : List Active} {listed : List ℕ} {z : Maker} {left : List (Option Inner)} (on : Expression) (args : Arguments) (o : Value) (values : Values) (all : Bool) (line on_line deep depth : ℕ)
-    (short : f.short ≡ false) (has : HasCore on) (on_written : Rewritten f g active listed z left on o) (args_written : RewrittenGiven f g active listed z left args deep values all)
+module _ {f : Function} {g : Fn} {active : List Active} {listed : List ℕ} {z : Maker} {left mid behind : List (Option Inner)} (on : Expression) (args : Arguments) (o : Value) (values : Values) (all : Bool) (line on_line deep depth : ℕ)
+    (short : f.short ≡ false) (has : HasCore on) (on_written : Rewritten f g active listed z left mid on o) (args_written : RewrittenGiven f g active listed z mid behind args deep values all)
     (within : deep ≤ max (depth_of_expression on) (depth_of_arguments args)) where
   abbrev prefix_words : (n : ℕ) → Wording
   prefix_words n = as_prefix (wording f listed z left n o)
 
   abbrev call_words : (n : ℕ) → Wording
-  call_words n = with_arguments (prefix_words n) (arguments_wording f listed z left (taken_behind o n) values all)
+  call_words n = with_arguments (prefix_words n) (arguments_wording f listed z mid (taken_behind o n) values all)
 
   call_words_are : (n : ℕ) → wording f listed z left n (call_value o values all depth) ≡ call_words n
   call_words_are n =
       let at = place f.of listed f.short in
       ap (λ short. with_arguments (prefix_words n) (as_arguments (short && not all) (word_short at (taken_behind o n) (left_by o left) values) (word_values at (taken_behind o n) (left_by o left) values all))) short
-      ∙ ap (λ fs. with_arguments (prefix_words n) (as_list (word_values at (taken_behind o n) fs values all))) on_written.unused
+      ∙ ap (λ fs. with_arguments (prefix_words n) (as_list (word_values at (taken_behind o n) fs values all))) on_written.leaves
 
   abbrev of_call : Op → Want → Part
   of_call = call_at 1 (code on) (given (one_line_arguments args) 1)
 
   abbrev written_call : (n : ℕ) → Op → Want → Part
-  written_call n = call_at 1 (coded (prefix_words n).words) (given (arguments_wording f listed z left (taken_behind o n) values all).words 1)
+  written_call n = call_at 1 (coded (prefix_words n).words) (given (arguments_wording f listed z mid (taken_behind o n) values all).words 1)
 
   before_word : (op : Op) (want : Want) (m : Maker) → Final (length m.labels) (of_call op want m) z → Final (length m.labels) ((given (one_line_arguments args) 1).part (next_reg (code on) m)) z
   before_word op want m final = before_put 1 _ _ (before (grows_results {v = calm} m.free want _) final)
@@ -102,10 +102,10 @@ module _ {f : Function} {g : Fn} {active : List Active} {listed : List ℕ} {z :
   call_same : (op : Op) (want : Want) (m : Maker) → IsAhead g active (names_in on ++ names_given args) m → Final (length m.labels) (of_call op want m) z → written_call (length m.constants) op want m ≡ of_call op want m
   call_same op want m ahead final =
       let n = length m.constants in
-      let mid = next_reg (code on) m in
-      call_at_same (coded (prefix_words n).words) (code on) (given (arguments_wording f listed z left (taken_behind o n) values all).words 1) (given (one_line_arguments args) 1) op want m
+      let on_made = next_reg (code on) m in
+      call_at_same (coded (prefix_words n).words) (code on) (given (arguments_wording f listed z mid (taken_behind o n) values all).words 1) (given (one_line_arguments args) 1) op want m
       (next_wrapped (is_prefix (wording f listed z left n o).words) (wording f listed z left n o) m ∙ next_same on_written m (on_ahead m ahead) (before_args op want m final))
-      (ap (λ n. (given (arguments_wording f listed z left n values all).words 1).part mid) (sym (next_taken on_written m (on_ahead m ahead) (before_args op want m final))) ∙ args_written.part mid (behind_ahead m ahead) (behind_on op want m final))
+      (ap (λ n. (given (arguments_wording f listed z mid n values all).words 1).part on_made) (sym (next_taken on_written m (on_ahead m ahead) (before_args op want m final))) ∙ args_written.part on_made (behind_ahead m ahead) (behind_on op want m final))
       (args_written.counts (taken_behind o n))
 
   call_taken : (op : Op) (want : Want) (m : Maker) → IsAhead g active (names_in on ++ names_given args) m → Final (length m.labels) (of_call op want m) z →
@@ -115,10 +115,10 @@ module _ {f : Function} {g : Fn} {active : List Active} {listed : List ℕ} {z :
       ∙ args_written.taken (next_reg (code on) m) (behind_ahead m ahead) (behind_on op want m final)
       ∙ ap (taken_behind_values values) (next_taken on_written m (on_ahead m ahead) (before_args op want m final))
 
-  call_written : Rewritten f g active listed z left (call_expression line on args on_line) (call_value o values all depth)
+  call_written : Rewritten f g active listed z left behind (call_expression line on args on_line) (call_value o values all depth)
   call_written = record {
-    can = both_hold _ _ on_written.can (ap (λ fs. can_write_values (place f.of listed f.short) fs values) on_written.unused ∙ args_written.can);
-    unused = ap (left_by_values values) on_written.unused ∙ args_written.unused;
+    can = both_hold _ _ on_written.can (ap (λ fs. can_write_values (place f.of listed f.short) fs values) on_written.leaves ∙ args_written.can);
+    leaves = ap (left_by_values values) on_written.leaves ∙ args_written.leaves;
     named = λ n. ap (λ (w : Wording). is_name w.words) (call_words_are n);
     folded = λ n. ap (λ (w : Wording). fold w.words) (call_words_are n);
     several = λ n. ap (λ (w : Wording). is_multiple w.words) (call_words_are n);
@@ -164,9 +164,9 @@ name_taken {z = z} {j = j} made name number m has final = by (is_small (Constant
     by true final = constant_taken made (Constant.Text name) number m has final
     by false final = constant_taken made (Constant.Text name) number m has (before_put 1 _ _ (before_take 1 _ final))
 
-module _ {f : Function} {g : Fn} {active : List Active} {listed : List ℕ} {z : Maker} {left : List (Option Inner)} (made : IsMadeBy f g active listed z)
+module _ {f : Function} {g : Fn} {active : List Active} {listed : List ℕ} {z : Maker} {left mid behind : List (Option Inner)} (made : IsMadeBy f g active listed z)
     (on : Expression) (args : Arguments) (o : Value) (values : Values) (all : Bool) (line on_line deep depth number : ℕ) (name : Text)
-    (has : HasCore on) (on_written : Rewritten f g active listed z left on o) (args_written : RewrittenGiven f g active listed z left args deep values all) (within : deep ≤ max (depth_of_expression on) (depth_of_arguments args))
+    (has : HasCore on) (on_written : Rewritten f g active listed z left mid on o) (args_written : RewrittenGiven f g active listed z mid behind args deep values all) (within : deep ≤ max (depth_of_expression on) (depth_of_arguments args))
     (numbered : HasNumber g (Constant.Text name) number) (named : is_name_text name ≡ true) where
   abbrev on_words : (n : ℕ) → Wording
   on_words n = as_prefix (wording f listed z left n o)
@@ -175,7 +175,7 @@ module _ {f : Function} {g : Fn} {active : List Active} {listed : List ℕ} {z :
   behind_name n = with_constant (taken_behind o n) number
 
   abbrev method_words : (n : ℕ) → Wording
-  method_words n = with_method (on_words n) name (arguments_wording f listed z left (behind_name n) values all)
+  method_words n = with_method (on_words n) name (arguments_wording f listed z mid (behind_name n) values all)
 
   name_there : constant_name (place f.of listed f.short) number ≡ Some name
   name_there = ap (λ k. as_name (as_text k)) (constant_there number (Constant.Text name) made.is_function numbered.is) ∙ ap (λ good. if good then Some name else None) named
@@ -185,14 +185,14 @@ module _ {f : Function} {g : Fn} {active : List Active} {listed : List ℕ} {z :
       let at = place f.of listed f.short in
       let method_name = text_or_empty (constant_name at number) in
       ap (λ short. with_method (on_words n) method_name (as_arguments (short && not all) (word_short at (behind_name n) (left_by o left) values) (word_values at (behind_name n) (left_by o left) values all))) made.is_function.natural
-      ∙ ap (λ fs. with_method (on_words n) method_name (as_list (word_values at (behind_name n) fs values all))) on_written.unused
-      ∙ ap (λ (k : Option Text). with_method (on_words n) (text_or_empty k) (arguments_wording f listed z left (behind_name n) values all)) name_there
+      ∙ ap (λ fs. with_method (on_words n) method_name (as_list (word_values at (behind_name n) fs values all))) on_written.leaves
+      ∙ ap (λ (k : Option Text). with_method (on_words n) (text_or_empty k) (arguments_wording f listed z mid (behind_name n) values all)) name_there
 
   abbrev of_method : Op → Want → Part
   of_method = method_at 1 (code on) name (given (one_line_arguments args) 1)
 
   abbrev written_method : (n : ℕ) → Op → Want → Part
-  written_method n = method_at 1 (coded (on_words n).words) name (given (arguments_wording f listed z left (behind_name n) values all).words 1)
+  written_method n = method_at 1 (coded (on_words n).words) name (given (arguments_wording f listed z mid (behind_name n) values all).words 1)
 
   abbrev before_given : Maker → Maker
   before_given m = self_behind m.free name (operand (code on) m)
@@ -233,21 +233,21 @@ module _ {f : Function} {g : Fn} {active : List Active} {listed : List ℕ} {z :
   method_same : (op : Op) (want : Want) (m : Maker) → IsAhead g active (names_in on ++ names_given args) m → Final (length m.labels) (of_method op want m) z → written_method (length m.constants) op want m ≡ of_method op want m
   method_same op want m ahead final =
       let n = length m.constants in
-      method_at_same (coded (on_words n).words) (code on) name (given (arguments_wording f listed z left (behind_name n) values all).words 1) (given (one_line_arguments args) 1) op want m
+      method_at_same (coded (on_words n).words) (code on) name (given (arguments_wording f listed z mid (behind_name n) values all).words 1) (given (one_line_arguments args) 1) op want m
       (operand_wrapped (is_prefix (wording f listed z left n o).words) (wording f listed z left n o) m ∙ operand_same on_written m (self_ahead m ahead) (behind_operand op want m final))
-      (ap (λ n. (given (arguments_wording f listed z left n values all).words 1).part (before_given m)) (sym (given_taken op want m ahead final)) ∙ args_written.part (before_given m) (given_ahead m ahead) (given_final op want m final))
+      (ap (λ n. (given (arguments_wording f listed z mid n values all).words 1).part (before_given m)) (sym (given_taken op want m ahead final)) ∙ args_written.part (before_given m) (given_ahead m ahead) (given_final op want m final))
       (args_written.counts (behind_name n))
 
   method_taken : (op : Op) (want : Want) (m : Maker) → IsAhead g active (names_in on ++ names_given args) m → Final (length m.labels) (of_method op want m) z →
       length (of_method op want m).constants ≡ taken_behind_values values (behind_name (length m.constants))
   method_taken op want m ahead final = results_keep m.free want _ ∙ args_written.taken (before_given m) (given_ahead m ahead) (given_final op want m final) ∙ ap (taken_behind_values values) (given_taken op want m ahead final)
 
-  method_written : Rewritten f g active listed z left (method_call line on name args on_line) (method_value o number values all depth)
+  method_written : Rewritten f g active listed z left behind (method_call line on name args on_line) (method_value o number values all depth)
   method_written = record {
     can =
         both_hold _ _ on_written.can
-        (both_hold _ _ (ap is_some name_there) (ap (λ fs. can_write_values (place f.of listed f.short) fs values) on_written.unused ∙ args_written.can));
-    unused = ap (left_by_values values) on_written.unused ∙ args_written.unused;
+        (both_hold _ _ (ap is_some name_there) (ap (λ fs. can_write_values (place f.of listed f.short) fs values) on_written.leaves ∙ args_written.can));
+    leaves = ap (left_by_values values) on_written.leaves ∙ args_written.leaves;
     named = λ n. ap (λ (w : Wording). is_name w.words) (method_words_are n);
     folded = λ n. ap (λ (w : Wording). fold w.words) (method_words_are n);
     several = λ n. ap (λ (w : Wording). is_multiple w.words) (method_words_are n);
@@ -268,20 +268,20 @@ module _ {f : Function} {g : Fn} {active : List Active} {listed : List ℕ} {z :
 
 -- ---- what a call is made of
 
-module _ {f : Function} {g : Fn} {active : List Active} {listed : List ℕ} {z : Maker} {left : List (Option Inner)} (made : IsMadeBy f g active listed z) where
-  pub call_rewritten : (on : Expression) (args : Arguments) (line on_line deep : ℕ) (o : Value) (values : Values) (all : Bool) (v : Value) → HasCore on → Rewritten f g active listed z left on o →
-      RewrittenGiven f g active listed z left args deep values all → deep ≤ max (depth_of_expression on) (depth_of_arguments args) → made_call o values all ≡ Some v → Rewritten f g active listed z left (call_expression line on args on_line) v
+module _ {f : Function} {g : Fn} {active : List Active} {listed : List ℕ} {z : Maker} {left mid behind : List (Option Inner)} (made : IsMadeBy f g active listed z) where
+  pub call_rewritten : (on : Expression) (args : Arguments) (line on_line deep : ℕ) (o : Value) (values : Values) (all : Bool) (v : Value) → HasCore on → Rewritten f g active listed z left mid on o →
+      RewrittenGiven f g active listed z mid behind args deep values all → deep ≤ max (depth_of_expression on) (depth_of_arguments args) → made_call o values all ≡ Some v → Rewritten f g active listed z left behind (call_expression line on args on_line) v
   call_rewritten on args line on_line deep o values all v has on_written args_written within is =
       let depth = suc (max (depth_of o) (deepest values)) in
-      subst (λ v. Rewritten f g active listed z left (call_expression line on args on_line) v) (given_is _ (call_value o values all depth) v is)
+      subst (λ v. Rewritten f g active listed z left behind (call_expression line on args on_line) v) (given_is _ (call_value o values all depth) v is)
       (call_written on args o values all line on_line deep depth made.is_function.natural has on_written args_written within)
 
-  pub method_rewritten : (on : Expression) (args : Arguments) (line on_line deep number : ℕ) (name : Text) (o : Value) (values : Values) (all : Bool) (v : Value) → HasCore on → Rewritten f g active listed z left on o →
-      RewrittenGiven f g active listed z left args deep values all → deep ≤ max (depth_of_expression on) (depth_of_arguments args) → HasNumber g (Constant.Text name) number → is_name_text name ≡ true → made_method o number values all ≡ Some v →
-      Rewritten f g active listed z left (method_call line on name args on_line) v
+  pub method_rewritten : (on : Expression) (args : Arguments) (line on_line deep number : ℕ) (name : Text) (o : Value) (values : Values) (all : Bool) (v : Value) → HasCore on → Rewritten f g active listed z left mid on o →
+      RewrittenGiven f g active listed z mid behind args deep values all → deep ≤ max (depth_of_expression on) (depth_of_arguments args) → HasNumber g (Constant.Text name) number → is_name_text name ≡ true → made_method o number values all ≡ Some v →
+      Rewritten f g active listed z left behind (method_call line on name args on_line) v
   method_rewritten on args line on_line deep number name o values all v has on_written args_written within numbered named is =
       let depth = suc (max (depth_of o) (deepest values)) in
-      subst (λ v. Rewritten f g active listed z left (method_call line on name args on_line) v) (given_is _ (method_value o number values all depth) v is)
+      subst (λ v. Rewritten f g active listed z left behind (method_call line on name args on_line) v) (given_is _ (method_value o number values all depth) v is)
       (method_written made on args o values all line on_line deep depth number name has on_written args_written within numbered named)
 
 -- ---- arguments are no deeper than a call needs

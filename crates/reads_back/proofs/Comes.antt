@@ -23,7 +23,7 @@ use Rattle.scheme.specs.declared.making.Active.{Active}
 use Rattle.scheme_stands.specs.Words.{Fn, Spot, Stretch, instr_by}
 use Rattle.scheme_stands.specs.Lists.{GivenRel}
 use Rattle.scheme_stands.specs.Relation.{related}
-use Rattle.reads_back.specs.Cores.{IsCore, IsTable, Items}
+use Rattle.reads_back.specs.Cores.{Counted, CountedItems, CountedValues, IsCore, IsTable}
 use Rattle.reads_back.proofs.BehindWords.{HasLocals, SameLocals, behind_words}
 use Rattle.reads_back.proofs.Reaches.{Reaches, here, word, reaches_then}
 use Rattle.reads_back.proofs.ValueWords.{next_free, makes_turn}
@@ -122,17 +122,17 @@ abbrev pub IsGoal : Situation → (r : ℕ) → Type 0
 IsGoal s r = (r ≡ next_free s) ⊎ (r < s.base)
 
 -- where its words stand
-pub record Reads (f : Function) (g : Fn) (active : List Active) (listed : List ℕ) (Is : Value → Type 0) (deep : ℕ) (to : (free r : ℕ) → Stretch) : Type 0 where
+pub record Reads (f : Function) (g : Fn) (active : List Active) (listed : List ℕ) (Is : Counted Value) (deep : ℕ) (to : (free r : ℕ) → Stretch) : Type 0 where
   pub forward : (free r : ℕ) (p q : Spot) → to free r p q → p.pc ≤ q.pc
   pub begins : (free : ℕ) (p q : Spot) → q.pc ≤ f.last → to free free p q → Begins f free p.pc
-  pub arrives : (free r : ℕ) (p q : Spot) (s : Situation) → HasLocals active listed s → free ≡ next_free s → IsGoal s r → IsQuiet f s.scope p.pc q.pc → (r ≡ next_free s → IsWanted f s q.pc) → to free r p q → Arrives f Is deep s r p.pc q.pc
+  pub arrives : (free r : ℕ) (p q : Spot) (s : Situation) → HasLocals active listed s → free ≡ next_free s → IsGoal s r → IsQuiet f s.scope p.pc q.pc → (r ≡ next_free s → IsWanted f s q.pc) → to free r p q → Arrives f (Is p.functions q.functions) deep s r p.pc q.pc
 
 -- the words of an expression are read as its value
 abbrev pub ReadsCore : Function → Fn → List Active → (listed : List ℕ) → Expression → Type 0
 ReadsCore f g active listed e = Reads f g active listed (IsCore g active e) (depth_of_expression e) ((related g e).to_reg active)
 
-pub comes_next : {f : Function} {g : Fn} {active : List Active} {listed : List ℕ} {Is : Value → Type 0} {deep : ℕ} {to : (free r : ℕ) → Stretch} → Reads f g active listed Is deep to →
-    (free : ℕ) (p q : Spot) (s : Situation) → HasLocals active listed s → free ≡ next_free s → IsQuiet f s.scope p.pc q.pc → IsWanted f s q.pc → to free free p q → Comes f Is deep s p.pc q.pc
+pub comes_next : {f : Function} {g : Fn} {active : List Active} {listed : List ℕ} {Is : Counted Value} {deep : ℕ} {to : (free r : ℕ) → Stretch} → Reads f g active listed Is deep to →
+    (free : ℕ) (p q : Spot) (s : Situation) → HasLocals active listed s → free ≡ next_free s → IsQuiet f s.scope p.pc q.pc → IsWanted f s q.pc → to free free p q → Comes f (Is p.functions q.functions) deep s p.pc q.pc
 comes_next reads free p q s locals is quiet wanted at = arrives_next (reads.arrives free free p q s locals is (inl is) quiet (λ next. wanted) at) is
 
 -- ---- operands
@@ -157,15 +157,11 @@ abbrev pub IsOperandWanted : Function → Situation → (free x free1 last : ℕ
 IsOperandWanted f s free x free1 last = x ≡ free → free1 ≡ free + 1 → IsWanted f s last
 
 -- where its words stand, if there are any
-pub record ReadsOperand (f : Function) (g : Fn) (active : List Active) (listed : List ℕ) (Is : OperandValue → Type 0) (deep : ℕ) (to : (free x free1 : ℕ) → Stretch) : Type 0 where
+pub record ReadsOperand (f : Function) (g : Fn) (active : List Active) (listed : List ℕ) (Is : Counted OperandValue) (deep : ℕ) (to : (free x free1 : ℕ) → Stretch) : Type 0 where
   pub forward : (free x free1 : ℕ) (p q : Spot) → to free x free1 p q → p.pc ≤ q.pc
   pub begins : (free x free1 : ℕ) (p q : Spot) → q.pc ≤ f.last → to free x free1 p q → (p.pc ≡ q.pc) ⊎ Begins f free p.pc
   pub comes : (free x free1 : ℕ) (p q : Spot) (s : Situation) → HasLocals active listed s → free ≡ next_free s → IsQuiet f s.scope p.pc q.pc → IsOperandWanted f s free x free1 q.pc → to free x free1 p q →
-      OperandComes f Is deep s free x free1 p.pc q.pc
-
--- a value as an operand that is no constant
-abbrev pub IsValueOperand : (Value → Type 0) → OperandValue → Type 0
-IsValueOperand Is o = (v : Value) × Is v × (o ≡ value_operand v)
+      OperandComes f (Is p.functions q.functions) deep s free x free1 p.pc q.pc
 
 -- ---- the operands of a `..`
 
@@ -188,10 +184,10 @@ pub record SpineComes (f : Function) (Are : Values → Type 0) (deep : ℕ) (s :
   pub singles : AreEntries entries values
   pub reaches : Reaches f first s last (behind_words scope seen entries s)
 
-pub record ReadsSpine (f : Function) (g : Fn) (active : List Active) (listed : List ℕ) (Are : Values → Type 0) (deep : ℕ) (to : (free free1 : ℕ) → Stretch) : Type 0 where
+pub record ReadsSpine (f : Function) (g : Fn) (active : List Active) (listed : List ℕ) (Are : Counted Values) (deep : ℕ) (to : (free free1 : ℕ) → Stretch) : Type 0 where
   pub forward : (free free1 : ℕ) (p q : Spot) → to free free1 p q → p.pc ≤ q.pc
   pub begins : (free free1 : ℕ) (p q : Spot) → q.pc ≤ f.last → to free free1 p q → Begins f free p.pc
-  pub comes : (free free1 : ℕ) (p q : Spot) (s : Situation) → HasLocals active listed s → free ≡ next_free s → IsQuiet f s.scope p.pc q.pc → IsWanted f s q.pc → to free free1 p q → SpineComes f Are deep s free free1 p.pc q.pc
+  pub comes : (free free1 : ℕ) (p q : Spot) (s : Situation) → HasLocals active listed s → free ≡ next_free s → IsQuiet f s.scope p.pc q.pc → IsWanted f s q.pc → to free free1 p q → SpineComes f (Are p.functions q.functions) deep s free free1 p.pc q.pc
 
 -- ---- calls, and values of which all are wanted
 
@@ -213,11 +209,11 @@ pub record CallComes (f : Function) (Is : Value → Type 0) (deep : ℕ) (s : Si
   pub makes : made_call_of (word_of pc (Piece.Abc op free b c)) (behind_words scope seen more s) ≡ Some (value, record s { scope = scope; seen = seen })
 
 -- of a call by this word, where so many values are wanted
-pub record ReadsCall (f : Function) (g : Fn) (active : List Active) (listed : List ℕ) (Is : Value → Type 0) (deep : ℕ) (part : (free : ℕ) → Op → Want → Stretch) : Type 0 where
+pub record ReadsCall (f : Function) (g : Fn) (active : List Active) (listed : List ℕ) (Is : Counted Value) (deep : ℕ) (part : (free : ℕ) → Op → Want → Stretch) : Type 0 where
   pub forward : (free : ℕ) (op : Op) (want : Want) (p q : Spot) → part free op want p q → p.pc ≤ q.pc
   pub begins : (free : ℕ) (op : Op) (want : Want) (p q : Spot) → q.pc ≤ f.last → part free op want p q → Begins f free p.pc
   pub comes : (free : ℕ) (op : Op) (want : Want) (p q : Spot) (s : Situation) → HasLocals active listed s → free ≡ next_free s → IsQuiet f s.scope p.pc q.pc → IsCallWord op → part free op want p q →
-      CallComes f Is deep s op free (count_field 1 want) p.pc q.pc
+      CallComes f (Is p.functions q.functions) deep s op free (count_field 1 want) p.pc q.pc
 
 -- All values of a call or `...` come to the registers from the next free one on.
 pub record OpenComes (f : Function) (Is : Value → Type 0) (deep : ℕ) (s : Situation) (first last : ℕ) : Type 0 where
@@ -230,10 +226,10 @@ pub record OpenComes (f : Function) (Is : Value → Type 0) (deep : ℕ) (s : Si
   pub taken : taken_behind value s.seen ≡ seen
   pub reaches : Reaches f first s last (behind_words scope seen (open_entry value ∷ []) s)
 
-pub record ReadsOpen (f : Function) (g : Fn) (active : List Active) (listed : List ℕ) (Is : Value → Type 0) (deep : ℕ) (part : (free : ℕ) → Op → Want → Stretch) : Type 0 where
+pub record ReadsOpen (f : Function) (g : Fn) (active : List Active) (listed : List ℕ) (Is : Counted Value) (deep : ℕ) (part : (free : ℕ) → Op → Want → Stretch) : Type 0 where
   pub forward : (free : ℕ) (op : Op) (want : Want) (p q : Spot) → part free op want p q → p.pc ≤ q.pc
   pub begins : (free : ℕ) (p q : Spot) → q.pc ≤ f.last → part free Op.Call None p q → Begins f free p.pc
-  pub comes : (free : ℕ) (p q : Spot) (s : Situation) → HasLocals active listed s → free ≡ next_free s → IsQuiet f s.scope p.pc q.pc → part free Op.Call None p q → OpenComes f Is deep s p.pc q.pc
+  pub comes : (free : ℕ) (p q : Spot) (s : Situation) → HasLocals active listed s → free ≡ next_free s → IsQuiet f s.scope p.pc q.pc → part free Op.Call None p q → OpenComes f (Is p.functions q.functions) deep s p.pc q.pc
 
 -- it is read for one value, and for all its values where it can give several
 pub record IsElementRead (f : Function) (g : Fn) (active : List Active) (listed : List ℕ) (deep : ℕ) (e : Expression) : Type 0 where
@@ -243,10 +239,10 @@ pub record IsElementRead (f : Function) (g : Fn) (active : List Active) (listed 
 -- ---- constructors
 
 -- A constructor comes to the next free register. It is lower than other values, so that a call of it alone is as deep as the tree tells, where it is no level of its own.
-pub record ReadsTable (f : Function) (g : Fn) (active : List Active) (listed : List ℕ) (Are : Items) (deep : ℕ) (part : (free : ℕ) → Stretch) : Type 0 where
+pub record ReadsTable (f : Function) (g : Fn) (active : List Active) (listed : List ℕ) (Are : CountedItems) (deep : ℕ) (part : (free : ℕ) → Stretch) : Type 0 where
   pub forward : (free : ℕ) (p q : Spot) → part free p q → p.pc ≤ q.pc
   pub begins : (free : ℕ) (p q : Spot) → q.pc ≤ f.last → part free p q → Begins f free p.pc
-  pub comes : (free : ℕ) (p q : Spot) (s : Situation) → HasLocals active listed s → free ≡ next_free s → IsQuiet f s.scope p.pc q.pc → IsWanted f s q.pc → part free p q → (table : Comes f (IsTable Are) deep s p.pc q.pc) × (depth_of table.value < 2 * deep)
+  pub comes : (free : ℕ) (p q : Spot) (s : Situation) → HasLocals active listed s → free ≡ next_free s → IsQuiet f s.scope p.pc q.pc → IsWanted f s q.pc → part free p q → (table : Comes f (IsTable (Are p.functions q.functions)) deep s p.pc q.pc) × (depth_of table.value < 2 * deep)
 
 -- ---- arguments
 
@@ -264,7 +260,7 @@ pub record GivenComes (f : Function) (Are : Values → Bool → Type 0) (deep : 
   pub reaches : Reaches f first s last (behind_words scope seen more s)
   pub listed : (before : Entries) (place field : ℕ) → place ≡ length before → field ≡ count_field 1 count → take_list place field (before ++ more) ≡ Some (record { values = values; all = all }, before)
 
-pub record ReadsGiven (f : Function) (g : Fn) (active : List Active) (listed : List ℕ) (Are : Values → Bool → Type 0) (deep : ℕ) (given : GivenRel) : Type 0 where
+pub record ReadsGiven (f : Function) (g : Fn) (active : List Active) (listed : List ℕ) (Are : CountedValues) (deep : ℕ) (given : GivenRel) : Type 0 where
   pub forward : (free : ℕ) (p q : Spot) → given.part active free p q → p.pc ≤ q.pc
   pub begins : (free : ℕ) (p q : Spot) → q.pc ≤ f.last → given.part active free p q → (p.pc ≡ q.pc) ⊎ Begins f free p.pc
-  pub comes : (free : ℕ) (p q : Spot) (s : Situation) → HasLocals active listed s → free ≡ next_free s → IsQuiet f s.scope p.pc q.pc → 0 < length s.entries → given.part active free p q → GivenComes f Are deep s given.count p.pc q.pc
+  pub comes : (free : ℕ) (p q : Spot) (s : Situation) → HasLocals active listed s → free ≡ next_free s → IsQuiet f s.scope p.pc q.pc → 0 < length s.entries → given.part active free p q → GivenComes f (Are p.functions q.functions) deep s given.count p.pc q.pc

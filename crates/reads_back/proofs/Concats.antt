@@ -17,7 +17,7 @@ use Rattle.scheme.specs.declared.making.Piece.{Piece}
 use Rattle.scheme.specs.declared.making.Active.{Active}
 use Rattle.scheme_stands.specs.Expressions.{Rel, NextAt, SpineAt, ConcatAt}
 use Rattle.scheme_stands.specs.Words.{Fn, Spot, Stretch, WordAt}
-use Rattle.reads_back.specs.Cores.{IsConcat, IsFirst, IsOnly}
+use Rattle.reads_back.specs.Cores.{IsConcat, IsFirst, IsOnly, Counted, only, first_and, concat_by}
 use Rattle.reads_back.proofs.Comes.{AreEntries, Begins, Comes, Made, Reads, ReadsSpine, SpineComes, comes_next}
 use Rattle.reads_back.proofs.BehindWords.{HasLocals, behind_words, quiet_same, same_then}
 use Rattle.reads_back.proofs.Reaches.{Reaches, reaches_on, reaches_then}
@@ -26,6 +26,7 @@ use Rattle.reads_back.proofs.Tests.{both_hold}
 use Rattle.reads_back.proofs.ValueWords.{next_free, place_of_next}
 use Rattle.reads_back.proofs.WordsBegin.{begins_wants, wanted_above}
 use Rattle.reads_back.proofs.WordsRead.{IsFunction, IsQuiet, abc_is_read, quiet_before, quiet_from, turn_there, word_of, word_there}
+use Rattle.reads_back.proofs.Deeper.{spine_so, made_so}
 
 -- ---- a value alone, and with others behind it
 
@@ -146,14 +147,14 @@ operands_joined is_function few free free1 r p last q s is quiet at one rest =
 -- ---- where they stand
 
 module _ {f : Function} {g : Fn} {active : List Active} {listed : List ℕ} where
-  pub spine_alone : {Is : Value → Type 0} {deep : ℕ} {to : (free r : ℕ) → Stretch} → Reads f g active listed Is deep to → ReadsSpine f g active listed (IsOnly Is) deep (λ free free1. NextAt g (to free free) free free free1)
+  pub spine_alone : {Is : Counted Value} {deep : ℕ} {to : (free r : ℕ) → Stretch} → Reads f g active listed Is deep to → ReadsSpine f g active listed (only Is) deep (λ free free1. NextAt g (to free free) free free free1)
   spine_alone reads = record {
     forward = λ free free1 p q at. reads.forward free free p q at.value_at;
     begins = λ free free1 p q within at. reads.begins free p q within at.value_at;
     comes = λ free free1 p q s locals is quiet wanted at. alone_comes at.at_free (comes_next reads free p q s locals is quiet wanted at.value_at);
   }
 
-  module _ {First : Value → Type 0} {Rest : Values → Type 0} {deep : ℕ} (left right : Rel) (first : Reads f g active listed First deep (left.to_reg active)) (rest : ReadsSpine f g active listed Rest deep (right.spine active)) where
+  module _ {First : Counted Value} {Rest : Counted Values} {deep : ℕ} (left right : Rel) (first : Reads f g active listed First deep (left.to_reg active)) (rest : ReadsSpine f g active listed Rest deep (right.spine active)) where
     operands_forward : (free free1 : ℕ) (p q : Spot) → SpineAt g left right active free free1 p q → p.pc ≤ q.pc
     operands_forward free free1 p q at = omega (arith, first.forward free free p at.mid at.first, rest.forward (free + 1) free1 at.mid q at.rest)
 
@@ -161,14 +162,14 @@ module _ {f : Function} {g : Fn} {active : List Active} {listed : List ℕ} wher
     operands_begin free free1 p q within at = first.begins free p at.mid (omega (arith, within, rest.forward (free + 1) free1 at.mid q at.rest)) at.first
 
     -- the first word of the next operand wants it
-    one_of : (free free1 : ℕ) (p q : Spot) (s : Situation) → HasLocals active listed s → free ≡ next_free s → IsQuiet f s.scope p.pc q.pc → (at : SpineAt g left right active free free1 p q) → Comes f First deep s p.pc at.mid.pc
+    one_of : (free free1 : ℕ) (p q : Spot) (s : Situation) → HasLocals active listed s → free ≡ next_free s → IsQuiet f s.scope p.pc q.pc → (at : SpineAt g left right active free free1 p q) → Comes f (First p.functions at.mid.functions) deep s p.pc at.mid.pc
     one_of free free1 p q s locals is quiet at =
         let back = rest.forward (free + 1) free1 at.mid q at.rest in
         let wanted = begins_wants s (rest.begins (free + 1) free1 at.mid q quiet.within at.rest) (omega (arith, is)) in
         comes_next first free p at.mid s locals is (quiet_before at.mid.pc back quiet) wanted at.first
 
-    rest_of : (free free1 : ℕ) (p q : Spot) (s : Situation) → HasLocals active listed s → free ≡ next_free s → IsQuiet f s.scope p.pc q.pc → (at : SpineAt g left right active free free1 p q) → (one : Comes f First deep s p.pc at.mid.pc) →
-        SpineComes f Rest deep (behind_value one) (free + 1) free1 at.mid.pc q.pc
+    rest_of : (free free1 : ℕ) (p q : Spot) (s : Situation) → HasLocals active listed s → free ≡ next_free s → IsQuiet f s.scope p.pc q.pc → (at : SpineAt g left right active free free1 p q) → (one : Comes f (First p.functions at.mid.functions) deep s p.pc at.mid.pc) →
+        SpineComes f (Rest at.mid.functions q.functions) deep (behind_value one) (free + 1) free1 at.mid.pc q.pc
     rest_of free free1 p q s locals is quiet at one =
         let behind = behind_value one in
         let there : HasLocals active listed behind = record { base = locals.base; places = one.same.active ∙ locals.places } in
@@ -176,22 +177,24 @@ module _ {f : Function} {g : Fn} {active : List Active} {listed : List ℕ} wher
         let some : 0 < length behind.entries = omega (arith, length-append s.entries (one.entry ∷ [])) in
         rest.comes (free + 1) free1 at.mid q behind there next (quiet_same one.same (quiet_from at.mid.pc (first.forward free free p at.mid at.first) quiet)) (wanted_above f behind q.pc some) at.rest
 
-    pub spine_first : ReadsSpine f g active listed (IsFirst First Rest) deep (SpineAt g left right active)
+    pub spine_first : ReadsSpine f g active listed (first_and First Rest) deep (SpineAt g left right active)
     spine_first = record {
       forward = operands_forward;
       begins = operands_begin;
-      comes = λ free free1 p q s locals is quiet wanted at. let one = one_of free free1 p q s locals is quiet at in first_comes one (rest_of free free1 p q s locals is quiet at one);
+      comes = λ free free1 p q s locals is quiet wanted at. let one = one_of free free1 p q s locals is quiet at in spine_so (omega arith) (λ values are. (at.mid.functions, are)) (first_comes one (rest_of free free1 p q s locals is quiet at one));
     }
 
     concat_made : IsFunction f g → deep < 200 → (free r : ℕ) (p q : Spot) (s : Situation) → HasLocals active listed s → free ≡ next_free s → IsQuiet f s.scope p.pc q.pc → ConcatAt g left right active free r p q →
-        Made f (IsConcat (IsFirst First Rest)) (suc deep) s r p.pc q.pc
+        Made f (concat_by (first_and First Rest) p.functions q.functions) (suc deep) s r p.pc q.pc
     concat_made is_function few free r p q s locals is quiet at =
         let before = quiet_before at.last.pc (omega (arith, at.word.next)) quiet in
         let one = one_of free at.free1 p at.last s locals is before at.operands in
-        operands_joined is_function few free at.free1 r p at.last q s is quiet at.word one (rest_of free at.free1 p at.last s locals is before at.operands one)
+        let made = operands_joined is_function few free at.free1 r p at.last q s is quiet at.word one (rest_of free at.free1 p at.last s locals is before at.operands one) in
+        let mid = at.operands.mid.functions in
+        made_so (omega arith) (λ v is. (is.0, (mid, subst (λ (behind : ℕ). IsFirst (First p.functions mid) (Rest mid behind) is.0) (sym at.word.functions) is.1), is.2)) made
 
-  pub concat_reads : {First : Value → Type 0} {Rest : Values → Type 0} {deep : ℕ} (left right : Rel) → IsFunction f g → deep < 200 → Reads f g active listed First deep (left.to_reg active) → ReadsSpine f g active listed Rest deep (right.spine active) →
-      Reads f g active listed (IsConcat (IsFirst First Rest)) (suc deep) (ConcatAt g left right active)
+  pub concat_reads : {First : Counted Value} {Rest : Counted Values} {deep : ℕ} (left right : Rel) → IsFunction f g → deep < 200 → Reads f g active listed First deep (left.to_reg active) → ReadsSpine f g active listed Rest deep (right.spine active) →
+      Reads f g active listed (concat_by (first_and First Rest)) (suc deep) (ConcatAt g left right active)
   concat_reads left right is_function few first rest = record {
     forward = λ free r p q at. omega (arith, operands_forward left right first rest free at.free1 p at.last at.operands, at.word.next);
     begins = λ free p q within at. operands_begin left right first rest free at.free1 p at.last (omega (arith, within, at.word.next)) at.operands;

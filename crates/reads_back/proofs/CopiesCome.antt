@@ -1,6 +1,7 @@
 -- A local that is a part of a target and itself a target further right is copied to the next register, which that target uses: what the targets say stays the same.
 use Rattle.std.proofs.Common.{◌≡◌, ℕ, zero, suc, ◌+◌, ◌<◌, ◌≤◌, ◌⊎◌, max, Bool, true, false, cond, ◌||◌, ◌&&◌, List, [], ◌∷◌, ◌++◌, length, length-append, Some, refl, sym, ap, ap₂, ◌∙◌, subst, arith, inl, inr, ⊎_elim}
 use Rattle.std.proofs.lemmas.Bool.Decides.{nat_tests}
+use Rattle.std.proofs.Math.Logic.{⊎_map}
 use Rattle.std.specs.Prelude.{◌==◌}
 use Rattle.lua_num.specs.Bytes.{Text}
 use Rattle.opcode.specs.declared.op.Op.{Op}
@@ -39,15 +40,11 @@ or_either : (a b : Bool) → (a || b) ≡ true → (a ≡ true) ⊎ (b ≡ true)
 or_either true b is = inl refl
 or_either false b is = inr is
 
-both_ways : {A B C D : Type 0} → (A → C) → (B → D) → A ⊎ B → C ⊎ D
-both_ways first second (inl a) = inl (first a)
-both_ways first second (inr b) = inr (second b)
-
 before_or_last : (n last : ℕ) → n ≤ last → (n < last) ⊎ (n ≡ last)
 before_or_last zero zero up = inr refl
 before_or_last zero (suc last) up = inl (omega arith)
 before_or_last (suc n) zero up = absurd (omega (arith, up))
-before_or_last (suc n) (suc last) up = both_ways (λ before. omega (arith, before)) (λ is. ap suc is) (before_or_last n last (omega (arith, up)))
+before_or_last (suc n) (suc last) up = ⊎_map (λ before. omega (arith, before)) (λ is. ap suc is) (before_or_last n last (omega (arith, up)))
 
 field_is : (is_local : Bool) (field x : ℕ) → (is_local && (field == x)) ≡ true → field ≡ x
 field_is is_local field x is = let same = second_of_both is_local (field == x) is in grind (arith, nat_tests)
@@ -144,8 +141,8 @@ module _ (f : Function) (g : Fn) (count : ℕ) (listed : List ℕ) (entries : En
           key_in = two.there;
         };
         same = ap₂ (λ (v : Value) (o : OperandValue). index_target v o) one.value_same two.operand_same;
-        uses = λ n uses. both_ways (one.uses n) (two.uses n) uses;
-        new = λ is. both_ways one.new two.new (or_either on_moved key_moved is);
+        uses = λ n uses. ⊎_map (one.uses n) (two.uses n) uses;
+        new = λ is. ⊎_map one.new two.new (or_either on_moved key_moved is);
         seen = λ n. ap (max n) two.keys;
       }
   target_renamed (name_target text (in_register y)) (to_local r) low high at = target_kept (name_target text (in_register y)) (to_local r) low high at
@@ -172,8 +169,8 @@ module _ (f : Function) (g : Fn) (count : ℕ) (listed : List ℕ) (entries : En
         copied = one.copied ∷ rest.copied;
         placed = (at.0, one.placed, rest.placed);
         same = ap₂ (λ (t : TargetValue) (ts : List TargetValue). t ∷ ts) one.same rest.same;
-        uses = λ n uses. both_ways (one.uses n) (rest.uses n) uses;
-        new = λ is. both_ways one.new rest.new (or_either (is_part_of x to && moved) (clashes x places) is);
+        uses = λ n uses. ⊎_map (one.uses n) (rest.uses n) uses;
+        new = λ is. ⊎_map one.new rest.new (or_either (is_part_of x to && moved) (clashes x places) is);
         seen = λ n. one.seen (seen_with_all rest.copied n) ∙ ap (seen_with d) (rest.seen n);
       }
   targets_copied low [] (d ∷ ds) at = absurd at

@@ -1,5 +1,5 @@
 -- The words of a `local` statement are read as one step, which declares its names with the values that are written.
-use Rattle.std.proofs.Common.{◌≡◌, ℕ, zero, suc, ◌^◌, ◌+◌, ◌<◌, ◌≤◌, nat_lt, nat_le, Bool, true, false, ◌&&◌, List, [], ◌∷◌, ◌++◌, length, length-append, drop, Option, Some, None, refl, sym, ap, ap₂, ◌∙◌, subst, arith, lt-ltb, inl, inr}
+use Rattle.std.proofs.Common.{◌≡◌, ℕ, zero, suc, ◌^◌, ◌+◌, ◌<◌, ◌≤◌, nat_lt, nat_le, Bool, true, false, ◌&&◌, List, [], ◌∷◌, ◌++◌, length, length-append, drop, Option, Some, None, refl, sym, ap, ap₂, ◌∙◌, subst, arith, lt-ltb, inl, inr, subst₂}
 use Rattle.std.proofs.lemmas.Bool.{le-ltb}
 use Rattle.std.proofs.lemmas.Option.{same_Some}
 use Rattle.std.specs.List.{prefix_len}
@@ -146,21 +146,21 @@ module _ (f : Function) (names : List Text) (pc : ℕ) (s : Situation) (values :
         ∙ ap (option_map as_over) (are_declared (ap (λ (n : ℕ). names_from f.of.locals n count) same.declared ∙ start.named) plain declares)
 
 -- the values come, and then the locals start
-module _ {f : Function} {g : Fn} {active : List Active} {listed : List ℕ} (names : List Text) (es : Expressions) (can : CanAct f g active listed (local_statement names es)) {first last : ℕ} (s : Situation)
-    (locals : HasLocals active listed s) (start : StartHere f s.scope names last) (come : DeclaredComes f g active es s (length names) first last) where
+module _ {f : Function} {g : Fn} {active : List Active} {listed : List ℕ} (names : List Text) (es : Expressions) (can : CanAct f g active listed (local_statement names es)) {made_before made_behind first last : ℕ} (s : Situation)
+    (locals : HasLocals active listed s) (start : StartHere f s.scope names last) (come : DeclaredComes f g active es made_before made_behind s (length names) first last) where
   abbrev acted : Acted
   acted = declared names come.values come.all
 
   abbrev begun : Situation
   begun = record s { scope = come.scope; entries = come.entries; seen = come.seen }
 
-  acts : IsActed g active (local_statement names es) acted
+  acts : IsActed g active (local_statement names es) made_before made_behind acted
   acts = (refl, come.from, come.are, come.written)
 
   can_be_written : can_act (place_in_step f begun) s.left acted ≡ true
-  can_be_written = subst (λ (listed : List ℕ). can_act (place f.of listed f.short) s.left acted ≡ true) (sym (come.same.active ∙ locals.places)) (can.can acted acts s.left)
+  can_be_written = subst (λ (listed : List ℕ). can_act (place f.of listed f.short) s.left acted ≡ true) (sym (come.same.active ∙ locals.places)) (can.can made_before made_behind acted acts s.left)
 
-  local_step : s.entries ≡ [] → first < last → ActRead f g active (local_statement names es) s first last
+  local_step : s.entries ≡ [] → first < last → ActRead f g active (local_statement names es) made_before made_behind s first last
   local_step empty later =
       let reaches : Reaches f first s last begun = subst (λ (entries : Entries). Reaches f first s last (record begun { entries = entries ++ come.entries })) empty come.reaches in
       let plain = come.plain (written_not_own (place_in_step f begun) s.left come.values can_be_written) in
@@ -194,7 +194,7 @@ module _ {f : Function} {g : Fn} {active : List Active} {listed : List ℕ} (is_
 
   pub local_read : (names : List Text) (es : Expressions) → AllHaveCores es → depth_of_expressions es ≤ 199 → CanAct f g active listed (local_statement names es) →
       (after : List Active) (p q : Spot) (s : Situation) → HasLocals active listed s → s.entries ≡ [] → s.taken ≡ s.seen → IsQuiet f s.scope p.pc q.pc →
-      StartHere f s.scope names q.pc → LocalPartAt g names (all_related g es) active after p q → ActRead f g active (local_statement names es) s p.pc q.pc
+      StartHere f s.scope names q.pc → LocalPartAt g names (all_related g es) active after p q → ActRead f g active (local_statement names es) p.functions q.functions s p.pc q.pc
   local_read names es has few can after p q s locals empty taken quiet start at =
       let shallow : depth_of_expressions es ≤ 200 = omega (arith, few) in
       let next : length active ≡ next_free s = omega (arith, locals.base, ap length empty) in
@@ -202,4 +202,4 @@ module _ {f : Function} {g : Fn} {active : List Active} {listed : List ℕ} (is_
       let wanted : IsWanted f s q.pc = inr (inl (omega (arith, start.starts, start.some))) in
       let come = declared_comes is_function all es has shallow (length names) at.mid q s locals next quiet_there wanted at.values_at in
       let on = declared_on is_function all es has shallow (length names) at.mid q at.values_at in
-      subst (λ (pc : ℕ). ActRead f g active (local_statement names es) s pc q.pc) at.same (local_step names es can s locals start come empty (on.1 start.some))
+      subst₂ (λ (made pc : ℕ). ActRead f g active (local_statement names es) made q.functions s pc q.pc) at.as_many at.same (local_step names es can s locals start come empty (on.1 start.some))

@@ -35,9 +35,9 @@ use Rattle.reads_back.proofs.WordsRead.{IsFunction, IsQuiet}
 -- ---- what comes for so many locals
 
 -- entries come for as many, which are the values that are written of those of the statement
-pub record DeclaredComes (f : Function) (g : Fn) (active : List Active) (es : Expressions) (s : Situation) (count first last : ℕ) : Type 0 where
+pub record DeclaredComes (f : Function) (g : Fn) (active : List Active) (es : Expressions) (before behind : ℕ) (s : Situation) (count first last : ℕ) : Type 0 where
   pub from : Values
-  pub are : AreCores g active es from
+  pub are : AreCores g active es before behind from
   pub values : Values
   pub all : Bool
   pub written : declared_values count (ends_open es) from ≡ record { values = values; all = all }
@@ -71,9 +71,9 @@ module _ (count : ℕ) (from : Values) where
 
 -- ---- by what comes
 
-module _ {f : Function} {g : Fn} {active : List Active} {es : Expressions} {s : Situation} {count first last : ℕ} (come : AdjustedComes f g active es s count first last) where
+module _ {f : Function} {g : Fn} {active : List Active} {es : Expressions} {made_before made_behind : ℕ} {s : Situation} {count first last : ℕ} (come : AdjustedComes f g active es made_before made_behind s count first last) where
   -- single values, of which a nil may be missing
-  singles_declared : (missing_one : Bool) → declared_values count (ends_open es) come.from ≡ filled false count missing_one come.from → AreEntries come.entries (with_nil missing_one come.from) → DeclaredComes f g active es s count first last
+  singles_declared : (missing_one : Bool) → declared_values count (ends_open es) come.from ≡ filled false count missing_one come.from → AreEntries come.entries (with_nil missing_one come.from) → DeclaredComes f g active es made_before made_behind s count first last
   singles_declared missing_one written singles =
       let every = with_nil missing_one come.from in
       let left_out = (value_count every == count) && ends_with_nil every in
@@ -99,7 +99,7 @@ module _ {f : Function} {g : Fn} {active : List Active} {es : Expressions} {s : 
 
   -- single values, and others behind them that are missing or further ones of the last
   behind_declared : (all : Bool) (singles behind : Entries) → declared_values count (ends_open es) come.from ≡ record { values = come.from; all = all } → AreEntries singles come.from → come.entries ≡ singles ++ behind →
-      captures_itself behind ≡ false → adjusted_list count true (without_last count (singles ++ behind)) ≡ Some (record { values = come.from; all = all }) → DeclaredComes f g active es s count first last
+      captures_itself behind ≡ false → adjusted_list count true (without_last count (singles ++ behind)) ≡ Some (record { values = come.from; all = all }) → DeclaredComes f g active es made_before made_behind s count first last
   behind_declared all singles behind written are is none listed = record {
     from = come.from;
     are = come.are;
@@ -117,7 +117,7 @@ module _ {f : Function} {g : Fn} {active : List Active} {es : Expressions} {s : 
     plain = λ plain. ap captures_itself is ∙ not_own singles come.from (singles_are singles come.from are) plain behind none;
   }
 
-  by_form : AdjustedForm (ends_open es) count come.from come.entries → DeclaredComes f g active es s count first last
+  by_form : AdjustedForm (ends_open es) count come.from come.entries → DeclaredComes f g active es made_before made_behind s count first last
   by_form (as_many are enough) = singles_declared false (written_as_many count come.from (ends_open es) enough) are
   by_form (nil_behind are closed counts) = singles_declared true (ap (λ is_open. declared_values count is_open come.from) closed ∙ written_one count come.from counts) are
   by_form (missing_behind singles n are is closed counts) =
@@ -159,5 +159,5 @@ module _ {f : Function} {g : Fn} {active : List Active} {listed : List ℕ} (is_
   declared_on at = adjust_on (nat_lt (length rels) count) refl at
 
   module _ (s : Situation) (locals : HasLocals active listed s) (is : free ≡ next_free s) (quiet : IsQuiet f s.scope p.pc q.pc) where
-    pub declared_comes : IsWanted f s q.pc → AdjustAt g rels count active free p q → DeclaredComes f g active es s count p.pc q.pc
+    pub declared_comes : IsWanted f s q.pc → AdjustAt g rels count active free p q → DeclaredComes f g active es p.functions q.functions s count p.pc q.pc
     declared_comes wanted at = let come = adjusted_comes is_function all es has few count free p q s locals is quiet wanted at in by_form come come.form

@@ -89,42 +89,44 @@ count_opens true false x y same = cc
 count_opens false true x y same = cc
 count_opens false false x y same = refl
 
-module _ (f : Function) (g : Fn) (active : List Active) (listed : List ℕ) (z : Maker) (left : List (Option Inner)) where
+module _ (f : Function) (g : Fn) (active : List Active) (listed : List ℕ) (z : Maker) (lefts : ℕ → List (Option Inner)) where
   -- the last one gives several, so it is no nil
-  open_no_nil : (es : Expressions) (vs : Values) → AllRewritten f g active listed z left es → AreCores g active es vs → ends_open es ≡ true → ends_with_nil vs ≡ false
-  open_no_nil no_expressions vs written are is = not_so is
-  open_no_nil (syntax.expression e no_expressions) vs written are is = ap ends_with_nil (are.4 ∙ ap (and_value are.0) are.3) ∙ no_nil are.0 ((written.0 are.0 are.2).gives is)
-  open_no_nil (syntax.expression e (syntax.expression d no_expressions)) vs written are is =
-      let w = are.3.0 in
-      ap ends_with_nil (are.4 ∙ ap (and_value are.0) (are.3.4 ∙ ap (and_value w) are.3.3)) ∙ ap (λ nil. nil && not (can_be_several are.0)) (no_nil w ((written.1.0 w are.3.2).gives is))
-  open_no_nil (syntax.expression e (syntax.expression d (syntax.expression x es))) vs written are is =
-      let behind = are.3.4 ∙ ap (and_value are.3.0) are.3.3.4 in
-      ap ends_with_nil (are.4 ∙ ap (and_value are.0) behind) ∙ ap ends_with_nil (sym behind) ∙ open_no_nil (syntax.expression d (syntax.expression x es)) are.1 written.1 are.3 is
+  open_no_nil : (es : Expressions) (before behind : ℕ) (vs : Values) → AllRewritten f g active listed z lefts es → AreCores g active es before behind vs → ends_open es ≡ true → ends_with_nil vs ≡ false
+  open_no_nil no_expressions before behind vs written are ends = not_so ends
+  open_no_nil (syntax.expression e no_expressions) before behind vs written (mid, (v, rest, core, (as_many, none), is)) ends = ap ends_with_nil (is ∙ ap (and_value v) none) ∙ no_nil v ((written.0 before mid v core).gives ends)
+  open_no_nil (syntax.expression e (syntax.expression d no_expressions)) before behind vs written (mid, (v, rest, core, (last, (w, more, w_core, (as_many, none), w_is)), is)) ends =
+      ap ends_with_nil (is ∙ ap (and_value v) (w_is ∙ ap (and_value w) none)) ∙ ap (λ nil. nil && not (can_be_several v)) (no_nil w ((written.1.0 mid last w w_core).gives ends))
+  open_no_nil (syntax.expression e (syntax.expression d (syntax.expression x es))) before behind vs written (mid, (v, rest, core, are, is)) ends =
+      let second = are.1 in
+      let third = second.3.1 in
+      let two = second.4 ∙ ap (and_value second.0) third.4 in
+      ap ends_with_nil (is ∙ ap (and_value v) two) ∙ ap ends_with_nil (sym two) ∙ open_no_nil (syntax.expression d (syntax.expression x es)) mid behind rest written.1 are ends
 
+module _ (f : Function) (g : Fn) (active : List Active) (listed : List ℕ) (z : Maker) (left behind : List (Option Inner)) where
   -- ---- what is asked of the values that are written
 
   pub record Adjusts (count : ℕ) (es : Expressions) (vs : Values) (all : Bool) : Type 0 where
     pub can : can_write_values (place f.of listed f.short) left vs ≡ true
-    pub unused : left_by_values vs left ≡ left
+    pub leaves : left_by_values vs left ≡ behind
     pub fine : (n : ℕ) → EachFine (place f.of listed f.short) (3 * depth_of_expressions es + 2) n left vs
     pub same : (m : Maker) → IsAhead g active (names_in_all es) m → Final (length m.labels) (adjust 1 (codes_of es) count m) z →
         adjust 1 (values_coded (place f.of listed f.short) (length m.constants) left vs all) count m ≡ adjust 1 (codes_of es) count m
     pub taken : (m : Maker) → IsAhead g active (names_in_all es) m → Final (length m.labels) (adjust 1 (codes_of es) count m) z → length (adjust 1 (codes_of es) count m).constants ≡ taken_behind_values vs (length m.constants)
 
   -- the names are declared before the values, and active behind them
-  adjusts_act : (names : List Text) (es : Expressions) (vs : Values) (all : Bool) → Adjusts (length names) es vs all → RewrittenAct f g active listed z left (local_statement names es) (declared names vs all)
+  adjusts_act : (names : List Text) (es : Expressions) (vs : Values) (all : Bool) → Adjusts (length names) es vs all → RewrittenAct f g active listed z left behind (local_statement names es) (declared names vs all)
   adjusts_act names es vs all adjusts = record {
     can = adjusts.can;
-    unused = adjusts.unused;
+    leaves = adjusts.leaves;
     few = λ n. omega (arith, list_few (place f.of listed f.short) (3 * depth_of_expressions es + 2) n left vs all (adjusts.fine n));
     made = λ m ahead final.
-        let behind = declare names m in
-        ap (λ constants. activate behind.value (adjust 1 (values_coded (place f.of listed f.short) (length constants) left vs all) (length names) behind.after)) (sym (declare_constants names m))
-        ∙ ap (activate behind.value) (adjusts.same behind.after (names_ahead m ahead) (inner m final));
+        let named = declare names m in
+        ap (λ constants. activate named.value (adjust 1 (values_coded (place f.of listed f.short) (length constants) left vs all) (length names) named.after)) (sym (declare_constants names m))
+        ∙ ap (activate named.value) (adjusts.same named.after (names_ahead m ahead) (inner m final));
     taken = λ m ahead final.
-        let behind = declare names m in
-        ap length (activate_constants behind.value (adjust 1 (codes_of es) (length names) behind.after))
-        ∙ adjusts.taken behind.after (names_ahead m ahead) (inner m final)
+        let named = declare names m in
+        ap length (activate_constants named.value (adjust 1 (codes_of es) (length names) named.after))
+        ∙ adjusts.taken named.after (names_ahead m ahead) (inner m final)
         ∙ ap (λ constants. taken_behind_values vs (length constants)) (declare_constants names m);
   }
     where
@@ -136,16 +138,19 @@ module _ (f : Function) (g : Fn) (active : List Active) (listed : List ℕ) (z :
 
       inner : (m : Maker) → Final (length m.labels) (local_part 1 names (codes_of es) m) z → Final (length (declare names m).after.labels) (adjust 1 (codes_of es) (length names) (declare names m).after) z
       inner m final =
-          let behind = declare names m in
+          let named = declare names m in
           let grown = grows_declare calm names m in
-          later grown.more (before {v = loose} (grows_activate behind.value (adjust 1 (codes_of es) (length names) behind.after)) final)
+          later grown.more (before {v = loose} (grows_activate named.value (adjust 1 (codes_of es) (length names) named.after)) final)
 
 -- ---- which values are written
 
-module _ {f : Function} {g : Fn} {active : List Active} {listed : List ℕ} {z : Maker} (left : List (Option Inner)) (made : IsMadeBy f g active listed z) (count : ℕ) (es : Expressions) (from : Values)
-    (has : AllHaveCores es) (written : AllRewritten f g active listed z left es) (are : AreCores g active es from) where
+module _ {f : Function} {g : Fn} {active : List Active} {listed : List ℕ} {z : Maker} (lefts : ℕ → List (Option Inner)) (made : IsMadeBy f g active listed z) (count : ℕ) (es : Expressions) (before behind : ℕ) (from : Values)
+    (has : AllHaveCores es) (written : AllRewritten f g active listed z lefts es) (are : AreCores g active es before behind from) where
+  abbrev left : List (Option Inner)
+  left = lefts before
+
   abbrev IsWritten : Values → (all : Bool) → Type 0
-  IsWritten vs all = Adjusts f g active listed z left count es vs all
+  IsWritten vs all = Adjusts f g active listed z (lefts before) (lefts behind) count es vs all
 
   abbrev written_as : ℕ → Values → (all : Bool) → List Coded
   written_as n vs all = values_coded (place f.of listed f.short) n left vs all
@@ -156,14 +161,14 @@ module _ {f : Function} {g : Fn} {active : List Active} {listed : List ℕ} {z :
   abbrev deep : ℕ
   deep = 3 * depth_of_expressions es + 2
 
-  given : RewrittenGiven f g active listed z left (argument_list es) (depth_of_expressions es) from (ends_open es)
-  given = list_rewritten made es from (ends_open es) has written are refl
+  given : RewrittenGiven f g active listed z (lefts before) (lefts behind) (argument_list es) (depth_of_expressions es) from (ends_open es)
+  given = list_rewritten lefts made es before behind from (ends_open es) has written are refl
 
   fine : (n : ℕ) → EachFine (place f.of listed f.short) deep n left from
-  fine n = cores_fine f g active listed z left (depth_of_expressions es) es from (omega arith) written are n
+  fine n = cores_fine f g active listed z lefts (depth_of_expressions es) es before behind from (omega arith) written are n
 
   as_many : length cs ≡ value_count from
-  as_many = cores_count g active es from are
+  as_many = cores_count g active es before behind from are
 
   count_written : (n : ℕ) (vs : Values) (all : Bool) → length (written_as n vs all) ≡ value_count vs
   count_written n vs all = coded_count (place f.of listed f.short) n left vs all
@@ -183,17 +188,17 @@ module _ {f : Function} {g : Fn} {active : List Active} {listed : List ℕ} {z :
     more_final m final = before_free (m.free + count) (all_next cs m) (subst (λ (n : Maker). Final (length m.labels) n z) (more_is m) final)
 
     more_taken : (m : Maker) → IsAhead g active (names_in_all es) m → Final (length m.labels) (adjust 1 cs count m) z → length (adjust 1 cs count m).constants ≡ taken_behind_values from (length m.constants)
-    more_taken m ahead final = ap (λ (n : Maker). length n.constants) (more_is m) ∙ next_all_taken f g active listed z left es from has written are m ahead (more_final m final)
+    more_taken m ahead final = ap (λ (n : Maker). length n.constants) (more_is m) ∙ next_all_taken f g active listed z lefts es before behind from has written are m ahead (more_final m final)
 
     pub more_written : IsWritten from true
     more_written = record {
       can = given.can;
-      unused = given.unused;
+      leaves = given.leaves;
       fine = fine;
       same = λ m ahead final.
           let ds = written_as (length m.constants) from true in
           adjust_more ds count m (omega (arith, enough, count_written (length m.constants) from true))
-          ∙ ap (free_from (m.free + count)) (next_all f g active listed z left es from true has written are m ahead (more_final m final))
+          ∙ ap (free_from (m.free + count)) (next_all f g active listed z lefts es before behind from true has written are m ahead (more_final m final))
           ∙ sym (more_is m);
       taken = more_taken;
     }
@@ -209,22 +214,22 @@ module _ {f : Function} {g : Fn} {active : List Active} {listed : List ℕ} {z :
     -- what is written is open too
     written_open : (n : ℕ) → opens (written_as n from true) ≡ true
     written_open n =
-        let counts = (list_rewritten made es from true has written are (sym open_last)).counts n in
+        let counts = (list_rewritten lefts made es before behind from true has written are (sym open_last)).counts n in
         count_opens (opens (written_as n from true)) (opens cs) (length (written_as n from true)) (length cs) counts ∙ opens_is es ∙ open_last
 
     pub open_written : IsWritten from true
     open_written = record {
       can = given.can;
-      unused = given.unused;
+      leaves = given.leaves;
       fine = fine;
       same = λ m ahead final.
           let ds = written_as (length m.constants) from true in
           let counted = count_written (length m.constants) from true in
           adjust_open ds count m (omega (arith, fewer, counted)) (written_open (length m.constants))
           ∙ ap (λ k. all_multi Op.Call (Some (count - k + 1)) ds m) (counted ∙ sym as_many)
-          ∙ multi_all f g active listed z left Op.Call (Some (count - length cs + 1)) es from has written are open_last m ahead (open_final m final)
+          ∙ multi_all f g active listed z lefts Op.Call (Some (count - length cs + 1)) es before behind from has written are open_last m ahead (open_final m final)
           ∙ sym (open_is m);
-      taken = λ m ahead final. ap (λ (n : Maker). length n.constants) (open_is m) ∙ multi_all_taken f g active listed z left Op.Call (Some (count - length cs + 1)) es from has written are open_last m ahead (open_final m final);
+      taken = λ m ahead final. ap (λ (n : Maker). length n.constants) (open_is m) ∙ multi_all_taken f g active listed z lefts Op.Call (Some (count - length cs + 1)) es before behind from has written are open_last m ahead (open_final m final);
     }
 
   -- fewer, and the others are nils
@@ -236,19 +241,19 @@ module _ {f : Function} {g : Fn} {active : List Active} {listed : List ℕ} {z :
     closed_final m final = before_nils (count - length cs) (all_next cs m) (subst (λ (n : Maker). Final (length m.labels) n z) (closed_is m) final)
 
     closed_taken : (m : Maker) → IsAhead g active (names_in_all es) m → Final (length m.labels) (adjust 1 cs count m) z → length (adjust 1 cs count m).constants ≡ taken_behind_values from (length m.constants)
-    closed_taken m ahead final = ap (λ (n : Maker). length n.constants) (closed_is m) ∙ next_all_taken f g active listed z left es from has written are m ahead (closed_final m final)
+    closed_taken m ahead final = ap (λ (n : Maker). length n.constants) (closed_is m) ∙ next_all_taken f g active listed z lefts es before behind from has written are m ahead (closed_final m final)
 
     pub closed_written : IsWritten from false
     closed_written = record {
       can = given.can;
-      unused = given.unused;
+      leaves = given.leaves;
       fine = fine;
       same = λ m ahead final.
           let ds = written_as (length m.constants) from false in
           let counted = count_written (length m.constants) from false in
           adjust_closed ds count m (omega (arith, fewer, counted)) (list_closed (place f.of listed f.short) deep (length m.constants) left from (fine (length m.constants)))
           ∙ ap (λ k. nils 1 (count - k) (all_next ds m)) (counted ∙ sym as_many)
-          ∙ ap (nils 1 (count - length cs)) (next_all f g active listed z left es from false has written are m ahead (closed_final m final))
+          ∙ ap (nils 1 (count - length cs)) (next_all f g active listed z lefts es before behind from false has written are m ahead (closed_final m final))
           ∙ sym (closed_is m);
       taken = closed_taken;
     }
@@ -257,17 +262,17 @@ module _ {f : Function} {g : Fn} {active : List Active} {listed : List ℕ} {z :
     pub nil_written : suc (value_count from) ≡ count → IsWritten (and_last_value from nil_value) true
     nil_written exact = record {
       can = can_last (place f.of listed f.short) left from ∙ given.can;
-      unused = left_last from left ∙ given.unused;
+      leaves = left_last from left ∙ given.leaves;
       fine = λ n. fine_last (place f.of listed f.short) deep n left from (omega arith) (fine n);
       same = λ m ahead final.
           let ds = written_as (length m.constants) (and_last_value from nil_value) true in
-          let behind = next_reg (coded (nil_literal 1)) (all_next cs m) in
+          let cleared = next_reg (coded (nil_literal 1)) (all_next cs m) in
           let one : 1 ≡ count - length cs = omega (arith, exact, as_many) in
           adjust_more ds count m (omega (arith, exact, count_written (length m.constants) (and_last_value from nil_value) true, count_last from nil_value))
           ∙ ap (free_from (m.free + count))
           (nil_next (place f.of listed f.short) (length m.constants) left from true m
-          ∙ ap (next_reg (coded (nil_literal 1))) (next_all f g active listed z left es from true has written are m ahead (closed_final m final)))
-          ∙ free_there (m.free + count) behind (omega (arith, all_free m, exact))
+          ∙ ap (next_reg (coded (nil_literal 1))) (next_all f g active listed z lefts es before behind from true has written are m ahead (closed_final m final)))
+          ∙ free_there (m.free + count) cleared (omega (arith, all_free m, exact))
           ∙ sym (nils_one (all_next cs m))
           ∙ ap (λ k. nils 1 k (all_next cs m)) one
           ∙ sym (closed_is m);
@@ -296,7 +301,7 @@ module _ {f : Function} {g : Fn} {active : List Active} {listed : List ℕ} {z :
         let at = place f.of listed f.short in
         record {
           can = sym (can_last at left front) ∙ ap (can_write_values at left) (sym split) ∙ given.can;
-          unused = sym (left_last front left) ∙ ap (λ vs. left_by_values vs left) (sym split) ∙ given.unused;
+          leaves = sym (left_last front left) ∙ ap (λ vs. left_by_values vs left) (sym split) ∙ given.leaves;
           fine = front_fine;
           same = λ m ahead final.
               let n = length m.constants in
@@ -308,7 +313,7 @@ module _ {f : Function} {g : Fn} {active : List Active} {listed : List ℕ} {z :
               ∙ nils_one (all_next ds m)
               ∙ sym (nil_next at n left front false m)
               ∙ ap (λ vs. all_next (written_as n vs false) m) (sym split)
-              ∙ next_all f g active listed z left es from false has written are m ahead (more_final enough m final)
+              ∙ next_all f g active listed z lefts es before behind from false has written are m ahead (more_final enough m final)
               ∙ sym (free_there (m.free + count) (all_next cs m) (omega (arith, all_free m, exact)))
               ∙ sym (more_is enough m);
           taken = λ m ahead final. more_taken enough m ahead final ∙ ap (λ vs. taken_behind_values vs (length m.constants)) split ∙ taken_end front nil_value (length m.constants);
@@ -344,15 +349,15 @@ module _ {f : Function} {g : Fn} {active : List Active} {listed : List ℕ} {z :
 
   all_listed : (is_open : Bool) → ends_open es ≡ is_open → IsListed (declared_values count is_open from)
   all_listed true is =
-      let no_nil = ap (λ nil. (value_count from == count) && nil) (open_no_nil f g active listed z left es from written are is) ∙ and_not (value_count from == count) in
+      let no_nil = ap (λ nil. (value_count from == count) && nil) (open_no_nil f g active listed z lefts es before behind from written are is) ∙ and_not (value_count from == count) in
       subst (λ left_out. IsListed (without_nil left_out from)) (sym no_nil) (open_listed is _ refl)
   all_listed false is = closed_listed is _ refl _ refl
 
-module _ {f : Function} {g : Fn} {active : List Active} {listed : List ℕ} {z : Maker} (left : List (Option Inner)) (made : IsMadeBy f g active listed z) (names : List Text) (es : Expressions) (from : Values)
-    (has : AllHaveCores es) (written : AllRewritten f g active listed z left es) (are : AreCores g active es from) where
+module _ {f : Function} {g : Fn} {active : List Active} {listed : List ℕ} {z : Maker} (lefts : ℕ → List (Option Inner)) (made : IsMadeBy f g active listed z) (names : List Text) (es : Expressions) (before behind : ℕ) (from : Values)
+    (has : AllHaveCores es) (written : AllRewritten f g active listed z lefts es) (are : AreCores g active es before behind from) where
   pub local_rewritten_act : (others : List Text) (vs : Values) (all : Bool) → others ≡ names → declared_values (length names) (ends_open es) from ≡ record { values = vs; all = all } →
-      RewrittenAct f g active listed z left (local_statement names es) (declared others vs all)
+      RewrittenAct f g active listed z (lefts before) (lefts behind) (local_statement names es) (declared others vs all)
   local_rewritten_act others vs all same is =
-      let adjusts : Adjusts f g active listed z left (length names) es vs all =
-      subst (λ (list : Listed). Adjusts f g active listed z left (length names) es list.values list.all) is (all_listed left made (length names) es from has written are (ends_open es) refl) in
-      subst (λ others. RewrittenAct f g active listed z left (local_statement names es) (declared others vs all)) (sym same) (adjusts_act f g active listed z left names es vs all adjusts)
+      let adjusts : Adjusts f g active listed z (lefts before) (lefts behind) (length names) es vs all =
+      subst (λ (list : Listed). Adjusts f g active listed z (lefts before) (lefts behind) (length names) es list.values list.all) is (all_listed lefts made (length names) es before behind from has written are (ends_open es) refl) in
+      subst (λ others. RewrittenAct f g active listed z (lefts before) (lefts behind) (local_statement names es) (declared others vs all)) (sym same) (adjusts_act f g active listed z (lefts before) (lefts behind) names es vs all adjusts)

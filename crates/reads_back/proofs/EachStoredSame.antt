@@ -145,7 +145,7 @@ module _ {f : Function} {g : Fn} {active : List Active} {listed : List ℕ} {z :
 
 -- ---- one value
 
-module _ {f : Function} {g : Fn} {active : List Active} {listed : List ℕ} {z : Maker} {left : List (Option Inner)} {e : Expression} {v : Value} (written : Rewritten f g active listed z left e v) where
+module _ {f : Function} {g : Fn} {active : List Active} {listed : List ℕ} {z : Maker} {left behind : List (Option Inner)} {e : Expression} {v : Value} (written : Rewritten f g active listed z left behind e v) where
   -- that goes as an operand to a name that is no local
   operand_stored : (bare : Bool) (text : Text) (w : Where) (m : Maker) → IsAhead g active (names_in e) m → Final (length m.labels) (store_operand 1 text w (code e) m) z →
       store_operand 1 text w (coded (unless bare (wording f listed z left (length m.constants) v)).words) m ≡ store_operand 1 text w (code e) m
@@ -181,9 +181,9 @@ module _ (f : Function) (g : Fn) (active : List Active) (listed : List ℕ) (z :
     pub takes : (m : Maker) → IsAhead g active (names_in_all es) m → Final (length m.labels) (each_stored 1 (places placed) (codes_of es) m) z →
         length (each_stored 1 (places placed) (codes_of es) m).constants ≡ all_named_behind (targets_of placed) (taken (length m.constants))
 
-module _ {f : Function} {g : Fn} {active : List Active} {listed : List ℕ} {z : Maker} {left : List (Option Inner)} (made : IsMadeBy f g active listed z) where
+module _ {f : Function} {g : Fn} {active : List Active} {listed : List ℕ} {z : Maker} {left behind : List (Option Inner)} (made : IsMadeBy f g active listed z) where
   -- the last value goes to a name
-  value_only : (t : TargetValue) (to : Target) (is : IsPlace g t to) (e : Expression) (v : Value) (bare : Bool) → is_part (Some t) ≡ false → HasCore e → Rewritten f g active listed z left e v →
+  value_only : (t : TargetValue) (to : Target) (is : IsPlace g t to) (e : Expression) (v : Value) (bare : Bool) → is_part (Some t) ≡ false → HasCore e → Rewritten f g active listed z left behind e v →
       EachSame f g active listed z (record { to = t; there = to; is = is } ∷ []) (syntax.expression e no_expressions) (λ n. coded (unless bare (wording f listed z left n v)).words ∷ []) (taken_behind v)
   value_only t (name_target text w) is e v bare no_part has written = record {
     same = λ m ahead final. store_same written bare text w m (first_ahead e no_expressions (has, tt) m ahead) final;
@@ -192,7 +192,7 @@ module _ {f : Function} {g : Fn} {active : List Active} {listed : List ℕ} {z :
   value_only t (part_target on key on_local key_local) is e v bare no_part has written = absurd (true≢false (sym is ∙ no_part))
 
   -- or as an operand to a part of a table
-  operand_only : (t : TargetValue) (to : Target) (is : IsPlace g t to) (e : Expression) (o : OperandValue) → is_part (Some t) ≡ true → HasCore e → RewrittenOperand f g active listed z left e o →
+  operand_only : (t : TargetValue) (to : Target) (is : IsPlace g t to) (e : Expression) (o : OperandValue) → is_part (Some t) ≡ true → HasCore e → RewrittenOperand f g active listed z left behind e o →
       EachSame f g active listed z (record { to = t; there = to; is = is } ∷ []) (syntax.expression e no_expressions) (λ n. coded (operand_wording f listed z left n o).words ∷ []) (taken_behind_operand o)
   operand_only t (name_target text w) is e o part has written = name_no_part g text w t is part
   operand_only t (part_target on key on_local key_local) is e o part has written = record {
@@ -203,14 +203,14 @@ module _ {f : Function} {g : Fn} {active : List Active} {listed : List ℕ} {z :
 
   -- a value goes to the next register, the others come behind it, and then it is stored
   more_each : (one other : Placed g) (others : List (Placed g)) (e : Expression) (es : Expressions) (v : Value) (bare : Bool) (written : ℕ → List (Option Inner) → List Coded) (taken : ℕ → ℕ) → AllHaveCores (syntax.expression e es) →
-      Rewritten f g active listed z left e v → EachSame f g active listed z (other ∷ others) es (λ n. written n left) taken →
+      Rewritten f g active listed z left behind e v → EachSame f g active listed z (other ∷ others) es (λ n. written n behind) taken →
       EachSame f g active listed z (one ∷ other ∷ others) (syntax.expression e es) (λ n. coded (unless bare (wording f listed z left n v)).words ∷ written (taken_behind v n) (left_by v left)) (λ n. taken (taken_behind v n))
   more_each one other others e es v bare written taken has first rest = record {
     same = λ m ahead final.
         let n = length m.constants in
         ap (λ mid. stores m (written (taken_behind v n) (left_by v left)) mid) (next_wrapped bare (wording f listed z left n v) m ∙ next_same first m (first_ahead e es has m ahead) (first_final m final))
         ∙ ap (λ n. stores m (written n (left_by v left)) (next_reg (code e) m)) (sym (next_taken first m (first_ahead e es has m ahead) (first_final m final)))
-        ∙ ap (λ fs. stores m (written (length (next_reg (code e) m).constants) fs) (next_reg (code e) m)) first.unused
+        ∙ ap (λ fs. stores m (written (length (next_reg (code e) m).constants) fs) (next_reg (code e) m)) first.leaves
         ∙ ap (store_register 1 one.there m.free) (rest.same (next_reg (code e) m) (others_ahead e es has m ahead) (others_final e es m (behind_final m final)));
     takes = λ m ahead final.
         register_taken made m.free one.to one.there (each_stored 1 (places (other ∷ others)) (codes_of es) (next_reg (code e) m)) one.is final
@@ -232,67 +232,70 @@ module _ {f : Function} {g : Fn} {active : List Active} {listed : List ℕ} {z :
 abbrev pub with_operand_coded : Place → ℕ → List (Option Inner) → Values → OperandValue → List Coded
 with_operand_coded at n fs vs o = all_coded (words_assigned at n fs vs true (Some o)).words
 
-module _ {f : Function} {g : Fn} {active : List Active} {listed : List ℕ} {z : Maker} (left : List (Option Inner)) (made : IsMadeBy f g active listed z) where
+module _ {f : Function} {g : Fn} {active : List Active} {listed : List ℕ} {z : Maker} (lefts : ℕ → List (Option Inner)) (made : IsMadeBy f g active listed z) where
   abbrev at : Place
   at = place f.of listed f.short
 
-  pub each_values : (placed : List (Placed g)) (es : Expressions) (vs : Values) → length (codes_of es) ≡ length (places placed) → is_part (last_target (targets_of placed)) ≡ false → AllHaveCores es → AllRewritten f g active listed z left es → AreCores g active es vs →
-      EachSame f g active listed z placed es (λ n. values_coded (place f.of listed f.short) n left vs true) (taken_behind_values vs)
-  each_values [] no_expressions vs same no_part has written are = record { same = λ m ahead final. refl; takes = λ m ahead final. ap (λ vs. taken_behind_values vs (length m.constants)) (sym are) }
-  each_values (one ∷ []) (syntax.expression e no_expressions) vs same no_part has written are =
-      subst (λ vs. EachSame f g active listed z (one ∷ []) (syntax.expression e no_expressions) (λ n. values_coded at n left vs true) (taken_behind_values vs)) (sym (are.4 ∙ ap (and_value are.0) are.3))
-      (value_only made one.to one.there one.is e are.0 true no_part has.0 (written.0 are.0 are.2))
-  each_values (one ∷ other ∷ others) (syntax.expression e es) vs same no_part has written are =
-      subst (λ vs. EachSame f g active listed z (one ∷ other ∷ others) (syntax.expression e es) (λ n. values_coded at n left vs true) (taken_behind_values vs)) (sym are.4)
-      (more_each made one other others e es are.0 (not ((ends_values are.1 && false) && can_be_several are.0)) (λ n fs. values_coded at n fs are.1 true) (taken_behind_values are.1) has (written.0 are.0 are.2)
-      (each_values (other ∷ others) es are.1 (omega (arith, same)) no_part has.1 written.1 are.3))
-  each_values placed es vs same no_part has written are = absurd (omega (arith, same))
+  pub each_values : (placed : List (Placed g)) (es : Expressions) (before behind : ℕ) (vs : Values) → length (codes_of es) ≡ length (places placed) → is_part (last_target (targets_of placed)) ≡ false → AllHaveCores es → AllRewritten f g active listed z lefts es → AreCores g active es before behind vs →
+      EachSame f g active listed z placed es (λ n. values_coded (place f.of listed f.short) n (lefts before) vs true) (taken_behind_values vs)
+  each_values [] no_expressions before behind vs same no_part has written are = record { same = λ m ahead final. refl; takes = λ m ahead final. ap (λ vs. taken_behind_values vs (length m.constants)) (sym are.1) }
+  each_values (one ∷ []) (syntax.expression e no_expressions) before behind vs same no_part has written (mid, (v, rest, core, (as_many, none), is)) =
+      subst (λ vs. EachSame f g active listed z (one ∷ []) (syntax.expression e no_expressions) (λ n. values_coded at n (lefts before) vs true) (taken_behind_values vs)) (sym (is ∙ ap (and_value v) none))
+      (value_only made one.to one.there one.is e v true no_part has.0 (written.0 before mid v core))
+  each_values (one ∷ other ∷ others) (syntax.expression e es) before behind vs same no_part has written (mid, (v, rest, core, are, is)) =
+      subst (λ vs. EachSame f g active listed z (one ∷ other ∷ others) (syntax.expression e es) (λ n. values_coded at n (lefts before) vs true) (taken_behind_values vs)) (sym is)
+      (more_each made one other others e es v (not ((ends_values rest && false) && can_be_several v)) (λ n fs. values_coded at n fs rest true) (taken_behind_values rest) has (written.0 before mid v core)
+      (each_values (other ∷ others) es mid behind rest (omega (arith, same)) no_part has.1 written.1 are))
+  each_values placed es before behind vs same no_part has written are = absurd (omega (arith, same))
 
-  pub each_with_operand : (placed : List (Placed g)) (es : Expressions) (vs : Values) (o : OperandValue) → length (codes_of es) ≡ length (places placed) → is_part (last_target (targets_of placed)) ≡ true → AllHaveCores es → AllRewritten f g active listed z left es → EndWithOperand g active es vs o →
-      EachSame f g active listed z placed es (λ n. with_operand_coded (place f.of listed f.short) n left vs o) (λ n. taken_behind_operand o (taken_behind_values vs n))
-  each_with_operand [] es vs o same part has written are = absurd (true≢false (sym part))
-  each_with_operand placed no_expressions vs o same part has written are = absurd are
-  each_with_operand (one ∷ []) (syntax.expression e no_expressions) vs o same part has written are =
-      subst (λ vs. EachSame f g active listed z (one ∷ []) (syntax.expression e no_expressions) (λ n. with_operand_coded at n left vs o) (λ n. taken_behind_operand o (taken_behind_values vs n))) (sym are.0)
-      (operand_only made one.to one.there one.is e o part has.0 (operand_rewritten made e o has.0 are.1 written.0))
-  each_with_operand (one ∷ other ∷ others) (syntax.expression e (syntax.expression d es)) vs o same part has written are =
-      let behind = syntax.expression d es in
-      subst (λ vs. EachSame f g active listed z (one ∷ other ∷ others) (syntax.expression e behind) (λ n. with_operand_coded at n left vs o) (λ n. taken_behind_operand o (taken_behind_values vs n))) (sym are.4)
-      (more_each made one other others e behind are.0 (not ((ends_values are.1 && false) && can_be_several are.0)) (λ n fs. with_operand_coded at n fs are.1 o) (λ n. taken_behind_operand o (taken_behind_values are.1 n)) has (written.0 are.0 are.2)
-      (each_with_operand (other ∷ others) behind are.1 o (omega (arith, same)) part has.1 written.1 are.3))
-  each_with_operand placed es vs o same part has written are = absurd (omega (arith, same))
+  pub each_with_operand : (placed : List (Placed g)) (es : Expressions) (before behind : ℕ) (vs : Values) (o : OperandValue) → length (codes_of es) ≡ length (places placed) → is_part (last_target (targets_of placed)) ≡ true → AllHaveCores es → AllRewritten f g active listed z lefts es → EndWithOperand g active es o before behind vs →
+      EachSame f g active listed z placed es (λ n. with_operand_coded (place f.of listed f.short) n (lefts before) vs o) (λ n. taken_behind_operand o (taken_behind_values vs n))
+  each_with_operand [] es before behind vs o same part has written are = absurd (true≢false (sym part))
+  each_with_operand placed no_expressions before behind vs o same part has written are = absurd are
+  each_with_operand (one ∷ []) (syntax.expression e no_expressions) before behind vs o same part has written are =
+      subst (λ vs. EachSame f g active listed z (one ∷ []) (syntax.expression e no_expressions) (λ n. with_operand_coded at n (lefts before) vs o) (λ n. taken_behind_operand o (taken_behind_values vs n))) (sym are.0)
+      (operand_only made one.to one.there one.is e o part has.0 (operand_rewritten lefts made e before behind o has.0 are.1 (written.0 before behind)))
+  each_with_operand (one ∷ other ∷ others) (syntax.expression e (syntax.expression d es)) before behind vs o same part has written (mid, (v, rest, core, are, is)) =
+      let more = syntax.expression d es in
+      subst (λ vs. EachSame f g active listed z (one ∷ other ∷ others) (syntax.expression e more) (λ n. with_operand_coded at n (lefts before) vs o) (λ n. taken_behind_operand o (taken_behind_values vs n))) (sym is)
+      (more_each made one other others e more v (not ((ends_values rest && false) && can_be_several v)) (λ n fs. with_operand_coded at n fs rest o) (λ n. taken_behind_operand o (taken_behind_values rest n)) has (written.0 before mid v core)
+      (each_with_operand (other ∷ others) more mid behind rest o (omega (arith, same)) part has.1 written.1 are))
+  each_with_operand placed es before behind vs o same part has written are = absurd (omega (arith, same))
 
 -- ---- how they are written
 
-module _ (f : Function) (listed : List ℕ) (z : Maker) (left : List (Option Inner)) (es : Expressions) where
+module _ (f : Function) (listed : List ℕ) (z : Maker) (left behind : List (Option Inner)) (es : Expressions) where
   -- values, and an operand behind them
   pub record Written (vs : Values) (o : OperandValue) : Type 0 where
     pub can : can_write_values (place f.of listed f.short) left vs ≡ true
-    pub unused : left_by_values vs left ≡ left
+    -- the functions that are left between
+    pub mid : List (Option Inner)
+    pub leaves : left_by_values vs left ≡ mid
     pub few : (n : ℕ) → (word_values (place f.of listed f.short) n left vs true).levels ≤ 3 * depth_of_expressions es + 3
-    pub last_can : can_write_operand (place f.of listed f.short) left o ≡ true
-    pub last_unused : left_by_operand o left ≡ left
-    pub last_few : (n : ℕ) → (operand_wording f listed z left n o).levels ≤ 3 * depth_of_expressions es + 3
+    pub last_can : can_write_operand (place f.of listed f.short) mid o ≡ true
+    pub last_leaves : left_by_operand o mid ≡ behind
+    pub last_few : (n : ℕ) → (operand_wording f listed z mid n o).levels ≤ 3 * depth_of_expressions es + 3
 
-module _ {f : Function} {g : Fn} {active : List Active} {listed : List ℕ} {z : Maker} (left : List (Option Inner)) (made : IsMadeBy f g active listed z) where
-  pub operand_written : (es : Expressions) (vs : Values) (o : OperandValue) → AllHaveCores es → AllRewritten f g active listed z left es → EndWithOperand g active es vs o → Written f listed z left es vs o
-  operand_written no_expressions vs o has written are = absurd are
-  operand_written (syntax.expression e no_expressions) vs o has written are =
-      let last = operand_rewritten made e o has.0 are.1 written.0 in
-      subst (λ vs. Written f listed z left (syntax.expression e no_expressions) vs o) (sym are.0)
-      (record { can = refl; unused = refl; few = λ n. omega arith; last_can = last.can; last_unused = last.unused; last_few = λ n. omega (arith, last.few n) })
-  operand_written (syntax.expression e (syntax.expression d es)) vs o has written are =
+module _ {f : Function} {g : Fn} {active : List Active} {listed : List ℕ} {z : Maker} (lefts : ℕ → List (Option Inner)) (made : IsMadeBy f g active listed z) where
+  pub operand_written : (es : Expressions) (before behind : ℕ) (vs : Values) (o : OperandValue) → AllHaveCores es → AllRewritten f g active listed z lefts es → EndWithOperand g active es o before behind vs →
+      Written f listed z (lefts before) (lefts behind) es vs o
+  operand_written no_expressions before behind vs o has written are = absurd are
+  operand_written (syntax.expression e no_expressions) before behind vs o has written are =
+      let last = operand_rewritten lefts made e before behind o has.0 are.1 (written.0 before behind) in
+      subst (λ vs. Written f listed z (lefts before) (lefts behind) (syntax.expression e no_expressions) vs o) (sym are.0)
+      (record { can = refl; mid = lefts before; leaves = refl; few = λ n. omega arith; last_can = last.can; last_leaves = last.leaves; last_few = λ n. omega (arith, last.few n) })
+  operand_written (syntax.expression e (syntax.expression d es)) before behind vs o has written (mid, (v, others, core, are, is)) =
       let at = place f.of listed f.short in
-      let v = are.0 in
-      let first = written.0 v are.2 in
-      let bare = not ((ends_values are.1 && false) && can_be_several v) in
-      let rest = operand_written (syntax.expression d es) are.1 o has.1 written.1 are.3 in
-      subst (λ vs. Written f listed z left (syntax.expression e (syntax.expression d es)) vs o) (sym are.4) (record {
-        can = both_hold _ _ first.can (ap (λ fs. can_write_values at fs are.1) first.unused ∙ rest.can);
-        unused = ap (left_by_values are.1) first.unused ∙ rest.unused;
-        few = λ n. omega (arith, first.few n, levels_wrapped bare (wording f listed z left n v), ap (λ fs. (word_values at (taken_behind v n) fs are.1 true).levels) first.unused, rest.few (taken_behind v n));
+      let first = written.0 before mid v core in
+      let bare = not ((ends_values others && false) && can_be_several v) in
+      let rest = operand_written (syntax.expression d es) mid behind others o has.1 written.1 are in
+      subst (λ vs. Written f listed z (lefts before) (lefts behind) (syntax.expression e (syntax.expression d es)) vs o) (sym is) (record {
+        can = both_hold _ _ first.can (ap (λ fs. can_write_values at fs others) first.leaves ∙ rest.can);
+        mid = rest.mid;
+        leaves = ap (left_by_values others) first.leaves ∙ rest.leaves;
+        few = λ n. omega (arith, first.few n, levels_wrapped bare (wording f listed z (lefts before) n v), ap (λ fs. (word_values at (taken_behind v n) fs others true).levels) first.leaves, rest.few (taken_behind v n));
         last_can = rest.last_can;
-        last_unused = rest.last_unused;
+        last_leaves = rest.last_leaves;
         last_few = λ n. omega (arith, rest.last_few n);
       })
 
@@ -313,21 +316,24 @@ pub nil_count : (es : Expressions) → length (codes_of (and_nil es)) ≡ suc (l
 nil_count no_expressions = refl
 nil_count (syntax.expression e es) = ap suc (nil_count es)
 
-module _ {f : Function} {g : Fn} {active : List Active} {listed : List ℕ} {z : Maker} (left : List (Option Inner)) (made : IsMadeBy f g active listed z) where
-  pub nil_all_rewritten : (es : Expressions) → AllRewritten f g active listed z left es → AllRewritten f g active listed z left (and_nil es)
-  nil_all_rewritten no_expressions written = (λ v is. parenthesized_rewritten 1 (nil_literal 1) v (nil_rewritten made 1 v is), tt)
+module _ {f : Function} {g : Fn} {active : List Active} {listed : List ℕ} {z : Maker} (lefts : ℕ → List (Option Inner)) (made : IsMadeBy f g active listed z) where
+  pub nil_all_rewritten : (es : Expressions) → AllRewritten f g active listed z lefts es → AllRewritten f g active listed z lefts (and_nil es)
+  nil_all_rewritten no_expressions written = (
+    λ before behind v is. subst (λ (behind : ℕ). Rewritten f g active listed z (lefts before) (lefts behind) (parenthesized 1 (nil_literal 1)) v) (sym is.0) (parenthesized_rewritten 1 (nil_literal 1) v (nil_rewritten made 1 v is.1)),
+    tt,
+  )
   nil_all_rewritten (syntax.expression e es) written = (written.0, nil_all_rewritten es written.1)
 
 module _ (g : Fn) (active : List Active) where
   -- as a value, and as an operand
-  pub nil_cores : (es : Expressions) (vs : Values) → AreCores g active es vs → AreCores g active (and_nil es) (and_last_value vs nil_value)
-  nil_cores no_expressions vs are = (nil_value, no_values, refl, refl, ap (λ vs. and_last_value vs nil_value) are)
-  nil_cores (syntax.expression e es) vs are = (are.0, and_last_value are.1 nil_value, are.2, nil_cores es are.1 are.3, ap (λ vs. and_last_value vs nil_value) are.4)
+  pub nil_cores : (es : Expressions) (before behind : ℕ) (vs : Values) → AreCores g active es before behind vs → AreCores g active (and_nil es) before behind (and_last_value vs nil_value)
+  nil_cores no_expressions before behind vs are = (before, (nil_value, no_values, (refl, refl), (are.0, refl), ap (λ vs. and_last_value vs nil_value) are.1))
+  nil_cores (syntax.expression e es) before behind vs (mid, (v, rest, core, are, is)) = (mid, (v, and_last_value rest nil_value, core, nil_cores es mid behind rest are, ap (λ vs. and_last_value vs nil_value) is))
 
-  pub nil_operand : (es : Expressions) (vs : Values) → AreCores g active es vs → EndWithOperand g active (and_nil es) vs (value_operand nil_value)
-  nil_operand no_expressions vs are = (are, (nil_value, refl, refl))
-  nil_operand (syntax.expression e no_expressions) vs are = (are.0, are.1, are.2, nil_operand no_expressions are.1 are.3, are.4)
-  nil_operand (syntax.expression e (syntax.expression d es)) vs are = (are.0, are.1, are.2, nil_operand (syntax.expression d es) are.1 are.3, are.4)
+  pub nil_operand : (es : Expressions) (before behind : ℕ) (vs : Values) → AreCores g active es before behind vs → EndWithOperand g active (and_nil es) (value_operand nil_value) before behind vs
+  nil_operand no_expressions before behind vs are = (are.1, (nil_value, (are.0, refl), refl))
+  nil_operand (syntax.expression e no_expressions) before behind vs (mid, (v, rest, core, are, is)) = (mid, (v, rest, core, nil_operand no_expressions mid behind rest are, is))
+  nil_operand (syntax.expression e (syntax.expression d es)) before behind vs (mid, (v, rest, core, are, is)) = (mid, (v, rest, core, nil_operand (syntax.expression d es) mid behind rest are, is))
 
 -- the last target is no local
 abbrev pub LastNoLocal : Option TargetValue → Type 0

@@ -20,7 +20,7 @@ use Rattle.scheme_stands.specs.Expressions.{ArithmeticAt, BinaryAt, LoadOr, Name
 use Rattle.scheme_stands.specs.Lists.{MovedFrom, TableAt}
 use Rattle.scheme_stands.specs.Relation.{ItemsAt, related}
 use Rattle.scheme_stands.specs.Words.{Fn, IsRead, Spot, Stretch, WordAt, instr_by, meaning}
-use Rattle.reads_back.specs.Cores.{HasCore}
+use Rattle.reads_back.specs.Cores.{Counted, HasCore}
 use Rattle.reads_back.proofs.Comes.{Begins}
 use Rattle.reads_back.proofs.HeldOperands.{ReadsHeld, operand_held, rk_held, taken_up, text_held}
 use Rattle.reads_back.proofs.NameReads.{AreListed}
@@ -63,7 +63,7 @@ module _ {f : Function} {g : Fn} {active : List Active} {listed : List ℕ} (is_
   name_first text in_globals r p q at = is_alone r is_function at.word (abx_is_read is_function at.word) refl refl refl
 
   -- two operands, and a word that makes a value of them
-  both_first : {Left Right : OperandValue → Type 0} {left_at right_at : (free x free1 : ℕ) → Stretch} (code : Op) → makes_value code ≡ true → ((i : Instr) → further_words f code i ≡ 0) → ReadsHeld f g active listed Left left_at → ReadsHeld f g active listed Right right_at →
+  both_first : {Left Right : Counted OperandValue} {left_at right_at : (free x free1 : ℕ) → Stretch} (code : Op) → makes_value code ≡ true → ((i : Instr) → further_words f code i ≡ 0) → ReadsHeld f g active listed Left left_at → ReadsHeld f g active listed Right right_at →
       (free r : ℕ) (p q : Spot) → q.pc ≤ f.last → TwoAt left_at right_at free (λ x y. WordAt g (Piece.Abc code r x y)) p q → BeginsFor f free r p.pc q.pc
   both_first code makes none left right free r p q within at =
       let word = at.words_at in

@@ -21,7 +21,7 @@ use Rattle.scheme_stands.specs.Expressions.{several}
 use Rattle.scheme_stands.specs.Lists.{AllNextAt, AllMultiAt, OpenBy, TableAt, rels_open}
 use Rattle.scheme_stands.specs.Relation.{all_related, given_rel, ItemsAt}
 use Rattle.scheme_stands.specs.Words.{Fn, Spot, ConstantWord}
-use Rattle.reads_back.specs.Cores.{IsFirst, IsOnly, IsConstant, IsTextGiven, AreCores, AreGiven, AreItems, ends_open}
+use Rattle.reads_back.specs.Cores.{IsFirst, IsOnly, IsConstant, IsTextGiven, AreCores, AreGiven, AreItems, ends_open, Counted, IsCore, still, first_and}
 use Rattle.reads_back.proofs.Comes.{AreEntries, Begins, IsElementRead, IsWanted, Comes, Reads, ReadsTable, comes_next, GivenComes, ReadsGiven}
 use Rattle.reads_back.proofs.BehindWords.{HasLocals, SameLocals, same_locals, same_then, quiet_same, behind_words}
 use Rattle.reads_back.proofs.LiteralReads.{constant_reads}
@@ -31,6 +31,7 @@ use Rattle.reads_back.proofs.Tests.{not_so}
 use Rattle.reads_back.proofs.ValueWords.{next_free}
 use Rattle.reads_back.proofs.WordsBegin.{begins_wants, wanted_above}
 use Rattle.reads_back.proofs.WordsRead.{IsFunction, IsQuiet, quiet_before, quiet_from}
+use Rattle.reads_back.proofs.Deeper.{given_so}
 
 -- ---- what is asked of the arguments
 
@@ -93,10 +94,10 @@ pub record AllCome (f : Function) (Are : Values → Type 0) (deep : ℕ) (s : Si
   pub singles : AreEntries entries values
   pub reaches : Reaches f first s last (behind_words scope seen entries s)
 
-pub none_come : (f : Function) (g : Fn) (active : List Active) (deep : ℕ) (s : Situation) (p q : Spot) → q.pc ≡ p.pc → AllCome f (AreCores g active no_expressions) deep s 0 p.pc q.pc
-none_come f g active deep s p q same = record {
+pub none_come : (f : Function) (g : Fn) (active : List Active) (deep : ℕ) (s : Situation) (p q : Spot) → q.pc ≡ p.pc → q.functions ≡ p.functions → AllCome f (AreCores g active no_expressions p.functions q.functions) deep s 0 p.pc q.pc
+none_come f g active deep s p q same as_many = record {
   values = no_values;
-  are = refl;
+  are = (as_many, refl);
   counts = refl;
   shallow = omega arith;
   scope = s.scope;
@@ -110,11 +111,11 @@ none_come f g active deep s p q same = record {
       (subst (λ (entries : Entries). Reaches f p.pc s p.pc (record s { entries = entries })) (sym (append-nil s.entries)) here);
 }
 
-more_come : {f : Function} {Is : Value → Type 0} {Are : Values → Type 0} {deep count first mid last : ℕ} {s : Situation} (one : Comes f Is deep s first mid) → AllCome f Are deep (behind_one one) count mid last →
-    AllCome f (IsFirst Is Are) deep s (suc count) first last
-more_come one rest = record {
+more_come : {f : Function} (Is : Counted Value) (Are : Counted Values) {before between behind deep count first mid last : ℕ} {s : Situation} (one : Comes f (Is before between) deep s first mid) →
+    AllCome f (Are between behind) deep (behind_one one) count mid last → AllCome f (first_and Is Are before behind) deep s (suc count) first last
+more_come Is Are {between = between} one rest = record {
   values = values.and_value one.value rest.values;
-  are = (one.value, rest.values, one.is, rest.are, refl);
+  are = (between, (one.value, rest.values, one.is, rest.are, refl));
   counts = ap suc rest.counts;
   shallow = max-le one.shallow rest.shallow;
   scope = rest.scope;
@@ -141,11 +142,12 @@ record OpenCome (f : Function) (Are : Values → Type 0) (deep : ℕ) (s : Situa
   pub singles : AreEntries entries values
   pub reaches : Reaches f first s last (behind_words scope seen (entries ++ open_entry value ∷ []) s)
 
-more_open : {f : Function} {Is : Value → Type 0} {Are : Values → Type 0} {deep first mid last : ℕ} {s : Situation} (one : Comes f Is deep s first mid) → OpenCome f Are deep (behind_one one) mid last → OpenCome f (IsFirst Is Are) deep s first last
-more_open one rest = record {
+more_open : {f : Function} (Is : Counted Value) (Are : Counted Values) {before between behind deep first mid last : ℕ} {s : Situation} (one : Comes f (Is before between) deep s first mid) → OpenCome f (Are between behind) deep (behind_one one) mid last →
+    OpenCome f (first_and Is Are before behind) deep s first last
+more_open Is Are {between = between} one rest = record {
   values = values.and_value one.value rest.values;
   value = rest.value;
-  are = (one.value, and_last_value rest.values rest.value, one.is, rest.are, refl);
+  are = (between, (one.value, and_last_value rest.values rest.value, one.is, rest.are, refl));
   shallow = max-le one.shallow rest.shallow;
   scope = rest.scope;
   same = same_then one.same rest.same;
@@ -167,14 +169,14 @@ module _ (f : Function) (g : Fn) (active : List Active) (listed : List ℕ) (dee
 
   -- the first one is wanted by the first word of the next one, or behind them where it is the only one
   pub all_come : (es : Expressions) → AllRead f g active listed deep es → (free : ℕ) (p q : Spot) (s : Situation) → HasLocals active listed s → free ≡ next_free s → IsQuiet f s.scope p.pc q.pc →
-      IsWanted f s q.pc → AllNextAt g (all_related g es) active free p q → AllCome f (AreCores g active es) deep s (length (all_related g es)) p.pc q.pc
-  all_come no_expressions reads free p q s locals is quiet wanted at = none_come f g active deep s p q at.pc
+      IsWanted f s q.pc → AllNextAt g (all_related g es) active free p q → AllCome f (AreCores g active es p.functions q.functions) deep s (length (all_related g es)) p.pc q.pc
+  all_come no_expressions reads free p q s locals is quiet wanted at = none_come f g active deep s p q at.pc at.functions
   all_come (syntax.expression e es) reads free p q s locals is quiet wanted at =
       let on = reads.0.one.forward free free p at.mid at.first in
       let back = all_forward es reads.1 (free + 1) at.mid q at.others in
       let wanted_there = wanted_by (all_begin es reads.1 (free + 1) at.mid q quiet.within at.others) in
       let one = comes_next reads.0.one free p at.mid s locals is (quiet_before at.mid.pc back quiet) wanted_there at.first in
-      more_come one (all_come es reads.1 (free + 1) at.mid q (behind_one one) (locals_behind one locals) (next_behind free one is) (quiet_same one.same (quiet_from at.mid.pc on quiet)) (inl (some_behind one)) at.others)
+      more_come (IsCore g active e) (AreCores g active es) one (all_come es reads.1 (free + 1) at.mid q (behind_one one) (locals_behind one locals) (next_behind free one is) (quiet_same one.same (quiet_from at.mid.pc on quiet)) (inl (some_behind one)) at.others)
     where
       wanted_by : (at.mid.pc ≡ q.pc) ⊎ Begins f (free + 1) at.mid.pc → IsWanted f s at.mid.pc
       wanted_by (inl same) = subst (IsWanted f s) (sym same) wanted
@@ -194,14 +196,14 @@ module _ (f : Function) (g : Fn) (active : List Active) (listed : List ℕ) (dee
 
   -- the values of the last one stay, and each one before it is wanted by the first word of the next one
   open_comes : (es : Expressions) → true ≡ ends_open es → AllRead f g active listed deep es → (free : ℕ) (p q : Spot) (s : Situation) → HasLocals active listed s → free ≡ next_free s → IsQuiet f s.scope p.pc q.pc →
-      AllMultiAt g Op.Call None (all_related g es) active free p q → OpenCome f (AreCores g active es) deep s p.pc q.pc
+      AllMultiAt g Op.Call None (all_related g es) active free p q → OpenCome f (AreCores g active es p.functions q.functions) deep s p.pc q.pc
   open_comes no_expressions ends reads free p q s locals is quiet at = not_so (sym ends)
   open_comes (syntax.expression e no_expressions) ends reads free p q s locals is quiet at =
       let last = (reads.0.all (sym ends)).comes free p q s locals is quiet at in
       record {
         values = no_values;
         value = last.value;
-        are = (last.value, no_values, last.is, refl, refl);
+        are = (q.functions, (last.value, no_values, last.is, (refl, refl), refl));
         shallow = omega (arith, last.shallow);
         scope = last.scope;
         same = last.same;
@@ -216,7 +218,7 @@ module _ (f : Function) (g : Fn) (active : List Active) (listed : List ℕ) (dee
       let back = open_forward (syntax.expression d es) ends reads.1 (free + 1) at.mid q at.others in
       let wanted = begins_wants s (open_begins (syntax.expression d es) ends reads.1 (free + 1) at.mid q quiet.within at.others) (omega (arith, is)) in
       let one = comes_next reads.0.one free p at.mid s locals is (quiet_before at.mid.pc back quiet) wanted at.first in
-      more_open one (open_comes (syntax.expression d es) ends reads.1 (free + 1) at.mid q (behind_one one) (locals_behind one locals) (next_behind free one is) (quiet_same one.same (quiet_from at.mid.pc on quiet)) at.others)
+      more_open (IsCore g active e) (AreCores g active (syntax.expression d es)) one (open_comes (syntax.expression d es) ends reads.1 (free + 1) at.mid q (behind_one one) (locals_behind one locals) (next_behind free one is) (quiet_same one.same (quiet_from at.mid.pc on quiet)) at.others)
 
   pub list_forward : (es : Expressions) (all : Bool) → all ≡ ends_open es → AllRead f g active listed deep es → (free : ℕ) (p q : Spot) → OpenBy all g (all_related g es) active free p q → p.pc ≤ q.pc
   list_forward es true ends reads free p q at = open_forward es ends reads free p q at
@@ -227,7 +229,7 @@ module _ (f : Function) (g : Fn) (active : List Active) (listed : List ℕ) (dee
   list_begins es false ends reads free p q within at = all_begin es reads free p q within at
 
   pub list_comes : (es : Expressions) (all : Bool) → all ≡ ends_open es → AllRead f g active listed deep es → (free : ℕ) (p q : Spot) (s : Situation) → HasLocals active listed s → free ≡ next_free s → IsQuiet f s.scope p.pc q.pc →
-      IsWanted f s q.pc → OpenBy all g (all_related g es) active free p q → GivenComes f (λ values all. AreCores g active es values × (all ≡ ends_open es)) deep s (cond all None (Some (length (all_related g es)))) p.pc q.pc
+      IsWanted f s q.pc → OpenBy all g (all_related g es) active free p q → GivenComes f (AreGiven g active (argument_list es) p.functions q.functions) deep s (cond all None (Some (length (all_related g es)))) p.pc q.pc
   list_comes es true ends reads free p q s locals is quiet wanted at =
       let come = open_comes es ends reads free p q s locals is quiet at in
       record {
@@ -262,7 +264,7 @@ module _ (f : Function) (g : Fn) (active : List Active) (listed : List ℕ) (dee
 -- ---- arguments in parentheses
 
 pub list_given : {f : Function} {g : Fn} {active : List Active} {listed : List ℕ} {deep : ℕ} → IsFunction f g → (es : Expressions) → AllRead f g active listed deep es →
-    ReadsGiven f g active listed (λ values all. AreCores g active es values × (all ≡ ends_open es)) deep (given_rel g (argument_list es))
+    ReadsGiven f g active listed (AreGiven g active (argument_list es)) deep (given_rel g (argument_list es))
 list_given {f} {g} {active} {listed} {deep} is_function es reads = record {
   forward = λ free p q at. list_forward f g active listed deep es (rels_open (all_related g es)) (opens_by_last g es) reads free p q at;
   begins = λ free p q within at. list_begins f g active listed deep es (rels_open (all_related g es)) (opens_by_last g es) reads free p q within at;
@@ -286,13 +288,13 @@ only_given one low = record {
   listed = λ before place field there counts. list_taken before (one.entry ∷ []) (values.and_value one.value no_values) place field (more_entries one.entry [] one.value no_values one.single refl) there (omega (arith, counts));
 }
 
-pub text_given : {f : Function} {g : Fn} {active : List Active} {listed : List ℕ} → IsFunction f g → (text : Text) → ReadsGiven f g active listed (IsTextGiven g text) 1 (given_rel g (text_argument text))
+pub text_given : {f : Function} {g : Fn} {active : List Active} {listed : List ℕ} → IsFunction f g → (text : Text) → ReadsGiven f g active listed (AreGiven g active (text_argument text)) 1 (given_rel g (text_argument text))
 text_given {f} {g} {active} {listed} is_function text =
-    let reads : Reads f g active listed (IsConstant g (Constant.Text text)) 1 (λ free r. ConstantWord g Op.LoadK r (Constant.Text text)) = constant_reads is_function (Constant.Text text) in
+    let reads : Reads f g active listed (still (IsConstant g (Constant.Text text))) 1 (λ free r. ConstantWord g Op.LoadK r (Constant.Text text)) = constant_reads is_function (Constant.Text text) in
     record {
       forward = λ free p q at. reads.forward free free p q at.value_at;
       begins = λ free p q within at. inr (reads.begins free p q within at.value_at);
-      comes = λ free p q s locals is quiet some at. let one = comes_next reads free p q s locals is quiet (wanted_above f s q.pc some) at.value_at in only_given one (omega (arith, one.shallow));
+      comes = λ free p q s locals is quiet some at. let one = comes_next reads free p q s locals is quiet (wanted_above f s q.pc some) at.value_at in given_so {deep = 1} {more = 1} (omega arith) (λ values all are. (are.0.1.0, ((are.0.0, are.0.1.1, are.0.2), are.1))) (only_given one (omega (arith, one.shallow)));
     }
 
 pub table_given : {f : Function} {g : Fn} {active : List Active} {listed : List ℕ} {deep : ℕ} (fields : Fields) → ReadsTable f g active listed (AreItems g active fields) (suc deep) (λ free. TableAt g (λ t. ItemsAt g fields active t 0 0) free) →

@@ -17,9 +17,9 @@ use Rattle.scheme_stands.proofs.Forms.{form_is}
 use Rattle.scheme_stands.specs.Expressions.{Form, NextAt, OperandAt, OperandBy, RkAt, RkBy, RkTextAt, SmallAt, local_at}
 use Rattle.scheme_stands.specs.Relation.{related}
 use Rattle.scheme_stands.specs.Words.{Fn, Spot, Stretch}
-use Rattle.reads_back.specs.Cores.{IsCore, IsKey, IsOperand, IsOperandBy, IsSmall}
+use Rattle.reads_back.specs.Cores.{IsCore, IsKey, IsOperand, IsOperandBy, IsSmall, IsValueOperand, Counted, valued}
 use Rattle.reads_back.proofs.OperandReads.{operand_reads, rk_reads, stays, text_key_reads}
-use Rattle.reads_back.proofs.Comes.{Begins, Comes, IsOperandWanted, IsValueOperand, ReadsCore, comes_next}
+use Rattle.reads_back.proofs.Comes.{Begins, Comes, IsOperandWanted, ReadsCore, comes_next}
 use Rattle.reads_back.proofs.BehindWords.{HasLocals, SameLocals, behind_words, same_locals}
 use Rattle.reads_back.proofs.BothOperands.{counted}
 use Rattle.reads_back.proofs.LiteralReads.{constant_reads, constant_there}
@@ -72,12 +72,12 @@ taken_up (inl same) = omega (arith, same)
 taken_up (inr next) = omega (arith, next.2)
 
 -- where its words stand, if there are any
-pub record ReadsHeld (f : Function) (g : Fn) (active : List Active) (listed : List ℕ) (Is : OperandValue → Type 0) (to : (free x free1 : ℕ) → Stretch) : Type 0 where
+pub record ReadsHeld (f : Function) (g : Fn) (active : List Active) (listed : List ℕ) (Is : Counted OperandValue) (to : (free x free1 : ℕ) → Stretch) : Type 0 where
   pub forward : (free x free1 : ℕ) (p q : Spot) → to free x free1 p q → p.pc ≤ q.pc
   pub begins : (free x free1 : ℕ) (p q : Spot) → q.pc ≤ f.last → to free x free1 p q → (p.pc ≡ q.pc) ⊎ Begins f free p.pc
   pub takes : (free x free1 : ℕ) (p q : Spot) → to free x free1 p q → IsTaken free x free1
   pub comes : (free x free1 : ℕ) (p q : Spot) (s : Situation) → HasLocals active listed s → free ≡ next_free s → IsQuiet f s.scope p.pc q.pc → IsOperandWanted f s free x free1 q.pc → to free x free1 p q →
-      HeldComes f active listed Is s free x free1 p.pc q.pc
+      HeldComes f active listed (Is p.functions q.functions) s free x free1 p.pc q.pc
 
 -- what is known of it may be less
 held_less : {f : Function} {active : List Active} {listed : List ℕ} {Is Less : OperandValue → Type 0} {free x free1 first last : ℕ} {s : Situation} → ((o : OperandValue) → Is o → Less o) → HeldComes f active listed Is s free x free1 first last →
@@ -130,7 +130,7 @@ module _ {f : Function} {g : Fn} {active : List Active} {listed : List ℕ} (is_
   -- ---- operands
 
   module _ (all : AreListed f g active listed) (e : Expression) (reads : ReadsCore f g active listed e) where
-    local_held : (r free x free1 : ℕ) (p q : Spot) (s : Situation) → x ≡ r → free1 ≡ free → IsLocal is_function all e r p q → HeldComes f active listed (IsValueOperand (IsCore g active e)) s free x free1 p.pc q.pc
+    local_held : (r free x free1 : ℕ) (p q : Spot) (s : Situation) → x ≡ r → free1 ≡ free → IsLocal is_function all e r p q → HeldComes f active listed (valued (IsCore g active e) p.functions q.functions) s free x free1 p.pc q.pc
     local_held r free x free1 p q s at_x at_free local = record {
       kept = in_local r;
       is = (local_value r, local.core, refl);
@@ -147,12 +147,12 @@ module _ {f : Function} {g : Fn} {active : List Active} {listed : List ℕ} (is_
     operand_by_takes None free x free1 p q at = next_taken is_function at
 
     operand_by_held : (o : Option ℕ) (free x free1 : ℕ) (p q : Spot) (s : Situation) → local_at (related g e).form active p ≡ o → HasLocals active listed s → free ≡ next_free s → IsQuiet f s.scope p.pc q.pc → IsOperandWanted f s free x free1 q.pc →
-        OperandBy o g active (related g e) free x free1 p q → HeldComes f active listed (IsValueOperand (IsCore g active e)) s free x free1 p.pc q.pc
+        OperandBy o g active (related g e) free x free1 p q → HeldComes f active listed (valued (IsCore g active e) p.functions q.functions) s free x free1 p.pc q.pc
     operand_by_held (Some r) free x free1 p q s is locals next quiet wanted at = local_held r free x free1 p q s at.at_x at.at_free (local_operand is_function all e r p q is at.passed)
     operand_by_held None free x free1 p q s is locals next quiet wanted at = next_held free x free1 s at.at_x at.room at.at_free (comes_next reads free p q s locals next quiet (wanted at.at_x at.at_free) at.value_at)
 
     -- a local, or the next register
-    pub operand_held : ReadsHeld f g active listed (IsValueOperand (IsCore g active e)) (OperandAt g active (related g e))
+    pub operand_held : ReadsHeld f g active listed (valued (IsCore g active e)) (OperandAt g active (related g e))
     operand_held = record {
       forward = (operand_reads is_function all e reads).forward;
       begins = (operand_reads is_function all e reads).begins;
@@ -166,9 +166,9 @@ module _ {f : Function} {g : Fn} {active : List Active} {listed : List ℕ} (is_
     rk_by_takes None free x free1 p q at = operand_held.takes free x free1 p q at
 
     rk_by_held : (o : Option Constant) (free x free1 : ℕ) (p q : Spot) (s : Situation) → HasLocals active listed s → free ≡ next_free s → IsQuiet f s.scope p.pc q.pc → IsOperandWanted f s free x free1 q.pc → RkBy o g active (related g e) free x free1 p q →
-        HeldComes f active listed (IsOperandBy o g (IsCore g active e)) s free x free1 p.pc q.pc
-    rk_by_held (Some k) free x free1 p q s locals next quiet wanted (inl at) = held_less (λ o is. inl is) (constant_held k free x free1 p q s at)
-    rk_by_held (Some k) free x free1 p q s locals next quiet wanted (inr (large, at)) = held_less (λ o is. inr (large, is.0, is.1, is.2)) (operand_held.comes free x free1 p q s locals next quiet wanted at)
+        HeldComes f active listed (IsOperandBy o g (IsCore g active e) p.functions q.functions) s free x free1 p.pc q.pc
+    rk_by_held (Some k) free x free1 p q s locals next quiet wanted (inl at) = held_less (λ o is. inl (at.same.functions, is)) (constant_held k free x free1 p q s at)
+    rk_by_held (Some k) free x free1 p q s locals next quiet wanted (inr (large, at)) = held_less (λ o is. inr (large, is)) (operand_held.comes free x free1 p q s locals next quiet wanted at)
     rk_by_held None free x free1 p q s locals next quiet wanted at = operand_held.comes free x free1 p q s locals next quiet wanted at
 
     -- a literal is a constant where its number is small
@@ -178,7 +178,7 @@ module _ {f : Function} {g : Fn} {active : List Active} {listed : List ℕ} (is_
       begins = (rk_reads is_function all e reads).begins;
       takes = λ free x free1 p q at. rk_by_takes (related g e).form.literal free x free1 p q at;
       comes = λ free x free1 p q s locals next quiet wanted at.
-          subst (λ (form : Form). HeldComes f active listed (IsOperandBy form.literal g (IsCore g active e)) s free x free1 p.pc q.pc) (form_is g e)
+          subst (λ (form : Form). HeldComes f active listed (IsOperandBy form.literal g (IsCore g active e) p.functions q.functions) s free x free1 p.pc q.pc) (form_is g e)
           (rk_by_held (related g e).form.literal free x free1 p q s locals next quiet wanted at);
     }
 
@@ -186,10 +186,10 @@ module _ {f : Function} {g : Fn} {active : List Active} {listed : List ℕ} (is_
 
   module _ (text : Text) where
     text_comes : (free x free1 : ℕ) (p q : Spot) (s : Situation) → HasLocals active listed s → free ≡ next_free s → IsQuiet f s.scope p.pc q.pc → IsOperandWanted f s free x free1 q.pc → RkTextAt g text free x free1 p q →
-        HeldComes f active listed (IsKey g text) s free x free1 p.pc q.pc
-    text_comes free x free1 p q s locals next quiet wanted (inl at) = held_less (λ o is. inl is) (constant_held (Constant.Text text) free x free1 p q s at)
+        HeldComes f active listed (IsKey g text p.functions q.functions) s free x free1 p.pc q.pc
+    text_comes free x free1 p q s locals next quiet wanted (inl at) = held_less (λ o is. inl (at.same.functions, is)) (constant_held (Constant.Text text) free x free1 p q s at)
     text_comes free x free1 p q s locals next quiet wanted (inr (large, at)) =
-        held_less (λ o is. inr (large, is.0, is.1, is.2))
+        held_less (λ o is. inr (large, is))
         (next_held free x free1 s at.at_x at.room at.at_free
         (comes_next (constant_reads {active = active} {listed = listed} is_function (Constant.Text text)) free p q s locals next quiet (wanted at.at_x at.at_free) at.value_at))
 

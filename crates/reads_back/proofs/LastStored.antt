@@ -22,7 +22,7 @@ use Rattle.scheme_stands.specs.Relation.{related}
 use Rattle.scheme_stands.specs.Statements.{StoreAt}
 use Rattle.scheme_stands.specs.Words.{Fn, Spot, Stretch, WordAt}
 use Rattle.reads_back.specs.Acted.{Assigned, is_part, taken_behind_last}
-use Rattle.reads_back.specs.Cores.{IsCore, IsOperand}
+use Rattle.reads_back.specs.Cores.{Counted, IsCore, IsOperand}
 use Rattle.reads_back.proofs.AdjustedEntries.{count_last, last_split, taken_end}
 use Rattle.reads_back.proofs.AssignedValues.{last_written, local_written, operand_written, singles_written, straight_written}
 use Rattle.reads_back.proofs.BehindWords.{HasLocals, SameLocals, behind_words, quiet_same, same_then}
@@ -43,7 +43,7 @@ use Rattle.reads_back.proofs.TableWords.{and_last_entry}
 use Rattle.reads_back.proofs.TakenEntries.{count_of_entries}
 use Rattle.reads_back.proofs.Taking.{max_swap}
 use Rattle.reads_back.proofs.TargetsCome.{Fits, IsSaid}
-use Rattle.reads_back.proofs.TargetsStored.{CanTake, IsNoItem, moved_turn, operand_turn, register_turn, straight_turn}
+use Rattle.reads_back.proofs.TargetsStored.{CanTake, IsNoItem, moved_turn, operand_turn, register_turn, store_keeps, straight_turn}
 use Rattle.reads_back.proofs.Tests.{both_hold, not_so, or_second}
 use Rattle.reads_back.proofs.ValueWords.{next_free}
 use Rattle.reads_back.proofs.WordsBegin.{instr_is, reads_want}
@@ -68,14 +68,14 @@ pub record Begun (f : Function) (count : ℕ) (s : Situation) (others : ℕ) (d 
   pub plain : others ≡ 0 → stored_function straight values ≡ None
 
 -- the value goes to a name; or an operand goes to a part of a table
-abbrev pub GoesTo : Fn → List Active → Expression → Destination → Values → Assigned → Type 0
-GoesTo g active e d front to =
-    ((is_part (Some (target_to d)) ≡ false) × (v : Value) × IsCore g active e v × (to ≡ record { values = and_last_value front v; all = true; last = None }))
-    ⊎ ((is_part (Some (target_to d)) ≡ true) × (o : OperandValue) × IsOperand g active e o × (to ≡ record { values = front; all = true; last = Some o }))
+abbrev pub GoesTo : Fn → List Active → Expression → Destination → Values → Counted Assigned
+GoesTo g active e d front before behind to =
+    ((is_part (Some (target_to d)) ≡ false) × (v : Value) × IsCore g active e before behind v × (to ≡ record { values = and_last_value front v; all = true; last = None }))
+    ⊎ ((is_part (Some (target_to d)) ≡ true) × (o : OperandValue) × IsOperand g active e before behind o × (to ≡ record { values = front; all = true; last = Some o }))
 
-pub record LastStored (f : Function) (g : Fn) (active : List Active) (e : Expression) (d : Destination) (s : Situation) (others : ℕ) (front : Values) (first next : ℕ) : Type 0 where
+pub record LastStored (f : Function) (g : Fn) (active : List Active) (e : Expression) (before behind : ℕ) (d : Destination) (s : Situation) (others : ℕ) (front : Values) (first next : ℕ) : Type 0 where
   pub to : Assigned
-  pub goes : GoesTo g active e d front to
+  pub goes : GoesTo g active e d front before behind to
   pub begun : Begun f (length active) s others d to first next
 
 -- ---- the target
@@ -152,9 +152,9 @@ module _ {f : Function} {g : Fn} {active : List Active} {listed : List ℕ} (is_
   taken_all v seen taken = sym (taken_end front.values v s.seen ∙ ap (taken_behind v) front.taken ∙ taken)
 
   -- the last word makes it, for a local
-  made_begins : (e : Expression) (r : ℕ) {low last : ℕ} → IsThere f (length active) listed entries (to_local r) behind → (made : Made f (IsCore g active e) low (behind_all front) r begun last) →
+  made_begins : (e : Expression) (made_before made_behind r : ℕ) {low last : ℕ} → IsThere f (length active) listed entries (to_local r) behind → (made : Made f (IsCore g active e made_before made_behind) low (behind_all front) r begun last) →
       Begun f (length active) s others (to_local r) (to_name front.values made.value) first last
-  made_begins e r {last = last} there made =
+  made_begins e made_before made_behind r {last = last} there made =
       let v = made.value in
       let all = s.entries ++ front.entries in
       let straight = Some (straight_value v) in
@@ -174,7 +174,7 @@ module _ {f : Function} {g : Fn} {active : List Active} {listed : List ℕ} (is_
             ∙ ap (λ (seen : ℕ). stored (to_local r) straight [] made.word.pc last made.scope all seen (length s.entries)) (taken_all v made.seen made.taken);
         enough = omega (arith, size);
         writes = straight_written f front.entries (to_local r) (suc others) front.values v front.singles;
-        plain = λ none. no_function g active e v made.is;
+        plain = λ none. no_function g active e made_before made_behind v made.is;
       }
 
   -- it comes to the next register
@@ -204,9 +204,9 @@ module _ {f : Function} {g : Fn} {active : List Active} {listed : List ℕ} (is_
   part_written d entry v single part = last_written f (front.entries ++ entry ∷ []) d (suc others) front.values v (and_last_entry front.entries front.values entry v front.singles single) (ap suc front.counts) part
 
   -- it moves on from there to a local
-  moved_begins : (e : Expression) (r : ℕ) {low last : ℕ} → IsThere f (length active) listed entries (to_local r) behind → next_free (behind_all front) ≤ 250 → (moved : Moved f (IsCore g active e) low (behind_all front) r begun last) →
-      Begun f (length active) s others (to_local r) (to_name front.values moved.comes.value) first last
-  moved_begins e r {last = last} there few moved =
+  moved_begins : (e : Expression) (made_before made_behind r : ℕ) {low last : ℕ} → IsThere f (length active) listed entries (to_local r) behind → next_free (behind_all front) ≤ 250 →
+      (moved : Moved f (IsCore g active e made_before made_behind) low (behind_all front) r begun last) → Begun f (length active) s others (to_local r) (to_name front.values moved.comes.value) first last
+  moved_begins e made_before made_behind r {last = last} there few moved =
       let come = moved.comes in
       let v = come.value in
       let all = s.entries ++ front.entries in
@@ -230,7 +230,7 @@ module _ {f : Function} {g : Fn} {active : List Active} {listed : List ℕ} (is_
             ∙ ap₂ (λ (entries : Entries) (seen : ℕ). stored (to_local r) None (true ∷ []) moved.mid last come.scope entries seen (length s.entries)) (sym (next_there come.entry)) (taken_all v come.seen come.taken);
         enough = next_enough come.entry;
         writes = next_written (to_local r) come.entry v come.single refl (λ r local. moved.no_nil);
-        plain = next_plain come.entry v come.single (no_function g active e v come.is);
+        plain = next_plain come.entry v come.single (no_function g active e made_before made_behind v come.is);
       }
 
   -- an operand x of the word of the store comes to this situation
@@ -337,19 +337,19 @@ module _ {f : Function} {g : Fn} {active : List Active} {listed : List ℕ} (is_
     quiet_there = quiet_same front.same quiet
 
     abbrev Gives : Destination → Type 0
-    Gives d = LastStored f g active e d s others front.values first q.pc
+    Gives d = LastStored f g active e p.functions q.functions d s others front.values first q.pc
 
-    arrived : (r : ℕ) → IsThere f (length active) listed entries (to_local r) behind → {low : ℕ} → Arrives f (IsCore g active e) low (behind_all front) r p.pc q.pc → Gives (to_local r)
+    arrived : (r : ℕ) → IsThere f (length active) listed entries (to_local r) behind → {low : ℕ} → Arrives f (IsCore g active e p.functions q.functions) low (behind_all front) r p.pc q.pc → Gives (to_local r)
     arrived r there (inl made) = record {
       to = to_name front.values made.value;
       goes = inl (refl, made.value, made.is, refl);
-      begun = made_begins is_function s locals entries behind height front e r there made;
+      begun = made_begins is_function s locals entries behind height front e p.functions q.functions r there made;
     }
     arrived r there (inr (inl (same, comes))) = absurd (omega (arith, same, locals.base, there.0))
     arrived r there (inr (inr moved)) = record {
       to = to_name front.values moved.comes.value;
       goes = inl (refl, moved.comes.value, moved.comes.is, refl);
-      begun = moved_begins is_function s locals entries behind height front e r there (omega (arith, next, few)) moved;
+      begun = moved_begins is_function s locals entries behind height front e p.functions q.functions r there (omega (arith, next, few)) moved;
     }
 
     local_stored : (r : ℕ) → IsThere f (length active) listed entries (to_local r) behind → (related g e).to_reg active free r p q → Gives (to_local r)
@@ -367,25 +367,27 @@ module _ {f : Function} {g : Fn} {active : List Active} {listed : List ℕ} (is_
     name_stored : is_part (Some (target_to d)) ≡ false → ((r : ℕ) → d ≡ to_local r → ⊥) → OneAt (OperandAt g active (related g e)) free (StoreWordAt g d) p q → Gives d
     name_stored named far at =
         let held = (operand_held is_function all e reads).comes free at.x at.free1 p at.mid (behind_all front) locals_there next (quiet_operand at.x at.mid at.words_at) (operand_wanted at.x at.free1 at.mid at.words_at) at.operand_at in
-        let value = is_value_kept (IsCore g active e) held.kept held.is in
-        let is = core_of (IsCore g active e) held.kept held.is in
+        let value = is_value_kept (IsCore g active e p.functions at.mid.functions) held.kept held.is in
+        let core = core_of (IsCore g active e p.functions at.mid.functions) held.kept held.is in
+        let is = subst (λ (made : ℕ). IsCore g active e p.functions made (value_of held.kept)) (sym (store_keeps d at.x at.mid q at.words_at)) core in
         record {
           to = to_name front.values (value_of held.kept);
           goes = inl (named, value_of held.kept, is, refl);
           begun =
               name_begins is_function s locals entries behind height front d there none free at.x at.free1 next at.mid q held.scope held.same held.seen (quiet_from at.mid.pc (reaches_on held.reaches) quiet) at.words_at held.kept named far value
-              (no_function g active e (value_of held.kept) is) held.taken held.stands held.reaches;
+              (no_function g active e p.functions q.functions (value_of held.kept) is) held.taken held.stands held.reaches;
         }
 
     part_stored : is_part (Some (target_to d)) ≡ true → OneAt (RkAt g active (related g e)) free (StoreWordAt g d) p q → Gives d
     part_stored part at =
         let held = (rk_held is_function all e reads).comes free at.x at.free1 p at.mid (behind_all front) locals_there next (quiet_operand at.x at.mid at.words_at) (operand_wanted at.x at.free1 at.mid at.words_at) at.operand_at in
+        let is = subst (λ (made : ℕ). IsOperand g active e p.functions made (operand_of held.kept)) (sym (store_keeps d at.x at.mid q at.words_at)) held.is in
         record {
           to = with_operand front.values (operand_of held.kept);
-          goes = inr (part, operand_of held.kept, held.is, refl);
+          goes = inr (part, operand_of held.kept, is, refl);
           begun =
               part_begins is_function s locals entries behind height front d there none free at.x at.free1 next at.mid q held.scope held.same held.seen (quiet_from at.mid.pc (reaches_on held.reaches) quiet) at.words_at held.kept part
-              (operand_none g active e (operand_of held.kept) held.is) held.taken held.stands held.reaches;
+              (operand_none g active e p.functions q.functions (operand_of held.kept) is) held.taken held.stands held.reaches;
         }
 
     -- by what the place says
@@ -411,7 +413,7 @@ module _ {f : Function} {g : Fn} {active : List Active} {listed : List ℕ} (is_
 
   -- the parts stand in these entries, where the target's are taken behind those of the others
   pub last_stored : {Front : Values → Type 0} (s : Situation) (entries behind : Entries) {deep others first : ℕ} (free : ℕ) (p q : Spot) → HasLocals active listed s → IsThere f (length active) listed entries d behind → length entries ≡ length s.entries → IsNoItem (length active) s.entries d →
-      (front : AllCome f Front deep s others first p.pc) → free ≡ length active + (length s.entries + others) → free ≤ 250 → IsQuiet f s.scope p.pc q.pc → StoreAt g place (related g e) active free p q → LastStored f g active e d s others front.values first q.pc
+      (front : AllCome f Front deep s others first p.pc) → free ≡ length active + (length s.entries + others) → free ≤ 250 → IsQuiet f s.scope p.pc q.pc → StoreAt g place (related g e) active free p q → LastStored f g active e p.functions q.functions d s others front.values first q.pc
   last_stored s entries behind free p q locals there height none front is few quiet at =
       let next : free ≡ next_free (behind_all front) = omega (arith, is, locals.base, length-append s.entries front.entries, count_of_entries front.entries front.values front.singles, front.counts) in
       by_place is_function all d e reads s entries behind free p q locals there height none front next few quiet place said fits at

@@ -52,10 +52,10 @@ record LoadsIt (k : Constant) (e : Expression) : Type 0 where
   as_loaded : (r : ℕ) (m : Maker) → (code e).to_reg r m ≡ loads r k m
 
 module _ {f : Function} {g : Fn} {active : List Active} {listed : List ℕ} {z : Maker} {left : List (Option Inner)} (made : IsMadeBy f g active listed z) where
-  loaded_rewritten : (e : Expression) (k : Constant) (number : ℕ) → HasNumber g k number → IsLoaded k → LoadsIt k e → Rewritten f g active listed z left e (constant_value number)
+  loaded_rewritten : (e : Expression) (k : Constant) (number : ℕ) → HasNumber g k number → IsLoaded k → LoadsIt k e → Rewritten f g active listed z left left e (constant_value number)
   loaded_rewritten e k number has loaded it = record {
     can = ap is_some there;
-    unused = refl;
+    leaves = refl;
     named = λ n. ap (λ (w : Wording). is_name w.words) word_is ∙ loaded.named ∙ sym it.named;
     folded = λ n. ap (λ (w : Wording). fold w.words) word_is ∙ it.folded;
     several = λ n. ap (λ (w : Wording). is_multiple w.words) word_is ∙ loaded.single;
@@ -76,26 +76,26 @@ module _ {f : Function} {g : Fn} {active : List Active} {listed : List ℕ} {z :
       word_is = ap constant_word there
 
   -- a folded number is the numeral of it
-  pub number_rewritten : (e : Expression) (n : ℤ) (v : Value) → IsWhole n → fold e ≡ Some n → IsConstant g (Constant.Number n) v → Rewritten f g active listed z left e v
+  pub number_rewritten : (e : Expression) (n : ℤ) (v : Value) → IsWhole n → fold e ≡ Some n → IsConstant g (Constant.Number n) v → Rewritten f g active listed z left left e v
   number_rewritten e n v whole is (number, has, same) =
-      subst (Rewritten f g active listed z left e) (sym same)
+      subst (Rewritten f g active listed z left left e) (sym same)
       (loaded_rewritten e (Constant.Number n) number has
       (record { named = numeral_plain n; single = numeral_single n; few = numeral_few n; as_loaded = numeral_loads n whole })
       (record { named = number_no_name e n is; single = number_single e n is; folded = fold_numeral n whole ∙ sym is; as_loaded = number_loads e n is }))
 
-  pub text_rewritten : (line : ℕ) (text : Text) (v : Value) → IsConstant g (Constant.Text text) v → Rewritten f g active listed z left (text_literal line text) v
+  pub text_rewritten : (line : ℕ) (text : Text) (v : Value) → IsConstant g (Constant.Text text) v → Rewritten f g active listed z left left (text_literal line text) v
   text_rewritten line text v (number, has, same) =
-      subst (Rewritten f g active listed z left (text_literal line text)) (sym same)
+      subst (Rewritten f g active listed z left left (text_literal line text)) (sym same)
       (loaded_rewritten (text_literal line text) (Constant.Text text) number has
       (record { named = refl; single = refl; few = omega arith; as_loaded = λ r m. refl })
       (record { named = refl; single = refl; folded = refl; as_loaded = λ r m. refl }))
 
   -- ---- literals that are words
 
-  pub nil_rewritten : (line : ℕ) (v : Value) → v ≡ nil_value → Rewritten f g active listed z left (nil_literal line) v
-  nil_rewritten line v is = subst (Rewritten f g active listed z left (nil_literal line)) (sym is) (record {
+  pub nil_rewritten : (line : ℕ) (v : Value) → v ≡ nil_value → Rewritten f g active listed z left left (nil_literal line) v
+  nil_rewritten line v is = subst (Rewritten f g active listed z left left (nil_literal line)) (sym is) (record {
     can = refl;
-    unused = refl;
+    leaves = refl;
     named = λ n. refl;
     folded = λ n. refl;
     several = λ n. refl;
@@ -109,10 +109,10 @@ module _ {f : Function} {g : Fn} {active : List Active} {listed : List ℕ} {z :
     multi_taken = λ several op want m ahead final. refl;
   })
 
-  pub true_rewritten : (line : ℕ) (v : Value) → v ≡ bool_value true → Rewritten f g active listed z left (true_literal line) v
-  true_rewritten line v is = subst (Rewritten f g active listed z left (true_literal line)) (sym is) (record {
+  pub true_rewritten : (line : ℕ) (v : Value) → v ≡ bool_value true → Rewritten f g active listed z left left (true_literal line) v
+  true_rewritten line v is = subst (Rewritten f g active listed z left left (true_literal line)) (sym is) (record {
     can = refl;
-    unused = refl;
+    leaves = refl;
     named = λ n. refl;
     folded = λ n. refl;
     several = λ n. refl;
@@ -126,10 +126,10 @@ module _ {f : Function} {g : Fn} {active : List Active} {listed : List ℕ} {z :
     multi_taken = λ several op want m ahead final. refl;
   })
 
-  pub false_rewritten : (line : ℕ) (v : Value) → v ≡ bool_value false → Rewritten f g active listed z left (false_literal line) v
-  false_rewritten line v is = subst (Rewritten f g active listed z left (false_literal line)) (sym is) (record {
+  pub false_rewritten : (line : ℕ) (v : Value) → v ≡ bool_value false → Rewritten f g active listed z left left (false_literal line) v
+  false_rewritten line v is = subst (Rewritten f g active listed z left left (false_literal line)) (sym is) (record {
     can = refl;
-    unused = refl;
+    leaves = refl;
     named = λ n. refl;
     folded = λ n. refl;
     several = λ n. refl;
@@ -143,10 +143,10 @@ module _ {f : Function} {g : Fn} {active : List Active} {listed : List ℕ} {z :
     multi_taken = λ several op want m ahead final. refl;
   })
 
-  pub vararg_rewritten : (line : ℕ) (v : Value) → v ≡ vararg_value → Rewritten f g active listed z left (vararg_expression line) v
-  vararg_rewritten line v is = subst (Rewritten f g active listed z left (vararg_expression line)) (sym is) (record {
+  pub vararg_rewritten : (line : ℕ) (v : Value) → v ≡ vararg_value → Rewritten f g active listed z left left (vararg_expression line) v
+  vararg_rewritten line v is = subst (Rewritten f g active listed z left left (vararg_expression line)) (sym is) (record {
     can = refl;
-    unused = refl;
+    leaves = refl;
     named = λ n. refl;
     folded = λ n. refl;
     several = λ n. refl;
@@ -186,7 +186,7 @@ variable_single g text in_globals v (number, has, is) = ap can_be_several is
 -- a variable can be written, and it is written as its name
 pub record IsWritten (f : Function) (listed : List ℕ) (left : List (Option Inner)) (text : Text) (v : Value) : Type 0 where
   pub can : can_write (place f.of listed f.short) left v ≡ true
-  pub unused : left_by v left ≡ left
+  pub leaves : left_by v left ≡ left
   pub word_is : (n : ℕ) → word (place f.of listed f.short) n left v ≡ single_word (name_expression 1 text)
   pub keys : keys_of v ≡ 0
 
@@ -210,20 +210,20 @@ module _ {f : Function} {g : Fn} {active : List Active} {listed : List ℕ} {z :
     global_written : (text : Text) (number : ℕ) → is_good_name text ≡ true → HasNumber g (Constant.Text text) number → IsWritten f listed left text (global_value number)
     global_written text number good has =
         let there : constant_name (place f.of listed f.short) number ≡ Some text = ap (λ k. as_name (as_text k)) (constant_is made (Constant.Text text) number has) ∙ ap (λ good. if good then Some text else None) good in
-        record { can = ap is_some there; unused = refl; word_is = λ n. ap name_word there; keys = refl }
+        record { can = ap is_some there; leaves = refl; word_is = λ n. ap name_word there; keys = refl }
 
     pub variable_written : (text : Text) (w : Where) (v : Value) → is_good_name text ≡ true → IsListed f (length active) listed text w → IsVariable g text w v → IsWritten f listed left text v
     variable_written text (in_register x) v good there is =
-        subst (IsWritten f listed left text) (sym is) (record { can = ap is_some there.1; unused = refl; word_is = λ n. ap name_word there.1; keys = refl })
+        subst (IsWritten f listed left text) (sym is) (record { can = ap is_some there.1; leaves = refl; word_is = λ n. ap name_word there.1; keys = refl })
     variable_written text (in_upvalue slot) v good there is =
-        subst (IsWritten f listed left text) (sym is) (record { can = ap is_some there; unused = refl; word_is = λ n. ap name_word there; keys = refl })
+        subst (IsWritten f listed left text) (sym is) (record { can = ap is_some there; leaves = refl; word_is = λ n. ap name_word there; keys = refl })
     variable_written text in_globals v good there (number, has, is) = subst (IsWritten f listed left text) (sym is) (global_written text number good has)
 
 module _ {f : Function} {g : Fn} {active : List Active} {listed : List ℕ} {z : Maker} {left : List (Option Inner)} (made : IsMadeBy f g active listed z) where
-  pub name_rewritten : (line : ℕ) (text : Text) (v : Value) → is_good_name text ≡ true → IsNamed g active text v → Rewritten f g active listed z left (name_expression line text) v
+  pub name_rewritten : (line : ℕ) (text : Text) (v : Value) → is_good_name text ≡ true → IsNamed g active text v → Rewritten f g active listed z left left (name_expression line text) v
   name_rewritten line text v good (w, means, is) = record {
     can = written.can;
-    unused = written.unused;
+    leaves = written.leaves;
     named = λ n. ap (λ (w : Wording). is_name w.words) (written.word_is n);
     folded = λ n. ap (λ (w : Wording). fold w.words) (written.word_is n);
     several = λ n. ap (λ (w : Wording). is_multiple w.words) (written.word_is n) ∙ sym (variable_single g text w v is);
@@ -244,11 +244,11 @@ module _ {f : Function} {g : Fn} {active : List Active} {listed : List ℕ} {z :
 
 -- ---- in parentheses
 
-module _ {f : Function} {g : Fn} {active : List Active} {listed : List ℕ} {z : Maker} {left : List (Option Inner)} where
-  pub parenthesized_rewritten : (line : ℕ) (e : Expression) (v : Value) → Rewritten f g active listed z left e v → Rewritten f g active listed z left (parenthesized line e) v
+module _ {f : Function} {g : Fn} {active : List Active} {listed : List ℕ} {z : Maker} {left behind : List (Option Inner)} where
+  pub parenthesized_rewritten : (line : ℕ) (e : Expression) (v : Value) → Rewritten f g active listed z left behind e v → Rewritten f g active listed z left behind (parenthesized line e) v
   parenthesized_rewritten line e v rewritten = record {
     can = rewritten.can;
-    unused = rewritten.unused;
+    leaves = rewritten.leaves;
     named = rewritten.named;
     folded = rewritten.folded;
     several = rewritten.several;

@@ -42,9 +42,9 @@ pub coded_count : (at : Place) (n : ℕ) (fs : List (Option Inner)) (vs : Values
 coded_count at n fs no_values all = refl
 coded_count at n fs (and_value v rest) all = ap suc (coded_count at (taken_behind v n) (left_by v fs) rest all)
 
-pub cores_count : (g : Fn) (active : List Active) (es : Expressions) (vs : Values) → AreCores g active es vs → length (codes_of es) ≡ value_count vs
-cores_count g active no_expressions vs are = ap value_count (sym are)
-cores_count g active (syntax.expression e es) vs are = ap suc (cores_count g active es are.1 are.3) ∙ ap value_count (sym are.4)
+pub cores_count : (g : Fn) (active : List Active) (es : Expressions) (before behind : ℕ) (vs : Values) → AreCores g active es before behind vs → length (codes_of es) ≡ value_count vs
+cores_count g active no_expressions before behind vs are = ap value_count (sym are.1)
+cores_count g active (syntax.expression e es) before behind vs (mid, (v, rest, core, are, is)) = ap suc (cores_count g active es mid behind rest are) ∙ ap value_count (sym is)
 
 -- the last one gives several in the code too
 pub opens_is : (es : Expressions) → opens (codes_of es) ≡ ends_open es
@@ -81,24 +81,23 @@ module _ (at : Place) (deep : ℕ) where
   fine_front n fs no_values fine = tt
   fine_front n fs (and_value v rest) fine = (fine.0, fine.1, fine_front (taken_behind v n) (left_by v fs) rest fine.2)
 
-pub cores_fine : (f : Function) (g : Fn) (active : List Active) (listed : List ℕ) (z : Maker) (left : List (Option Inner)) (deep : ℕ) (es : Expressions) (vs : Values) →
-    depth_of_expressions es ≤ deep → AllRewritten f g active listed z left es → AreCores g active es vs → (n : ℕ) → EachFine (place f.of listed f.short) (3 * deep + 2) n left vs
-cores_fine f g active listed z left deep no_expressions vs shallow written are n = subst (EachFine (place f.of listed f.short) (3 * deep + 2) n left) (sym are) tt
-cores_fine f g active listed z left deep (syntax.expression e es) vs shallow written are n =
+pub cores_fine : (f : Function) (g : Fn) (active : List Active) (listed : List ℕ) (z : Maker) (lefts : ℕ → List (Option Inner)) (deep : ℕ) (es : Expressions) (before behind : ℕ) (vs : Values) →
+    depth_of_expressions es ≤ deep → AllRewritten f g active listed z lefts es → AreCores g active es before behind vs → (n : ℕ) → EachFine (place f.of listed f.short) (3 * deep + 2) n (lefts before) vs
+cores_fine f g active listed z lefts deep no_expressions before behind vs shallow written are n = subst (EachFine (place f.of listed f.short) (3 * deep + 2) n (lefts before)) (sym are.1) tt
+cores_fine f g active listed z lefts deep (syntax.expression e es) before behind vs shallow written (mid, (v, rest, core, are, is)) n =
     let at = place f.of listed f.short in
-    let v = are.0 in
-    let one = written.0 v are.2 in
-    subst (EachFine at (3 * deep + 2) n left) (sym are.4) (
+    let one = written.0 before mid v core in
+    subst (EachFine at (3 * deep + 2) n (lefts before)) (sym is) (
       omega (arith, one.few n, shallow),
       one.several n,
-      subst (λ fs. EachFine at (3 * deep + 2) (taken_behind v n) fs are.1) (sym one.unused) (cores_fine f g active listed z left deep es are.1 (omega (arith, shallow)) written.1 are.3 (taken_behind v n)),
+      subst (λ fs. EachFine at (3 * deep + 2) (taken_behind v n) fs rest) (sym one.leaves) (cores_fine f g active listed z lefts deep es mid behind rest (omega (arith, shallow)) written.1 are (taken_behind v n)),
     )
 
-pub cores_few : (f : Function) (g : Fn) (active : List Active) (listed : List ℕ) (z : Maker) (left : List (Option Inner)) (es : Expressions) (vs : Values) (all : Bool) →
-    AllRewritten f g active listed z left es → AreCores g active es vs → (n : ℕ) → (word_values (place f.of listed f.short) n left vs all).levels ≤ 3 * depth_of_expressions es + 3
-cores_few f g active listed z left es vs all written are n =
+pub cores_few : (f : Function) (g : Fn) (active : List Active) (listed : List ℕ) (z : Maker) (lefts : ℕ → List (Option Inner)) (es : Expressions) (before behind : ℕ) (vs : Values) (all : Bool) →
+    AllRewritten f g active listed z lefts es → AreCores g active es before behind vs → (n : ℕ) → (word_values (place f.of listed f.short) n (lefts before) vs all).levels ≤ 3 * depth_of_expressions es + 3
+cores_few f g active listed z lefts es before behind vs all written are n =
     let deep = depth_of_expressions es in
-    omega (arith, list_few (place f.of listed f.short) (3 * deep + 2) n left vs all (cores_fine f g active listed z left deep es vs (omega arith) written are n))
+    omega (arith, list_few (place f.of listed f.short) (3 * deep + 2) n (lefts before) vs all (cores_fine f g active listed z lefts deep es before behind vs (omega arith) written are n))
 
 -- ---- one more behind them
 
@@ -157,69 +156,66 @@ module _ {z : Maker} (e : Expression) (es : Expressions) (m : Maker) where
   pub others_final : {n : Maker} → Final (length m.labels) n z → Final (length (next_reg (code e) m).labels) n z
   others_final final = let grown = grows_next {v = calm} (code e) (grows calm (one_line_expression e)) m in later grown.more final
 
-module _ (f : Function) (g : Fn) (active : List Active) (listed : List ℕ) (z : Maker) (left : List (Option Inner)) where
+module _ (f : Function) (g : Fn) (active : List Active) (listed : List ℕ) (z : Maker) (lefts : ℕ → List (Option Inner)) where
   -- each goes to the next register, whether the last one could give all its values or not
-  pub next_all : (es : Expressions) (vs : Values) (all : Bool) → AllHaveCores es → AllRewritten f g active listed z left es → AreCores g active es vs →
+  pub next_all : (es : Expressions) (before behind : ℕ) (vs : Values) (all : Bool) → AllHaveCores es → AllRewritten f g active listed z lefts es → AreCores g active es before behind vs →
       (m : Maker) → IsAhead g active (names_in_all es) m → Final (length m.labels) (all_next (codes_of es) m) z →
-      all_next (values_coded (place f.of listed f.short) (length m.constants) left vs all) m ≡ all_next (codes_of es) m
-  next_all no_expressions vs all has written are m ahead final = ap (λ vs. all_next (values_coded (place f.of listed f.short) (length m.constants) left vs all) m) are
-  next_all (syntax.expression e es) vs all has written are m ahead final =
+      all_next (values_coded (place f.of listed f.short) (length m.constants) (lefts before) vs all) m ≡ all_next (codes_of es) m
+  next_all no_expressions before behind vs all has written are m ahead final = ap (λ vs. all_next (values_coded (place f.of listed f.short) (length m.constants) (lefts before) vs all) m) are.1
+  next_all (syntax.expression e es) before behind vs all has written (between, (v, rest, core, are, is)) m ahead final =
       let at = place f.of listed f.short in
-      let v = are.0 in
-      let rest = are.1 in
-      let first = written.0 v are.2 in
+      let first = written.0 before between v core in
       let mid = next_reg (code e) m in
       let here = first_next e es m final in
-      ap (λ vs. all_next (values_coded at (length m.constants) left vs all) m) are.4
-      ∙ ap (all_next (values_coded at (taken_behind v (length m.constants)) (left_by v left) rest all))
-      (next_wrapped (not ((ends_values rest && not all) && can_be_several v)) (wording f listed z left (length m.constants) v) m ∙ next_same first m (first_ahead e es has m ahead) here)
-      ∙ ap (λ n. all_next (values_coded at n (left_by v left) rest all) mid) (sym (next_taken first m (first_ahead e es has m ahead) here))
-      ∙ ap (λ fs. all_next (values_coded at (length mid.constants) fs rest all) mid) first.unused
-      ∙ next_all es rest all has.1 written.1 are.3 mid (others_ahead e es has m ahead) (others_final e es m final)
+      ap (λ vs. all_next (values_coded at (length m.constants) (lefts before) vs all) m) is
+      ∙ ap (all_next (values_coded at (taken_behind v (length m.constants)) (left_by v (lefts before)) rest all))
+      (next_wrapped (not ((ends_values rest && not all) && can_be_several v)) (wording f listed z (lefts before) (length m.constants) v) m ∙ next_same first m (first_ahead e es has m ahead) here)
+      ∙ ap (λ n. all_next (values_coded at n (left_by v (lefts before)) rest all) mid) (sym (next_taken first m (first_ahead e es has m ahead) here))
+      ∙ ap (λ fs. all_next (values_coded at (length mid.constants) fs rest all) mid) first.leaves
+      ∙ next_all es between behind rest all has.1 written.1 are mid (others_ahead e es has m ahead) (others_final e es m final)
 
-  pub next_all_taken : (es : Expressions) (vs : Values) → AllHaveCores es → AllRewritten f g active listed z left es → AreCores g active es vs →
+  pub next_all_taken : (es : Expressions) (before behind : ℕ) (vs : Values) → AllHaveCores es → AllRewritten f g active listed z lefts es → AreCores g active es before behind vs →
       (m : Maker) → IsAhead g active (names_in_all es) m → Final (length m.labels) (all_next (codes_of es) m) z → length (all_next (codes_of es) m).constants ≡ taken_behind_values vs (length m.constants)
-  next_all_taken no_expressions vs has written are m ahead final = ap (λ vs. taken_behind_values vs (length m.constants)) (sym are)
-  next_all_taken (syntax.expression e es) vs has written are m ahead final =
-      let first = written.0 are.0 are.2 in
-      next_all_taken es are.1 has.1 written.1 are.3 (next_reg (code e) m) (others_ahead e es has m ahead) (others_final e es m final)
-      ∙ ap (taken_behind_values are.1) (next_taken first m (first_ahead e es has m ahead) (first_next e es m final))
-      ∙ ap (λ vs. taken_behind_values vs (length m.constants)) (sym are.4)
+  next_all_taken no_expressions before behind vs has written are m ahead final = ap (λ vs. taken_behind_values vs (length m.constants)) (sym are.1)
+  next_all_taken (syntax.expression e es) before behind vs has written (between, (v, rest, core, are, is)) m ahead final =
+      let first = written.0 before between v core in
+      next_all_taken es between behind rest has.1 written.1 are (next_reg (code e) m) (others_ahead e es has m ahead) (others_final e es m final)
+      ∙ ap (taken_behind_values rest) (next_taken first m (first_ahead e es has m ahead) (first_next e es m final))
+      ∙ ap (λ vs. taken_behind_values vs (length m.constants)) (sym is)
 
   -- the last one gives several values, which are wanted
-  pub multi_all : (op : Op) (want : Want) (es : Expressions) (vs : Values) → AllHaveCores es → AllRewritten f g active listed z left es → AreCores g active es vs → ends_open es ≡ true →
+  pub multi_all : (op : Op) (want : Want) (es : Expressions) (before behind : ℕ) (vs : Values) → AllHaveCores es → AllRewritten f g active listed z lefts es → AreCores g active es before behind vs → ends_open es ≡ true →
       (m : Maker) → IsAhead g active (names_in_all es) m → Final (length m.labels) (all_multi op want (codes_of es) m) z →
-      all_multi op want (values_coded (place f.of listed f.short) (length m.constants) left vs true) m ≡ all_multi op want (codes_of es) m
-  multi_all op want no_expressions vs has written are is m ahead final = not_so is
-  multi_all op want (syntax.expression e no_expressions) vs has written are is m ahead final =
-      ap (λ vs. all_multi op want (values_coded (place f.of listed f.short) (length m.constants) left vs true) m) (are.4 ∙ ap (and_value are.0) are.3)
-      ∙ (written.0 are.0 are.2).multi is op want m (ahead_front (names_in e) [] ahead) final
-  multi_all op want (syntax.expression e (syntax.expression d es)) vs has written are is m ahead final =
+      all_multi op want (values_coded (place f.of listed f.short) (length m.constants) (lefts before) vs true) m ≡ all_multi op want (codes_of es) m
+  multi_all op want no_expressions before behind vs has written are ends m ahead final = not_so ends
+  multi_all op want (syntax.expression e no_expressions) before behind vs has written (between, (v, rest, core, are, is)) ends m ahead final =
+      ap (λ vs. all_multi op want (values_coded (place f.of listed f.short) (length m.constants) (lefts before) vs true) m) (is ∙ ap (and_value v) are.1)
+      ∙ (written.0 before between v core).multi ends op want m (ahead_front (names_in e) [] ahead) final
+  multi_all op want (syntax.expression e (syntax.expression d es)) before behind vs has written (between, (v, rest, core, are, is)) ends m ahead final =
       let at = place f.of listed f.short in
-      let v = are.0 in
-      let rest = are.1 in
-      let behind = syntax.expression d es in
-      let first = written.0 v are.2 in
+      let others = syntax.expression d es in
+      let first = written.0 before between v core in
+      let more = are.1 in
       let mid = next_reg (code e) m in
-      let here = first_multi e behind m op want final in
-      let here_ahead = first_ahead e behind has m ahead in
-      let rest_is = are.3.4 in
-      ap (λ vs. all_multi op want (values_coded at (length m.constants) left vs true) m) (are.4 ∙ ap (and_value v) rest_is)
-      ∙ ap (all_multi op want (values_coded at (taken_behind v (length m.constants)) (left_by v left) (and_value are.3.0 are.3.1) true)) (next_same first m here_ahead here)
-      ∙ ap (λ n. all_multi op want (values_coded at n (left_by v left) (and_value are.3.0 are.3.1) true) mid) (sym (next_taken first m here_ahead here))
-      ∙ ap (λ fs. all_multi op want (values_coded at (length mid.constants) fs (and_value are.3.0 are.3.1) true) mid) first.unused
-      ∙ ap (λ rest. all_multi op want (values_coded at (length mid.constants) left rest true) mid) (sym rest_is)
-      ∙ multi_all op want (syntax.expression d es) rest has.1 written.1 are.3 is mid (others_ahead e behind has m ahead) (others_final e behind m final)
+      let here = first_multi e others m op want final in
+      let here_ahead = first_ahead e others has m ahead in
+      let rest_is = more.4 in
+      ap (λ vs. all_multi op want (values_coded at (length m.constants) (lefts before) vs true) m) (is ∙ ap (and_value v) rest_is)
+      ∙ ap (all_multi op want (values_coded at (taken_behind v (length m.constants)) (left_by v (lefts before)) (and_value more.0 more.1) true)) (next_same first m here_ahead here)
+      ∙ ap (λ n. all_multi op want (values_coded at n (left_by v (lefts before)) (and_value more.0 more.1) true) mid) (sym (next_taken first m here_ahead here))
+      ∙ ap (λ fs. all_multi op want (values_coded at (length mid.constants) fs (and_value more.0 more.1) true) mid) first.leaves
+      ∙ ap (λ rest. all_multi op want (values_coded at (length mid.constants) (lefts between) rest true) mid) (sym rest_is)
+      ∙ multi_all op want (syntax.expression d es) between behind rest has.1 written.1 are ends mid (others_ahead e others has m ahead) (others_final e others m final)
 
-  pub multi_all_taken : (op : Op) (want : Want) (es : Expressions) (vs : Values) → AllHaveCores es → AllRewritten f g active listed z left es → AreCores g active es vs → ends_open es ≡ true →
+  pub multi_all_taken : (op : Op) (want : Want) (es : Expressions) (before behind : ℕ) (vs : Values) → AllHaveCores es → AllRewritten f g active listed z lefts es → AreCores g active es before behind vs → ends_open es ≡ true →
       (m : Maker) → IsAhead g active (names_in_all es) m → Final (length m.labels) (all_multi op want (codes_of es) m) z → length (all_multi op want (codes_of es) m).constants ≡ taken_behind_values vs (length m.constants)
-  multi_all_taken op want no_expressions vs has written are is m ahead final = not_so is
-  multi_all_taken op want (syntax.expression e no_expressions) vs has written are is m ahead final =
-      (written.0 are.0 are.2).multi_taken is op want m (ahead_front (names_in e) [] ahead) final
-      ∙ ap (λ vs. taken_behind_values vs (length m.constants)) (sym (are.4 ∙ ap (and_value are.0) are.3))
-  multi_all_taken op want (syntax.expression e (syntax.expression d es)) vs has written are is m ahead final =
-      let behind = syntax.expression d es in
-      let first = written.0 are.0 are.2 in
-      multi_all_taken op want (syntax.expression d es) are.1 has.1 written.1 are.3 is (next_reg (code e) m) (others_ahead e behind has m ahead) (others_final e behind m final)
-      ∙ ap (taken_behind_values are.1) (next_taken first m (first_ahead e behind has m ahead) (first_multi e behind m op want final))
-      ∙ ap (λ vs. taken_behind_values vs (length m.constants)) (sym are.4)
+  multi_all_taken op want no_expressions before behind vs has written are ends m ahead final = not_so ends
+  multi_all_taken op want (syntax.expression e no_expressions) before behind vs has written (between, (v, rest, core, are, is)) ends m ahead final =
+      (written.0 before between v core).multi_taken ends op want m (ahead_front (names_in e) [] ahead) final
+      ∙ ap (λ vs. taken_behind_values vs (length m.constants)) (sym (is ∙ ap (and_value v) are.1))
+  multi_all_taken op want (syntax.expression e (syntax.expression d es)) before behind vs has written (between, (v, rest, core, are, is)) ends m ahead final =
+      let others = syntax.expression d es in
+      let first = written.0 before between v core in
+      multi_all_taken op want (syntax.expression d es) between behind rest has.1 written.1 are ends (next_reg (code e) m) (others_ahead e others has m ahead) (others_final e others m final)
+      ∙ ap (taken_behind_values rest) (next_taken first m (first_ahead e others has m ahead) (first_multi e others m op want final))
+      ∙ ap (λ vs. taken_behind_values vs (length m.constants)) (sym is)

@@ -15,7 +15,7 @@ use Rattle.recover_expr.specs.Words.{loaded, far_method}
 use Rattle.scheme.specs.declared.making.Piece.{Piece}
 use Rattle.scheme.specs.declared.making.Active.{Active}
 use Rattle.scheme_stands.specs.Words.{Fn, Spot, WordAt, ConstantWord, IsRead, instr_by}
-use Rattle.reads_back.specs.Cores.{IsConstant}
+use Rattle.reads_back.specs.Cores.{IsConstant, still}
 use Rattle.reads_back.proofs.Comes.{Arrives, IsGoal, Reads}
 use Rattle.reads_back.proofs.BehindWords.{same_locals}
 use Rattle.reads_back.proofs.Reaches.{here}
@@ -77,31 +77,31 @@ load_makes f pc r number k s there goal =
 module _ {f : Function} {g : Fn} {active : List Active} {listed : List ℕ} (is_function : IsFunction f g) where
   -- ---- literals that are words
 
-  pub nil_reads : Reads f g active listed (λ v. v ≡ nil_value) 1 (λ free r. WordAt g (Piece.Abc Op.LoadNil r r 0))
+  pub nil_reads : Reads f g active listed (still (λ v. v ≡ nil_value)) 1 (λ free r. WordAt g (Piece.Abc Op.LoadNil r r 0))
   nil_reads = record {
     forward = λ free r p q at. omega (arith, at.next);
     begins = λ free p q within at. word_begins free is_function at (abc_is_read is_function at) refl (omega arith);
-    arrives = λ free r p q s locals is goal quiet wanted at. word_made nil_value is_function quiet at (abc_is_read is_function at) refl (record { does = rw (eq-eqb r r refl) }) refl (omega arith);
+    arrives = λ free r p q s locals is goal quiet wanted at. word_made nil_value is_function quiet at (abc_is_read is_function at) refl (record { does = rw (eq-eqb r r refl) }) (at.functions, refl) (omega arith);
   }
 
-  pub true_reads : Reads f g active listed (λ v. v ≡ bool_value true) 1 (λ free r. WordAt g (Piece.Abc Op.LoadBool r 1 0))
+  pub true_reads : Reads f g active listed (still (λ v. v ≡ bool_value true)) 1 (λ free r. WordAt g (Piece.Abc Op.LoadBool r 1 0))
   true_reads = record {
     forward = λ free r p q at. omega (arith, at.next);
     begins = λ free p q within at. word_begins free is_function at (abc_is_read is_function at) refl (omega arith);
-    arrives = λ free r p q s locals is goal quiet wanted at. word_made (bool_value true) is_function quiet at (abc_is_read is_function at) refl (record { does = refl }) refl (omega arith);
+    arrives = λ free r p q s locals is goal quiet wanted at. word_made (bool_value true) is_function quiet at (abc_is_read is_function at) refl (record { does = refl }) (at.functions, refl) (omega arith);
   }
 
-  pub false_reads : Reads f g active listed (λ v. v ≡ bool_value false) 1 (λ free r. WordAt g (Piece.Abc Op.LoadBool r 0 0))
+  pub false_reads : Reads f g active listed (still (λ v. v ≡ bool_value false)) 1 (λ free r. WordAt g (Piece.Abc Op.LoadBool r 0 0))
   false_reads = record {
     forward = λ free r p q at. omega (arith, at.next);
     begins = λ free p q within at. word_begins free is_function at (abc_is_read is_function at) refl (omega arith);
-    arrives = λ free r p q s locals is goal quiet wanted at. word_made (bool_value false) is_function quiet at (abc_is_read is_function at) refl (record { does = refl }) refl (omega arith);
+    arrives = λ free r p q s locals is goal quiet wanted at. word_made (bool_value false) is_function quiet at (abc_is_read is_function at) refl (record { does = refl }) (at.functions, refl) (omega arith);
   }
 
-  pub constant_reads : (k : Constant) → Reads f g active listed (IsConstant g k) 1 (λ free r. ConstantWord g Op.LoadK r k)
+  pub constant_reads : (k : Constant) → Reads f g active listed (still (IsConstant g k)) 1 (λ free r. ConstantWord g Op.LoadK r k)
   constant_reads k = record {
     forward = λ free r p q at. omega (arith, at.word.next);
     begins = λ free p q within at. word_begins free is_function at.word (abx_is_read is_function at.word) refl (omega arith);
     arrives = λ free r p q s locals is goal quiet wanted at.
-        word_made (constant_value at.number) is_function quiet at.word (abx_is_read is_function at.word) refl (load_makes f p.pc r at.number k s (constant_there at.number k is_function at.is) goal) (at.number, record { is = at.is; first = at.first }, refl) (omega arith);
+        word_made (constant_value at.number) is_function quiet at.word (abx_is_read is_function at.word) refl (load_makes f p.pc r at.number k s (constant_there at.number k is_function at.is) goal) (at.word.functions, (at.number, record { is = at.is; first = at.first }, refl)) (omega arith);
   }

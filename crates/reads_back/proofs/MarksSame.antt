@@ -21,7 +21,7 @@ use Rattle.scheme.specs.Making.{Where, in_globals, in_register, in_upvalue}
 use Rattle.scheme.specs.declared.making.Active.{Active}
 use Rattle.scheme_stands.specs.Lists.{is_last_item}
 use Rattle.scheme_stands.specs.Words.{Fn}
-use Rattle.reads_back.specs.Cores.{HasNumber, IsKey, IsSmall, IsVariable, AllHaveCores, AreCores, AreGiven, HasCore, HaveCores, IsConstant, IsCore, IsFirst, IsFoldedOr, IsItem, IsKeyedItem, Items, AreItems, HaveItems, IsOnly, IsOperandBy, IsOperator, core}
+use Rattle.reads_back.specs.Cores.{HasNumber, IsKey, IsSmall, IsVariable, AllHaveCores, AreCores, AreGiven, HasCore, HaveCores, IsConstant, IsCore, IsFirst, IsFoldedOr, IsItem, IsKeyedItem, Items, AreItems, HaveItems, IsOnly, IsOperandBy, IsOperator, core, only, first_and, Counted, CountedItems}
 use Rattle.reads_back.proofs.LiteralReads.{constant_there}
 use Rattle.reads_back.proofs.Marks.{SamePart, both_assoc, both_same, name_mentioned, nothing_behind, part_back, part_of, part_of_operand, part_then, parts_of, parts_of_items, parts_of_operands, same_part}
 use Rattle.reads_back.proofs.NameReads.{AreListed, IsListed}
@@ -97,9 +97,9 @@ module _ {f : Function} {g : Fn} {active : List Active} {listed : List ℕ} (is_
   first_part : (vs : Values) (first : Value) (rest : Values) (one others : Part) → vs ≡ and_value first rest → SamePart (part_of at first) one → SamePart (parts_of at rest) others → SamePart (parts_of at vs) (both one others)
   first_part vs first rest one others is first_same rest_same = part_then (λ place. ap (λ vs. parts_of at vs place) is) (both_same first_same rest_same)
 
-  pub key_part : (text : Text) (o : OperandValue) → IsKey g text o → SamePart (part_of_operand at o) nothing
-  key_part text o (inl small) = small_part o (Constant.Text text) small
-  key_part text o (inr large) = operand_part o large.1 nothing large.3 (constant_value_part (Constant.Text text) large.1 large.2)
+  pub key_part : (text : Text) (before behind : ℕ) (o : OperandValue) → IsKey g text before behind o → SamePart (part_of_operand at o) nothing
+  key_part text before behind o (inl small) = small_part o (Constant.Text text) small.1
+  key_part text before behind o (inr large) = let is = large.1 in operand_part o is.0 nothing is.2 (constant_value_part (Constant.Text text) is.0 is.1.1)
 
   -- a literal mentions nothing
   plain_part : (e : Expression) (k : Constant) → plain_literal e ≡ Some k → SamePart (expression_part (one_line_expression e)) nothing
@@ -113,35 +113,37 @@ module _ {f : Function} {g : Fn} {active : List Active} {listed : List ℕ} (is_
   literal_by e k (Some n) is literal = folded_part e n is
   literal_by e k None is literal = plain_part e k literal
 
-  pub of_operand : (e : Expression) (o : OperandValue) (k : Option Constant) → literal e ≡ k → ((v : Value) → IsCore g active e v → SamePart (part_of at v) (expression_part (one_line_expression e))) → IsOperandBy k g (IsCore g active e) o → SamePart (part_of_operand at o) (expression_part (one_line_expression e))
-  of_operand e o (Some k) is same (inl small) = part_then (small_part o k small) (part_back (literal_by e k (fold e) refl is))
-  of_operand e o (Some k) is same (inr large) = operand_part o large.1 (expression_part (one_line_expression e)) large.3 (same large.1 large.2)
-  of_operand e o None is same one = operand_part o one.0 (expression_part (one_line_expression e)) one.2 (same one.0 one.1)
+  pub of_operand : (e : Expression) (before behind : ℕ) (o : OperandValue) (k : Option Constant) → literal e ≡ k → ((before behind : ℕ) (v : Value) → IsCore g active e before behind v → SamePart (part_of at v) (expression_part (one_line_expression e))) → IsOperandBy k g (IsCore g active e) before behind o → SamePart (part_of_operand at o) (expression_part (one_line_expression e))
+  of_operand e before behind o (Some k) is same (inl small) = part_then (small_part o k small.1) (part_back (literal_by e k (fold e) refl is))
+  of_operand e before behind o (Some k) is same (inr (large, one)) = operand_part o one.0 (expression_part (one_line_expression e)) one.2 (same before behind one.0 one.1)
+  of_operand e before behind o None is same one = operand_part o one.0 (expression_part (one_line_expression e)) one.2 (same before behind one.0 one.1)
 
   -- the value, and the values from it on in a `..`
   pub record HasMarks (e : Expression) : Type 0 where
-    pub one : (v : Value) → IsCore g active e v → SamePart (part_of at v) (expression_part (one_line_expression e))
-    pub spine : (values : Values) → (core g active e).spine values → SamePart (parts_of at values) (expression_part (one_line_expression e))
+    pub one : (before behind : ℕ) (v : Value) → IsCore g active e before behind v → SamePart (part_of at v) (expression_part (one_line_expression e))
+    pub spine : (before behind : ℕ) (values : Values) → (core g active e).spine before behind values → SamePart (parts_of at values) (expression_part (one_line_expression e))
 
-  only_part : (e : Expression) (values : Values) → ((v : Value) → IsCore g active e v → SamePart (part_of at v) (expression_part (one_line_expression e))) → IsOnly (IsCore g active e) values → SamePart (parts_of at values) (expression_part (one_line_expression e))
-  only_part e values one only = part_then (first_part values only.0 no_values (expression_part (one_line_expression e)) nothing only.2 (one only.0 only.1) (same_part nothing)) (nothing_behind (expression_part (one_line_expression e)))
+  only_part : (e : Expression) (before behind : ℕ) (values : Values) → ((before behind : ℕ) (v : Value) → IsCore g active e before behind v → SamePart (part_of at v) (expression_part (one_line_expression e))) → only (IsCore g active e) before behind values → SamePart (parts_of at values) (expression_part (one_line_expression e))
+  only_part e before behind values one only = part_then (first_part values only.0 no_values (expression_part (one_line_expression e)) nothing only.2 (one before behind only.0 only.1) (same_part nothing)) (nothing_behind (expression_part (one_line_expression e)))
 
   binary_made_part : (op : BinaryOp) (x y : OperandValue) (v : Value) → made_binary op x y ≡ Some v → SamePart (part_of at v) (both (part_of_operand at x) (part_of_operand at y))
   binary_made_part op x y v is = is_part at v _ (over_made (max (depth_of_operand x) (depth_of_operand y)) (λ d. binary_value op x y d) v is)
 
   -- an operator on two operands, or a `..`
-  operator_part : (op : BinaryOp) (left right : Expression) (v : Value) → HasMarks left → HasMarks right →
-      IsOperator op (IsOperandBy (literal left) g (IsCore g active left)) (IsOperandBy (literal right) g (IsCore g active right)) (IsFirst (IsCore g active left) (core g active right).spine) v →
+  operator_part : (op : BinaryOp) (left right : Expression) (before behind : ℕ) (v : Value) → HasMarks left → HasMarks right →
+      IsOperator op (IsOperandBy (literal left) g (IsCore g active left)) (IsOperandBy (literal right) g (IsCore g active right)) (first_and (IsCore g active left) (core g active right).spine) before behind v →
       SamePart (part_of at v) (both (expression_part (one_line_expression left)) (expression_part (one_line_expression right)))
-  operator_part BinaryOp.Concat left right v first second is =
+  operator_part BinaryOp.Concat left right before behind v first second is =
+      let parts = is.1.1 in
       part_then (is_part at v _ (over_made (deepest is.0) (λ d. concat_value is.0 d) v is.2))
-      (first_part is.0 is.1.0 is.1.1 _ _ is.1.4 (first.one is.1.0 is.1.2) (second.spine is.1.1 is.1.3))
-  operator_part op left right v first second is =
-      part_then (binary_made_part op is.1 is.2 v is.5) (both_same (of_operand left is.1 (literal left) refl first.one is.3) (of_operand right is.2 (literal right) refl second.one is.4))
+      (first_part is.0 parts.0 parts.1 _ _ parts.4 (first.one before is.1.0 parts.0 parts.2) (second.spine is.1.0 behind parts.1 parts.3))
+  operator_part op left right before behind v first second is =
+      let parts = is.1 in
+      part_then (binary_made_part op parts.1 parts.2 v parts.5) (both_same (of_operand left before is.0 parts.1 (literal left) refl first.one parts.3) (of_operand right is.0 behind parts.2 (literal right) refl second.one parts.4))
 
-  folded_or_part : (folded : Option ℤ) (e : Expression) (Is : Value → Type 0) (v : Value) → fold e ≡ folded → ((v : Value) → Is v → SamePart (part_of at v) (expression_part (one_line_expression e))) → IsFoldedOr folded g Is v → SamePart (part_of at v) (expression_part (one_line_expression e))
-  folded_or_part (Some n) e Is v same one is = part_then (constant_value_part (Constant.Number n) v is) (part_back (folded_part e n same))
-  folded_or_part None e Is v same one is = one v is
+  folded_or_part : (folded : Option ℤ) (e : Expression) (Is : Counted Value) (before behind : ℕ) (v : Value) → fold e ≡ folded → ((v : Value) → Is before behind v → SamePart (part_of at v) (expression_part (one_line_expression e))) → IsFoldedOr folded g Is before behind v → SamePart (part_of at v) (expression_part (one_line_expression e))
+  folded_or_part (Some n) e Is before behind v same one is = part_then (constant_value_part (Constant.Number n) v is.1) (part_back (folded_part e n same))
+  folded_or_part None e Is before behind v same one is = one v is
 
   called_part : (on : Expression) (args : Arguments) (o v : Value) (vs : Values) (all : Bool) → made_call o vs all ≡ Some v → SamePart (part_of at o) (expression_part (one_line_expression on)) → SamePart (parts_of at vs) (arguments_part (one_line_arguments args)) →
       SamePart (part_of at v) (both (expression_part (one_line_expression on)) (arguments_part (one_line_arguments args)))
@@ -151,13 +153,15 @@ module _ {f : Function} {g : Fn} {active : List Active} {listed : List ℕ} (is_
       SamePart (part_of at v) (both (expression_part (one_line_expression on)) (arguments_part (one_line_arguments args)))
   method_part on args o v number vs all is first rest = part_then (is_part at v _ (over_made (max (depth_of o) (deepest vs)) (λ d. method_value o number vs all d) v is)) (both_same first rest)
 
-  spine_part : (op : BinaryOp) (line : ℕ) (left right : Expression) → HasMarks left → HasMarks right → ((v : Value) → IsCore g active (binary_expression line op left right) v → SamePart (part_of at v) (expression_part (one_line_expression (binary_expression line op left right)))) →
-      (vs : Values) → (core g active (binary_expression line op left right)).spine vs → SamePart (parts_of at vs) (expression_part (one_line_expression (binary_expression line op left right)))
-  spine_part BinaryOp.Concat line left right first second one vs is = first_part vs is.0 is.1 _ _ is.4 (first.one is.0 is.2) (second.spine is.1 is.3)
-  spine_part op line left right first second one vs is = only_part (binary_expression line op left right) vs one is
+  spine_part : (op : BinaryOp) (line : ℕ) (left right : Expression) → HasMarks left → HasMarks right → ((before behind : ℕ) (v : Value) → IsCore g active (binary_expression line op left right) before behind v → SamePart (part_of at v) (expression_part (one_line_expression (binary_expression line op left right)))) →
+      (before behind : ℕ) (vs : Values) → (core g active (binary_expression line op left right)).spine before behind vs → SamePart (parts_of at vs) (expression_part (one_line_expression (binary_expression line op left right)))
+  spine_part BinaryOp.Concat line left right first second one before behind vs is =
+      let parts = is.1 in
+      first_part vs parts.0 parts.1 _ _ parts.4 (first.one before is.0 parts.0 parts.2) (second.spine is.0 behind parts.1 parts.3)
+  spine_part op line left right first second one before behind vs is = only_part (binary_expression line op left right) before behind vs one is
 
-  alone_marks : (e : Expression) → ((v : Value) → IsCore g active e v → SamePart (part_of at v) (expression_part (one_line_expression e))) → ((vs : Values) → (core g active e).spine vs → IsOnly (IsCore g active e) vs) → HasMarks e
-  alone_marks e one only = record { one = one; spine = λ vs is. only_part e vs one (only vs is) }
+  alone_marks : (e : Expression) → ((before behind : ℕ) (v : Value) → IsCore g active e before behind v → SamePart (part_of at v) (expression_part (one_line_expression e))) → ((before behind : ℕ) (vs : Values) → (core g active e).spine before behind vs → only (IsCore g active e) before behind vs) → HasMarks e
+  alone_marks e one alone = record { one = one; spine = λ before behind vs is. only_part e before behind vs one (alone before behind vs is) }
 
   -- ---- constructors
 
@@ -173,68 +177,78 @@ module _ {f : Function} {g : Fn} {active : List Active} {listed : List ℕ} (is_
   are_items : (items others : ItemList) (part : Part) → items ≡ others → SamePart (parts_of_items at others) part → SamePart (parts_of_items at items) part
   are_items items others part is same place = ap (λ items. parts_of_items at items place) is ∙ same place
 
-  item_part : (is_open : Bool) (Is : Value → Type 0) (Rest : Items) (value others : Part) → ((v : Value) → Is v → SamePart (part_of at v) value) → (is_open ≡ true → SamePart nothing others) →
-      ((rest : ItemList) (open_last : Bool) → Rest rest open_last → SamePart (parts_of_items at rest) others) → (items : ItemList) (open_last : Bool) → IsItem is_open Is Rest items open_last → SamePart (parts_of_items at items) (both value others)
-  item_part true Is Rest value others one none rest items open_last is = are_items items _ _ is.2 (both_same (one is.0 is.1) (none refl))
-  item_part false Is Rest value others one none rest items open_last is = are_items items _ _ is.4 (both_same (one is.0 is.2) (rest is.1 open_last is.3))
+  item_part : (is_open : Bool) (Is : Counted Value) (Rest : CountedItems) (before behind : ℕ) (value others : Part) → ((before behind : ℕ) (v : Value) → Is before behind v → SamePart (part_of at v) value) → (is_open ≡ true → SamePart nothing others) →
+      ((before behind : ℕ) (rest : ItemList) (open_last : Bool) → Rest before behind rest open_last → SamePart (parts_of_items at rest) others) → (items : ItemList) (open_last : Bool) → IsItem is_open Is Rest before behind items open_last → SamePart (parts_of_items at items) (both value others)
+  item_part true Is Rest before behind value others one none rest items open_last is = are_items items _ _ is.2 (both_same (one before behind is.0 is.1) (none refl))
+  item_part false Is Rest before behind value others one none rest items open_last is =
+      let parts = is.1 in
+      are_items items _ _ parts.4 (both_same (one before is.0 parts.0 parts.2) (rest is.0 behind parts.1 open_last parts.3))
 
-  keyed_part : (Key Item : OperandValue → Type 0) (Rest : Items) (key value others : Part) → ((o : OperandValue) → Key o → SamePart (part_of_operand at o) key) → ((o : OperandValue) → Item o → SamePart (part_of_operand at o) value) →
-      ((rest : ItemList) (open_last : Bool) → Rest rest open_last → SamePart (parts_of_items at rest) others) → (items : ItemList) (open_last : Bool) → IsKeyedItem Key Item Rest items open_last → SamePart (parts_of_items at items) (both (both key value) others)
-  keyed_part Key Item Rest key value others first second rest items open_last is = are_items items _ _ is.6 (both_same (both_same (first is.0 is.3) (second is.1 is.4)) (rest is.2 open_last is.5))
+  keyed_part : (Key Item : Counted OperandValue) (Rest : CountedItems) (before behind : ℕ) (key value others : Part) → ((before behind : ℕ) (o : OperandValue) → Key before behind o → SamePart (part_of_operand at o) key) →
+      ((before behind : ℕ) (o : OperandValue) → Item before behind o → SamePart (part_of_operand at o) value) →
+      ((before behind : ℕ) (rest : ItemList) (open_last : Bool) → Rest before behind rest open_last → SamePart (parts_of_items at rest) others) → (items : ItemList) (open_last : Bool) → IsKeyedItem Key Item Rest before behind items open_last → SamePart (parts_of_items at items) (both (both key value) others)
+  keyed_part Key Item Rest before behind key value others first second rest items open_last is =
+      let parts = is.2 in
+      are_items items _ _ parts.6 (both_same (both_same (first before is.0 parts.0 parts.3) (second is.0 is.1 parts.1 parts.4)) (rest is.1 behind parts.2 open_last parts.5))
 
   mutual
     pub marks_of : (e : Expression) → HasCore e → HasMarks e
-    marks_of (nil_literal line) has = alone_marks (nil_literal line) (λ v is. is_part at v _ is) (λ vs is. is)
-    marks_of (true_literal line) has = alone_marks (true_literal line) (λ v is. is_part at v _ is) (λ vs is. is)
-    marks_of (false_literal line) has = alone_marks (false_literal line) (λ v is. is_part at v _ is) (λ vs is. is)
-    marks_of (vararg_expression line) has = alone_marks (vararg_expression line) (λ v is. is_part at v _ is) (λ vs is. is)
-    marks_of (number_literal line n) has = alone_marks (number_literal line n) (λ v is. constant_value_part (Constant.Number n) v is) (λ vs is. is)
-    marks_of (text_literal line text) has = alone_marks (text_literal line text) (λ v is. constant_value_part (Constant.Text text) v is) (λ vs is. is)
-    marks_of (name_expression line text) has = alone_marks (name_expression line text) (λ v is. named_part text v is.0 has (all.listed_as text is.0 is.1) is.2) (λ vs is. is)
+    marks_of (nil_literal line) has = alone_marks (nil_literal line) (λ before behind v is. is_part at v _ is.1) (λ before behind vs is. is)
+    marks_of (true_literal line) has = alone_marks (true_literal line) (λ before behind v is. is_part at v _ is.1) (λ before behind vs is. is)
+    marks_of (false_literal line) has = alone_marks (false_literal line) (λ before behind v is. is_part at v _ is.1) (λ before behind vs is. is)
+    marks_of (vararg_expression line) has = alone_marks (vararg_expression line) (λ before behind v is. is_part at v _ is.1) (λ before behind vs is. is)
+    marks_of (number_literal line n) has = alone_marks (number_literal line n) (λ before behind v is. constant_value_part (Constant.Number n) v is.1) (λ before behind vs is. is)
+    marks_of (text_literal line text) has = alone_marks (text_literal line text) (λ before behind v is. constant_value_part (Constant.Text text) v is.1) (λ before behind vs is. is)
+    marks_of (name_expression line text) has = alone_marks (name_expression line text) (λ before behind v is. let means = is.1 in named_part text v means.0 has (all.listed_as text means.0 means.1) means.2) (λ before behind vs is. is)
     marks_of (index_expression line on key) has =
         let first = marks_of on has.0 in
         let second = marks_of key has.1 in
-        alone_marks (index_expression line on key) (λ v is. part_then (index_part at is.0 is.1 v is.4) (both_same (first.one is.0 is.2) (of_operand key is.1 (literal key) refl second.one is.3))) (λ vs is. is)
+        alone_marks (index_expression line on key) (λ before behind v is. let parts = is.1 in part_then (index_part at parts.0 parts.1 v parts.4) (both_same (first.one before is.0 parts.0 parts.2) (of_operand key is.0 behind parts.1 (literal key) refl second.one parts.3))) (λ before behind vs is. is)
     marks_of (field_expression line on text) has =
         let first = marks_of on has in
-        alone_marks (field_expression line on text) (λ v is. part_then (index_part at is.0 is.1 v is.4) (part_then (both_same (first.one is.0 is.2) (key_part text is.1 is.3)) (nothing_behind (expression_part (one_line_expression on))))) (λ vs is. is)
+        alone_marks (field_expression line on text) (λ before behind v is. let parts = is.1 in part_then (index_part at parts.0 parts.1 v parts.4) (part_then (both_same (first.one before is.0 parts.0 parts.2) (key_part text is.0 behind parts.1 parts.3)) (nothing_behind (expression_part (one_line_expression on))))) (λ before behind vs is. is)
     marks_of (call_expression line on args on_line) has =
         let first = marks_of on has.0 in
-        alone_marks (call_expression line on args on_line) (λ v is. called_part on args is.0 v is.1 is.2 is.5 (first.one is.0 is.3) (given_part args has.1 is.1 is.2 is.4)) (λ vs is. is)
+        alone_marks (call_expression line on args on_line) (λ before behind v is. let parts = is.1 in called_part on args parts.0 v parts.1 parts.2 parts.5 (first.one before is.0 parts.0 parts.3) (given_part args has.1 is.0 behind parts.1 parts.2 parts.4)) (λ before behind vs is. is)
     marks_of (method_call line on name args on_line) has =
         let first = marks_of on has.1 in
-        alone_marks (method_call line on name args on_line) (λ v is. method_part on args is.0 v is.1 is.2 is.3 is.7 (first.one is.0 is.4) (given_part args has.2 is.2 is.3 is.6)) (λ vs is. is)
+        alone_marks (method_call line on name args on_line) (λ before behind v is. let parts = is.1 in method_part on args parts.0 v parts.1 parts.2 parts.3 parts.7 (first.one before is.0 parts.0 parts.4) (given_part args has.2 is.0 behind parts.2 parts.3 parts.6)) (λ before behind vs is. is)
     marks_of (binary_expression line op left right) has =
         let first = marks_of left has.1 in
         let second = marks_of right has.2 in
         let e = binary_expression line op left right in
-        let one : (v : Value) → IsCore g active e v → SamePart (part_of at v) (expression_part (one_line_expression e)) = λ v is. folded_or_part (fold e) e _ v refl (λ v is. operator_part op left right v first second is) is in
+        let one : (before behind : ℕ) (v : Value) → IsCore g active e before behind v → SamePart (part_of at v) (expression_part (one_line_expression e)) =
+        λ before behind v is. folded_or_part (fold e) e _ before behind v refl (λ v is. operator_part op left right before behind v first second is) is in
         record { one = one; spine = spine_part op line left right first second one }
     marks_of (unary_expression line op of) has =
         let first = marks_of of has in
         let e = unary_expression line op of in
-        alone_marks e (λ v is. folded_or_part (fold e) e _ v refl (λ v is. part_then (is_part at v _ (over_made (depth_of is.0) (λ d. unary_value op is.0 d) v is.2)) (first.one is.0 is.1)) is) (λ vs is. is)
-    marks_of (constructor line fields) has = alone_marks (constructor line fields) (λ v is. table_part is.0 is.1 v _ is.3 (items_marks fields has is.0 is.1 is.2)) (λ vs is. is)
-    marks_of (parenthesized line e) has = let first = marks_of e has in alone_marks (parenthesized line e) first.one (λ vs is. is)
+        alone_marks e (λ before behind v is. folded_or_part (fold e) e _ before behind v refl (λ v is. part_then (is_part at v _ (over_made (depth_of is.0) (λ d. unary_value op is.0 d) v is.2)) (first.one before behind is.0 is.1)) is) (λ before behind vs is. is)
+    marks_of (constructor line fields) has = alone_marks (constructor line fields) (λ before behind v is. table_part is.0 is.1 v _ is.3 (items_marks fields has before behind is.0 is.1 is.2)) (λ before behind vs is. is)
+    marks_of (parenthesized line e) has = let first = marks_of e has in alone_marks (parenthesized line e) first.one (λ before behind vs is. is)
     marks_of e has = absurd has
 
-    given_part : (args : Arguments) → HaveCores args → (vs : Values) (open_last : Bool) → AreGiven g active args vs open_last → SamePart (parts_of at vs) (arguments_part (one_line_arguments args))
-    given_part (argument_list es) has vs open_last is = list_part es has vs is.0
-    given_part (text_argument text) has vs open_last is =
-        part_then (first_part vs is.0.0 no_values nothing nothing is.0.2 (constant_value_part (Constant.Text text) is.0.0 is.0.1) (same_part nothing)) (nothing_behind nothing)
-    given_part (table_argument fields) has vs open_last is =
+    given_part : (args : Arguments) → HaveCores args → (before behind : ℕ) (vs : Values) (open_last : Bool) → AreGiven g active args before behind vs open_last → SamePart (parts_of at vs) (arguments_part (one_line_arguments args))
+    given_part (argument_list es) has before behind vs open_last is = list_part es has before behind vs is.0
+    given_part (text_argument text) has before behind vs open_last is =
+        let text_is = is.1.0 in
+        part_then (first_part vs text_is.0 no_values nothing nothing text_is.2 (constant_value_part (Constant.Text text) text_is.0 text_is.1) (same_part nothing)) (nothing_behind nothing)
+    given_part (table_argument fields) has before behind vs open_last is =
         let table = is.0.1 in
-        part_then (first_part vs is.0.0 no_values _ nothing is.0.2 (table_part table.0 table.1 is.0.0 _ table.3 (items_marks fields has table.0 table.1 table.2)) (same_part nothing)) (nothing_behind (fields_part (one_line_fields fields)))
+        part_then (first_part vs is.0.0 no_values _ nothing is.0.2 (table_part table.0 table.1 is.0.0 _ table.3 (items_marks fields has before behind table.0 table.1 table.2)) (same_part nothing)) (nothing_behind (fields_part (one_line_fields fields)))
 
-    items_marks : (fields : Fields) → HaveItems fields → (items : ItemList) (open_last : Bool) → AreItems g active fields items open_last → SamePart (parts_of_items at items) (fields_part (one_line_fields fields))
-    items_marks no_fields has items open_last is = are_items items no_items nothing is.0 (same_part nothing)
-    items_marks (positional e separator rest) has items open_last is =
-        item_part (is_last_item rest && is_multiple e) (IsCore g active e) (AreItems g active rest) _ _ (marks_of e has.0).one (nothing_last rest (is_multiple e)) (items_marks rest has.1) items open_last is
-    items_marks (named text e separator rest) has items open_last is =
-        part_then (keyed_part (IsKey g text) _ (AreItems g active rest) nothing (expression_part (one_line_expression e)) _ (key_part text) (λ o. of_operand e o (literal e) refl (marks_of e has.0).one) (items_marks rest has.1) items open_last is) (same_part _)
-    items_marks (keyed key e separator rest) has items open_last is =
-        keyed_part _ _ (AreItems g active rest) _ _ _ (λ o. of_operand key o (literal key) refl (marks_of key has.0).one) (λ o. of_operand e o (literal e) refl (marks_of e has.1).one) (items_marks rest has.2) items open_last is
+    items_marks : (fields : Fields) → HaveItems fields → (before behind : ℕ) (items : ItemList) (open_last : Bool) → AreItems g active fields before behind items open_last → SamePart (parts_of_items at items) (fields_part (one_line_fields fields))
+    items_marks no_fields has before behind items open_last is = are_items items no_items nothing is.1 (same_part nothing)
+    items_marks (positional e separator rest) has before behind items open_last is =
+        item_part (is_last_item rest && is_multiple e) (IsCore g active e) (AreItems g active rest) before behind _ _ (marks_of e has.0).one (nothing_last rest (is_multiple e)) (items_marks rest has.1) items open_last is
+    items_marks (named text e separator rest) has before behind items open_last is =
+        part_then (keyed_part (IsKey g text) _ (AreItems g active rest) before behind nothing (expression_part (one_line_expression e)) _ (key_part text) (λ before behind o. of_operand e before behind o (literal e) refl (marks_of e has.0).one) (items_marks rest has.1) items open_last is) (same_part _)
+    items_marks (keyed key e separator rest) has before behind items open_last is =
+        keyed_part _ _ (AreItems g active rest) before behind _ _ _ (λ before behind o. of_operand key before behind o (literal key) refl (marks_of key has.0).one) (λ before behind o. of_operand e before behind o (literal e) refl (marks_of e has.1).one) (items_marks rest has.2) items open_last is
 
-    pub list_part : (es : Expressions) → AllHaveCores es → (vs : Values) → AreCores g active es vs → SamePart (parts_of at vs) (expressions_part (one_line_expressions es))
-    list_part no_expressions has vs is = λ place. ap (λ vs. parts_of at vs place) is
-    list_part (syntax.expression e es) has vs is = let first = marks_of e has.0 in first_part vs is.0 is.1 _ _ is.4 (first.one is.0 is.2) (list_part es has.1 is.1 is.3)
+    pub list_part : (es : Expressions) → AllHaveCores es → (before behind : ℕ) (vs : Values) → AreCores g active es before behind vs → SamePart (parts_of at vs) (expressions_part (one_line_expressions es))
+    list_part no_expressions has before behind vs is = λ place. ap (λ vs. parts_of at vs place) is.1
+    list_part (syntax.expression e es) has before behind vs is =
+        let first = marks_of e has.0 in
+        let parts = is.1 in
+        first_part vs parts.0 parts.1 _ _ parts.4 (first.one before is.0 parts.0 parts.2) (list_part es has.1 is.0 behind parts.1 parts.3)

@@ -1,5 +1,5 @@
 -- The words of a method call are read as a call of the method of what its value is read as.
-use Rattle.std.proofs.Common.{◌≡◌, ℕ, suc, ◌+◌, ◌-◌, ◌*◌, ◌<◌, ◌≤◌, ◌⊎◌, inl, inr, max, true, false, nat_le, Bool, List, [], ◌∷◌, ◌++◌, length, length-append, append_assoc, Option, Some, None, refl, sym, ap, ap₂, ◌∙◌, subst, arith, lt-ltb, le-leb, eq-eqb}
+use Rattle.std.proofs.Common.{◌≡◌, ℕ, suc, ◌+◌, ◌-◌, ◌*◌, ◌<◌, ◌≤◌, ◌⊎◌, inl, inr, max, true, false, nat_le, Bool, List, [], ◌∷◌, ◌++◌, length, length-append, append_assoc, Option, Some, None, refl, sym, ap, ap₂, ◌∙◌, subst, arith, lt-ltb, le-leb, eq-eqb, subst₂}
 use Rattle.std.proofs.lemmas.Option.{slice_get_within}
 use Rattle.std.specs.Prelude.{option_map, option_and_then, slice_get, if◌then◌else◌}
 use Rattle.lua_num.specs.Bytes.{Text}
@@ -21,14 +21,15 @@ use Rattle.scheme_stands.specs.Expressions.{Rel, OperandAt, OperandBy, RkTextAt,
 use Rattle.scheme_stands.specs.Lists.{GivenRel, MethodAt}
 use Rattle.scheme_stands.specs.Words.{Fn, Spot, WordAt}
 use Rattle.reads_back.proofs.CallWords.{method_of, method_is_made, method_called}
-use Rattle.reads_back.proofs.Comes.{Begins, IsWanted, CallComes, ReadsCall, GivenComes, ReadsGiven, IsValueOperand, OperandComes, ReadsOperand}
+use Rattle.reads_back.proofs.Comes.{Begins, IsWanted, CallComes, ReadsCall, GivenComes, ReadsGiven, OperandComes, ReadsOperand}
 use Rattle.reads_back.proofs.BehindWords.{HasLocals, SameLocals, same_then, quiet_same, behind_words}
 use Rattle.reads_back.proofs.Operators.{on_is_read}
 use Rattle.reads_back.proofs.Reaches.{Reaches, here, word, reaches_on, reaches_then}
 use Rattle.reads_back.proofs.ValueWords.{entry_next, next_free, place_of_next}
 use Rattle.reads_back.proofs.WordsBegin.{begins_wants, word_begins, word_wants}
 use Rattle.reads_back.proofs.WordsRead.{IsFunction, IsQuiet, abc_is_read, abx_is_read, quiet_before, quiet_from, turn_there, word_of, word_there}
-use Rattle.reads_back.specs.Cores.{HasNumber, IsMethodCalled}
+use Rattle.reads_back.specs.Cores.{HasNumber, IsMethodCalled, IsValueOperand, Counted, CountedValues, valued, method_called_by}
+use Rattle.reads_back.proofs.Deeper.{call_so}
 
 -- ---- what a method is called on
 
@@ -263,6 +264,10 @@ name_forward : {g : Fn} {name : Text} (free y free2 : ℕ) (p q : Spot) → RkTe
 name_forward free y free2 p q (inl small) = omega (arith, small.same.pc)
 name_forward free y free2 p q (inr (large, far)) = omega (arith, far.value_at.word.next)
 
+name_keeps : {g : Fn} {name : Text} (free y free2 : ℕ) (p q : Spot) → RkTextAt g name free y free2 p q → q.functions ≡ p.functions
+name_keeps free y free2 p q (inl small) = small.same.functions
+name_keeps free y free2 p q (inr (large, far)) = far.value_at.word.functions
+
 -- the words behind the object begin with one that makes a value for a register from the next free one on
 name_begins : {f : Function} {g : Fn} {name : Text} {x : ℕ} (free y free2 : ℕ) (p mid q : Spot) → IsFunction f g → RkTextAt g name (free + 2) y free2 p mid → WordAt g (Piece.Abc Op.Self_ free x y) mid q → Begins f free p.pc
 name_begins {f} free y free2 p mid q is_function (inl small) at = subst (λ (pc : ℕ). Begins f free pc) small.same.pc (word_begins free is_function at (abc_is_read is_function at) refl (omega arith))
@@ -277,8 +282,8 @@ object_wanted free x y free2 p mid q s is_function low above (inr (large, far)) 
     let w = far.value_at.word in
     begins_wants s (word_begins (free + 2) is_function w (abx_is_read is_function w) refl (omega arith)) (omega (arith, low))
 
-module _ {f : Function} {g : Fn} {active : List Active} {listed : List ℕ} {On : Value → Type 0} {Given : Values → Bool → Type 0} {deep : ℕ} (on_part : Rel) (name : Text) (given : GivenRel) (is_function : IsFunction f g) (few : deep < 200)
-    (on_reads : ReadsOperand f g active listed (IsValueOperand On) deep (OperandAt g active on_part)) (given_reads : ReadsGiven f g active listed Given deep given) where
+module _ {f : Function} {g : Fn} {active : List Active} {listed : List ℕ} {On : Counted Value} {Given : CountedValues} {deep : ℕ} (on_part : Rel) (name : Text) (given : GivenRel) (is_function : IsFunction f g) (few : deep < 200)
+    (on_reads : ReadsOperand f g active listed (valued On) deep (OperandAt g active on_part)) (given_reads : ReadsGiven f g active listed Given deep given) where
   method_forward : (free : ℕ) (op : Op) (want : Want) (p q : Spot) → MethodAt g on_part name given active free op want p q → p.pc ≤ q.pc
   method_forward free op want p q at =
       let on_first = on_reads.forward free at.x at.free1 p at.mid at.on_at in
@@ -297,7 +302,7 @@ module _ {f : Function} {g : Fn} {active : List Active} {listed : List ℕ} {On 
       by_object (inl same) = subst (λ (pc : ℕ). Begins f free pc) (sym same) (name_begins free at.y at.free2 at.mid at.named at.begun is_function at.name_at at.self_at)
 
   method_comes_to : (free : ℕ) (op : Op) (want : Want) (p q : Spot) (s : Situation) → HasLocals active listed s → free ≡ next_free s → IsQuiet f s.scope p.pc q.pc → MethodAt g on_part name given active free op want p q →
-      CallComes f (IsMethodCalled g name On Given) (suc deep) s op free (count_field 1 want) p.pc q.pc
+      CallComes f (method_called_by g name On Given p.functions q.functions) (suc deep) s op free (count_field 1 want) p.pc q.pc
   method_comes_to free op want p q s locals is quiet at =
       let on_first = on_reads.forward free at.x at.free1 p at.mid at.on_at in
       let named = name_forward (free + 2) at.y at.free2 at.mid at.named at.name_at in
@@ -313,10 +318,17 @@ module _ {f : Function} {g : Fn} {active : List Active} {listed : List ℕ} {On 
       let first : p.pc ≤ at.begun.pc = omega (arith, on_first, named, at.self_at.next) in
       let some : 0 < length (behind_method one).entries = omega (arith, length-append s.entries (method_entry one.value one.number ∷ more_entry ∷ [])) in
       let args = given_reads.comes (free + 2) at.begun at.last (behind_method one) there next (quiet_same one.same (quiet_from at.begun.pc first before)) some at.given_at in
-      both_called op free (count_field 1 want) one args is_function few is quiet at.word
+      let begun_made = at.begun.functions in
+      let still_made = at.self_at.functions ∙ name_keeps (free + 2) at.y at.free2 at.mid at.named at.name_at in
+      call_so (omega arith)
+      (λ v made. (
+        begun_made,
+        subst₂ (λ (between behind : ℕ). IsMethodCalled g name (On p.functions between) (Given begun_made behind) v) (sym still_made) (sym at.word.functions) made,
+      ))
+      (both_called op free (count_field 1 want) one args is_function few is quiet at.word)
 
-pub method_reads : {f : Function} {g : Fn} {active : List Active} {listed : List ℕ} {On : Value → Type 0} {Given : Values → Bool → Type 0} {deep : ℕ} (on : Rel) (name : Text) (given : GivenRel) → IsFunction f g → deep < 200 →
-    ReadsOperand f g active listed (IsValueOperand On) deep (OperandAt g active on) → ReadsGiven f g active listed Given deep given → ReadsCall f g active listed (IsMethodCalled g name On Given) (suc deep) (MethodAt g on name given active)
+pub method_reads : {f : Function} {g : Fn} {active : List Active} {listed : List ℕ} {On : Counted Value} {Given : CountedValues} {deep : ℕ} (on : Rel) (name : Text) (given : GivenRel) → IsFunction f g → deep < 200 →
+    ReadsOperand f g active listed (valued On) deep (OperandAt g active on) → ReadsGiven f g active listed Given deep given → ReadsCall f g active listed (method_called_by g name On Given) (suc deep) (MethodAt g on name given active)
 method_reads on name given is_function few on_reads given_reads = record {
   forward = method_forward on name given is_function few on_reads given_reads;
   begins = method_begins on name given is_function few on_reads given_reads;

@@ -1,5 +1,5 @@
 -- A name is read as what it means: a local, an upvalue or a global. As an operand a local needs no word.
-use Rattle.std.proofs.Common.{◌≡◌, ℕ, ◌-◌, ◌<◌, ◌≤◌, Bool, true, false, cond, List, length, Option, Some, None, is_some, refl, sym, ap, ◌∙◌, subst, arith, if◌then◌else◌}
+use Rattle.std.proofs.Common.{◌≡◌, ℕ, ◌-◌, ◌<◌, ◌≤◌, Bool, true, false, cond, List, length, Option, Some, None, is_some, refl, sym, ap, ◌∙◌, subst, subst₂, arith, if◌then◌else◌}
 use Rattle.std.specs.Prelude.{option_and_then, option_map, slice_get}
 use Rattle.lua_num.specs.Bytes.{Text}
 use Rattle.lua_tree.specs.Names.{is_name}
@@ -21,7 +21,7 @@ use Rattle.scheme_stands.proofs.Forms.{form_is}
 use Rattle.scheme_stands.specs.Expressions.{Form, NameAt, NameBy, local_at}
 use Rattle.scheme_stands.specs.Relation.{related}
 use Rattle.scheme_stands.specs.Words.{Fn, Spot, meaning, Means}
-use Rattle.reads_back.specs.Cores.{IsCore, IsNamed}
+use Rattle.reads_back.specs.Cores.{IsCore, IsNamed, still}
 use Rattle.reads_back.proofs.Comes.{Arrives, Begins, Reads}
 use Rattle.reads_back.proofs.BehindWords.{HasLocals}
 use Rattle.reads_back.proofs.LiteralReads.{MakesValue, constant_there, word_made}
@@ -96,23 +96,23 @@ name_begins text in_globals free p q is_function at = word_begins free is_functi
 
 module _ {f : Function} {g : Fn} {active : List Active} {listed : List ℕ} (is_function : IsFunction f g) (all : AreListed f g active listed) where
   name_arrives : (text : Text) → is_name text ≡ true → (r : ℕ) (p q : Spot) (s : Situation) (w : Where) → HasLocals active listed s → IsQuiet f s.scope p.pc q.pc → Means g.law active text w → IsListed f (length active) listed text w → NameBy g text w r p q →
-      Arrives f (IsNamed g active text) 1 s r p.pc q.pc
+      Arrives f (still (IsNamed g active text) p.functions q.functions) 1 s r p.pc q.pc
   name_arrives text named r p q s (in_register x) locals quiet means there at =
       let name : local_name (place_in_step f s) x ≡ Some text = subst (λ (listed : List ℕ). local_name (place f.of listed f.short) x ≡ Some text) (sym locals.places) there.1 in
-      word_made (local_value x) is_function quiet at (abc_is_read is_function at) refl (local_makes f p.pc r x text s (omega (arith, locals.base, there.0)) name) (in_register x, means, refl) (omega arith)
+      word_made (local_value x) is_function quiet at (abc_is_read is_function at) refl (local_makes f p.pc r x text s (omega (arith, locals.base, there.0)) name) (at.functions, (in_register x, means, refl)) (omega arith)
   name_arrives text named r p q s (in_upvalue slot) locals quiet means there at =
-      word_made (upvalue_value slot) is_function quiet at (abc_is_read is_function at) refl (upvalue_makes f p.pc r slot text s there) (in_upvalue slot, means, refl) (omega arith)
+      word_made (upvalue_value slot) is_function quiet at (abc_is_read is_function at) refl (upvalue_makes f p.pc r slot text s there) (at.functions, (in_upvalue slot, means, refl)) (omega arith)
   name_arrives text named r p q s in_globals locals quiet means there at =
       let known = constant_there at.number (Constant.Text text) is_function at.is in
-      word_made (global_value at.number) is_function quiet at.word (abx_is_read is_function at.word) refl (global_makes f p.pc r at.number text s known named) (in_globals, means, (at.number, record { is = at.is; first = at.first }, refl)) (omega arith)
+      word_made (global_value at.number) is_function quiet at.word (abx_is_read is_function at.word) refl (global_makes f p.pc r at.number text s known named) (at.word.functions, (in_globals, means, (at.number, record { is = at.is; first = at.first }, refl))) (omega arith)
 
-  pub name_reads : (text : Text) → is_name text ≡ true → Reads f g active listed (IsNamed g active text) 1 (NameAt g text active)
+  pub name_reads : (text : Text) → is_name text ≡ true → Reads f g active listed (still (IsNamed g active text)) 1 (NameAt g text active)
   name_reads text named = record {
     forward = λ free r p q at. omega (arith, at.1.first_at.pc, name_forward g text (meaning active p) r at.1.mid q at.1.second_at);
     begins = λ free p q within at. subst (λ (pc : ℕ). Begins f free pc) at.1.first_at.pc (name_begins text (meaning active p) free at.1.mid q is_function at.1.second_at);
     arrives = λ free r p q s locals is goal quiet wanted at.
         let same = at.1.first_at.pc in
-        subst (λ (pc : ℕ). Arrives f (IsNamed g active text) 1 s r pc q.pc) same
+        subst₂ (λ (pc before : ℕ). Arrives f (still (IsNamed g active text) before q.functions) 1 s r pc q.pc) same at.1.first_at.functions
         (name_arrives text named r at.1.mid q s (meaning active p) locals (subst (λ (pc : ℕ). IsQuiet f s.scope pc q.pc) (sym same) quiet) at.0 (all.listed_as text (meaning active p) at.0) at.1.second_at);
   }
 
@@ -120,7 +120,7 @@ module _ {f : Function} {g : Fn} {active : List Active} {listed : List ℕ} (is_
 
   -- the value of a local, in its register
   pub record IsLocal (e : Expression) (r : ℕ) (p q : Spot) : Type 0 where
-    pub core : IsCore g active e (local_value r)
+    pub core : IsCore g active e p.functions q.functions (local_value r)
     pub below : r < length active
     pub text : Text
     pub named : local_name (place f.of listed f.short) r ≡ Some text
@@ -136,7 +136,7 @@ module _ {f : Function} {g : Fn} {active : List Active} {listed : List ℕ} (is_
       let same = registered text (meaning active p) r at.means is in
       let means = subst (Means g.law active text) same at.means in
       let there = all.listed_as text (in_register r) means in
-      record { core = (in_register r, means, refl); below = there.0; text = text; named = there.1; same = at.passed.pc }
+      record { core = (at.passed.functions, (in_register r, means, refl)); below = there.0; text = text; named = there.1; same = at.passed.pc }
   local_operand (parenthesized line e) r p q is at =
       let same = ap (λ (form : Form). cond form.name (register_of (meaning active p)) None) (form_is g e) in
       let inner = local_operand e r p q (same ∙ is) at in

@@ -21,10 +21,10 @@ use Rattle.scheme_stands.specs.Expressions.{PartTargetAt, local_at}
 use Rattle.scheme_stands.specs.Relation.{related}
 use Rattle.scheme_stands.specs.Words.{Fn, Means, Spot, Stretch}
 use Rattle.reads_back.specs.Acted.{IsTarget, named_behind}
-use Rattle.reads_back.specs.Cores.{IsCore}
+use Rattle.reads_back.specs.Cores.{Counted, IsCore, IsValueOperand, valued}
 use Rattle.reads_back.proofs.BehindWords.{HasLocals, SameLocals, behind_words, quiet_same, same_locals, same_then}
 use Rattle.reads_back.proofs.BothOperands.{counted}
-use Rattle.reads_back.proofs.Comes.{IsOperandWanted, IsValueOperand, IsWanted, ReadsCore}
+use Rattle.reads_back.proofs.Comes.{IsOperandWanted, IsWanted, ReadsCore}
 use Rattle.reads_back.proofs.GlobalTargets.{HasGlobal}
 use Rattle.reads_back.proofs.HeldOperands.{HeldComes, Kept, ReadsHeld, StandsIn, counts_none, entries_in, in_local, in_next, in_word, operand_held, operand_of, taken_up}
 use Rattle.reads_back.proofs.LiteralReads.{constant_there}
@@ -115,23 +115,24 @@ value_in (constant_operand k) = nil_value
 pub core_of : (Is : Value → Type 0) (kept : Kept) → IsValueOperand Is (operand_of kept) → Is (value_of kept)
 core_of Is kept is = subst Is (sym (ap value_in (sym (same_value kept (is_value_kept Is kept is)) ∙ is.2))) is.1
 
-held_leads : {f : Function} {g : Fn} {active : List Active} {listed : List ℕ} {Is : OperandValue → Type 0} {to : (free x free1 : ℕ) → Stretch} → ReadsHeld f g active listed Is to → (free x free1 : ℕ) (p q : Spot) → to free x free1 p q → Leads f free free1 p.pc q.pc
+held_leads : {f : Function} {g : Fn} {active : List Active} {listed : List ℕ} {Is : Counted OperandValue} {to : (free x free1 : ℕ) → Stretch} → ReadsHeld f g active listed Is to → (free x free1 : ℕ) (p q : Spot) → to free x free1 p q → Leads f free free1 p.pc q.pc
 held_leads reads free x free1 p q at = record { forward = reads.forward free x free1 p q at; up = taken_up (reads.takes free x free1 p q at); begins = λ within. reads.begins free x free1 p q within at }
 
 -- ---- a table and its key
 
 module _ {f : Function} {g : Fn} {active : List Active} {listed : List ℕ} (is_function : IsFunction f g) (all : AreListed f g active listed) (on : Expression) (on_reads : ReadsCore f g active listed on)
-    (no_table : (v : Value) → IsCore g active on v → IsNoTable v) (key_at : List Active → (free x free1 : ℕ) → Stretch) (key_local : List Active → Spot → Bool) (Key : OperandValue → Type 0) (keys : ReadsHeld f g active listed Key (key_at active)) where
+    (no_table : (before behind : ℕ) (v : Value) → IsCore g active on before behind v → IsNoTable v) (key_at : List Active → (free x free1 : ℕ) → Stretch) (key_local : List Active → Spot → Bool) (Key : Counted OperandValue) (keys : ReadsHeld f g active listed Key (key_at active)) where
   pub part_leads : (to : Target) (free free2 : ℕ) (p q : Spot) → PartTargetAt g (related g on) key_at key_local active free to free2 p q → Leads f free free2 p.pc q.pc
   part_leads to free free2 p q at = leads_then (held_leads (operand_held is_function all on on_reads) free at.t at.free1 p at.mid at.on_at) (held_leads keys at.free1 at.k free2 at.mid q at.key_at)
 
-  part_held : (Is : TargetValue → Type 0) → ((o : Value) (k : OperandValue) → IsCore g active on o → Key k → Is (index_target o k)) → (on_local key_local : Bool) (free t free1 k free2 first mid last : ℕ) (s : Situation) → free ≡ length active + length s.entries →
-      (one : HeldComes f active listed (IsValueOperand (IsCore g active on)) s free t free1 first mid) → HeldComes f active listed Key (behind_held one) free1 k free2 mid last →
+  part_held : (before between behind : ℕ) (Is : TargetValue → Type 0) → ((o : Value) (k : OperandValue) → IsCore g active on before between o → Key between behind k → Is (index_target o k)) →
+      (on_local key_local : Bool) (free t free1 k free2 first mid last : ℕ) (s : Situation) → free ≡ length active + length s.entries →
+      (one : HeldComes f active listed (valued (IsCore g active on) before between) s free t free1 first mid) → HeldComes f active listed (Key between behind) (behind_held one) free1 k free2 mid last →
       TargetComes f g (length active) listed Is (part_target t k on_local key_local) s free2 first last
-  part_held Is is on_local key_local free t free1 k free2 first mid last s next one two =
+  part_held before between behind Is is on_local key_local free t free1 k free2 first mid last s next one two =
       let count = length active in
-      let value = is_value_kept (IsCore g active on) one.kept one.is in
-      let core = core_of (IsCore g active on) one.kept one.is in
+      let value = is_value_kept (IsCore g active on before between) one.kept one.is in
+      let core = core_of (IsCore g active on before between) one.kept one.is in
       let first_part = s.entries ++ entries_in one.kept in
       let both = first_part ++ entries_in two.kept in
       let next1 : free1 ≡ count + length first_part = omega (arith, is_higher f count listed free t free1 one.kept one.stands, next, length-append s.entries (entries_in one.kept)) in
@@ -150,7 +151,7 @@ module _ {f : Function} {g : Fn} {active : List Active} {listed : List ℕ} (is_
           at_on = refl;
           at_key = refl;
           value = value;
-          no_maker = kept_no_maker one.kept (is_entry f count listed free t free1 one.kept one.stands) (no_table (value_of one.kept) core);
+          no_maker = kept_no_maker one.kept (is_entry f count listed free t free1 one.kept one.stands) (no_table before between (value_of one.kept) core);
           mid = length first_part;
           on_in = kept_grows f count listed first_part both (grows_by first_part (entries_in two.kept)) one.kept (length s.entries) t (length first_part) (held_placed f count listed s.entries free next one.kept t free1 one.stands);
           key_in = held_placed f count listed first_part free1 next1 two.kept k free2 two.stands;
@@ -163,8 +164,8 @@ module _ {f : Function} {g : Fn} {active : List Active} {listed : List ℕ} (is_
         named = λ n. refl;
       }
 
-  pub part_comes : (Is : TargetValue → Type 0) → ((o : Value) (k : OperandValue) → IsCore g active on o → Key k → Is (index_target o k)) → (to : Target) (free free2 : ℕ) (p q : Spot) (s : Situation) → HasLocals active listed s → free ≡ next_free s → IsQuiet f s.scope p.pc q.pc →
-      (free < free2 → IsWanted f s q.pc) → PartTargetAt g (related g on) key_at key_local active free to free2 p q → TargetComes f g (length active) listed Is to s free2 p.pc q.pc
+  pub part_comes : (Is : Counted TargetValue) → ((before between behind : ℕ) (o : Value) (k : OperandValue) → IsCore g active on before between o → Key between behind k → Is before behind (index_target o k)) → (to : Target) (free free2 : ℕ) (p q : Spot) (s : Situation) → HasLocals active listed s → free ≡ next_free s → IsQuiet f s.scope p.pc q.pc →
+      (free < free2 → IsWanted f s q.pc) → PartTargetAt g (related g on) key_at key_local active free to free2 p q → TargetComes f g (length active) listed (Is p.functions q.functions) to s free2 p.pc q.pc
   part_comes Is is to free free2 p q s locals next quiet wanted at =
       let tables = operand_held is_function all on on_reads in
       let on_leads = held_leads tables free at.t at.free1 p at.mid at.on_at in
@@ -174,8 +175,8 @@ module _ {f : Function} {g : Fn} {active : List Active} {listed : List ℕ} (is_
       let key_wanted : IsOperandWanted f (behind_held one) at.free1 at.k free2 q.pc = λ is more.
       wanted_later f q.pc s one.scope (s.entries ++ entries_in one.kept) one.seen one.same (omega (arith, length-append s.entries (entries_in one.kept))) (wanted (omega (arith, more, on_leads.up))) in
       let two = keys.comes at.free1 at.k free2 at.mid q (behind_held one) (locals_behind one locals) (next_behind one next) (quiet_same one.same (quiet_from at.mid.pc on_leads.forward quiet)) key_wanted at.key_at in
-      subst (λ (to : Target). TargetComes f g (length active) listed Is to s free2 p.pc q.pc) (sym at.is)
-      (part_held Is is (is_some (local_at (related g on).form active p)) (key_local active at.mid) free at.t at.free1 at.k free2 p.pc at.mid.pc q.pc s (omega (arith, next, locals.base)) one two)
+      subst (λ (to : Target). TargetComes f g (length active) listed (Is p.functions q.functions) to s free2 p.pc q.pc) (sym at.is)
+      (part_held p.functions at.mid.functions q.functions (Is p.functions q.functions) (is p.functions at.mid.functions q.functions) (is_some (local_at (related g on).form active p)) (key_local active at.mid) free at.t at.free1 at.k free2 p.pc at.mid.pc q.pc s (omega (arith, next, locals.base)) one two)
 
 -- ---- a name
 
@@ -200,12 +201,12 @@ module _ {f : Function} {g : Fn} (active : List Active) {listed : List ℕ} (is_
     named = λ n. named n ∙ ap (named_behind (target_to d)) (sym (max-zero n));
   }
 
-  pub name_comes : (line : ℕ) (text : Text) → is_name text ≡ true → (w : Where) (free first last : ℕ) (s : Situation) → last ≡ first → free ≡ length active + length s.entries → Means g.law active text w → IsListed f (length active) listed text w → HasGlobal g (name_target text w) →
-      TargetComes f g (length active) listed (IsTarget g active (name_expression line text)) (name_target text w) s free first last
-  name_comes line text named (in_register x) free first last s same next means there has =
-      stays_there (IsTarget g active (name_expression line text)) (name_target text (in_register x)) (to_local x) free first last s same next (in_register x, means, refl) (refl, there.0, there.1, omega arith) refl (λ n. refl)
-  name_comes line text named (in_upvalue slot) free first last s same next means there has =
-      stays_there (IsTarget g active (name_expression line text)) (name_target text (in_upvalue slot)) (to_upvalue slot) free first last s same next (in_upvalue slot, means, refl) (refl, there, omega arith) refl (λ n. refl)
-  name_comes line text named in_globals free first last s same next means there has =
+  pub name_comes : (line : ℕ) (text : Text) → is_name text ≡ true → (w : Where) (free before behind first last : ℕ) (s : Situation) → behind ≡ before → last ≡ first → free ≡ length active + length s.entries → Means g.law active text w → IsListed f (length active) listed text w → HasGlobal g (name_target text w) →
+      TargetComes f g (length active) listed (IsTarget g active (name_expression line text) before behind) (name_target text w) s free first last
+  name_comes line text named (in_register x) free before behind first last s none same next means there has =
+      stays_there (IsTarget g active (name_expression line text) before behind) (name_target text (in_register x)) (to_local x) free first last s same next (none, in_register x, means, refl) (refl, there.0, there.1, omega arith) refl (λ n. refl)
+  name_comes line text named (in_upvalue slot) free before behind first last s none same next means there has =
+      stays_there (IsTarget g active (name_expression line text) before behind) (name_target text (in_upvalue slot)) (to_upvalue slot) free first last s same next (none, in_upvalue slot, means, refl) (refl, there, omega arith) refl (λ n. refl)
+  name_comes line text named in_globals free before behind first last s none same next means there has =
       let known : IsGlobalName f has.0 text = record { there = constant_there has.0 (Constant.Text text) is_function has.1.is; named = named } in
-      stays_there (IsTarget g active (name_expression line text)) (name_target text in_globals) (to_global has.0) free first last s same next (in_globals, means, (has.0, has.1, refl)) (has.1, known, omega arith) refl (λ n. refl)
+      stays_there (IsTarget g active (name_expression line text) before behind) (name_target text in_globals) (to_global has.0) free first last s same next (none, in_globals, means, (has.0, has.1, refl)) (has.1, known, omega arith) refl (λ n. refl)

@@ -18,8 +18,8 @@ use Rattle.scheme_stands.proofs.Forms.{form_is}
 use Rattle.scheme_stands.specs.Expressions.{Form, OperandAt, OperandBy, RkAt, RkBy, RkTextAt, SmallAt, local_at}
 use Rattle.scheme_stands.specs.Relation.{related}
 use Rattle.scheme_stands.specs.Words.{Fn, Spot}
-use Rattle.reads_back.specs.Cores.{IsCore, IsKey, IsOperand, IsOperandBy, IsSmall}
-use Rattle.reads_back.proofs.Comes.{Begins, Comes, IsOperandWanted, IsValueOperand, OperandComes, ReadsCore, ReadsOperand, comes_next}
+use Rattle.reads_back.specs.Cores.{IsCore, IsKey, IsOperand, IsOperandBy, IsSmall, IsValueOperand, valued}
+use Rattle.reads_back.proofs.Comes.{Begins, Comes, IsOperandWanted, OperandComes, ReadsCore, ReadsOperand, comes_next}
 use Rattle.reads_back.proofs.BehindWords.{HasLocals, behind_words, same_locals}
 use Rattle.reads_back.proofs.Deeper.{some_depth}
 use Rattle.reads_back.proofs.LiteralReads.{constant_reads, constant_there}
@@ -146,7 +146,7 @@ local_popped f listed r text t before small below active named is =
 -- ---- operands
 
 module _ {f : Function} {g : Fn} {active : List Active} {listed : List ℕ} (is_function : IsFunction f g) (all : AreListed f g active listed) (e : Expression) (reads : ReadsCore f g active listed e) where
-  local_comes : (r free x free1 : ℕ) (p q : Spot) (s : Situation) → HasLocals active listed s → x ≡ r → free1 ≡ free → IsLocal is_function all e r p q → OperandComes f (IsValueOperand (IsCore g active e)) (depth_of_expression e) s free x free1 p.pc q.pc
+  local_comes : (r free x free1 : ℕ) (p q : Spot) (s : Situation) → HasLocals active listed s → x ≡ r → free1 ≡ free → IsLocal is_function all e r p q → OperandComes f (valued (IsCore g active e) p.functions q.functions) (depth_of_expression e) s free x free1 p.pc q.pc
   local_comes r free x free1 p q s locals at_x at_free local =
       let few = all.few in
       record {
@@ -175,13 +175,13 @@ module _ {f : Function} {g : Fn} {active : List Active} {listed : List ℕ} (is_
   operand_by_begins None free x free1 p q within is at = inr (reads.begins free p q within at.value_at)
 
   operand_by_comes : (o : Option ℕ) (free x free1 : ℕ) (p q : Spot) (s : Situation) → local_at (related g e).form active p ≡ o → HasLocals active listed s → free ≡ next_free s → IsQuiet f s.scope p.pc q.pc → IsOperandWanted f s free x free1 q.pc →
-      OperandBy o g active (related g e) free x free1 p q → OperandComes f (IsValueOperand (IsCore g active e)) (depth_of_expression e) s free x free1 p.pc q.pc
+      OperandBy o g active (related g e) free x free1 p q → OperandComes f (valued (IsCore g active e) p.functions q.functions) (depth_of_expression e) s free x free1 p.pc q.pc
   operand_by_comes (Some r) free x free1 p q s is locals next quiet wanted at = local_comes r free x free1 p q s locals at.at_x at.at_free (local_operand is_function all e r p q is at.passed)
   operand_by_comes None free x free1 p q s is locals next quiet wanted at =
       next_comes free x free1 at.at_x (omega (arith, at.room, is_function.few)) at.at_free (comes_next reads free p q s locals next quiet (wanted at.at_x at.at_free) at.value_at)
 
   -- a local, or the next register
-  pub operand_reads : ReadsOperand f g active listed (IsValueOperand (IsCore g active e)) (depth_of_expression e) (OperandAt g active (related g e))
+  pub operand_reads : ReadsOperand f g active listed (valued (IsCore g active e)) (depth_of_expression e) (OperandAt g active (related g e))
   operand_reads = record {
     forward = λ free x free1 p q at. operand_by_forward (local_at (related g e).form active p) free x free1 p q refl at;
     begins = λ free x free1 p q within at. operand_by_begins (local_at (related g e).form active p) free x free1 p q within refl at;
@@ -199,9 +199,9 @@ module _ {f : Function} {g : Fn} {active : List Active} {listed : List ℕ} (is_
   rk_by_begins None free x free1 p q within at = operand_reads.begins free x free1 p q within at
 
   rk_by_comes : (o : Option Constant) (free x free1 : ℕ) (p q : Spot) (s : Situation) → HasLocals active listed s → free ≡ next_free s → IsQuiet f s.scope p.pc q.pc → IsOperandWanted f s free x free1 q.pc → RkBy o g active (related g e) free x free1 p q →
-      OperandComes f (IsOperandBy o g (IsCore g active e)) (depth_of_expression e) s free x free1 p.pc q.pc
-  rk_by_comes (Some k) free x free1 p q s locals next quiet wanted (inl at) = comes_less (λ o is. inl is) (some_depth e) (small_comes k s free x free1 is_function at)
-  rk_by_comes (Some k) free x free1 p q s locals next quiet wanted (inr (large, at)) = comes_less (λ o is. inr (large, is.0, is.1, is.2)) (omega arith) (operand_reads.comes free x free1 p q s locals next quiet wanted at)
+      OperandComes f (IsOperandBy o g (IsCore g active e) p.functions q.functions) (depth_of_expression e) s free x free1 p.pc q.pc
+  rk_by_comes (Some k) free x free1 p q s locals next quiet wanted (inl at) = comes_less (λ o is. inl (at.same.functions, is)) (some_depth e) (small_comes k s free x free1 is_function at)
+  rk_by_comes (Some k) free x free1 p q s locals next quiet wanted (inr (large, at)) = comes_less (λ o is. inr (large, is)) (omega arith) (operand_reads.comes free x free1 p q s locals next quiet wanted at)
   rk_by_comes None free x free1 p q s locals next quiet wanted at = operand_reads.comes free x free1 p q s locals next quiet wanted at
 
   -- a literal is a constant where its number is small
@@ -210,7 +210,7 @@ module _ {f : Function} {g : Fn} {active : List Active} {listed : List ℕ} (is_
     forward = λ free x free1 p q at. rk_by_forward (related g e).form.literal free x free1 p q at;
     begins = λ free x free1 p q within at. rk_by_begins (related g e).form.literal free x free1 p q within at;
     comes = λ free x free1 p q s locals next quiet wanted at.
-        subst (λ (form : Form). OperandComes f (IsOperandBy form.literal g (IsCore g active e)) (depth_of_expression e) s free x free1 p.pc q.pc) (form_is g e)
+        subst (λ (form : Form). OperandComes f (IsOperandBy form.literal g (IsCore g active e) p.functions q.functions) (depth_of_expression e) s free x free1 p.pc q.pc) (form_is g e)
         (rk_by_comes (related g e).form.literal free x free1 p q s locals next quiet wanted at);
   }
 
@@ -224,10 +224,10 @@ text_begins text free x free1 p q is_function (inl at) = inl (sym at.same.pc)
 text_begins text free x free1 p q is_function (inr (large, at)) = let w = at.value_at in inr (word_begins free is_function w.word (abx_is_read is_function w.word) refl (omega arith))
 
 module _ {f : Function} {g : Fn} {active : List Active} {listed : List ℕ} (is_function : IsFunction f g) (text : Text) where
-  text_comes : (free x free1 : ℕ) (p q : Spot) (s : Situation) → HasLocals active listed s → free ≡ next_free s → IsQuiet f s.scope p.pc q.pc → IsOperandWanted f s free x free1 q.pc → RkTextAt g text free x free1 p q → OperandComes f (IsKey g text) 1 s free x free1 p.pc q.pc
-  text_comes free x free1 p q s locals next quiet wanted (inl at) = comes_less (λ o is. inl is) (omega arith) (small_comes (Constant.Text text) s free x free1 is_function at)
+  text_comes : (free x free1 : ℕ) (p q : Spot) (s : Situation) → HasLocals active listed s → free ≡ next_free s → IsQuiet f s.scope p.pc q.pc → IsOperandWanted f s free x free1 q.pc → RkTextAt g text free x free1 p q → OperandComes f (IsKey g text p.functions q.functions) 1 s free x free1 p.pc q.pc
+  text_comes free x free1 p q s locals next quiet wanted (inl at) = comes_less (λ o is. inl (at.same.functions, is)) (omega arith) (small_comes (Constant.Text text) s free x free1 is_function at)
   text_comes free x free1 p q s locals next quiet wanted (inr (large, at)) =
-      comes_less (λ o is. inr (large, is.0, is.1, is.2)) (omega arith)
+      comes_less (λ o is. inr (large, is)) (omega arith)
       (next_comes free x free1 at.at_x (omega (arith, at.room, is_function.few)) at.at_free
       (comes_next (constant_reads {active = active} {listed = listed} is_function (Constant.Text text)) free p q s locals next quiet (wanted at.at_x at.at_free) at.value_at))
 

@@ -140,20 +140,20 @@ module _ {f : Function} {g : Fn} {active : List Active} {listed : List ℕ} {z :
       ap (λ (v : Value). literal (wording f listed z left n v).words) same
       ∙ ap (λ there. literal (constant_word there).words) (constant_is made (Constant.Text text) number has)
 
-  plain_written : (left : List (Option Inner)) (e : Expression) (k : Constant) (v : Value) → plain_literal e ≡ Some k → IsCore g active e v → (n : ℕ) → literal (wording f listed z left n v).words ≡ Some k
-  plain_written left (nil_literal line) k v is core n = ap (λ (v : Value). literal (wording f listed z left n v).words) core ∙ is
-  plain_written left (true_literal line) k v is core n = ap (λ (v : Value). literal (wording f listed z left n v).words) core ∙ is
-  plain_written left (false_literal line) k v is core n = ap (λ (v : Value). literal (wording f listed z left n v).words) core ∙ is
-  plain_written left (text_literal line text) k v is core n = loaded_text left text v core n ∙ is
-  plain_written left e k v is core n = cc
+  plain_written : (left : List (Option Inner)) (e : Expression) (before behind : ℕ) (k : Constant) (v : Value) → plain_literal e ≡ Some k → IsCore g active e before behind v → (n : ℕ) → literal (wording f listed z left n v).words ≡ Some k
+  plain_written left (nil_literal line) before behind k v is core n = ap (λ (v : Value). literal (wording f listed z left n v).words) core.1 ∙ is
+  plain_written left (true_literal line) before behind k v is core n = ap (λ (v : Value). literal (wording f listed z left n v).words) core.1 ∙ is
+  plain_written left (false_literal line) before behind k v is core n = ap (λ (v : Value). literal (wording f listed z left n v).words) core.1 ∙ is
+  plain_written left (text_literal line text) before behind k v is core n = loaded_text left text v core.1 n ∙ is
+  plain_written left e before behind k v is core n = cc
 
-module _ {f : Function} {g : Fn} {active : List Active} {listed : List ℕ} {z : Maker} {left : List (Option Inner)} (made : IsMadeBy f g active listed z) where
+module _ {f : Function} {g : Fn} {active : List Active} {listed : List ℕ} {z : Maker} {left behind : List (Option Inner)} (made : IsMadeBy f g active listed z) where
   -- ---- a constant with a small number
 
-  small_rewritten : (e : Expression) (k : Constant) (number : ℕ) → HasCore e → literal e ≡ Some k → HasNumber g k number → number ≤ 255 → RewrittenOperand f g active listed z left e (constant_operand number)
-  small_rewritten e k number cored is has small = record {
+  small_rewritten : (e : Expression) (k : Constant) (number : ℕ) → HasCore e → literal e ≡ Some k → HasNumber g k number → number ≤ 255 → left ≡ behind → RewrittenOperand f g active listed z left behind e (constant_operand number)
+  small_rewritten e k number cored is has small same = record {
     can = ap is_some there;
-    unused = refl;
+    leaves = same;
     folded = λ n. fold_by (constant_word (slice_get f.of.constants number)).words ∙ ap number_in (word_literal ∙ sym is) ∙ sym (fold_by e);
     few = λ n. omega (arith, ap (λ (w : Wording). w.levels) word_is, word_few k, some_depth e);
     as_rk = λ m ahead final. rk_small (constant_word (slice_get f.of.constants number)).words k m word_literal (small_now m final) ∙ sym (is_small_constant m final);
@@ -177,12 +177,12 @@ module _ {f : Function} {g : Fn} {active : List Active} {listed : List ℕ} {z :
 
   -- ---- a value in a register
 
-  value_rewritten : (e : Expression) (v : Value) → Rewritten f g active listed z left e v → ((m : Maker) → Final (length m.labels) (rk (code e) m).after z → rk (code e) m ≡ operand (code e) m) →
+  value_rewritten : (e : Expression) (v : Value) → Rewritten f g active listed z left behind e v → ((m : Maker) → Final (length m.labels) (rk (code e) m).after z → rk (code e) m ≡ operand (code e) m) →
       ((m : Maker) (k : Constant) → IsAhead g active (names_in e) m → Final (length m.labels) (rk (code e) m).after z → Final (length m.labels) (operand (code e) m).after z → literal (operand_wording f listed z left (length m.constants) (value_operand v)).words ≡ Some k → is_small k m ≡ false) →
-      RewrittenOperand f g active listed z left e (value_operand v)
+      RewrittenOperand f g active listed z left behind e (value_operand v)
   value_rewritten e v rewritten own large = record {
     can = rewritten.can;
-    unused = rewritten.unused;
+    leaves = rewritten.leaves;
     folded = λ n. fold_wrapped (bare_at f listed n v) (wording f listed z left n v) ∙ rewritten.folded n;
     few = λ n. omega (arith, levels_wrapped (bare_at f listed n v) (wording f listed z left n v), rewritten.few n);
     as_rk = λ m ahead final.
@@ -200,23 +200,23 @@ module _ {f : Function} {g : Fn} {active : List Active} {listed : List ℕ} {z :
   -- ---- a literal with no small number
 
   -- where an expression is a literal, it is written as that literal
-  written_literal : (e : Expression) (k : Constant) (v : Value) → literal e ≡ Some k → IsCore g active e v → Rewritten f g active listed z left e v → (n : ℕ) → literal (wording f listed z left n v).words ≡ Some k
-  written_literal e k v is core rewritten n = by (fold e) refl
+  written_literal : (e : Expression) (before after : ℕ) (k : Constant) (v : Value) → literal e ≡ Some k → IsCore g active e before after v → Rewritten f g active listed z left behind e v → (n : ℕ) → literal (wording f listed z left n v).words ≡ Some k
+  written_literal e before after k v is core rewritten n = by (fold e) refl
     where
       by : (folded : Option ℤ) → fold e ≡ folded → literal (wording f listed z left n v).words ≡ Some k
       by (Some number) known =
           ap (λ folded. number_or folded (plain_literal (wording f listed z left n v).words)) (rewritten.folded n ∙ known)
           ∙ sym (ap (λ folded. number_or folded (plain_literal e)) known)
           ∙ is
-      by None known = plain_written made left e k v (plain_by (fold e) (plain_literal e) (Some k) known is) core n
+      by None known = plain_written made left e before after k v (plain_by (fold e) (plain_literal e) (Some k) known is) core n
 
-  large_rewritten : (e : Expression) (k : Constant) (v : Value) → literal e ≡ Some k → IsLarge g k → IsCore g active e v → Rewritten f g active listed z left e v → RewrittenOperand f g active listed z left e (value_operand v)
-  large_rewritten e k v is large core rewritten =
+  large_rewritten : (e : Expression) (before after : ℕ) (k : Constant) (v : Value) → literal e ≡ Some k → IsLarge g k → IsCore g active e before after v → Rewritten f g active listed z left behind e v → RewrittenOperand f g active listed z left behind e (value_operand v)
+  large_rewritten e before after k v is large core rewritten =
       value_rewritten e v rewritten
       (λ m final. rk_large (one_line_expression e) k m (same_literal e ∙ is) (large_now m final))
       (λ m other ahead final final' wrapped.
       let n = length m.constants in
-      let same = wrapped_literal (bare_at f listed n v) (wording f listed z left n v) k other (written_literal e k v is core rewritten n) wrapped in
+      let same = wrapped_literal (bare_at f listed n v) (wording f listed z left n v) k other (written_literal e before after k v is core rewritten n) wrapped in
       subst (λ (k : Constant). is_small k m ≡ false) (sym same) (large_now m final))
     where
       large_now : (m : Maker) → Final (length m.labels) (rk (code e) m).after z → is_small k m ≡ false
@@ -225,7 +225,7 @@ module _ {f : Function} {g : Fn} {active : List Active} {listed : List ℕ} {z :
   -- ---- what is no literal
 
   -- what takes a constant is no local
-  constant_no_local : (e : Expression) (number : ℕ) (m : Maker) → Rewritten f g active listed z left e (constant_value number) → IsAhead g active (names_in e) m → local_register (one_line_expression e) m ≡ None
+  constant_no_local : (e : Expression) (number : ℕ) (m : Maker) → Rewritten f g active listed z left behind e (constant_value number) → IsAhead g active (names_in e) m → local_register (one_line_expression e) m ≡ None
   constant_no_local e number m rewritten ahead = by (local_register (one_line_expression e) m) refl
     where
       by : (local : Option ℕ) → local_register (one_line_expression e) m ≡ local → local ≡ None
@@ -233,7 +233,7 @@ module _ {f : Function} {g : Fn} {active : List Active} {listed : List ℕ} {z :
       by None is = refl
 
   -- a string with a large number
-  text_large : (e : Expression) (text : Text) (number : ℕ) (m : Maker) → HasNumber g (Constant.Text text) number → Rewritten f g active listed z left e (constant_value number) → IsAhead g active (names_in e) m → Final (length m.labels) (operand (code e) m).after z →
+  text_large : (e : Expression) (text : Text) (number : ℕ) (m : Maker) → HasNumber g (Constant.Text text) number → Rewritten f g active listed z left behind e (constant_value number) → IsAhead g active (names_in e) m → Final (length m.labels) (operand (code e) m).after z →
       is_bare (place f.of listed f.short) (length m.constants) (constant_value number) ≡ true → is_small (Constant.Text text) m ≡ false
   text_large e text number m has rewritten ahead final bare =
       not_up_to (constant_number (Constant.Text text) m.constants) (omega (arith, more, number_is made (Constant.Text text) number m has (before_load m.free (Constant.Text text) m (subst (λ (n : Maker). Final (length m.labels) n z) loaded (operand_final (one_line_expression e) m (constant_no_local e number m rewritten ahead) final)))))
@@ -247,7 +247,7 @@ module _ {f : Function} {g : Fn} {active : List Active} {listed : List ℕ} {z :
       loaded : (code e).to_reg m.free m ≡ loads m.free (Constant.Text text) m
       loaded = sym (rewritten.to_reg m.free m ahead (operand_final (one_line_expression e) m (constant_no_local e number m rewritten ahead) final)) ∙ ap (λ k. (coded (constant_word k).words).to_reg m.free m) there
 
-  constant_large : (e : Expression) (own : Constant) (number : ℕ) (m : Maker) (k : Constant) → IsLoadable own → HasNumber g own number → fold e ≡ None → Rewritten f g active listed z left e (constant_value number) → IsAhead g active (names_in e) m → Final (length m.labels) (operand (code e) m).after z →
+  constant_large : (e : Expression) (own : Constant) (number : ℕ) (m : Maker) (k : Constant) → IsLoadable own → HasNumber g own number → fold e ≡ None → Rewritten f g active listed z left behind e (constant_value number) → IsAhead g active (names_in e) m → Final (length m.labels) (operand (code e) m).after z →
       is_bare (place f.of listed f.short) (length m.constants) (constant_value number) ≡ true → plain_literal (wording f listed z left (length m.constants) (constant_value number)).words ≡ Some k → is_small k m ≡ false
   constant_large e (Constant.Text text) number m k loadable has none rewritten ahead final bare plain =
       let there = constant_is made (Constant.Text text) number has in
@@ -259,7 +259,7 @@ module _ {f : Function} {g : Fn} {active : List Active} {listed : List ℕ} {z :
   constant_large e own number m k loadable has none rewritten ahead final bare plain = absurd loadable
 
   -- how a value is written that could be one
-  shown_large : (e : Expression) (v : Value) (m : Maker) (k : Constant) → fold e ≡ None → Rewritten f g active listed z left e v → IsShown g (place f.of listed f.short) left v → IsAhead g active (names_in e) m → Final (length m.labels) (operand (code e) m).after z →
+  shown_large : (e : Expression) (v : Value) (m : Maker) (k : Constant) → fold e ≡ None → Rewritten f g active listed z left behind e v → IsShown g (place f.of listed f.short) left v → IsAhead g active (names_in e) m → Final (length m.labels) (operand (code e) m).after z →
       is_bare (place f.of listed f.short) (length m.constants) v ≡ true → plain_literal (wording f listed z left (length m.constants) v).words ≡ Some k → is_small k m ≡ false
   shown_large e v m k none rewritten (is_nil is) ahead final =
       subst (λ (v : Value). is_bare (place f.of listed f.short) (length m.constants) v ≡ true → plain_literal (wording f listed z left (length m.constants) v).words ≡ Some k → is_small k m ≡ false) (sym is)
@@ -269,11 +269,11 @@ module _ {f : Function} {g : Fn} {active : List Active} {listed : List ℕ} {z :
       (truth_large made b m k (before (grows_operand {v = calm} (code e) (grows calm (one_line_expression e)) m) final))
   shown_large e v m k none rewritten (is_constant own number loadable has is) ahead final =
       subst (λ (v : Value). is_bare (place f.of listed f.short) (length m.constants) v ≡ true → plain_literal (wording f listed z left (length m.constants) v).words ≡ Some k → is_small k m ≡ false) (sym is)
-      (constant_large e own number m k loadable has none (subst (Rewritten f g active listed z left e) is rewritten) ahead final)
+      (constant_large e own number m k loadable has none (subst (Rewritten f g active listed z left behind e) is rewritten) ahead final)
   shown_large e v m k none rewritten (is_no_literal never) ahead final = λ bare plain. let words = sym (never (length m.constants)) ∙ plain in cc
 
-  plain_rewritten : (e : Expression) (v : Value) → literal e ≡ None → IsCore g active e v → Rewritten f g active listed z left e v → RewrittenOperand f g active listed z left e (value_operand v)
-  plain_rewritten e v is core rewritten =
+  plain_rewritten : (e : Expression) (before after : ℕ) (v : Value) → literal e ≡ None → IsCore g active e before after v → Rewritten f g active listed z left behind e v → RewrittenOperand f g active listed z left behind e (value_operand v)
+  plain_rewritten e before after v is core rewritten =
       value_rewritten e v rewritten
       (λ m final. rk_plain (one_line_expression e) m (same_literal e ∙ is))
       (λ m k ahead final final' wrapped. by m k ahead final' (is_bare (place f.of listed f.short) (length m.constants) v) refl wrapped)
@@ -284,7 +284,7 @@ module _ {f : Function} {g : Fn} {active : List Active} {listed : List ℕ} {z :
       by : (m : Maker) (k : Constant) → IsAhead g active (names_in e) m → Final (length m.labels) (operand (code e) m).after z → (bare : Bool) → is_bare (place f.of listed f.short) (length m.constants) v ≡ bare → literal (unless bare (wording f listed z left (length m.constants) v)).words ≡ Some k → is_small k m ≡ false
       by m k ahead final true bare words =
           let n = length m.constants in
-          shown_large e v m k none rewritten (shown g active (place f.of listed f.short) left e v core rewritten.can) ahead final bare (plain_by (fold (wording f listed z left n v).words) (plain_literal (wording f listed z left n v).words) (Some k) (rewritten.folded n ∙ none) words)
+          shown_large e v m k none rewritten (shown g active (place f.of listed f.short) left e before after v core rewritten.can) ahead final bare (plain_by (fold (wording f listed z left n v).words) (plain_literal (wording f listed z left n v).words) (Some k) (rewritten.folded n ∙ none) words)
       by m k ahead final false bare words =
           let n = length m.constants in
           absurd (none_some k (sym (ap (λ folded. number_or folded None) (rewritten.folded n ∙ none)) ∙ words))
@@ -292,14 +292,18 @@ module _ {f : Function} {g : Fn} {active : List Active} {listed : List ℕ} {z :
           none_some : (k : Constant) → None ≡ Some k → ⊥
           none_some k is = cc
 
-  pub operand_rewritten : (e : Expression) (o : OperandValue) → HasCore e → IsOperand g active e o → ((v : Value) → IsCore g active e v → Rewritten f g active listed z left e v) → RewrittenOperand f g active listed z left e o
-  operand_rewritten e o has is written = by (literal e) refl is
+module _ {f : Function} {g : Fn} {active : List Active} {listed : List ℕ} {z : Maker} (lefts : ℕ → List (Option Inner)) (made : IsMadeBy f g active listed z) where
+  pub operand_rewritten : (e : Expression) (before behind : ℕ) (o : OperandValue) → HasCore e → IsOperand g active e before behind o → ((v : Value) → IsCore g active e before behind v → Rewritten f g active listed z (lefts before) (lefts behind) e v) →
+      RewrittenOperand f g active listed z (lefts before) (lefts behind) e o
+  operand_rewritten e before behind o has is written = by (literal e) refl is
     where
-      by : (k : Option Constant) → literal e ≡ k → IsOperandBy k g (IsCore g active e) o → RewrittenOperand f g active listed z left e o
-      by (Some k) known (inl (number, numbered, small, same)) = subst (RewrittenOperand f g active listed z left e) (sym same) (small_rewritten e k number has known numbered small)
-      by (Some k) known (inr (large, v, core, same)) = subst (RewrittenOperand f g active listed z left e) (sym same) (large_rewritten e k v known large core (written v core))
-      by None known (v, core, same) = subst (RewrittenOperand f g active listed z left e) (sym same) (plain_rewritten e v known core (written v core))
+      by : (k : Option Constant) → literal e ≡ k → IsOperandBy k g (IsCore g active e) before behind o → RewrittenOperand f g active listed z (lefts before) (lefts behind) e o
+      by (Some k) known (inl (as_many, (number, numbered, small, same))) = subst (RewrittenOperand f g active listed z (lefts before) (lefts behind) e) (sym same) (small_rewritten made e k number has known numbered small (ap lefts (sym as_many)))
+      by (Some k) known (inr (large, (v, core, same))) = subst (RewrittenOperand f g active listed z (lefts before) (lefts behind) e) (sym same) (large_rewritten made e before behind k v known large core (written v core))
+      by None known (v, core, same) = subst (RewrittenOperand f g active listed z (lefts before) (lefts behind) e) (sym same) (plain_rewritten made e before behind v known core (written v core))
 
   -- the name of a field, as a string that is a key
-  pub key_rewritten : (line : ℕ) (text : Text) (o : OperandValue) → IsKey g text o → RewrittenOperand f g active listed z left (text_literal line text) o
-  key_rewritten line text o is = operand_rewritten (text_literal line text) o tt is (λ v core. text_rewritten made line text v core)
+  pub key_rewritten : (line : ℕ) (text : Text) (before behind : ℕ) (o : OperandValue) → IsKey g text before behind o → RewrittenOperand f g active listed z (lefts before) (lefts behind) (text_literal line text) o
+  key_rewritten line text before behind o is =
+      operand_rewritten (text_literal line text) before behind o tt is
+      (λ v core. subst (λ (behind : ℕ). Rewritten f g active listed z (lefts before) (lefts behind) (text_literal line text) v) (sym core.0) (text_rewritten made line text v core.1))

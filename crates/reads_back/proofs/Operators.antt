@@ -22,14 +22,15 @@ use Rattle.scheme.specs.declared.making.Piece.{Piece}
 use Rattle.scheme.specs.declared.making.Active.{Active}
 use Rattle.scheme_stands.specs.Expressions.{ArithmeticAt, OneAt, OperandAt, OperandBy, Rel, RkAt, RkBy, RkTextAt, TwoAt, local_at}
 use Rattle.scheme_stands.specs.Words.{Fn, Spot, Stretch, WordAt, instr_by}
-use Rattle.reads_back.specs.Cores.{IsArithmetic, IsIndexed, IsUnary}
-use Rattle.reads_back.proofs.Comes.{Begins, IsOperandWanted, IsWanted, Made, OperandComes, Reads, ReadsOperand, IsValueOperand}
+use Rattle.reads_back.specs.Cores.{IsArithmetic, IsIndexed, IsUnary, IsValueOperand, Counted, arithmetic_by, valued, unary_by, indexed_by}
+use Rattle.reads_back.proofs.Comes.{Begins, IsOperandWanted, IsWanted, Made, OperandComes, Reads, ReadsOperand}
 use Rattle.reads_back.proofs.BehindWords.{HasLocals, SameLocals, behind_words, quiet_same, same_then}
 use Rattle.reads_back.proofs.BothOperands.{behind_operand, both_reach, both_taken, constants_taken, counted, first_popped, next_behind, second_popped, seen_with, seen_with_both, with_seen}
 use Rattle.reads_back.proofs.Reaches.{Reaches, reaches_on}
 use Rattle.reads_back.proofs.ValueWords.{next_free}
 use Rattle.reads_back.proofs.WordsBegin.{begins_wants, word_begins, word_wants}
 use Rattle.reads_back.proofs.WordsRead.{IsFunction, IsQuiet, abc_is_read, quiet_before, quiet_from, turn_there, word_of, word_there}
+use Rattle.reads_back.proofs.Deeper.{made_so}
 
 -- ---- operands that are values
 
@@ -131,9 +132,9 @@ word_made {f} {op = op} {a = a} {b = b} {c = c} {s = s} {v = v} {p = p} {q = q} 
     }
 
 -- the word behind two operands makes a value of them
-record MakesOfBoth (f : Function) (g : Fn) (Left Right : OperandValue → Type 0) (Is : Value → Type 0) (deep : ℕ) (code : Op) : Type 0 where
-  made : {free x free1 y free2 first mid r : ℕ} {s : Situation} {p q : Spot} → free ≡ next_free s → IsQuiet f s.scope first q.pc → (one : OperandComes f Left deep s free x free1 first mid) →
-      OperandComes f Right deep (behind_operand one) free1 y free2 mid p.pc → WordAt g (Piece.Abc code r x y) p q → Made f Is (suc deep) s r first q.pc
+record MakesOfBoth (f : Function) (g : Fn) (Left Right : Counted OperandValue) (Is : Counted Value) (deep : ℕ) (code : Op) : Type 0 where
+  made : {before between free x free1 y free2 first mid r : ℕ} {s : Situation} {p q : Spot} → free ≡ next_free s → IsQuiet f s.scope first q.pc → (one : OperandComes f (Left before between) deep s free x free1 first mid) →
+      OperandComes f (Right between p.functions) deep (behind_operand one) free1 y free2 mid p.pc → WordAt g (Piece.Abc code r x y) p q → Made f (Is before q.functions) (suc deep) s r first q.pc
 
 -- such a word makes a value, and reads the registers of both operands
 record ReadsBoth (code : Op) : Type 0 where
@@ -144,7 +145,7 @@ record ReadsBoth (code : Op) : Type 0 where
 pub begins_lower : {f : Function} {from lower pc first : ℕ} → lower ≤ from → first ≡ pc → Begins f from pc → Begins f lower first
 begins_lower {f} low same begins = record { instr = begins.instr; there = ap (instr_at f) same ∙ begins.there; makes = begins.makes; above = omega (arith, begins.above, low) }
 
-module _ {f : Function} {g : Fn} {active : List Active} {listed : List ℕ} {Left Right : OperandValue → Type 0} {deep : ℕ} {left_at right_at : (free x free1 : ℕ) → Stretch} (is_function : IsFunction f g)
+module _ {f : Function} {g : Fn} {active : List Active} {listed : List ℕ} {Left Right : Counted OperandValue} {deep : ℕ} {left_at right_at : (free x free1 : ℕ) → Stretch} (is_function : IsFunction f g)
     (left_takes : TakesNext g left_at) (right_takes : TakesNext g right_at) (left : ReadsOperand f g active listed Left deep left_at) (right : ReadsOperand f g active listed Right deep right_at) {code : Op} (reads : ReadsBoth code) where
   abbrev BothAt : (free r : ℕ) → Stretch
   BothAt free r = TwoAt left_at right_at free (λ x y. WordAt g (Piece.Abc code r x y))
@@ -181,7 +182,7 @@ module _ {f : Function} {g : Fn} {active : List Active} {listed : List ℕ} {Lef
       let few : at.y < 256 = omega (arith, right_takes.few at.free1 at.y at.free2 at.mid at.last at.right_at at_free, is_function.few, at_y) in
       word_wants t is_function at.words_at (abc_is_read is_function at.words_at) (reads.second at.last.pc r at.x at.y t.base (omega (arith, is, at_y)) few)
 
-  both_read : {Is : Value → Type 0} → MakesOfBoth f g Left Right Is deep code → Reads f g active listed Is (suc deep) BothAt
+  both_read : {Is : Counted Value} → MakesOfBoth f g Left Right Is deep code → Reads f g active listed Is (suc deep) BothAt
   both_read by = record {
     forward = both_forward;
     begins = both_begin;
@@ -257,34 +258,37 @@ arithmetic_both as_word = record {
   second = λ pc r x y base above small. as_word.wants pc r x y base ∙ second_is_read base x y above small;
 }
 
-module _ {f : Function} {g : Fn} {active : List Active} {listed : List ℕ} {Left Right : OperandValue → Type 0} {deep : ℕ} (left_part right_part : Rel) where
+module _ {f : Function} {g : Fn} {active : List Active} {listed : List ℕ} {Left Right : Counted OperandValue} {deep : ℕ} (left_part right_part : Rel) where
   arithmetic_reads : (op : BinaryOp) (code : Op) → IsArithmeticWord op code → IsFunction f g → deep < 200 → ReadsOperand f g active listed Left deep (RkAt g active left_part) → ReadsOperand f g active listed Right deep (RkAt g active right_part) →
-      Reads f g active listed (IsArithmetic op Left Right) (suc deep) (ArithmeticAt g code left_part right_part active)
+      Reads f g active listed (arithmetic_by op Left Right) (suc deep) (ArithmeticAt g code left_part right_part active)
   arithmetic_reads op code as_word is_function few left right =
-      both_read is_function (rk_takes g active left_part) (rk_takes g active right_part) left right (arithmetic_both as_word) (record { made = λ is quiet one two at. arithmetic_comes as_word is_function few is quiet one two at })
+      both_read is_function (rk_takes g active left_part) (rk_takes g active right_part) left right (arithmetic_both as_word) (record {
+        made = λ {before} {between} is quiet one two at.
+            made_so (omega arith) (λ v made. (between, subst (λ (behind : ℕ). IsArithmetic op (Left before between) (Right between behind) v) (sym at.functions) made)) (arithmetic_comes as_word is_function few is quiet one two at);
+      })
 
   pub add_reads : IsFunction f g → deep < 200 → ReadsOperand f g active listed Left deep (RkAt g active left_part) → ReadsOperand f g active listed Right deep (RkAt g active right_part) →
-      Reads f g active listed (IsArithmetic BinaryOp.Add Left Right) (suc deep) (ArithmeticAt g Op.Add left_part right_part active)
+      Reads f g active listed (arithmetic_by BinaryOp.Add Left Right) (suc deep) (ArithmeticAt g Op.Add left_part right_part active)
   add_reads = arithmetic_reads BinaryOp.Add Op.Add (record { makes = refl; wants = λ pc r x y base. refl; plain = refl; sees = λ pc r x y t. refl; reads = λ f pc r x y t. refl })
 
   pub sub_reads : IsFunction f g → deep < 200 → ReadsOperand f g active listed Left deep (RkAt g active left_part) → ReadsOperand f g active listed Right deep (RkAt g active right_part) →
-      Reads f g active listed (IsArithmetic BinaryOp.Sub Left Right) (suc deep) (ArithmeticAt g Op.Sub left_part right_part active)
+      Reads f g active listed (arithmetic_by BinaryOp.Sub Left Right) (suc deep) (ArithmeticAt g Op.Sub left_part right_part active)
   sub_reads = arithmetic_reads BinaryOp.Sub Op.Sub (record { makes = refl; wants = λ pc r x y base. refl; plain = refl; sees = λ pc r x y t. refl; reads = λ f pc r x y t. refl })
 
   pub mul_reads : IsFunction f g → deep < 200 → ReadsOperand f g active listed Left deep (RkAt g active left_part) → ReadsOperand f g active listed Right deep (RkAt g active right_part) →
-      Reads f g active listed (IsArithmetic BinaryOp.Mul Left Right) (suc deep) (ArithmeticAt g Op.Mul left_part right_part active)
+      Reads f g active listed (arithmetic_by BinaryOp.Mul Left Right) (suc deep) (ArithmeticAt g Op.Mul left_part right_part active)
   mul_reads = arithmetic_reads BinaryOp.Mul Op.Mul (record { makes = refl; wants = λ pc r x y base. refl; plain = refl; sees = λ pc r x y t. refl; reads = λ f pc r x y t. refl })
 
   pub div_reads : IsFunction f g → deep < 200 → ReadsOperand f g active listed Left deep (RkAt g active left_part) → ReadsOperand f g active listed Right deep (RkAt g active right_part) →
-      Reads f g active listed (IsArithmetic BinaryOp.Div Left Right) (suc deep) (ArithmeticAt g Op.Div left_part right_part active)
+      Reads f g active listed (arithmetic_by BinaryOp.Div Left Right) (suc deep) (ArithmeticAt g Op.Div left_part right_part active)
   div_reads = arithmetic_reads BinaryOp.Div Op.Div (record { makes = refl; wants = λ pc r x y base. refl; plain = refl; sees = λ pc r x y t. refl; reads = λ f pc r x y t. refl })
 
   pub rem_reads : IsFunction f g → deep < 200 → ReadsOperand f g active listed Left deep (RkAt g active left_part) → ReadsOperand f g active listed Right deep (RkAt g active right_part) →
-      Reads f g active listed (IsArithmetic BinaryOp.Rem Left Right) (suc deep) (ArithmeticAt g Op.Mod left_part right_part active)
+      Reads f g active listed (arithmetic_by BinaryOp.Rem Left Right) (suc deep) (ArithmeticAt g Op.Mod left_part right_part active)
   rem_reads = arithmetic_reads BinaryOp.Rem Op.Mod (record { makes = refl; wants = λ pc r x y base. refl; plain = refl; sees = λ pc r x y t. refl; reads = λ f pc r x y t. refl })
 
   pub pow_reads : IsFunction f g → deep < 200 → ReadsOperand f g active listed Left deep (RkAt g active left_part) → ReadsOperand f g active listed Right deep (RkAt g active right_part) →
-      Reads f g active listed (IsArithmetic BinaryOp.Pow Left Right) (suc deep) (ArithmeticAt g Op.Pow left_part right_part active)
+      Reads f g active listed (arithmetic_by BinaryOp.Pow Left Right) (suc deep) (ArithmeticAt g Op.Pow left_part right_part active)
   pow_reads = arithmetic_reads BinaryOp.Pow Op.Pow (record { makes = refl; wants = λ pc r x y base. refl; plain = refl; sees = λ pc r x y t. refl; reads = λ f pc r x y t. refl })
 
 -- ---- operands that stand in a register
@@ -350,16 +354,16 @@ unary_begins : {f : Function} {g : Fn} {x : ℕ} (op : UnaryOp) (free : ℕ) (p 
 unary_begins op free p mid q is_function at (inl same) = begins_lower (omega arith) same (word_begins free is_function at (abc_is_read is_function at) (unary_makes op) (omega arith))
 unary_begins op free p mid q is_function at (inr begins) = begins
 
-pub unary_reads : {f : Function} {g : Fn} {active : List Active} {listed : List ℕ} {Of : Value → Type 0} {deep : ℕ} {of_at : (free x free1 : ℕ) → Stretch} (op : UnaryOp) → IsFunction f g → deep < 200 →
-    ReadsOperand f g active listed (IsValueOperand Of) deep of_at → Reads f g active listed (IsUnary op Of) (suc deep) (λ free r. OneAt of_at free (λ x. WordAt g (Piece.Abc (unary_word op) r x 0)))
-unary_reads op is_function few of = record {
+pub unary_reads : {f : Function} {g : Fn} {active : List Active} {listed : List ℕ} {Of : Counted Value} {deep : ℕ} {of_at : (free x free1 : ℕ) → Stretch} (op : UnaryOp) → IsFunction f g → deep < 200 →
+    ReadsOperand f g active listed (valued Of) deep of_at → Reads f g active listed (unary_by op Of) (suc deep) (λ free r. OneAt of_at free (λ x. WordAt g (Piece.Abc (unary_word op) r x 0)))
+unary_reads {Of = Of} op is_function few of = record {
   forward = λ free r p q at. omega (arith, of.forward free at.x at.free1 p at.mid at.operand_at, at.words_at.next);
   begins = λ free p q within at.
       unary_begins op free p at.mid q is_function at.words_at (of.begins free at.x at.free1 p at.mid (omega (arith, at.words_at.next, within)) at.operand_at);
   arrives = λ free r p q s locals is goal quiet wanted at.
       let before = quiet_before at.mid.pc (omega (arith, at.words_at.next)) quiet in
       let reads = word_wants s is_function at.words_at (abc_is_read is_function at.words_at) in
-      inl (unary_comes op is_function few is quiet (of.comes free at.x at.free1 p at.mid s locals is before (λ at_x at_free. reads (unary_word_reads op at.mid.pc r at.x s.base (omega (arith, is, at_x)))) at.operand_at) at.words_at);
+      inl (made_so (omega arith) (λ v made. subst (λ (behind : ℕ). IsUnary op (Of p.functions behind) v) (sym at.words_at.functions) made) (unary_comes op is_function few is quiet (of.comes free at.x at.free1 p at.mid s locals is before (λ at_x at_free. reads (unary_word_reads op at.mid.pc r at.x s.base (omega (arith, is, at_x)))) at.operand_at) at.words_at));
 }
 
 -- ---- indexing
@@ -429,9 +433,12 @@ key_is_read base x y above small = grind (arith, nat_tests)
 pub on_is_read : (base x y : ℕ) → base ≤ x → (nat_le base x || is_from y base) ≡ true
 on_is_read base x y above = grind (arith, nat_tests)
 
-pub indexed_reads : {f : Function} {g : Fn} {active : List Active} {listed : List ℕ} {On : Value → Type 0} {Key : OperandValue → Type 0} {deep : ℕ} {key_at : (free x free1 : ℕ) → Stretch} (on_part : Rel) → TakesNext g key_at → IsFunction f g → deep < 200 →
-    ReadsOperand f g active listed (IsValueOperand On) deep (OperandAt g active on_part) → ReadsOperand f g active listed Key deep key_at →
-    Reads f g active listed (IsIndexed On Key) (suc deep) (λ free r. TwoAt (OperandAt g active on_part) key_at free (λ t k. WordAt g (Piece.Abc Op.GetTable r t k)))
-indexed_reads {g = g} {active = active} on_part takes is_function few on key =
+pub indexed_reads : {f : Function} {g : Fn} {active : List Active} {listed : List ℕ} {On : Counted Value} {Key : Counted OperandValue} {deep : ℕ} {key_at : (free x free1 : ℕ) → Stretch} (on_part : Rel) → TakesNext g key_at → IsFunction f g → deep < 200 →
+    ReadsOperand f g active listed (valued On) deep (OperandAt g active on_part) → ReadsOperand f g active listed Key deep key_at →
+    Reads f g active listed (indexed_by On Key) (suc deep) (λ free r. TwoAt (OperandAt g active on_part) key_at free (λ t k. WordAt g (Piece.Abc Op.GetTable r t k)))
+indexed_reads {g = g} {active = active} {On = On} {Key = Key} on_part takes is_function few on key =
     let reads : ReadsBoth Op.GetTable = record { makes = refl; first = λ pc r x y base above small. on_is_read base x y above; second = λ pc r x y base above small. key_is_read base x y above small } in
-    both_read is_function (operand_takes g active on_part) takes on key reads (record { made = λ is quiet one two at. table_comes is_function few is quiet one two at })
+    both_read is_function (operand_takes g active on_part) takes on key reads (record {
+      made = λ {before} {between} is quiet one two at.
+          made_so (omega arith) (λ v made. (between, subst (λ (behind : ℕ). IsIndexed (On before between) (Key between behind) v) (sym at.functions) made)) (table_comes is_function few is quiet one two at);
+    })

@@ -66,8 +66,8 @@ wrapped_few bare w e few = omega (arith, few, levels_wrapped bare w, some_depth 
 pub constant_operand_few : (f : Function) (listed : List ℕ) (z : Maker) (left : List (Option Inner)) (e : Expression) (k n : ℕ) → (operand_wording f listed z left n (constant_operand k)).levels ≤ 3 * depth_of_expression e + 2
 constant_operand_few f listed z left e k n = wrapped_few true (constant_word (constant_at (place f.of listed f.short) k)) e (constant_few (constant_at (place f.of listed f.short) k))
 
-module _ {f : Function} {g : Fn} {active : List Active} {listed : List ℕ} {z : Maker} {left : List (Option Inner)} where
-  pub value_operand_few : (e : Expression) (v : Value) → Rewritten f g active listed z left e v → (n : ℕ) → (operand_wording f listed z left n (value_operand v)).levels ≤ 3 * depth_of_expression e + 2
+module _ {f : Function} {g : Fn} {active : List Active} {listed : List ℕ} {z : Maker} {left behind : List (Option Inner)} where
+  pub value_operand_few : (e : Expression) (v : Value) → Rewritten f g active listed z left behind e v → (n : ℕ) → (operand_wording f listed z left n (value_operand v)).levels ≤ 3 * depth_of_expression e + 2
   value_operand_few e values.nil_value rewritten n = wrapped_few _ (wording f listed z left n values.nil_value) e (omega arith)
   value_operand_few e (values.bool_value b) rewritten n = wrapped_few _ (wording f listed z left n (values.bool_value b)) e (truth_few b)
   value_operand_few e (values.constant_value k) rewritten n = wrapped_few _ (wording f listed z left n (values.constant_value k)) e (constant_few (constant_at (place f.of listed f.short) k))
@@ -91,29 +91,29 @@ arithmetic_to word op l r to m is none =
 abbrev second_wording : Function → List ℕ → List (Option Inner) → ℕ → OperandValue → OperandValue → Wording
 second_wording f listed left n x y = word_operand (place f.of listed f.short) (taken_behind_operand x n) (left_by_operand x left) y
 
-second_is : (f : Function) (listed : List ℕ) (z : Maker) (left : List (Option Inner)) (n m : ℕ) (x y : OperandValue) → left_by_operand x left ≡ left → taken_behind_operand x n ≡ m →
-    second_wording f listed left n x y ≡ operand_wording f listed z left m y
-second_is f listed z left n m x y unused taken =
-    ap (λ fs. word_operand (place f.of listed f.short) (taken_behind_operand x n) fs y) unused
-    ∙ ap (λ n. word_operand (place f.of listed f.short) n left y) taken
+second_is : (f : Function) (listed : List ℕ) (z : Maker) (left mid : List (Option Inner)) (n m : ℕ) (x y : OperandValue) → left_by_operand x left ≡ mid → taken_behind_operand x n ≡ m →
+    second_wording f listed left n x y ≡ operand_wording f listed z mid m y
+second_is f listed z left mid n m x y leaves taken =
+    ap (λ fs. word_operand (place f.of listed f.short) (taken_behind_operand x n) fs y) leaves
+    ∙ ap (λ n. word_operand (place f.of listed f.short) n mid y) taken
 
-module _ {f : Function} {g : Fn} {active : List Active} {listed : List ℕ} {z : Maker} {left : List (Option Inner)} {l r : Expression} {x y : OperandValue}
-    (first : RewrittenOperand f g active listed z left l x) (second : RewrittenOperand f g active listed z left r y) (op : BinaryOp) where
+module _ {f : Function} {g : Fn} {active : List Active} {listed : List ℕ} {z : Maker} {left mid behind : List (Option Inner)} {l r : Expression} {x y : OperandValue}
+    (first : RewrittenOperand f g active listed z left mid l x) (second : RewrittenOperand f g active listed z mid behind r y) (op : BinaryOp) where
   binary_folded : (n : ℕ) → fold (joined op (operand_wording f listed z left n x) (second_wording f listed left n x y)).words ≡ fold_binary (arith_op op) (fold l) (fold r)
   binary_folded n =
       let w = operand_wording f listed z left n x in
       let u = second_wording f listed left n x y in
       let n' = taken_behind_operand x n in
       ap (λ a. fold_binary (arith_op op) a (fold (on_right op u).words)) (fold_wrapped (left_binds (level_of_op op) (is_right_associative op) w.words) w ∙ first.folded n)
-      ∙ ap (fold_binary (arith_op op) (fold l)) (fold_wrapped (right_binds (level_of_op op) (is_power op) u.words) u ∙ ap (λ w. fold w.words) (second_is f listed z left n n' x y first.unused refl) ∙ second.folded n')
+      ∙ ap (fold_binary (arith_op op) (fold l)) (fold_wrapped (right_binds (level_of_op op) (is_power op) u.words) u ∙ ap (λ w. fold w.words) (second_is f listed z left mid n n' x y first.leaves refl) ∙ second.folded n')
 
-  binary_few : ((n : ℕ) → (operand_wording f listed z left n x).levels ≤ 3 * depth_of_expression l + 2) → ((n : ℕ) → (operand_wording f listed z left n y).levels ≤ 3 * depth_of_expression r + 2) → (n : ℕ) →
+  binary_few : ((n : ℕ) → (operand_wording f listed z left n x).levels ≤ 3 * depth_of_expression l + 2) → ((n : ℕ) → (operand_wording f listed z mid n y).levels ≤ 3 * depth_of_expression r + 2) → (n : ℕ) →
       (joined op (operand_wording f listed z left n x) (second_wording f listed left n x y)).levels ≤ 3 * (1 + max (depth_of_expression l) (depth_of_expression r)) + 2
   binary_few few_first few_second n =
       let w = operand_wording f listed z left n x in
       let u = second_wording f listed left n x y in
       let n' = taken_behind_operand x n in
-      let same : u.levels ≡ (operand_wording f listed z left n' y).levels = ap (λ w. w.levels) (second_is f listed z left n n' x y first.unused refl) in
+      let same : u.levels ≡ (operand_wording f listed z mid n' y).levels = ap (λ w. w.levels) (second_is f listed z left mid n n' x y first.leaves refl) in
       let one = levels_wrapped (left_binds (level_of_op op) (is_right_associative op) w.words) w in
       let other = levels_wrapped (right_binds (level_of_op op) (is_power op) u.words) u in
       let all = few_more (max (on_left op w).levels (on_right op u).levels) in
@@ -149,7 +149,7 @@ module _ {f : Function} {g : Fn} {active : List Active} {listed : List ℕ} {z :
         let one = rk_on_left op w m ∙ first.as_rk m ahead_first front in
         let other =
         rk_on_right op u m1
-        ∙ ap (λ w. rk (coded w.words) m1) (second_is f listed z left n (length m1.constants) x y first.unused (sym (first.taken m ahead_first front)))
+        ∙ ap (λ w. rk (coded w.words) m1) (second_is f listed z left mid n (length m1.constants) x y first.leaves (sym (first.taken m ahead_first front)))
         ∙ second.as_rk m1 (behind_ahead m ahead) (behind_of line to m final) in
         arithmetic_to word op (on_left op w).words (on_right op u).words to m is_word (binary_folded n ∙ none)
         ∙ ap (free_from m.free) (arithmetic_same word (coded (on_left op w).words) (coded (on_right op u).words) (code l) (code r) to m one other)
@@ -162,11 +162,11 @@ module _ {f : Function} {g : Fn} {active : List Active} {listed : List ℕ} {z :
         ∙ second.taken (rk (code l) m).after (behind_ahead m ahead) (behind_of line to m final)
         ∙ ap (taken_behind_operand y) (first.taken m (ahead_front (names_in l) (names_in r) ahead) (front_of line to m final))
 
-    binary_rewritten : (line depth : ℕ) → ((n : ℕ) → (operand_wording f listed z left n x).levels ≤ 3 * depth_of_expression l + 2) → ((n : ℕ) → (operand_wording f listed z left n y).levels ≤ 3 * depth_of_expression r + 2) →
-        Rewritten f g active listed z left (binary_expression line op l r) (values.binary_value op x y depth)
+    binary_rewritten : (line depth : ℕ) → ((n : ℕ) → (operand_wording f listed z left n x).levels ≤ 3 * depth_of_expression l + 2) → ((n : ℕ) → (operand_wording f listed z mid n y).levels ≤ 3 * depth_of_expression r + 2) →
+        Rewritten f g active listed z left behind (binary_expression line op l r) (values.binary_value op x y depth)
     binary_rewritten line depth few_first few_second = record {
-      can = and_from _ _ first.can (ap (λ fs. can_write_operand (place f.of listed f.short) fs y) first.unused ∙ second.can);
-      unused = ap (left_by_operand y) first.unused ∙ second.unused;
+      can = and_from _ _ first.can (ap (λ fs. can_write_operand (place f.of listed f.short) fs y) first.leaves ∙ second.can);
+      leaves = ap (left_by_operand y) first.leaves ∙ second.leaves;
       named = λ n. refl;
       folded = λ n. binary_folded n;
       several = λ n. refl;
@@ -180,16 +180,16 @@ module _ {f : Function} {g : Fn} {active : List Active} {listed : List ℕ} {z :
       multi_taken = λ is. cc;
     }
 
-module _ {f : Function} {g : Fn} {active : List Active} {listed : List ℕ} {z : Maker} {left : List (Option Inner)} where
+module _ {f : Function} {g : Fn} {active : List Active} {listed : List ℕ} {z : Maker} {left mid behind : List (Option Inner)} where
   -- operators of arithmetic that are not folded; an operand needs no more levels than a value, since what stands in parentheses as an operand has few of its own
   pub arithmetic_rewritten : (line : ℕ) (op : BinaryOp) (kind : ArithOp) (l r : Expression) (x y : OperandValue) (v : Value) → arith_op op ≡ Some kind → fold (binary_expression line op l r) ≡ None → PassesNames (names_in l) (code l) →
-      RewrittenOperand f g active listed z left l x → RewrittenOperand f g active listed z left r y →
-      ((n : ℕ) → (operand_wording f listed z left n x).levels ≤ 3 * depth_of_expression l + 2) → ((n : ℕ) → (operand_wording f listed z left n y).levels ≤ 3 * depth_of_expression r + 2) →
-      made_binary op x y ≡ Some v → Rewritten f g active listed z left (binary_expression line op l r) v
+      RewrittenOperand f g active listed z left mid l x → RewrittenOperand f g active listed z mid behind r y →
+      ((n : ℕ) → (operand_wording f listed z left n x).levels ≤ 3 * depth_of_expression l + 2) → ((n : ℕ) → (operand_wording f listed z mid n y).levels ≤ 3 * depth_of_expression r + 2) →
+      made_binary op x y ≡ Some v → Rewritten f g active listed z left behind (binary_expression line op l r) v
   arithmetic_rewritten line op kind l r x y v is none kept first second few_first few_second made =
-      subst (Rewritten f g active listed z left (binary_expression line op l r)) (given_is (nat_lt (max (depth_of_operand x) (depth_of_operand y)) 400) _ v made) (by_op op is none (suc (max (depth_of_operand x) (depth_of_operand y))))
+      subst (Rewritten f g active listed z left behind (binary_expression line op l r)) (given_is (nat_lt (max (depth_of_operand x) (depth_of_operand y)) 400) _ v made) (by_op op is none (suc (max (depth_of_operand x) (depth_of_operand y))))
     where
-      by_op : (op : BinaryOp) → arith_op op ≡ Some kind → fold (binary_expression line op l r) ≡ None → (depth : ℕ) → Rewritten f g active listed z left (binary_expression line op l r) (values.binary_value op x y depth)
+      by_op : (op : BinaryOp) → arith_op op ≡ Some kind → fold (binary_expression line op l r) ≡ None → (depth : ℕ) → Rewritten f g active listed z left behind (binary_expression line op l r) (values.binary_value op x y depth)
       by_op BinaryOp.Add is none depth = binary_rewritten first second BinaryOp.Add kept Op.Add refl none line depth few_first few_second
       by_op BinaryOp.Sub is none depth = binary_rewritten first second BinaryOp.Sub kept Op.Sub refl none line depth few_first few_second
       by_op BinaryOp.Mul is none depth = binary_rewritten first second BinaryOp.Mul kept Op.Mul refl none line depth few_first few_second
@@ -203,7 +203,7 @@ module _ {f : Function} {g : Fn} {active : List Active} {listed : List ℕ} {z :
 unary_to : (op : UnaryOp) (e : Expression) (to : ℕ) (m : Maker) → fold (unary_expression 1 op e) ≡ None → (coded (unary_expression 1 op e)).to_reg to m ≡ freeing (unary_value 1 op (coded e) to) m
 unary_to op e to m none = ap (λ o. freeing (load_or o 1 (unary_value 1 op (coded e)) to) m) none
 
-module _ {f : Function} {g : Fn} {active : List Active} {listed : List ℕ} {z : Maker} {left : List (Option Inner)} {e : Expression} {of : Value} (inside : Rewritten f g active listed z left e of) (op : UnaryOp) where
+module _ {f : Function} {g : Fn} {active : List Active} {listed : List ℕ} {z : Maker} {left behind : List (Option Inner)} {e : Expression} {of : Value} (inside : Rewritten f g active listed z left behind e of) (op : UnaryOp) where
   unary_folded : (n : ℕ) → fold (applied op (wording f listed z left n of)).words ≡ fold_unary op (fold e)
   unary_folded n = let w = wording f listed z left n of in ap (fold_unary op) (fold_wrapped (left_binds 7 false w.words) w ∙ inside.folded n)
 
@@ -234,13 +234,13 @@ module _ {f : Function} {g : Fn} {active : List Active} {listed : List ℕ} {z :
     unary_taken : length ((code (unary_expression line op e)).to_reg to m).constants ≡ taken_behind of (length m.constants)
     unary_taken = ap (λ n. length n.constants) unary_code ∙ operand_taken inside m ahead operand_final
 
-module _ {f : Function} {g : Fn} {active : List Active} {listed : List ℕ} {z : Maker} {left : List (Option Inner)} where
+module _ {f : Function} {g : Fn} {active : List Active} {listed : List ℕ} {z : Maker} {left behind : List (Option Inner)} where
   -- unary operators that are not folded
-  pub unary_rewritten : (line : ℕ) (op : UnaryOp) (e : Expression) (of v : Value) → fold (unary_expression line op e) ≡ None → Rewritten f g active listed z left e of →
-      made_unary op of ≡ Some v → Rewritten f g active listed z left (unary_expression line op e) v
-  unary_rewritten line op e of v none inside made = subst (Rewritten f g active listed z left (unary_expression line op e)) (given_is (nat_lt (depth_of of) 400) _ v made) (record {
+  pub unary_rewritten : (line : ℕ) (op : UnaryOp) (e : Expression) (of v : Value) → fold (unary_expression line op e) ≡ None → Rewritten f g active listed z left behind e of →
+      made_unary op of ≡ Some v → Rewritten f g active listed z left behind (unary_expression line op e) v
+  unary_rewritten line op e of v none inside made = subst (Rewritten f g active listed z left behind (unary_expression line op e)) (given_is (nat_lt (depth_of of) 400) _ v made) (record {
     can = inside.can;
-    unused = inside.unused;
+    leaves = inside.leaves;
     named = λ n. refl;
     folded = unary_folded inside op;
     several = λ n. refl;

@@ -14,7 +14,7 @@ use Rattle.scheme.specs.Expressions.{fold, literal, plain_literal}
 use Rattle.scheme.specs.Making.{Where, in_globals, in_register, in_upvalue}
 use Rattle.scheme.specs.declared.making.Active.{Active}
 use Rattle.scheme_stands.specs.Words.{Fn}
-use Rattle.reads_back.specs.Cores.{HasNumber, IsArithmetic, IsConcat, IsConstant, IsCore, IsFoldedOr, IsIndexed, IsFirst, IsOperandBy, IsOperator, IsUnary, IsVariable, core}
+use Rattle.reads_back.specs.Cores.{HasNumber, IsArithmetic, IsConcat, IsConstant, IsCore, IsFoldedOr, IsIndexed, IsFirst, IsOperandBy, IsOperator, IsUnary, IsVariable, core, Counted, concat_by, first_and, indexed_by, unary_by}
 use Rattle.reads_back.proofs.MarksSame.{over_made}
 
 -- ---- what is made
@@ -79,10 +79,10 @@ record HasFirst (row : Values) : Type 0 where
   rest : Values
   is : row ≡ and_value first rest
 
-spine_is_some : (g : Fn) (active : List Active) (e : Expression) (row : Values) → (core g active e).spine row → HasFirst row
-spine_is_some g active (binary_expression line BinaryOp.Concat left right) row is = record { first = is.0; rest = is.1; is = is.4 }
-spine_is_some g active (binary_expression line op left right) row is = record { first = is.0; rest = no_values; is = is.2 }
-spine_is_some g active e row is = record { first = is.0; rest = no_values; is = is.2 }
+spine_is_some : (g : Fn) (active : List Active) (e : Expression) (before behind : ℕ) (row : Values) → (core g active e).spine before behind row → HasFirst row
+spine_is_some g active (binary_expression line BinaryOp.Concat left right) before behind row is = let parts = is.1 in record { first = parts.0; rest = parts.1; is = parts.4 }
+spine_is_some g active (binary_expression line op left right) before behind row is = record { first = is.0; rest = no_values; is = is.2 }
+spine_is_some g active e before behind row is = record { first = is.0; rest = no_values; is = is.2 }
 
 module _ (g : Fn) (active : List Active) (at : Place) (left : List (Option Inner)) where
   shown_words : (v w : Value) → v ≡ w → ((n : ℕ) → plain_literal (word at n left w).words ≡ None) → IsShown g at left v
@@ -91,9 +91,9 @@ module _ (g : Fn) (active : List Active) (at : Place) (left : List (Option Inner
   shown_constant : (k : Constant) (v : Value) → IsLoadable k → IsConstant g k v → IsShown g at left v
   shown_constant k v loadable (number, has, is) = is_constant k number loadable has is
 
-  shown_folded : (folded : Option ℤ) (Is : Value → Type 0) (v : Value) → (Is v → IsShown g at left v) → IsFoldedOr folded g Is v → IsShown g at left v
-  shown_folded (Some n) Is v shown is = shown_constant (Constant.Number n) v tt is
-  shown_folded None Is v shown is = shown is
+  shown_folded : (folded : Option ℤ) (Is : Counted Value) (before behind : ℕ) (v : Value) → (Is before behind v → IsShown g at left v) → IsFoldedOr folded g Is before behind v → IsShown g at left v
+  shown_folded (Some n) Is before behind v shown is = shown_constant (Constant.Number n) v tt is.1
+  shown_folded None Is before behind v shown is = shown is
 
   shown_name : (text : Text) (w : Where) (v : Value) → can_write at left v ≡ true → IsVariable g text w v → IsShown g at left v
   shown_name text (in_register r) v can is = shown_words v (local_value r) is (λ n. name_plain (local_name at r) (subst (λ (v : Value). can_write at left v ≡ true) is can))
@@ -105,9 +105,9 @@ module _ (g : Fn) (active : List Active) (at : Place) (left : List (Option Inner
       let made = index_is on key v is in
       shown_words v (index_value made.on made.keys made.depth) made.is (λ n. keys_plain at (taken_behind made.on n) (left_by made.on left) (as_prefix (word at n left made.on)) made.keys (as_prefix_plain (word at n left made.on)))
 
-  shown_concat : (first second : Expression) (v : Value) → IsConcat (IsFirst (core g active first).value (core g active second).spine) v → IsShown g at left v
-  shown_concat first second v (values, (one, rest, is_one, are_rest, is), made) =
-      let more = spine_is_some g active second rest are_rest in
+  shown_concat : (first second : Expression) (before behind : ℕ) (v : Value) → concat_by (first_and (core g active first).value (core g active second).spine) before behind v → IsShown g at left v
+  shown_concat first second before behind v (values, (mid, (one, rest, is_one, are_rest, is)), made) =
+      let more = spine_is_some g active second mid behind rest are_rest in
       let both : values ≡ and_value one (and_value more.first more.rest) = is ∙ ap (and_value one) more.is in
       shown_words v (concat_value (and_value one (and_value more.first more.rest)) (suc (deepest values)))
       (over_made (deepest values) (λ d. concat_value values d) v made ∙ ap (λ (operands : Values). concat_value operands (suc (deepest values))) both) (λ n. refl)
@@ -117,35 +117,35 @@ module _ (g : Fn) (active : List Active) (at : Place) (left : List (Option Inner
       let depth = max (depth_of_operand x) (depth_of_operand y) in
       shown_words v (binary_value op x y (suc depth)) (over_made depth (λ d. binary_value op x y d) v is) (λ n. refl)
 
-  shown_operator : (op : BinaryOp) (Left Right : OperandValue → Type 0) (first second : Expression) (v : Value) → IsOperator op Left Right (IsFirst (core g active first).value (core g active second).spine) v → IsShown g at left v
-  shown_operator BinaryOp.Concat Left Right first second v is = shown_concat first second v is
-  shown_operator op Left Right first second v is = shown_arithmetic op Left Right v is
+  shown_operator : (op : BinaryOp) (Left Right : Counted OperandValue) (first second : Expression) (before behind : ℕ) (v : Value) → IsOperator op Left Right (first_and (core g active first).value (core g active second).spine) before behind v → IsShown g at left v
+  shown_operator BinaryOp.Concat Left Right first second before behind v is = shown_concat first second before behind v is
+  shown_operator op Left Right first second before behind v is = shown_arithmetic op (Left before is.0) (Right is.0 behind) v is.1
 
-  pub shown : (e : Expression) (v : Value) → IsCore g active e v → can_write at left v ≡ true → IsShown g at left v
-  shown (nil_literal line) v is can = is_nil is
-  shown (true_literal line) v is can = is_truth true is
-  shown (false_literal line) v is can = is_truth false is
-  shown (vararg_expression line) v is can = shown_words v vararg_value is (λ n. refl)
-  shown (number_literal line n) v is can = shown_constant (Constant.Number n) v tt is
-  shown (text_literal line text) v is can = shown_constant (Constant.Text text) v tt is
-  shown (name_expression line text) v is can = shown_name text is.0 v can is.2
-  shown (index_expression line on key) v is can = shown_index _ _ v is
-  shown (field_expression line on text) v is can = shown_index _ _ v is
-  shown (call_expression line on args on_line) v (callee, values, all, is_callee, given, is) can =
+  pub shown : (e : Expression) (before behind : ℕ) (v : Value) → IsCore g active e before behind v → can_write at left v ≡ true → IsShown g at left v
+  shown (nil_literal line) before behind v is can = is_nil is.1
+  shown (true_literal line) before behind v is can = is_truth true is.1
+  shown (false_literal line) before behind v is can = is_truth false is.1
+  shown (vararg_expression line) before behind v is can = shown_words v vararg_value is.1 (λ n. refl)
+  shown (number_literal line n) before behind v is can = shown_constant (Constant.Number n) v tt is.1
+  shown (text_literal line text) before behind v is can = shown_constant (Constant.Text text) v tt is.1
+  shown (name_expression line text) before behind v is can = let means = is.1 in shown_name text means.0 v can means.2
+  shown (index_expression line on key) before behind v is can = shown_index _ _ v is.1
+  shown (field_expression line on text) before behind v is can = shown_index _ _ v is.1
+  shown (call_expression line on args on_line) before behind v (mid, (callee, values, all, is_callee, given, is)) can =
       let depth = max (depth_of callee) (deepest values) in
       shown_words v (call_value callee values all (suc depth)) (over_made depth (λ d. call_value callee values all d) v is) (λ n. refl)
-  shown (method_call line on name args on_line) v (callee, number, values, all, is_callee, has, given, is) can =
+  shown (method_call line on name args on_line) before behind v (mid, (callee, number, values, all, is_callee, has, given, is)) can =
       let depth = max (depth_of callee) (deepest values) in
       shown_words v (method_value callee number values all (suc depth)) (over_made depth (λ d. method_value callee number values all d) v is) (λ n. refl)
-  shown (binary_expression line op first second) v is can =
-      let operands = IsFirst (core g active first).value (core g active second).spine in
+  shown (binary_expression line op first second) before behind v is can =
+      let operands = first_and (core g active first).value (core g active second).spine in
       let Left = IsOperandBy (literal first) g (core g active first).value in
       let Right = IsOperandBy (literal second) g (core g active second).value in
-      shown_folded (fold (binary_expression line op first second)) (IsOperator op Left Right operands) v (shown_operator op Left Right first second v) is
-  shown (unary_expression line op e) v is can = shown_folded (fold (unary_expression line op e)) (IsUnary op (core g active e).value) v unary is
+      shown_folded (fold (binary_expression line op first second)) (IsOperator op Left Right operands) before behind v (shown_operator op Left Right first second before behind v) is
+  shown (unary_expression line op e) before behind v is can = shown_folded (fold (unary_expression line op e)) (unary_by op (core g active e).value) before behind v unary is
     where
-      unary : IsUnary op (core g active e).value v → IsShown g at left v
+      unary : IsUnary op ((core g active e).value before behind) v → IsShown g at left v
       unary (of, is_of, is) = shown_words v (unary_value op of (suc (depth_of of))) (over_made (depth_of of) (λ d. unary_value op of d) v is) (λ n. refl)
-  shown (constructor line items) v (made, all, are, is) can = shown_words v (table_value made all (suc (deepest_item made))) (over_made (deepest_item made) (λ d. table_value made all d) v is) (λ n. refl)
-  shown (parenthesized line e) v is can = shown e v is can
-  shown e v is can = absurd is
+  shown (constructor line items) before behind v (made, all, are, is) can = shown_words v (table_value made all (suc (deepest_item made))) (over_made (deepest_item made) (λ d. table_value made all d) v is) (λ n. refl)
+  shown (parenthesized line e) before behind v is can = shown e before behind v is can
+  shown e before behind v is can = absurd is

@@ -108,10 +108,10 @@ tail_call_ends f pc a b v t s makes before there can =
 -- ---- the step
 
 -- Words come to these entries more, of which the word that ends the step takes the values that are returned.
-record ReturnComes (f : Function) (g : Fn) (active : List Active) (es : Expressions) (s : Situation) (first last : ℕ) : Type 0 where
+record ReturnComes (f : Function) (g : Fn) (active : List Active) (es : Expressions) (before behind : ℕ) (s : Situation) (first last : ℕ) : Type 0 where
   values : Values
   all : Bool
-  are : AreCores g active es values
+  are : AreCores g active es before behind values
   ends : all ≡ ends_open es
   scope : Scope
   same : SameLocals s.scope scope
@@ -121,22 +121,22 @@ record ReturnComes (f : Function) (g : Fn) (active : List Active) (es : Expressi
   reaches : Reaches f first s last (behind_words scope seen more s)
 
 -- of one value
-abbrev one_comes : {f : Function} {g : Fn} {active : List Active} {e : Expression} {s : Situation} {first last : ℕ} {scope : Scope} {seen : ℕ} (v : Value) (all : Bool) (more : Entries) → IsCore g active e v → all ≡ is_multiple e →
-    SameLocals s.scope scope → taken_behind_values (and_value v no_values) s.seen ≡ seen → Reaches f first s last (behind_words scope seen more s) → ReturnComes f g active (only e) s first last
-one_comes {scope = scope} {seen = seen} v all more is ends same taken reaches =
-    record { values = and_value v no_values; all = all; are = (v, no_values, is, refl, refl); ends = ends; scope = scope; same = same; seen = seen; taken = taken; more = more; reaches = reaches }
+abbrev one_comes : {f : Function} {g : Fn} {active : List Active} {e : Expression} {before behind : ℕ} {s : Situation} {first last : ℕ} {scope : Scope} {seen : ℕ} (v : Value) (all : Bool) (more : Entries) → IsCore g active e before behind v → all ≡ is_multiple e →
+    SameLocals s.scope scope → taken_behind_values (and_value v no_values) s.seen ≡ seen → Reaches f first s last (behind_words scope seen more s) → ReturnComes f g active (only e) before behind s first last
+one_comes {behind = behind} {scope = scope} {seen = seen} v all more is ends same taken reaches =
+    record { values = and_value v no_values; all = all; are = (behind, (v, no_values, is, (refl, refl), refl)); ends = ends; scope = scope; same = same; seen = seen; taken = taken; more = more; reaches = reaches }
 
 module _ {f : Function} {g : Fn} {active : List Active} {listed : List ℕ} (is_function : IsFunction f g) (es : Expressions) (can : CanAct f g active listed (return_statement es)) where
-  can_be_written : {first last : ℕ} (s : Situation) → HasLocals active listed s → (come : ReturnComes f g active es s first last) → can_act (place f.of come.scope.active f.short) s.left (returned come.values come.all) ≡ true
-  can_be_written s locals come =
+  can_be_written : {before behind first last : ℕ} (s : Situation) → HasLocals active listed s → (come : ReturnComes f g active es before behind s first last) → can_act (place f.of come.scope.active f.short) s.left (returned come.values come.all) ≡ true
+  can_be_written {before} {behind} s locals come =
       let acted = returned come.values come.all in
-      subst (λ (listed : List ℕ). can_act (place f.of listed f.short) s.left acted ≡ true) (sym (come.same.active ∙ locals.places)) (can.can acted (come.are, come.ends) s.left)
+      subst (λ (listed : List ℕ). can_act (place f.of listed f.short) s.left acted ≡ true) (sym (come.same.active ∙ locals.places)) (can.can before behind acted (come.are, come.ends) s.left)
 
   -- the word at this pc ends it
-  step_returns : {first last : ℕ} (pc next : ℕ) (s : Situation) (come : ReturnComes f g active es s first pc) → next ≡ last → pc < last →
+  step_returns : {before behind first last : ℕ} (pc next : ℕ) (s : Situation) (come : ReturnComes f g active es before behind s first pc) → next ≡ last → pc < last →
       turn_at f pc (behind_words come.scope come.seen come.more s)
       ≡ Some (over (act_draft f next (returned come.values come.all) (behind_all come.scope come.seen s)), after_act (returned come.values come.all) (behind_all come.scope come.seen s)) →
-      ActRead f g active (return_statement es) s first last
+      ActRead f g active (return_statement es) before behind s first last
   step_returns pc next s come is later turn =
       let acted = returned come.values come.all in
       let behind = behind_all come.scope come.seen s in
@@ -158,22 +158,23 @@ module _ {f : Function} {g : Fn} {active : List Active} {listed : List ℕ} (is_
       }
 
   -- it is a RETURN with these results
-  word_returns : {first : ℕ} (x b : ℕ) (p q : Spot) (s : Situation) → HasLocals active listed s → IsQuiet f s.scope first q.pc → (come : ReturnComes f g active es s first p.pc) → WordAt g (Piece.Abc Op.Return x b 0) p q →
+  word_returns : {before first : ℕ} (x b : ℕ) (p q : Spot) (s : Situation) → HasLocals active listed s → IsQuiet f s.scope first q.pc → (come : ReturnComes f g active es before p.functions s first p.pc) → WordAt g (Piece.Abc Op.Return x b 0) p q →
       results f (word_of p.pc (Piece.Abc Op.Return x b 0)) (behind_words come.scope come.seen come.more s) ≡ Some (record { values = come.values; all = come.all }, behind_all come.scope come.seen s) →
-      ActRead f g active (return_statement es) s first q.pc
-  word_returns x b p q s locals quiet come at has =
+      ActRead f g active (return_statement es) before q.functions s first q.pc
+  word_returns {before} {first} x b p q s locals quiet come at has =
       let w = word_of p.pc (Piece.Abc Op.Return x b 0) in
       let later : p.pc < q.pc = omega (arith, at.next) in
       let there = word_there is_function at (abc_is_read is_function at) (omega (arith, later, quiet.within)) in
-      step_returns p.pc (suc p.pc) s come (sym at.next) later
+      subst (λ (made : ℕ). ActRead f g active (return_statement es) before made s first q.pc) (sym at.functions)
+      (step_returns p.pc (suc p.pc) s come (sym at.next) later
       (turn_there p.pc (behind_words come.scope come.seen come.more s) (quiet_same come.same quiet) (reaches_on come.reaches) later there
       ∙ ap (λ list. ending f w (option_and_then (results_written f w) list)) has
-      ∙ ap (ending f w) (values_written f (suc p.pc) come.values come.all (behind_all come.scope come.seen s) (can_be_written s locals come)))
+      ∙ ap (ending f w) (values_written f (suc p.pc) come.values come.all (behind_all come.scope come.seen s) (can_be_written s locals come))))
 
   -- ---- a list from the lowest register on
 
   list_returned : (deep : ℕ) (p q : Spot) (s : Situation) → HasLocals active listed (emptied s) → IsQuiet f s.scope p.pc q.pc → AllRead f g active listed deep es → IsListField (count_field 1 (rels_count (all_related g es))) →
-      ListReturnAt g (all_related g es) active p q → ActRead f g active (return_statement es) (emptied s) p.pc q.pc
+      ListReturnAt g (all_related g es) active p q → ActRead f g active (return_statement es) p.functions q.functions (emptied s) p.pc q.pc
   list_returned deep p q s locals quiet reads field at =
       let word = at.second_at in
       let b = count_field 1 (rels_count (all_related g es)) in
@@ -182,7 +183,7 @@ module _ {f : Function} {g : Fn} {active : List Active} {listed : List ℕ} (is_
       let wanted = word_wants (emptied s) is_function word (abc_is_read is_function word) (both_hold (not (b == 1)) (nat_le s.base (length active)) (ap not field.0) lowest) in
       let before = quiet_before at.mid.pc (omega (arith, word.next)) quiet in
       let given = list_comes f g active listed deep es (rels_open (all_related g es)) (opens_by_last g es) reads (length active) p at.mid (emptied s) locals free_is before wanted at.first_at in
-      let come : ReturnComes f g active es (emptied s) p.pc at.mid.pc =
+      let come : ReturnComes f g active es p.functions at.mid.functions (emptied s) p.pc at.mid.pc =
       record { values = given.values; all = given.all; are = given.are.0; ends = given.are.1; scope = given.scope; same = given.same; seen = given.seen; taken = given.taken; more = given.more; reaches = given.reaches } in
       word_returns (length active) b at.mid q (emptied s) locals quiet come word
       (list_results f at.mid.pc (length active) b (behind_words given.scope given.seen given.more (emptied s)) (record { values = given.values; all = given.all }) field (sym locals.base) (given.listed [] 0 b refl refl))
@@ -192,29 +193,29 @@ module _ {f : Function} {g : Fn} {active : List Active} {listed : List ℕ} (is_
 module _ {f : Function} {g : Fn} {active : List Active} {listed : List ℕ} (is_function : IsFunction f g) (all : AreListed f g active listed) (e : Expression) (can : CanAct f g active listed (return_statement (only e))) where
   -- a local stays in its register
   local_returned : (r x : ℕ) (p mid q : Spot) (s : Situation) → HasLocals active listed (emptied s) → IsQuiet f s.scope p.pc q.pc → false ≡ is_multiple e → x ≡ r → IsLocal is_function all e r p mid → WordAt g (Piece.Abc Op.Return x 2 0) mid q →
-      ActRead f g active (return_statement (only e)) (emptied s) p.pc q.pc
+      ActRead f g active (return_statement (only e)) p.functions q.functions (emptied s) p.pc q.pc
   local_returned r x p mid q s locals quiet ends at_x local word =
       let v = local_value r in
       let t = emptied s in
       let step : IsInStep f (length active) listed t = record { base = locals.base; places = locals.places } in
-      let come : ReturnComes f g active (only e) t p.pc mid.pc = one_comes v false [] local.core ends (same_locals s.scope) refl (subst (λ (pc : ℕ). Reaches f p.pc t pc t) (sym local.same) here) in
+      let come : ReturnComes f g active (only e) p.functions mid.functions t p.pc mid.pc = one_comes v false [] local.core ends (same_locals s.scope) refl (subst (λ (pc : ℕ). Reaches f p.pc t pc t) (sym local.same) here) in
       let popped : pop f x t ≡ Some (v, t) = ap (λ x. pop f x t) at_x ∙ ap (pop_at f t r) (no_place step r local.below) ∙ ap (option_map (λ v. (v, t))) (local_there step r local.text local.named) in
       word_returns is_function (only e) can x 2 mid q t locals quiet come word (one_result f mid.pc x v t t popped)
 
   -- another value is in the next register
-  next_returned : {deep : ℕ} (x : ℕ) (p mid q : Spot) (s : Situation) → HasLocals active listed (emptied s) → IsQuiet f s.scope p.pc q.pc → false ≡ is_multiple e → x ≡ length active → Comes f (IsCore g active e) deep (emptied s) p.pc mid.pc →
-      WordAt g (Piece.Abc Op.Return x 2 0) mid q → ActRead f g active (return_statement (only e)) (emptied s) p.pc q.pc
+  next_returned : {deep : ℕ} (x : ℕ) (p mid q : Spot) (s : Situation) → HasLocals active listed (emptied s) → IsQuiet f s.scope p.pc q.pc → false ≡ is_multiple e → x ≡ length active → Comes f (IsCore g active e p.functions mid.functions) deep (emptied s) p.pc mid.pc →
+      WordAt g (Piece.Abc Op.Return x 2 0) mid q → ActRead f g active (return_statement (only e)) p.functions q.functions (emptied s) p.pc q.pc
   next_returned x p mid q s locals quiet ends at_x one word =
       let v = one.value in
       let t = behind_words one.scope one.seen (one.entry ∷ []) (emptied s) in
       let behind = behind_all one.scope one.seen s in
-      let come : ReturnComes f g active (only e) (emptied s) p.pc mid.pc = one_comes v false (one.entry ∷ []) one.is ends one.same one.taken one.reaches in
+      let come : ReturnComes f g active (only e) p.functions mid.functions (emptied s) p.pc mid.pc = one_comes v false (one.entry ∷ []) one.is ends one.same one.taken one.reaches in
       let popped : pop f x t ≡ Some (v, behind) =
       ap (pop_at f t x) (place_of_next s.base 0 x (omega (arith, at_x, locals.base))) ∙ ap (λ (single : Option Value). option_map (with_entries t) (option_map (λ v. (v, [])) single)) one.single in
       word_returns is_function (only e) can x 2 mid q (emptied s) locals quiet come word (one_result f mid.pc x v t behind popped)
 
   operand_returned : (o : Option ℕ) (x free1 : ℕ) (p mid q : Spot) (s : Situation) → ReadsCore f g active listed e → HasLocals active listed (emptied s) → IsQuiet f s.scope p.pc q.pc → false ≡ is_multiple e →
-      local_at (related g e).form active p ≡ o → OperandBy o g active (related g e) (length active) x free1 p mid → WordAt g (Piece.Abc Op.Return x 2 0) mid q → ActRead f g active (return_statement (only e)) (emptied s) p.pc q.pc
+      local_at (related g e).form active p ≡ o → OperandBy o g active (related g e) (length active) x free1 p mid → WordAt g (Piece.Abc Op.Return x 2 0) mid q → ActRead f g active (return_statement (only e)) p.functions q.functions (emptied s) p.pc q.pc
   operand_returned (Some r) x free1 p mid q s reads locals quiet ends is at word = local_returned r x p mid q s locals quiet ends at.at_x (local_operand is_function all e r p mid is at.passed) word
   operand_returned None x free1 p mid q s reads locals quiet ends is at word =
       let free_is : length active ≡ next_free (emptied s) = omega (arith, locals.base) in
@@ -223,18 +224,19 @@ module _ {f : Function} {g : Fn} {active : List Active} {listed : List ℕ} (is_
 
   -- a call, whose values are all returned
   tail_call_returned : {deep : ℕ} (p q : Spot) (s : Situation) → HasLocals active listed (emptied s) → IsQuiet f s.scope p.pc q.pc → true ≡ is_multiple e → ReadsCall f g active listed (IsCore g active e) deep ((related g e).multi active) →
-      Seq ((related g e).multi active (length active) Op.TailCall None) (WordAt g (Piece.Abc Op.Return (length active) 0 0)) p q → ActRead f g active (return_statement (only e)) (emptied s) p.pc q.pc
+      Seq ((related g e).multi active (length active) Op.TailCall None) (WordAt g (Piece.Abc Op.Return (length active) 0 0)) p q → ActRead f g active (return_statement (only e)) p.functions q.functions (emptied s) p.pc q.pc
   tail_call_returned p q s locals quiet ends reads at =
       let word = at.second_at in
       let free_is : length active ≡ next_free (emptied s) = omega (arith, locals.base) in
       let call = reads.comes (length active) Op.TailCall None p at.mid (emptied s) locals free_is (quiet_before at.mid.pc (omega (arith, word.next)) quiet) (inr refl) at.first_at in
-      let come : ReturnComes f g active (only e) (emptied s) p.pc call.pc = one_comes call.value true call.more call.is ends call.same call.taken call.reaches in
+      let come : ReturnComes f g active (only e) p.functions at.mid.functions (emptied s) p.pc call.pc = one_comes call.value true call.more call.is ends call.same call.taken call.reaches in
       let before : suc call.pc < f.last = omega (arith, call.next, word.next, quiet.within) in
       let there = word_there is_function word (abc_is_read is_function word) (omega (arith, before, call.next)) in
       let returns = subst (λ (pc : ℕ). word_at f pc ≡ Some (word_of pc (Piece.Abc Op.Return (length active) 0 0))) call.next there in
       let can_come = can_be_written is_function (only e) can (emptied s) locals come in
-      step_returns is_function (only e) can call.pc (suc (suc call.pc)) (emptied s) come (omega (arith, call.next, word.next)) (omega (arith, call.next, word.next))
-      (call.turn ∙ tail_call_ends f call.pc (length active) call.b call.value (behind_words call.scope call.seen call.more (emptied s)) (behind_all call.scope call.seen s) call.makes before returns can_come)
+      subst (λ (made : ℕ). ActRead f g active (return_statement (only e)) p.functions made (emptied s) p.pc q.pc) (sym word.functions)
+      (step_returns is_function (only e) can call.pc (suc (suc call.pc)) (emptied s) come (omega (arith, call.next, word.next)) (omega (arith, call.next, word.next))
+      (call.turn ∙ tail_call_ends f call.pc (length active) call.b call.value (behind_words call.scope call.seen call.more (emptied s)) (behind_all call.scope call.seen s) call.makes before returns can_come))
 
 -- ---- the values of a return
 
@@ -262,7 +264,7 @@ module _ {f : Function} {g : Fn} {active : List Active} {listed : List ℕ} (is_
         omega (arith, (operand_reads is_function all e (reads_all is_function all e has (omega (arith, few))).one).forward (length active) at.x at.free1 p at.mid at.operand_at, word.next)
 
     one_returned : CanAct f g active listed (return_statement (only e)) → (call dots : Bool) → (related g e).form.call ≡ call → (related g e).form.dots ≡ dots → (p q : Spot) (s : Situation) → HasLocals active listed (emptied s) →
-        IsQuiet f s.scope p.pc q.pc → ReturnBy call dots g (related g e) active p q → ActRead f g active (return_statement (only e)) (emptied s) p.pc q.pc
+        IsQuiet f s.scope p.pc q.pc → ReturnBy call dots g (related g e) active p q → ActRead f g active (return_statement (only e)) p.functions q.functions (emptied s) p.pc q.pc
     one_returned can true dots calls is_dots p q s locals quiet at =
         tail_call_returned is_function all e can p q s locals quiet (is_several true dots calls is_dots) (call_read is_function all e (is_a_call calls) has (omega (arith, few))).1 at
     one_returned can false true calls is_dots p q s locals quiet at =
@@ -279,10 +281,10 @@ module _ {f : Function} {g : Fn} {active : List Active} {listed : List ℕ} (is_
   return_forward (expression e (expression d es)) has few p q at = list_moves_on (expression e (expression d es)) has few p q at
 
   begun_return : (es : Expressions) → AllHaveCores es → depth_of_expressions es ≤ 199 → CanAct f g active listed (return_statement es) → (p q : Spot) (s : Situation) → HasLocals active listed (emptied s) → IsQuiet f s.scope p.pc q.pc →
-      ReturnAt g (all_related g es) active p q → ActRead f g active (return_statement es) (emptied s) p.pc q.pc
+      ReturnAt g (all_related g es) active p q → ActRead f g active (return_statement es) p.functions q.functions (emptied s) p.pc q.pc
   begun_return no_expressions has few can p q s locals quiet at =
-      let come : ReturnComes f g active no_expressions (emptied s) p.pc p.pc =
-      record { values = no_values; all = false; are = refl; ends = refl; scope = s.scope; same = same_locals s.scope; seen = s.seen; taken = refl; more = []; reaches = here } in
+      let come : ReturnComes f g active no_expressions p.functions p.functions (emptied s) p.pc p.pc =
+      record { values = no_values; all = false; are = (refl, refl); ends = refl; scope = s.scope; same = same_locals s.scope; seen = s.seen; taken = refl; more = []; reaches = here } in
       word_returns is_function no_expressions can 0 1 p q (emptied s) locals quiet come at refl
   begun_return (expression e no_expressions) has few can p q s locals quiet at = one_returned e has.0 few can (related g e).form.call (related g e).form.dots refl refl p q s locals quiet at
   begun_return (expression e (expression d es)) has few can p q s locals quiet at =
@@ -292,7 +294,7 @@ module _ {f : Function} {g : Fn} {active : List Active} {listed : List ℕ} (is_
 
   -- a return, at the begin of a step
   pub return_read : (es : Expressions) → AllHaveCores es → depth_of_expressions es ≤ 199 → CanAct f g active listed (return_statement es) → (p q : Spot) (s : Situation) → HasLocals active listed s → s.entries ≡ [] → s.taken ≡ s.seen →
-      IsQuiet f s.scope p.pc q.pc → ReturnAt g (all_related g es) active p q → ActRead f g active (return_statement es) s p.pc q.pc
+      IsQuiet f s.scope p.pc q.pc → ReturnAt g (all_related g es) active p q → ActRead f g active (return_statement es) p.functions q.functions s p.pc q.pc
   return_read es has few can p q s locals empty taken quiet at =
-      subst (λ (entries : Entries). ActRead f g active (return_statement es) (record s { entries = entries }) p.pc q.pc) (sym empty)
+      subst (λ (entries : Entries). ActRead f g active (return_statement es) p.functions q.functions (record s { entries = entries }) p.pc q.pc) (sym empty)
       (begun_return es has few can p q s (record { base = locals.base; places = locals.places }) quiet at)

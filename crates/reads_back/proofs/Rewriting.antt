@@ -58,11 +58,12 @@ module _ (f : Function) (listed : List ℕ) (z : Maker) (left : List (Option Inn
   abbrev pub arguments_wording : ℕ → Values → (all : Bool) → ArgumentWording
   arguments_wording n values all = as_list (word_values (place f.of listed f.short) n left values all)
 
-module _ (f : Function) (g : Fn) (active : List Active) (listed : List ℕ) (z : Maker) (left : List (Option Inner)) where
+-- `left` are the functions that are left before it, and `behind` those behind it
+module _ (f : Function) (g : Fn) (active : List Active) (listed : List ℕ) (z : Maker) (left behind : List (Option Inner)) where
   -- of a value
   pub record Rewritten (e : Expression) (v : Value) : Type 0 where
     pub can : can_write (place f.of listed f.short) left v ≡ true
-    pub unused : left_by v left ≡ left
+    pub leaves : left_by v left ≡ behind
     pub named : (n : ℕ) → is_name (wording f listed z left n v).words ≡ is_name e
     pub folded : (n : ℕ) → fold (wording f listed z left n v).words ≡ fold e
     pub several : (n : ℕ) → is_multiple (wording f listed z left n v).words ≡ can_be_several v
@@ -79,7 +80,7 @@ module _ (f : Function) (g : Fn) (active : List Active) (listed : List ℕ) (z :
   -- of a constant, or the value of an expression, as an operand
   pub record RewrittenOperand (e : Expression) (o : OperandValue) : Type 0 where
     pub can : can_write_operand (place f.of listed f.short) left o ≡ true
-    pub unused : left_by_operand o left ≡ left
+    pub leaves : left_by_operand o left ≡ behind
     pub folded : (n : ℕ) → fold (operand_wording f listed z left n o).words ≡ fold e
     pub few : (n : ℕ) → (operand_wording f listed z left n o).levels ≤ 3 * depth_of_expression e + 3
     pub as_rk : (m : Maker) → IsAhead g active (names_in e) m → Final (length m.labels) (rk (code e) m).after z → rk (coded (operand_wording f listed z left (length m.constants) o).words) m ≡ rk (code e) m
@@ -88,7 +89,7 @@ module _ (f : Function) (g : Fn) (active : List Active) (listed : List ℕ) (z :
   -- of the operands of a `..`, up to the last one
   pub record RewrittenSpine (e : Expression) (values : Values) : Type 0 where
     pub can : can_write_values (place f.of listed f.short) left values ≡ true
-    pub unused : left_by_values values left ≡ left
+    pub leaves : left_by_values values left ≡ behind
     pub few : (n : ℕ) → (chain (word_each (place f.of listed f.short) n left values)).levels ≤ 3 * depth_of_expression e + 3
     pub spine : (m : Maker) → IsAhead g active (names_in e) m → Final (length m.labels) ((code e).spine m) z → (coded (chain (word_each (place f.of listed f.short) (length m.constants) left values)).words).spine m ≡ (code e).spine m
     pub taken : (m : Maker) → IsAhead g active (names_in e) m → Final (length m.labels) ((code e).spine m) z → length ((code e).spine m).constants ≡ taken_behind_values values (length m.constants)
@@ -96,7 +97,7 @@ module _ (f : Function) (g : Fn) (active : List Active) (listed : List ℕ) (z :
   -- of the arguments of a call
   pub record RewrittenGiven (args : Arguments) (deep : ℕ) (values : Values) (all : Bool) : Type 0 where
     pub can : can_write_values (place f.of listed f.short) left values ≡ true
-    pub unused : left_by_values values left ≡ left
+    pub leaves : left_by_values values left ≡ behind
     pub few : (n : ℕ) → (arguments_wording f listed z left n values all).levels ≤ 3 * deep + 4
     pub counts : (n : ℕ) → (given (arguments_wording f listed z left n values all).words 1).count ≡ (given (one_line_arguments args) 1).count
     pub part : (m : Maker) → IsAhead g active (names_given args) m → Final (length m.labels) ((given (one_line_arguments args) 1).part m) z → (given (arguments_wording f listed z left (length m.constants) values all).words 1).part m ≡ (given (one_line_arguments args) 1).part m
@@ -105,7 +106,7 @@ module _ (f : Function) (g : Fn) (active : List Active) (listed : List ℕ) (z :
   -- of an act: as a statement on one line it makes the same
   pub record RewrittenAct (s : Statement) (acted : Acted) : Type 0 where
     pub can : can_act (place f.of listed f.short) left acted ≡ true
-    pub unused : left_by_act acted left ≡ left
+    pub leaves : left_by_act acted left ≡ behind
     pub few : (n : ℕ) → act_levels (place f.of listed f.short) n left acted ≤ 3 * depth_of_statement s + 4
     pub made : (m : Maker) → IsAhead g active (names_of_statement s) m → Final (length m.labels) (statement_made (one_line_statement s) 1 None m) z → statement_made (act_statement (place f.of listed f.short) (length m.constants) left acted) 1 None m ≡ statement_made (one_line_statement s) 1 None m
     pub taken : (m : Maker) → IsAhead g active (names_of_statement s) m → Final (length m.labels) (statement_made (one_line_statement s) 1 None m) z → length (statement_made (one_line_statement s) 1 None m).constants ≡ taken_behind_act acted (length m.constants)

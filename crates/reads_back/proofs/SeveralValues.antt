@@ -25,7 +25,7 @@ use Rattle.scheme.specs.declared.making.Piece.{Piece}
 use Rattle.scheme_stands.specs.Lists.{AllMultiAt, AllNextAt}
 use Rattle.scheme_stands.specs.Relation.{all_related, related}
 use Rattle.scheme_stands.specs.Words.{Fn, Spot, WordAt}
-use Rattle.reads_back.specs.Cores.{AllHaveCores, AreCores, HasCore, IsCore, ends_open}
+use Rattle.reads_back.specs.Cores.{AllHaveCores, AreCores, HasCore, IsCore, ends_open, still}
 use Rattle.reads_back.proofs.AdjustedEntries.{count_last, entries_end, several_last, taken_end}
 use Rattle.reads_back.proofs.BehindWords.{HasLocals, SameLocals, behind_words, quiet_same, same_locals, same_then}
 use Rattle.reads_back.proofs.Comes.{AreEntries, Begins, CallComes, IsWanted}
@@ -115,7 +115,7 @@ call_gives {f} {free = free} {first = first} {last = last} {s = s} n some is cal
     }
 
 vararg_gives : {f : Function} {g : Fn} {p q : Spot} {s : Situation} (n free : ℕ) → 0 < n → IsFunction f g → free ≡ next_free s → IsQuiet f s.scope p.pc q.pc → WordAt g (Piece.Abc Op.Vararg free (n + 1 + 1) 0) p q →
-    LastComes f (λ v. v ≡ vararg_value) s n p.pc q.pc
+    LastComes f (still (λ v. v ≡ vararg_value) p.functions q.functions) s n p.pc q.pc
 vararg_gives {f} {p = p} {q = q} {s = s} n free some is_function is quiet at =
     let later : p.pc < q.pc = omega (arith, at.next) in
     let w = word_of p.pc (Piece.Abc Op.Vararg free (n + 1 + 1) 0) in
@@ -126,7 +126,7 @@ vararg_gives {f} {p = p} {q = q} {s = s} n free some is_function is quiet at =
     ∙ ap (λ (next : ℕ). Some (goes_to next, record s { entries = s.entries ++ and_further vararg_value n })) (sym at.next) in
     record {
       value = vararg_value;
-      is = refl;
+      is = (at.functions, refl);
       scope = s.scope;
       same = same_locals s.scope;
       seen = s.seen;
@@ -139,15 +139,15 @@ record ReadsLast (f : Function) (g : Fn) (active : List Active) (listed : List �
   forward : (free : ℕ) (p q : Spot) → (related g e).multi active free Op.Call (Some (n + 1)) p q → p.pc ≤ q.pc
   begins : (free : ℕ) (p q : Spot) → q.pc ≤ f.last → (related g e).multi active free Op.Call (Some (n + 1)) p q → Begins f free p.pc
   comes : (free : ℕ) (p q : Spot) (s : Situation) → HasLocals active listed s → free ≡ next_free s → IsQuiet f s.scope p.pc q.pc → (related g e).multi active free Op.Call (Some (n + 1)) p q →
-      LastComes f (IsCore g active e) s n p.pc q.pc
-  several : (v : Value) → IsCore g active e v → can_be_several v ≡ true
+      LastComes f (IsCore g active e p.functions q.functions) s n p.pc q.pc
+  several : (before behind : ℕ) (v : Value) → IsCore g active e before behind v → can_be_several v ≡ true
 
 made_several : (few : Bool) (w v : Value) → ◌≡◌ {A = Option Value} (if few then Some w else None) (Some v) → can_be_several w ≡ true → can_be_several v ≡ true
 made_several true w v is several = ap can_be_several (sym (same_Some w v is)) ∙ several
 made_several false w v is several = cc
 
 module _ {f : Function} {g : Fn} {active : List Active} {listed : List ℕ} (is_function : IsFunction f g) (all : AreListed f g active listed) (n : ℕ) (some : 0 < n) where
-  call_last : (e : Expression) → is_call e ≡ true → HasCore e → depth_of_expression e ≤ 200 → ((v : Value) → IsCore g active e v → can_be_several v ≡ true) → ReadsLast f g active listed e n
+  call_last : (e : Expression) → is_call e ≡ true → HasCore e → depth_of_expression e ≤ 200 → ((before behind : ℕ) (v : Value) → IsCore g active e before behind v → can_be_several v ≡ true) → ReadsLast f g active listed e n
   call_last e call has few several =
       let reads = call_read is_function all e call has few in
       record {
@@ -162,12 +162,12 @@ module _ {f : Function} {g : Fn} {active : List Active} {listed : List ℕ} (is_
     forward = λ free p q at. omega (arith, at.word.next);
     begins = λ free p q within at. word_begins free is_function at.word (abc_is_read is_function at.word) refl (omega arith);
     comes = λ free p q s locals is quiet at. vararg_gives n free some is_function is quiet at.word;
-    several = λ v is. ap can_be_several is;
+    several = λ before behind v is. ap can_be_several is.1;
   }
   reads_last (call_expression line on args on_line) has few many =
-      call_last (call_expression line on args on_line) refl has few (λ v is. made_several (nat_lt (max (depth_of is.0) (deepest is.1)) 400) (call_value is.0 is.1 is.2 _) v is.5 refl)
+      call_last (call_expression line on args on_line) refl has few (λ before behind v is. let on = is.1 in made_several (nat_lt (max (depth_of on.0) (deepest on.1)) 400) (call_value on.0 on.1 on.2 _) v on.5 refl)
   reads_last (method_call line on name args on_line) has few many =
-      call_last (method_call line on name args on_line) refl has few (λ v is. made_several (nat_lt (max (depth_of is.0) (deepest is.2)) 400) (method_value is.0 is.1 is.2 is.3 _) v is.7 refl)
+      call_last (method_call line on name args on_line) refl has few (λ before behind v is. let on = is.1 in made_several (nat_lt (max (depth_of on.0) (deepest on.2)) 400) (method_value on.0 on.1 on.2 on.3 _) v on.7 refl)
   reads_last e has few many = not_so many
 
 -- ---- the last one of a list, and those before it
@@ -180,7 +180,7 @@ record LastAt (g : Fn) (active : List Active) (op : Op) (want : Want) (es : Expr
   counts : length (all_related g es) ≡ suc (length (all_related g front))
   front_at : AllNextAt g (all_related g front) active free p mid
   last_at : (related g last).multi active (free + length (all_related g front)) op want mid q
-  are : (vs : Values) (v : Value) → AreCores g active front vs → IsCore g active last v → AreCores g active es (and_last_value vs v)
+  are : (before between behind : ℕ) (vs : Values) (v : Value) → AreCores g active front before between vs → IsCore g active last between behind v → AreCores g active es before behind (and_last_value vs v)
   has_front : AllHaveCores front
   has_last : HasCore last
   shallow_front : depth_of_expressions front ≤ depth_of_expressions es
@@ -199,7 +199,7 @@ last_one g active op want (syntax.expression e no_expressions) has ends free p q
       counts = refl;
       front_at = record { pc = refl; ahead = refl; functions = refl };
       last_at = subst (λ (free : ℕ). (related g e).multi active free op want p q) here at;
-      are = λ vs v are is. (v, no_values, is, refl, ap (λ vs. and_last_value vs v) are);
+      are = λ before between behind vs v are is. (behind, (v, no_values, subst (λ (before : ℕ). IsCore g active e before behind v) are.0 is, (refl, refl), ap (λ vs. and_last_value vs v) are.1));
       has_front = tt;
       has_last = has.0;
       shallow_front = omega arith;
@@ -216,7 +216,7 @@ last_one g active op want (syntax.expression e (syntax.expression d es)) has end
       counts = ap suc rest.counts;
       front_at = record { mid = at.mid; room = at.room; first = at.first; others = rest.front_at };
       last_at = subst (λ (free : ℕ). (related g rest.last).multi active free op want rest.mid q) next rest.last_at;
-      are = λ vs v are is. (are.0, and_last_value are.1 v, are.2, rest.are are.1 v are.3 is, ap (λ vs. and_last_value vs v) are.4);
+      are = λ before between behind vs v are is. let on = are.1 in (are.0, (on.0, and_last_value on.1 v, on.2, rest.are are.0 between behind on.1 v on.3 is, ap (λ vs. and_last_value vs v) on.4));
       has_front = (has.0, rest.has_front);
       has_last = rest.has_last;
       shallow_front = omega (arith, rest.shallow_front);
@@ -229,13 +229,13 @@ last_one g active op want (syntax.expression e (syntax.expression d es)) has end
 module _ (f : Function) (g : Fn) (active : List Active) (listed : List ℕ) (deep : ℕ) where
   -- if there are any they are wanted behind them
   pub wanted_come : (es : Expressions) → AllRead f g active listed deep es → (free : ℕ) (p q : Spot) (s : Situation) → HasLocals active listed s → free ≡ next_free s → IsQuiet f s.scope p.pc q.pc →
-      (0 < length (all_related g es) → IsWanted f s q.pc) → AllNextAt g (all_related g es) active free p q → AllCome f (AreCores g active es) deep s (length (all_related g es)) p.pc q.pc
-  wanted_come no_expressions reads free p q s locals is quiet wanted at = none_come f g active deep s p q at.pc
+      (0 < length (all_related g es) → IsWanted f s q.pc) → AllNextAt g (all_related g es) active free p q → AllCome f (AreCores g active es p.functions q.functions) deep s (length (all_related g es)) p.pc q.pc
+  wanted_come no_expressions reads free p q s locals is quiet wanted at = none_come f g active deep s p q at.pc at.functions
   wanted_come (syntax.expression e es) reads free p q s locals is quiet wanted at = all_come f g active listed deep (syntax.expression e es) reads free p q s locals is quiet (wanted (omega arith)) at
 
   -- above them a word begins a value
   pub singles_come : (es : Expressions) → AllRead f g active listed deep es → (free : ℕ) (p q : Spot) (s : Situation) → HasLocals active listed s → free ≡ next_free s → IsQuiet f s.scope p.pc q.pc →
-      Begins f (free + length (all_related g es)) q.pc → AllNextAt g (all_related g es) active free p q → AllCome f (AreCores g active es) deep s (length (all_related g es)) p.pc q.pc
+      Begins f (free + length (all_related g es)) q.pc → AllNextAt g (all_related g es) active free p q → AllCome f (AreCores g active es p.functions q.functions) deep s (length (all_related g es)) p.pc q.pc
   singles_come es reads free p q s locals is quiet begins at = wanted_come es reads free p q s locals is quiet (λ some. begins_wants s begins (omega (arith, is, some))) at
 
 -- ---- single values, and further ones of the last
@@ -318,15 +318,16 @@ module _ {f : Function} {g : Fn} {active : List Active} {listed : List ℕ} (is_
         by_front (inl same) last = begins_lower (omega arith) same last
 
     front_comes : (s : Situation) → HasLocals active listed s → free ≡ next_free s → IsQuiet f s.scope p.pc q.pc →
-        AllCome f (AreCores g active cut.front) 200 s (length (all_related g cut.front)) p.pc cut.mid.pc
+        AllCome f (AreCores g active cut.front p.functions cut.mid.functions) 200 s (length (all_related g cut.front)) p.pc cut.mid.pc
     front_comes s locals is quiet =
         singles_come f g active listed 200 cut.front fronts free p cut.mid s locals is (quiet_before cut.mid.pc (reads.forward above cut.mid q cut.last_at) quiet)
         (reads.begins above cut.mid q quiet.within cut.last_at) cut.front_at
 
-    pub several_come : (s : Situation) → HasLocals active listed s → free ≡ next_free s → IsQuiet f s.scope p.pc q.pc → SeveralCome f (AreCores g active es) s (length (all_related g es)) n p.pc q.pc
+    pub several_come : (s : Situation) → HasLocals active listed s → free ≡ next_free s → IsQuiet f s.scope p.pc q.pc → SeveralCome f (AreCores g active es p.functions q.functions) s (length (all_related g es)) n p.pc q.pc
     several_come s locals is quiet =
         let front = front_comes s locals is quiet in
         let next : above ≡ next_free (behind_all front) = omega (arith, is, length-append s.entries front.entries, count_of_entries front.entries front.values front.singles, front.counts) in
         let there : HasLocals active listed (behind_all front) = record { base = locals.base; places = front.same.active ∙ locals.places } in
         let last = reads.comes above cut.mid q (behind_all front) there next (quiet_same front.same (quiet_from cut.mid.pc to_front quiet)) cut.last_at in
-        subst (λ (count : ℕ). SeveralCome f (AreCores g active es) s count n p.pc q.pc) (sym cut.counts) (several_behind cut.are reads.several front last)
+        subst (λ (count : ℕ). SeveralCome f (AreCores g active es p.functions q.functions) s count n p.pc q.pc) (sym cut.counts)
+        (several_behind (cut.are p.functions cut.mid.functions q.functions) (reads.several cut.mid.functions q.functions) front last)

@@ -11,12 +11,12 @@ use Rattle.recover_expr.specs.Lists.{Straight, straight_operand}
 use Rattle.recover_expr.specs.Locals.{has_name, name_of}
 use Rattle.recover_expr.specs.Situation.{Function, Situation, constant_in, local_in}
 use Rattle.recover_expr.specs.Stores.{StoredValue, operand_stored, register_stored, register_of, stored_operand, stored_register}
-use Rattle.reads_back.proofs.Comes.{IsValueOperand}
 use Rattle.reads_back.proofs.HeldOperands.{Kept, in_word, in_local, in_next, operand_of, StandsIn}
 use Rattle.reads_back.proofs.NameReads.{entry_named}
 use Rattle.reads_back.proofs.NoFunctions.{IsNoFunction}
 use Rattle.reads_back.proofs.Tests.{not_below}
 use Rattle.reads_back.proofs.ValueWords.{place_of_next}
+use Rattle.reads_back.specs.Cores.{IsValueOperand}
 
 -- ---- what a word stores
 

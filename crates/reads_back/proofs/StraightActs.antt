@@ -1,12 +1,12 @@
 -- What is known of each statement of a straight block where it is made: it is read as what it is, and what is written of it is well formed, has the same names and makes the same code.
-use Rattle.std.proofs.Common.{◌≡◌, ℕ, suc, ◌≤◌, false, true, List, [], length, None, arith}
+use Rattle.std.proofs.Common.{◌≡◌, ℕ, suc, ◌≤◌, false, true, List, [], length, None, arith, Option}
 use Rattle.lua_tree.specs.OneLine.{one_line_statement}
 use Rattle.lua_tree.specs.Outline.{statement_part}
 use Rattle.lua_tree.specs.Syntax as syntax
 use Rattle.lua_tree.specs.Syntax.{Expression, Expressions, Statement, assignment, call_statement, field_expression, index_expression, name_expression, local_statement, no_expressions, return_statement}
 use Rattle.lua_tree.specs.WellFormed.{depth_of_expression, depth_of_expressions, depth_of_statement, ends_block, formed_statement, statement_begins_with_paren}
 use Rattle.core_expr.specs.Places.{Place, place}
-use Rattle.core_expr.specs.Values.{Value, table_value}
+use Rattle.core_expr.specs.Values.{Value, table_value, Inner}
 use Rattle.recover_expr.specs.Situation.{Function, Situation}
 use Rattle.scheme.specs.Making.{Maker}
 use Rattle.scheme.specs.declared.making.Active.{Active}
@@ -44,44 +44,48 @@ module _ {f : Function} {g : Fn} {active : List Active} {listed : List ℕ} {z :
   abbrev at : Place
   at = place f.of listed f.short
 
-  all_written : (deep : ℕ) → deep ≤ 200 → AllWritten f g active listed z [] deep
-  all_written deep low e has few = (rewritten_all [] made e has (omega (arith, low, few))).value
+  -- no function is left, whatever was made
+  abbrev none_left : ℕ → List (Option Inner)
+  none_left made = []
+
+  all_written : (deep : ℕ) → deep ≤ 200 → AllWritten f g active listed z none_left deep
+  all_written deep low e has few = (rewritten_all none_left made e has (omega (arith, low, few))).value
 
   -- ---- what is written
 
   module _ (s : Statement) (is : IsAct s) (few : depth_of_statement s ≤ 65) where
-    pub written : (acted : Acted) → IsActed g active s acted → RewrittenAct f g active listed z [] s acted
-    written acted acts = act_rewritten made 65 s acted (all_written 65 (omega arith)) few is acts
+    pub written : (before behind : ℕ) (acted : Acted) → IsActed g active s before behind acted → RewrittenAct f g active listed z [] [] s acted
+    written before behind acted acts = act_rewritten none_left made 65 s before behind acted (all_written 65 (omega arith)) few is acts
 
     can : CanAct f g active listed s
-    can = record { can = λ acted acts left. (act_rewritten made 65 s acted (λ e has low. (rewritten_all left made e has (omega (arith, low))).value) few is acts).can }
+    can = record { can = λ before behind acted acts left. (act_rewritten (λ made. left) made 65 s before behind acted (λ e has low. (rewritten_all (λ made. left) made e has (omega (arith, low))).value) few is acts).can }
 
-    pub few_levels : (acted : Acted) (n : ℕ) → IsActed g active s acted → act_levels at n [] acted ≤ 200
-    few_levels acted n acts = let levels = (written acted acts).few n in omega (arith, few, levels)
+    pub few_levels : (before behind : ℕ) (acted : Acted) (n : ℕ) → IsActed g active s before behind acted → act_levels at n [] acted ≤ 200
+    few_levels before behind acted n acts = let levels = (written before behind acted acts).few n in omega (arith, few, levels)
 
-    pub written_formed : (acted : Acted) (n : ℕ) → IsActed g active s acted → formed_statement (act_statement at n [] acted) ≡ true
-    written_formed acted n acts = act_formed at g active s acted n is acts (written acted acts).can
+    pub written_formed : (before behind : ℕ) (acted : Acted) (n : ℕ) → IsActed g active s before behind acted → formed_statement (act_statement at n [] acted) ≡ true
+    written_formed before behind acted n acts = act_formed at g active s before behind acted n is acts (written before behind acted acts).can
 
-    pub written_shallow : (acted : Acted) (n : ℕ) → IsActed g active s acted → suc (depth_of_statement (act_statement at n [] acted)) ≤ 200
-    written_shallow acted n acts =
-        let levels = few_levels acted n acts in
-        let low = act_shallow at g active s acted n is acts (written acted acts).can (omega (arith, levels)) in
+    pub written_shallow : (before behind : ℕ) (acted : Acted) (n : ℕ) → IsActed g active s before behind acted → suc (depth_of_statement (act_statement at n [] acted)) ≤ 200
+    written_shallow before behind acted n acts =
+        let levels = few_levels before behind acted n acts in
+        let low = act_shallow at g active s before behind acted n is acts (written before behind acted acts).can (omega (arith, levels)) in
         omega (arith, levels, low)
 
-    pub written_marks : (acted : Acted) (n : ℕ) → IsActed g active s acted → SamePart (statement_part 1 (act_statement at n [] acted)) (statement_part 1 (one_line_statement s))
-    written_marks acted n acts = act_marks made.is_function made.all s acted n 1 is acts (written acted acts).can
+    pub written_marks : (before behind : ℕ) (acted : Acted) (n : ℕ) → IsActed g active s before behind acted → SamePart (statement_part 1 (act_statement at n [] acted)) (statement_part 1 (one_line_statement s))
+    written_marks before behind acted n acts = act_marks made.is_function made.all s before behind acted n 1 is acts (written before behind acted acts).can
 
-    pub written_closed : StatementBeginsWithName s → (acted : Acted) (n : ℕ) → IsActed g active s acted → statement_begins_with_paren (act_statement at n [] acted) ≡ false
-    written_closed begins acted n acts = act_closed at g active s acted n begins is acts (written acted acts).can
+    pub written_closed : StatementBeginsWithName s → (before behind : ℕ) (acted : Acted) (n : ℕ) → IsActed g active s before behind acted → statement_begins_with_paren (act_statement at n [] acted) ≡ false
+    written_closed begins before behind acted n acts = act_closed at g active s before behind acted n begins is acts (written before behind acted acts).can
 
-    pub written_ends : (acted : Acted) (n : ℕ) → IsActed g active s acted → ends_block (act_statement at n [] acted) ≡ ends_block s
-    written_ends acted n acts = act_ends at g active s acted n acts
+    pub written_ends : (before behind : ℕ) (acted : Acted) (n : ℕ) → IsActed g active s before behind acted → ends_block (act_statement at n [] acted) ≡ ends_block s
+    written_ends before behind acted n acts = act_ends at g active s before behind acted n acts
 
   -- ---- what is read
 
   -- what begins with a name is no table
-  no_table : (e : Expression) → BeginsWithName e → (v : Value) → IsCore g active e v → IsNoTable v
-  no_table e begins v is = begun_none v (name_begins g active e v begins is)
+  no_table : (e : Expression) → BeginsWithName e → (before behind : ℕ) (v : Value) → IsCore g active e before behind v → IsNoTable v
+  no_table e begins before behind v is = begun_none v (name_begins g active e before behind v begins is)
 
   target_reads : (target : Expression) → IsActTarget target → BeginsWithName target → depth_of_expression target ≤ 200 → ReadsTarget f g active listed target
   target_reads (name_expression line text) is begins few = tt
@@ -102,7 +106,7 @@ module _ {f : Function} {g : Fn} {active : List Active} {listed : List ℕ} {z :
   act_forward s is begins few after p q stands = absurd is
 
   pub act_read : (s : Statement) → IsAct s → StatementBeginsWithName s → depth_of_statement s ≤ 65 → (after : List Active) (p q : Spot) → StatementAt g None s active after p q → (now : Situation) → HasLocals active listed now → now.entries ≡ [] → now.taken ≡ now.seen →
-      IsQuiet f now.scope p.pc q.pc → StartsWith f s now q.pc → ActRead f g active s now p.pc q.pc
+      IsQuiet f now.scope p.pc q.pc → StartsWith f s now q.pc → ActRead f g active s p.functions q.functions now p.pc q.pc
   act_read (call_statement e) is begins few after p q stands now locals empty taken quiet starts =
       let call = call_read made.is_function made.all e is.0 is.1 (omega (arith, few)) in
       call_statement_read made.is_function e call.0 call.1 (can (call_statement e) is few) p q now locals empty taken quiet stands.part_at

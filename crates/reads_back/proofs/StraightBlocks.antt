@@ -120,7 +120,7 @@ module _ {f : Function} {g : Fn} {z : Maker} (whole : IsWhole f g z) where
 abbrev pub AreWritten : Function → Fn → (taken : ℕ) → (block written : Statements) → Maker → Type 0
 AreWritten f g n no_statements written m = written ≡ no_statements
 AreWritten f g n (syntax.statement line semi s rest) written m =
-    (acted : Acted) × (others : Statements) × IsActed g m.active s acted × AreWritten f g (taken_behind_act acted n) rest others (settle (made_by s m))
+    (acted : Acted) × (others : Statements) × IsActed g m.active s (length m.functions) (length (made_by s m).functions) acted × AreWritten f g (taken_behind_act acted n) rest others (settle (made_by s m))
     × (written ≡ syntax.statement 1 false (act_statement (place f.of (listed_by m) f.short) n [] acted) others)
 
 module _ {f : Function} {g : Fn} {z : Maker} (whole : IsWhole f g z) where
@@ -128,7 +128,7 @@ module _ {f : Function} {g : Fn} {z : Maker} (whole : IsWhole f g z) where
   block_same no_statements tree taken m next are count = ap (λ block. statements_made block None m) are
   block_same (syntax.statement line semi s rest) tree taken m next are count =
       let acted = are.0 in
-      let one = written (made_there whole next) s next.straight.0.0 (low whole next) acted are.2 in
+      let one = written (made_there whole next) s next.straight.0.0 (low whole next) (length m.functions) (length (made_by s m).functions) acted are.2 in
       let later_on = settle (made_by s m) in
       let counted : taken_behind_act acted taken ≡ length later_on.constants = ap (taken_behind_act acted) count ∙ sym (one.taken m (names_next whole next) (here_final whole next)) in
       ap (λ block. statements_made block None m) are.4
@@ -153,16 +153,16 @@ module _ {f : Function} {g : Fn} {z : Maker} (whole : IsWhole f g z) where
   pub block_formed : (block tree : Statements) (taken : ℕ) (m : Maker) → ComesNext f g z block m → formed_statements block ≡ true → AreWritten f g taken block tree m → formed_statements tree ≡ true
   block_formed no_statements tree taken m next formed are = ap formed_statements are
   block_formed (syntax.statement line semi s no_statements) tree taken m next formed are =
-      let one = written_formed (made_there whole next) s next.straight.0.0 (low whole next) are.0 taken are.2 in
+      let one = written_formed (made_there whole next) s next.straight.0.0 (low whole next) (length m.functions) (length (made_by s m).functions) are.0 taken are.2 in
       ap formed_statements (are.4 ∙ ap (syntax.statement 1 false (act_statement (place f.of (listed_by m) f.short) taken [] are.0)) are.3) ∙ both_hold _ true one refl
   block_formed (syntax.statement line semi s (syntax.statement line' semi' s' rest)) tree taken m next formed are =
       let more = comes_behind whole next in
       let made = made_there whole next in
       let others = second_of_both _ _ (second_of_both (formed_statement s) _ formed) in
-      let one = written_formed made s next.straight.0.0 (low whole next) are.0 taken are.2 in
-      let on = written_ends made s next.straight.0.0 (low whole next) are.0 taken are.2 ∙ goes_on s s' line' semi semi' rest (first_of_both _ _ (second_of_both (formed_statement s) _ formed)) in
+      let one = written_formed made s next.straight.0.0 (low whole next) (length m.functions) (length (made_by s m).functions) are.0 taken are.2 in
+      let on = written_ends made s next.straight.0.0 (low whole next) (length m.functions) (length (made_by s m).functions) are.0 taken are.2 ∙ goes_on s s' line' semi semi' rest (first_of_both _ _ (second_of_both (formed_statement s) _ formed)) in
       let behind_taken = taken_behind_act are.0 taken in
-      let closed = written_closed (made_there whole more) s' more.straight.0.0 (low whole more) more.straight.0.1 are.3.0 behind_taken are.3.2 in
+      let closed = written_closed (made_there whole more) s' more.straight.0.0 (low whole more) more.straight.0.1 (length (made_by s m).functions) (length (made_by s' (settle (made_by s m))).functions) are.3.0 behind_taken are.3.2 in
       let first = act_statement (place f.of (listed_by m) f.short) taken [] are.0 in
       ap formed_statements are.4
       ∙ both_hold _ _ one
@@ -172,7 +172,7 @@ module _ {f : Function} {g : Fn} {z : Maker} (whole : IsWhole f g z) where
   pub block_shallow : (block tree : Statements) (taken : ℕ) (m : Maker) → ComesNext f g z block m → AreWritten f g taken block tree m → depth_of_statements tree ≤ 200
   block_shallow no_statements tree taken m next are = omega (arith, ap depth_of_statements are)
   block_shallow (syntax.statement line semi s rest) tree taken m next are =
-      let one = written_shallow (made_there whole next) s next.straight.0.0 (low whole next) are.0 taken are.2 in
+      let one = written_shallow (made_there whole next) s next.straight.0.0 (low whole next) (length m.functions) (length (made_by s m).functions) are.0 taken are.2 in
       let others = block_shallow rest are.1 (taken_behind_act are.0 taken) (settle (made_by s m)) (comes_behind whole next) are.3 in
       omega (arith, ap depth_of_statements are.4, one, others)
 
@@ -182,7 +182,7 @@ module _ {f : Function} {g : Fn} {z : Maker} (whole : IsWhole f g z) where
   block_marks no_statements tree taken m next are = λ here. ap (λ block. statements_part block here) are
   block_marks (syntax.statement line semi s rest) tree taken m next are =
       let on : SamePart (statement_part 1 (one_line_statement s)) (statement_part line s) = λ here. ap (λ s. statement_part 1 s here) next.on_line.1 ∙ ap (λ line. statement_part line s here) (sym next.on_line.0) in
-      let one = part_then (written_marks (made_there whole next) s next.straight.0.0 (low whole next) are.0 taken are.2) on in
+      let one = part_then (written_marks (made_there whole next) s next.straight.0.0 (low whole next) (length m.functions) (length (made_by s m).functions) are.0 taken are.2) on in
       let others = block_marks rest are.1 (taken_behind_act are.0 taken) (settle (made_by s m)) (comes_behind whole next) are.3 in
       part_then (λ here. ap (λ block. statements_part block here) are.4) (both_same one others)
 
@@ -191,5 +191,5 @@ module _ {f : Function} {g : Fn} {z : Maker} (whole : IsWhole f g z) where
   pub block_plain : (block tree : Statements) (taken : ℕ) (m : Maker) → ComesNext f g z block m → AreWritten f g taken block tree m → ArePlain tree
   block_plain no_statements tree taken m next are = subst ArePlain (sym are) tt
   block_plain (syntax.statement line semi s rest) tree taken m next are =
-      let closed = written_closed (made_there whole next) s next.straight.0.0 (low whole next) next.straight.0.1 are.0 taken are.2 in
+      let closed = written_closed (made_there whole next) s next.straight.0.0 (low whole next) next.straight.0.1 (length m.functions) (length (made_by s m).functions) are.0 taken are.2 in
       subst ArePlain (sym are.4) (refl, refl, closed, block_plain rest are.1 (taken_behind_act are.0 taken) (settle (made_by s m)) (comes_behind whole next) are.3)

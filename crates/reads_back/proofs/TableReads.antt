@@ -24,21 +24,36 @@ use Rattle.reads_back.proofs.BothOperands.{behind_operand, both_reach, next_behi
 use Rattle.reads_back.proofs.Comes.{Begins, Comes, IsElementRead, OpenComes, OperandComes, ReadsOperand, ReadsTable, comes_next}
 use Rattle.reads_back.proofs.Reaches.{Reaches, here, word, reaches_then}
 use Rattle.reads_back.proofs.TableItems.{Ahead, begins_value, adds_item, ends_here, IsWantedAt, join_assoc, join_none, keyed_held, open_listed, positional_items, some_listed, with_maker, held_count}
-use Rattle.reads_back.proofs.TableWords.{Making, ItemsCome, turn_is, new_table_turn, with_entries, list_reached, list_later, list_if_forward, list_ahead, IsBounded, no_words, begins_lower, begins_at, keyed_turn, behind_keyed, some_pending, no_pending, is_full, making_next, wanted_same, none_pending, making_more, making_held, rk_small, text_small}
+use Rattle.reads_back.proofs.TableWords.{Making, ItemsCome, turn_is, new_table_turn, with_entries, list_reached, list_keeps, list_if_keeps, list_later, list_if_forward, list_ahead, IsBounded, no_words, begins_lower, begins_at, keyed_turn, behind_keyed, some_pending, no_pending, is_full, making_next, wanted_same, none_pending, making_more, making_held, rk_small, text_small}
 use Rattle.reads_back.proofs.Tests.{second_of_both}
 use Rattle.reads_back.proofs.ValueWords.{and_entry}
 use Rattle.reads_back.proofs.WordsBegin.{instr_is, word_begins, wanted_above}
 use Rattle.reads_back.proofs.WordsRead.{IsFunction, IsQuiet, abc_is_read, quiet_before, quiet_from}
-use Rattle.reads_back.specs.Cores.{AreItems, AreNoItems, IsTable, IsCore, IsItem, IsKeyedItem, IsKey, IsOperand, Items}
+use Rattle.reads_back.specs.Cores.{AreItems, AreNoItems, Counted, CountedItems, IsTable, IsCore, IsItem, IsKeyed, IsKeyedItem, IsKey, IsOneItem, IsOpenItem, IsOperand, Items}
 
 -- ---- parts of a constructor
 
 -- the words of items are read, where so many of those before them are pending
-record ReadsItems (f : Function) (active : List Active) (listed : List ℕ) (Are : Items) (deep t pending : ℕ) (part : Stretch) : Type 0 where
+record ReadsItems (f : Function) (active : List Active) (listed : List ℕ) (Are : CountedItems) (deep t pending : ℕ) (part : Stretch) : Type 0 where
   forward : (p q : Spot) → part p q → p.pc ≤ q.pc
   ahead : (p q : Spot) (s : Situation) → HasLocals active listed s → s.base ≤ t → q.pc ≤ f.last → part p q → Ahead f s.base t pending p.pc q.pc
   comes : (p q : Spot) (s : Situation) (before : Entries) (given : ItemList) → Making active listed s before t given pending → IsQuiet f s.scope p.pc q.pc → IsWantedAt f s.base (length before) q.pc s.scope → part p q →
-      ItemsCome f Are deep s before given p.pc q.pc
+      ItemsCome f (Are p.functions q.functions) deep s before given p.pc q.pc
+
+-- what is known of them may be less
+items_so : {f : Function} {Are Less : Items} {deep first last : ℕ} {s : Situation} {before : Entries} {given : ItemList} → ((items : ItemList) (all : Bool) → Are items all → Less items all) → ItemsCome f Are deep s before given first last →
+    ItemsCome f Less deep s before given first last
+items_so less come = record {
+  items = come.items;
+  all = come.all;
+  are = less come.items come.all come.are;
+  shallow = come.shallow;
+  scope = come.scope;
+  same = come.same;
+  seen = come.seen;
+  taken = come.taken;
+  reaches = come.reaches;
+}
 
 module _ {f : Function} {g : Fn} (active : List Active) (listed : List ℕ) (is_function : IsFunction f g) where
   -- a SETLIST of all that are pending
@@ -58,11 +73,11 @@ module _ {f : Function} {g : Fn} (active : List Active) (listed : List ℕ) (is_
   list_if_ahead false base t n pending done last p q none ends at = ends_here (none refl) (sym at.pc ∙ sym ends)
 
   last_comes : (some : Bool) (deep t n done : ℕ) (p q : Spot) (s : Situation) (before : Entries) (given : ItemList) → nat_lt 0 n ≡ some → Making active listed s before t given n → IsQuiet f s.scope p.pc q.pc → SetListIf some g t n done p q →
-      ItemsCome f AreNoItems deep s before given p.pc q.pc
+      ItemsCome f (AreNoItems p.functions q.functions) deep s before given p.pc q.pc
   last_comes true deep t n done p q s before given is making quiet at = record {
     items = no_items;
     all = false;
-    are = (refl, refl);
+    are = (list_keeps g (nat_le ((done - 1) / 50 + 1) 511) t n ((done - 1) / 50 + 1) p q at, refl, refl);
     shallow = omega arith;
     scope = s.scope;
     same = same_locals s.scope;
@@ -75,7 +90,7 @@ module _ {f : Function} {g : Fn} (active : List Active) (listed : List ℕ) (is_
   last_comes false deep t n done p q s before given is making quiet at = record {
     items = no_items;
     all = false;
-    are = (refl, refl);
+    are = (at.functions, refl, refl);
     shallow = omega arith;
     scope = s.scope;
     same = same_locals s.scope;
@@ -116,7 +131,7 @@ module _ {f : Function} {g : Fn} (active : List Active) (listed : List ℕ) (is_
 
   positional_then : {Is : Value → Type 0} {Rest : Items} {deep first mid more last : ℕ} {s : Situation} {before : Entries} {given : ItemList} (one : Comes f Is deep s first mid) (entries : Entries) →
       Reaches f mid (behind_words one.scope one.seen (one.entry ∷ []) s) more (record s { scope = one.scope; entries = entries; seen = one.seen }) →
-      ItemsCome f Rest deep (record s { scope = one.scope; entries = entries; seen = one.seen }) before (join_items given (and_positional one.value no_items)) more last → ItemsCome f (IsItem false Is Rest) deep s before given first last
+      ItemsCome f Rest deep (record s { scope = one.scope; entries = entries; seen = one.seen }) before (join_items given (and_positional one.value no_items)) more last → ItemsCome f (IsOneItem Is Rest) deep s before given first last
   positional_then {first = first} {last = last} {s = s} {before} {given} one entries between rest = record {
     items = and_positional one.value rest.items;
     all = rest.all;
@@ -132,10 +147,10 @@ module _ {f : Function} {g : Fn} (active : List Active) (listed : List ℕ) (is_
   }
 
   -- the last item is open
-  open_then : (Rest : Items) (done : ℕ) (p q : Spot) {Is : Value → Type 0} {deep t pending first : ℕ} {s : Situation} {before : Entries} {given : ItemList} (last : OpenComes f Is deep s first p.pc) → Making active listed s before t given pending →
+  open_then : (done : ℕ) (p q : Spot) {Is : Value → Type 0} {deep t pending first : ℕ} {s : Situation} {before : Entries} {given : ItemList} (last : OpenComes f Is deep s first p.pc) → Making active listed s before t given pending →
       IsQuiet f s.scope p.pc q.pc → SetListAt g t 0 done p q →
-      ItemsCome f (IsItem true Is Rest) deep s before given first q.pc
-  open_then Rest done p q {t = t} {first = first} {s = s} {before} {given} last making quiet at =
+      ItemsCome f (IsOpenItem Is) deep s before given first q.pc
+  open_then done p q {t = t} {first = first} {s = s} {before} {given} last making quiet at =
       let block = (done - 1) / 50 + 1 in
       let some = and_positional last.value no_items in
       let behind = behind_words last.scope last.seen (open_entry last.value ∷ []) s in
@@ -160,10 +175,10 @@ module _ {f : Function} {g : Fn} (active : List Active) (listed : List ℕ) (is_
             (more (making.held + length making.entries) held_entry ++ []) is_function (quiet_same last.same quiet) (omega arith) at making.at are listed));
       }
 
-  one_then : (done : ℕ) (p mid q : Spot) {Is : Value → Type 0} {Rest : Items} {deep t pending first : ℕ} {s : Situation} {before : Entries} {given : ItemList} {rest : Stretch} → ReadsItems f active listed Rest deep t (pending_after (suc pending)) rest →
+  one_then : (done : ℕ) (p mid q : Spot) {Is : Value → Type 0} {Rest : CountedItems} {deep t pending first : ℕ} {s : Situation} {before : Entries} {given : ItemList} {rest : Stretch} → ReadsItems f active listed Rest deep t (pending_after (suc pending)) rest →
       Comes f Is deep s first p.pc → Making active listed s before t given pending → IsQuiet f s.scope p.pc q.pc → IsWantedAt f s.base (length before) q.pc s.scope → SetListIf (suc pending == 50) g t 50 done p mid → rest mid q →
-      ItemsCome f (IsItem false Is Rest) deep s before given first q.pc
-  one_then done p mid q {t = t} {pending} {s = s} {before} {given} rest_read one making quiet wanted list_at rest_at =
+      ItemsCome f (IsOneItem Is (Rest p.functions q.functions)) deep s before given first q.pc
+  one_then done p mid q {Rest = Rest} {t = t} {pending} {s = s} {before} {given} rest_read one making quiet wanted list_at rest_at =
       let full = suc pending == 50 in
       let behind = behind_words one.scope one.seen (one.entry ∷ []) s in
       let given_more = join_items given (and_positional one.value no_items) in
@@ -171,9 +186,10 @@ module _ {f : Function} {g : Fn} (active : List Active) (listed : List ℕ) (is_
       let between = listed_if full t (suc pending) done p mid behind before given_more refl (making_more making one.entry one.value one.scope one.seen one.single one.same) (quiet_before mid.pc (rest_read.forward mid q rest_at) quiet_behind) list_at in
       let quiet_rest : IsQuiet f one.scope mid.pc q.pc = quiet_from mid.pc (list_if_forward g full t 50 done p mid list_at) quiet_behind in
       positional_then one between.entries between.reaches
-      (rest_read.comes mid q (with_entries between.entries behind) before given_more between.making quiet_rest (wanted_same f s.base (length before) q.pc one.same wanted) rest_at)
+      (items_so (λ items all are. subst (λ (made : ℕ). Rest made q.functions items all) (list_if_keeps g full t 50 done p mid list_at) are)
+      (rest_read.comes mid q (with_entries between.entries behind) before given_more between.making quiet_rest (wanted_same f s.base (length before) q.pc one.same wanted) rest_at))
 
-  module _ {e : Expression} {deep : ℕ} (reads : IsElementRead f g active listed deep e) {Rest : Items} where
+  module _ {e : Expression} {deep : ℕ} (reads : IsElementRead f g active listed deep e) {Rest : CountedItems} where
     item_read : (left_open : Bool) (t done pending : ℕ) (rest : Stretch) → (left_open ≡ true → is_multiple e ≡ true) → ReadsItems f active listed Rest deep t (pending_after (suc pending)) rest →
         ReadsItems f active listed (IsItem left_open (IsCore g active e) Rest) deep t pending (ItemBy left_open g (related g e) active t done pending rest)
     item_read true t done pending rest multiple rest_read =
@@ -187,7 +203,8 @@ module _ {f : Function} {g : Fn} (active : List Active) (listed : List ℕ) (is_
               let on = all.forward (t + suc pending) Op.Call None p at.mid at.first_at in
               let back = list_later g (nat_le block 511) t 0 block at.mid q at.second_at in
               let last = all.comes (t + suc pending) p at.mid s making.locals (making_next making) (quiet_before at.mid.pc (omega (arith, back)) quiet) at.first_at in
-              open_then Rest (suc done) at.mid q last making (quiet_from at.mid.pc on quiet) at.second_at;
+              items_so (λ items all are. subst (λ (behind : ℕ). IsOpenItem (IsCore g active e p.functions behind) items all) (sym (list_keeps g (nat_le block 511) t 0 block at.mid q at.second_at)) are)
+              (open_then (suc done) at.mid q last making (quiet_from at.mid.pc on quiet) at.second_at);
         }
     item_read false t done pending rest multiple rest_read =
         let full = suc pending == 50 in
@@ -206,14 +223,14 @@ module _ {f : Function} {g : Fn} (active : List Active) (listed : List ℕ) (is_
               let back = rest_read.forward others.mid q others.second_at in
               let some : 0 < length s.entries = omega (arith, making_next making, making.at) in
               let one = comes_next reads.one free p at.mid s making.locals (making_next making) (quiet_before at.mid.pc (omega (arith, list, back)) quiet) (wanted_above f s at.mid.pc some) at.first in
-              one_then (suc done) at.mid others.mid q rest_read one making (quiet_from at.mid.pc on quiet) wanted others.first_at others.second_at;
+              items_so (λ items all are. (at.mid.functions, are)) (one_then (suc done) at.mid others.mid q rest_read one making (quiet_from at.mid.pc on quiet) wanted others.first_at others.second_at);
         }
 
   -- ---- an item with a key
 
   keyed_joined : {Key Item : OperandValue → Type 0} {Rest : Items} {deep free x free1 y free2 first between third mid last : ℕ} {s : Situation} {before : Entries} {given : ItemList} (one : OperandComes f Key deep s free x free1 first between)
       (two : OperandComes f Item deep (behind_operand one) free1 y free2 between third) (count : ℕ) → Reaches f first s mid (behind_keyed one two before given count) →
-      ItemsCome f Rest deep (behind_keyed one two before given count) before (join_items given (and_keyed one.operand two.operand no_items)) mid last → ItemsCome f (IsKeyedItem Key Item Rest) deep s before given first last
+      ItemsCome f Rest deep (behind_keyed one two before given count) before (join_items given (and_keyed one.operand two.operand no_items)) mid last → ItemsCome f (IsKeyed Key Item Rest) deep s before given first last
   keyed_joined {first = first} {last = last} {s = s} {before} {given} one two count reached rest = record {
     items = and_keyed one.operand two.operand rest.items;
     all = rest.all;
@@ -228,11 +245,11 @@ module _ {f : Function} {g : Fn} (active : List Active) (listed : List ℕ) (is_
         (reaches_then reached rest.reaches);
   }
 
-  keyed_then : (p mid q : Spot) {Key Item : OperandValue → Type 0} {Rest : Items} {deep t pending free x free1 y free2 first between : ℕ} {s : Situation} {before : Entries} {given : ItemList} {rest : Stretch} →
+  keyed_then : (p mid q : Spot) {Key Item : OperandValue → Type 0} {Rest : CountedItems} {deep t pending free x free1 y free2 first between : ℕ} {s : Situation} {before : Entries} {given : ItemList} {rest : Stretch} →
       ReadsItems f active listed Rest deep t pending rest →
       (one : OperandComes f Key deep s free x free1 first between) (two : OperandComes f Item deep (behind_operand one) free1 y free2 between p.pc) → free ≡ t + suc pending → Making active listed s before t given pending →
       IsQuiet f s.scope p.pc q.pc → IsWantedAt f s.base (length before) q.pc s.scope →
-      (free1 ≡ free + 1 → x < 256) → (free2 ≡ free1 + 1 → y < 256) → WordAt g (Piece.Abc Op.SetTable t x y) p mid → rest mid q → ItemsCome f (IsKeyedItem Key Item Rest) deep s before given first q.pc
+      (free1 ≡ free + 1 → x < 256) → (free2 ≡ free1 + 1 → y < 256) → WordAt g (Piece.Abc Op.SetTable t x y) p mid → rest mid q → ItemsCome f (IsKeyed Key Item (Rest mid.functions q.functions)) deep s before given first q.pc
   keyed_then p mid q {t = t} {pending} {x = x} {y = y} {first = first} {s = s} {before} {given} rest_read one two free making quiet wanted small small_two word_at rest_at =
       let key = one.operand in
       let item = two.operand in
@@ -260,7 +277,7 @@ module _ {f : Function} {g : Fn} (active : List Active) (listed : List ℕ) (is_
       subst (λ (n : ℕ). Making active listed behind before t given_more n) (sym making.counts) (making_held making behind count refl same given_more refl) in
       keyed_joined one two count (reaches_then (both_reach one two) (word below turn here)) (rest_read.comes mid q behind before given_more making_then quiet_rest wanted_two rest_at)
 
-  module _ {Key Item : OperandValue → Type 0} {deep : ℕ} {key_at value_at : (free x free1 : ℕ) → Stretch} (keys : ReadsOperand f g active listed Key deep key_at) (key_small : IsBounded key_at)
+  module _ {Key Item : Counted OperandValue} {deep : ℕ} {key_at value_at : (free x free1 : ℕ) → Stretch} (keys : ReadsOperand f g active listed Key deep key_at) (key_small : IsBounded key_at)
       (operands : ReadsOperand f g active listed Item deep value_at) (value_small : IsBounded value_at) where
     abbrev one_keyed : (t pending : ℕ) → Stretch
     one_keyed t pending = TwoAt key_at value_at (t + suc pending) (λ k v. WordAt g (Piece.Abc Op.SetTable t k v))
@@ -297,8 +314,8 @@ module _ {f : Function} {g : Fn} (active : List Active) (listed : List ℕ) (is_
             of_value same key.0 (operands.begins at.free1 at.y at.free2 at.mid at.last within_last at.right_at)
         of_key (inr begun) = begins_value (begins_lower (omega arith) begun)
 
-    keyed_read : {Rest : Items} (t pending : ℕ) (rest : Stretch) → ReadsItems f active listed Rest deep t pending rest → ReadsItems f active listed (IsKeyedItem Key Item Rest) deep t pending (Seq (one_keyed t pending) rest)
-    keyed_read t pending rest rest_read =
+    keyed_read : {Rest : CountedItems} (t pending : ℕ) (rest : Stretch) → ReadsItems f active listed Rest deep t pending rest → ReadsItems f active listed (IsKeyedItem Key Item Rest) deep t pending (Seq (one_keyed t pending) rest)
+    keyed_read {Rest} t pending rest rest_read =
         let free = t + suc pending in
         record {
           forward = λ p q at. omega (arith, keyed_forward t pending p at.mid at.first_at, rest_read.forward at.mid q at.second_at);
@@ -314,8 +331,14 @@ module _ {f : Function} {g : Fn} (active : List Active) (listed : List ℕ) (is_
               let two = operands.comes both.free1 both.y both.free2 both.mid both.last (behind_operand one) (record { base = making.locals.base; places = one.same.active ∙ making.locals.places }) (next_behind one (making_next making))
               (quiet_same one.same (quiet_from both.mid.pc on (quiet_before both.last.pc (omega (arith, word_at.next, back)) quiet)))
               (λ is next. wanted_above f (behind_operand one) both.last.pc (omega (arith, some, length-append s.entries one.more))) both.right_at in
-              keyed_then both.last at.mid q rest_read one two refl making (quiet_from both.last.pc (omega (arith, on, on_too)) quiet) wanted
-              (key_small free both.x both.free1 p both.mid both.left_at) (value_small both.free1 both.y both.free2 both.mid both.last both.right_at) word_at at.second_at;
+              items_so
+              (λ items all are. (
+                both.mid.functions,
+                at.mid.functions,
+                subst (λ (made : ℕ). IsKeyed (Key p.functions both.mid.functions) (Item both.mid.functions made) (Rest at.mid.functions q.functions) items all) (sym word_at.functions) are,
+              ))
+              (keyed_then both.last at.mid q rest_read one two refl making (quiet_from both.last.pc (omega (arith, on, on_too)) quiet) wanted
+              (key_small free both.x both.free1 p both.mid both.left_at) (value_small both.free1 both.y both.free2 both.mid both.last both.right_at) word_at at.second_at);
         }
 
 -- ---- constructors
@@ -362,6 +385,11 @@ table_comes fits reached come =
       omega (arith, come.shallow),
     )
 
+-- its word makes no function
+table_made : {f : Function} (Are : CountedItems) {deep first mid last before between behind : ℕ} {s : Situation} → deep ≤ 199 → between ≡ before → Reaches f first s mid (and_entry (maker_entry no_items false) s) →
+    ItemsCome f (Are between behind) deep (and_entry (maker_entry no_items false) s) s.entries no_items mid last → (table : Comes f (IsTable (Are before behind)) (suc deep) s first last) × (depth_of table.value < 2 * suc deep)
+table_made Are {behind = behind} fits same reached come = table_comes fits reached (items_so (λ items all are. subst (λ (made : ℕ). Are made behind items all) same are) come)
+
 pub table_reads : {f : Function} {g : Fn} {active : List Active} {listed : List ℕ} {deep : ℕ} → IsFunction f g → deep ≤ 199 → (fields : Fields) → ItemsRead f g active listed deep fields →
     ReadsTable f g active listed (AreItems g active fields) (suc deep) (λ free. TableAt g (λ t. ItemsAt g fields active t 0 0) free)
 table_reads {f} {g} {active} {listed} {deep} is_function fits fields reads =
@@ -377,7 +405,7 @@ table_reads {f} {g} {active} {listed} {deep} is_function fits fields reads =
           turn_is s q.pc is_function first quiet (omega (arith, below, back)) ∙ new_table_turn f p.pc free at.array at.hash s next ∙ ap (λ (pc : ℕ). Some (on pc, s_made)) (sym first.next) in
           let making : Making active listed s_made s.entries free no_items 0 =
           record { items = no_items; held = 0; entries = []; vs = no_values; is = refl; are = refl; counts = refl; together = refl; at = next; locals = record { base = locals.base; places = locals.places } } in
-          table_comes fits (word below turn here) ((all free).comes at.mid q s_made s.entries no_items making (quiet_from at.mid.pc (omega (arith, below)) quiet) wanted at.items_at);
+          table_made (AreItems g active fields) fits first.functions (word below turn here) ((all free).comes at.mid q s_made s.entries no_items making (quiet_from at.mid.pc (omega (arith, below)) quiet) wanted at.items_at);
     }
   where
     all : (t : ℕ) → ReadsItems f active listed (AreItems g active fields) deep t 0 (ItemsAt g fields active t 0 0)

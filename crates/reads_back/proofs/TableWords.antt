@@ -37,7 +37,7 @@ use Rattle.reads_back.proofs.TakenEntries.{before_some, more_entries}
 use Rattle.reads_back.proofs.ValueWords.{and_entry, entry_next, next_free}
 use Rattle.reads_back.proofs.WordsBegin.{instr_is, wanted_above}
 use Rattle.reads_back.proofs.WordsRead.{IsFunction, IsQuiet, abc_is_read, turn_there, word_of, word_there}
-use Rattle.reads_back.specs.Cores.{Items}
+use Rattle.reads_back.specs.Cores.{Items, Counted}
 
 -- ---- words
 
@@ -101,6 +101,15 @@ pub list_if_forward : (g : Fn) (some : Bool) (t n done : ℕ) (p q : Spot) → S
 list_if_forward g true t n done p q at = let block = (done - 1) / 50 + 1 in omega (arith, list_later g (nat_le block 511) t n block p q at)
 list_if_forward g false t n done p q at = omega (arith, at.pc)
 
+-- no word of it makes a function
+pub list_keeps : (g : Fn) (small : Bool) (t n block : ℕ) (p q : Spot) → SetListBy small g t n block p q → q.functions ≡ p.functions
+list_keeps g true t n block p q at = at.functions
+list_keeps g false t n block p q at = at.second_at.functions ∙ at.first_at.functions
+
+pub list_if_keeps : (g : Fn) (some : Bool) (t n done : ℕ) (p q : Spot) → SetListIf some g t n done p q → q.functions ≡ p.functions
+list_if_keeps g true t n done p q at = list_keeps g (nat_le ((done - 1) / 50 + 1) 511) t n ((done - 1) / 50 + 1) p q at
+list_if_keeps g false t n done p q at = at.functions
+
 pub list_ahead : {f : Function} {g : Fn} (small : Bool) (base t n block pending last : ℕ) (p q : Spot) → IsFunction f g → SetListBy small g t n block p q → Ahead f base t pending p.pc last
 list_ahead true base t n block pending last p q is_function at = adds_list (instr_by p.pc (Piece.Abc Op.SetList t n block)) (instr_is is_function at (abc_is_read is_function at)) refl refl
 list_ahead false base t n block pending last p q is_function at = let first = at.first_at in adds_list (instr_by p.pc (Piece.Abc Op.SetList t n 0)) (instr_is is_function first (abc_is_read is_function first)) refl refl
@@ -115,7 +124,7 @@ reaches_none here same = refl
 reaches_none (word later turn rest) same = let on = reaches_on rest in absurd (omega arith)
 
 -- an operand with no words is a local or a constant
-pub no_words : {f : Function} {g : Fn} {active : List Active} {listed : List ℕ} {Is : OperandValue → Type 0} {deep : ℕ} {at : (free x free1 : ℕ) → Stretch} → ReadsOperand f g active listed Is deep at →
+pub no_words : {f : Function} {g : Fn} {active : List Active} {listed : List ℕ} {Is : Counted OperandValue} {deep : ℕ} {at : (free x free1 : ℕ) → Stretch} → ReadsOperand f g active listed Is deep at →
     (free x free1 : ℕ) (p q : Spot) (s : Situation) → HasLocals active listed s →
     s.base < free → q.pc ≤ f.last → at free x free1 p q → p.pc ≡ q.pc → (free1 ≡ free) × (is_temporary s.base x ≡ false)
 no_words {f} {active = active} {listed = listed} {Is} {deep} reads free x free1 p q s locals above within at same = of_kept come.kept
@@ -123,7 +132,7 @@ no_words {f} {active = active} {listed = listed} {Is} {deep} reads free x free1 
     u : Situation
     u = with_entries (more (free - s.base) held_entry) s
 
-    come : OperandComes f Is deep u free x free1 p.pc q.pc
+    come : OperandComes f (Is p.functions q.functions) deep u free x free1 p.pc q.pc
     come =
         let count = held_count (free - s.base) in
         reads.comes free x free1 p q u (record { base = locals.base; places = locals.places }) (omega (arith, count, above)) (record { none = λ pc from below. absurd (omega (arith, same, from, below)); within = within })

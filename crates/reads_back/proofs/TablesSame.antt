@@ -65,11 +65,11 @@ module _ (f : Function) (listed : List ℕ) (z : Maker) (left : List (Option Inn
   abbrev pub items_wording : ℕ → ItemList → (all : Bool) → FieldWording
   items_wording n items all = word_items (place f.of listed f.short) n left items all
 
-module _ (f : Function) (g : Fn) (active : List Active) (listed : List ℕ) (z : Maker) (left : List (Option Inner)) where
+module _ (f : Function) (g : Fn) (active : List Active) (listed : List ℕ) (z : Maker) (left behind : List (Option Inner)) where
   -- of the items of a constructor
   pub record RewrittenItems (fields : Fields) (deep : ℕ) (items : ItemList) (all : Bool) : Type 0 where
     pub can : can_write_items (place f.of listed f.short) left items ≡ true
-    pub unused : left_by_items items left ≡ left
+    pub leaves : left_by_items items left ≡ behind
     pub few : (n : ℕ) → (items_wording f listed z left n items all).levels ≤ 3 * deep + 3
     pub last : (n : ℕ) → is_last (entries (items_wording f listed z left n items all).words) ≡ is_last (entries (one_line_fields fields))
     pub positions : (n : ℕ) → positional_count (entries (items_wording f listed z left n items all).words) ≡ positional_count (entries (one_line_fields fields))
@@ -79,13 +79,13 @@ module _ (f : Function) (g : Fn) (active : List Active) (listed : List ℕ) (z :
     pub taken : (t done pending : ℕ) (m : Maker) → IsAhead g active (names_of_fields fields) m → Final (length m.labels) (entries_from 1 t done pending (entries (one_line_fields fields)) m) z →
         length (entries_from 1 t done pending (entries (one_line_fields fields)) m).constants ≡ taken_behind_items items (length m.constants)
 
-module _ {f : Function} {g : Fn} {active : List Active} {listed : List ℕ} {z : Maker} {left : List (Option Inner)} where
+module _ {f : Function} {g : Fn} {active : List Active} {listed : List ℕ} {z : Maker} {left behind : List (Option Inner)} where
   -- ---- no more items
 
-  pub none_rewritten : (deep : ℕ) (all : Bool) → RewrittenItems f g active listed z left no_fields deep no_items all
-  none_rewritten deep all = record {
+  pub none_rewritten : (deep : ℕ) (all : Bool) → left ≡ behind → RewrittenItems f g active listed z left behind no_fields deep no_items all
+  none_rewritten deep all same = record {
     can = refl;
-    unused = refl;
+    leaves = same;
     few = λ n. omega arith;
     last = λ n. refl;
     positions = λ n. refl;
@@ -96,11 +96,11 @@ module _ {f : Function} {g : Fn} {active : List Active} {listed : List ℕ} {z :
 
   -- ---- a last one, of which all values go into the table
 
-  pub open_rewritten : (e : Expression) (separator : Separator) (v : Value) (deep : ℕ) → depth_of_expression e ≤ deep → Rewritten f g active listed z left e v → is_multiple e ≡ true →
-      RewrittenItems f g active listed z left (positional e separator no_fields) deep (and_positional v no_items) true
+  pub open_rewritten : (e : Expression) (separator : Separator) (v : Value) (deep : ℕ) → depth_of_expression e ≤ deep → Rewritten f g active listed z left behind e v → is_multiple e ≡ true →
+      RewrittenItems f g active listed z left behind (positional e separator no_fields) deep (and_positional v no_items) true
   open_rewritten e separator v deep deeper written is = record {
     can = both_hold _ true written.can refl;
-    unused = written.unused;
+    leaves = written.leaves;
     few = λ n. omega (arith, written.few n, deeper);
     last = λ n. refl;
     positions = λ n. ap (λ (b : Bool). cond b 0 1) (several n) ∙ sym (ap (λ (b : Bool). cond b 0 1) of_code);
@@ -129,21 +129,22 @@ module _ {f : Function} {g : Fn} {active : List Active} {listed : List ℕ} {z :
           let mid = (code e).multi Op.Call None m in
           before (grows_set_list {v = calm} 1 t 0 (suc done) mid) (subst (λ n. Final (length m.labels) n z) (as_open t done pending (code e) m of_code) final)
 
+module _ {f : Function} {g : Fn} {active : List Active} {listed : List ℕ} {z : Maker} {left mid behind : List (Option Inner)} where
   -- ---- an item without a key, and others behind it
 
-  pub positional_rewritten : (e : Expression) (separator : Separator) (rest : Fields) (v : Value) (items : ItemList) (all : Bool) (deep : ℕ) → HasCore e → depth_of_expression e ≤ deep → Rewritten f g active listed z left e v → RewrittenItems f g active listed z left rest deep items all →
-      (is_last_item rest && is_multiple e) ≡ false → ((n : ℕ) → (is_last (entries (items_wording f listed z left n items all).words) && is_multiple (as_value (ends_items items && not all) v (wording f listed z left n v)).words) ≡ false) →
-      RewrittenItems f g active listed z left (positional e separator rest) deep (and_positional v items) all
+  pub positional_rewritten : (e : Expression) (separator : Separator) (rest : Fields) (v : Value) (items : ItemList) (all : Bool) (deep : ℕ) → HasCore e → depth_of_expression e ≤ deep → Rewritten f g active listed z left mid e v → RewrittenItems f g active listed z mid behind rest deep items all →
+      (is_last_item rest && is_multiple e) ≡ false → ((n : ℕ) → (is_last (entries (items_wording f listed z mid n items all).words) && is_multiple (as_value (ends_items items && not all) v (wording f listed z left n v)).words) ≡ false) →
+      RewrittenItems f g active listed z left behind (positional e separator rest) deep (and_positional v items) all
   positional_rewritten e separator rest v items all deep has deeper first others closed written_closed = record {
-    can = both_hold _ _ first.can (ap (λ fs. can_write_items (place f.of listed f.short) fs items) first.unused ∙ others.can);
-    unused = ap (left_by_items items) first.unused ∙ others.unused;
+    can = both_hold _ _ first.can (ap (λ fs. can_write_items (place f.of listed f.short) fs items) first.leaves ∙ others.can);
+    leaves = ap (left_by_items items) first.leaves ∙ others.leaves;
     few = λ n.
         let same = ap (λ (w : FieldWording). w.levels) (behind_is n) in
         omega (arith, same, first.few n, deeper, levels_wrapped (not ((ends_items items && not all) && can_be_several v)) (wording f listed z left n v), others.few (taken_behind v n));
     last = λ n. refl;
     positions = λ n.
         ap (λ (w : FieldWording). positional_count (positional_entry (coded (item n).words) ∷ entries w.words)) (behind_is n)
-        ∙ ap (λ (b : Bool). cond b 0 (suc (positional_count (entries (behind n).words)))) (item_closed n)
+        ∙ ap (λ (b : Bool). cond b 0 (suc (positional_count (entries (behind_words n).words)))) (item_closed n)
         ∙ ap suc (others.positions (taken_behind v n))
         ∙ sym (ap (λ (b : Bool). cond b 0 (suc (positional_count (entries (one_line_fields rest))))) code_closed);
     others = λ n. ap (λ (w : FieldWording). other_count (entries w.words)) (behind_is n) ∙ others.others (taken_behind v n);
@@ -152,31 +153,31 @@ module _ {f : Function} {g : Fn} {active : List Active} {listed : List ℕ} {z :
         let c = coded (item n).words in
         let at_rest = here t done pending m final in
         let on_first = first_final t done pending m final in
-        let mid = between t done pending m in
-        let same : length mid.constants ≡ taken_behind v n = ap (λ ks. length ks) (between_constants t done pending m) ∙ next_taken first m (ahead_front (names_in e) (names_of_fields rest) ahead) on_first in
+        let on = between t done pending m in
+        let same : length on.constants ≡ taken_behind v n = ap (λ ks. length ks) (between_constants t done pending m) ∙ next_taken first m (ahead_front (names_in e) (names_of_fields rest) ahead) on_first in
         ap (λ (w : FieldWording). entries_from 1 t done pending (positional_entry c ∷ entries w.words) m) (behind_is n)
-        ∙ closed_by t done pending c (entries (behind n).words) m (item_closed n)
-        ∙ ap (λ mid. entries_from 1 t (suc done) (pending_after (suc pending)) (entries (behind n).words) (full_end 1 t (suc done) (suc pending) mid)) (next_wrapped (not ((ends_items items && not all) && can_be_several v)) (wording f listed z left n v) m ∙ next_same first m (ahead_front (names_in e) (names_of_fields rest) ahead) on_first)
-        ∙ ap (λ n. entries_from 1 t (suc done) (pending_after (suc pending)) (entries (items_wording f listed z left n items all).words) mid) (sym same)
-        ∙ others.part t (suc done) (pending_after (suc pending)) mid (rest_ahead t done pending m ahead) at_rest
+        ∙ closed_by t done pending c (entries (behind_words n).words) m (item_closed n)
+        ∙ ap (λ mid. entries_from 1 t (suc done) (pending_after (suc pending)) (entries (behind_words n).words) (full_end 1 t (suc done) (suc pending) mid)) (next_wrapped (not ((ends_items items && not all) && can_be_several v)) (wording f listed z left n v) m ∙ next_same first m (ahead_front (names_in e) (names_of_fields rest) ahead) on_first)
+        ∙ ap (λ n. entries_from 1 t (suc done) (pending_after (suc pending)) (entries (items_wording f listed z mid n items all).words) on) (sym same)
+        ∙ others.part t (suc done) (pending_after (suc pending)) on (rest_ahead t done pending m ahead) at_rest
         ∙ sym (closed_by t done pending (code e) (entries (one_line_fields rest)) m code_closed);
     taken = λ t done pending m ahead final.
-        let mid = between t done pending m in
+        let on = between t done pending m in
         ap (λ (n : Maker). length n.constants) (closed_by t done pending (code e) (entries (one_line_fields rest)) m code_closed)
-        ∙ others.taken t (suc done) (pending_after (suc pending)) mid (rest_ahead t done pending m ahead) (here t done pending m final)
+        ∙ others.taken t (suc done) (pending_after (suc pending)) on (rest_ahead t done pending m ahead) (here t done pending m final)
         ∙ ap (taken_behind_items items) (ap (λ ks. length ks) (between_constants t done pending m) ∙ next_taken first m (ahead_front (names_in e) (names_of_fields rest) ahead) (first_final t done pending m final));
   }
     where
       item : (n : ℕ) → Wording
       item n = as_value (ends_items items && not all) v (wording f listed z left n v)
 
-      behind : (n : ℕ) → FieldWording
-      behind n = items_wording f listed z left (taken_behind v n) items all
+      behind_words : (n : ℕ) → FieldWording
+      behind_words n = items_wording f listed z mid (taken_behind v n) items all
 
-      behind_is : (n : ℕ) → word_items (place f.of listed f.short) (taken_behind v n) (left_by v left) items all ≡ behind n
-      behind_is n = ap (λ fs. word_items (place f.of listed f.short) (taken_behind v n) fs items all) first.unused
+      behind_is : (n : ℕ) → word_items (place f.of listed f.short) (taken_behind v n) (left_by v left) items all ≡ behind_words n
+      behind_is n = ap (λ fs. word_items (place f.of listed f.short) (taken_behind v n) fs items all) first.leaves
 
-      item_closed : (n : ℕ) → (is_last (entries (behind n).words) && is_multiple (coded (item n).words).e) ≡ false
+      item_closed : (n : ℕ) → (is_last (entries (behind_words n).words) && is_multiple (coded (item n).words).e) ≡ false
       item_closed n =
           ap₂ (λ (a b : Bool). a && b) (others.last (taken_behind v n) ∙ sym (others.last n)) (ap is_multiple (coded_is (item n).words)) ∙ written_closed n
 
@@ -252,9 +253,9 @@ named_keyed text e separator rest = record { names = refl; from = λ t done pend
 pub keyed_keyed : (key e : Expression) (separator : Separator) (rest : Fields) → IsKeyed (keyed key e separator rest) (rk (code key)) (names_in key) e rest
 keyed_keyed key e separator rest = record { names = refl; from = λ t done pending m. refl; last = refl; positions = refl; others = refl }
 
-module _ {f : Function} {g : Fn} {active : List Active} {listed : List ℕ} {z : Maker} {left : List (Option Inner)} (fields : Fields) (asked : Asks ℕ) (texts : List Text) (e : Expression) (rest : Fields) (k o : OperandValue) (items : ItemList) (all : Bool) (deep : ℕ)
-    (is : IsKeyed fields asked texts e rest) (e_passes : PassesNames (names_in e) (code e)) (key_same : KeySame f g active listed z left asked texts k deep) (e_same : RewrittenOperand f g active listed z left e o) (deeper : depth_of_expression e ≤ deep)
-    (rest_same : RewrittenItems f g active listed z left rest deep items all) where
+module _ {f : Function} {g : Fn} {active : List Active} {listed : List ℕ} {z : Maker} {left mid last behind : List (Option Inner)} (fields : Fields) (asked : Asks ℕ) (texts : List Text) (e : Expression) (rest : Fields) (k o : OperandValue) (items : ItemList) (all : Bool) (deep : ℕ)
+    (is : IsKeyed fields asked texts e rest) (e_passes : PassesNames (names_in e) (code e)) (key_same : KeySame f g active listed z left mid asked texts k deep) (e_same : RewrittenOperand f g active listed z mid last e o) (deeper : depth_of_expression e ≤ deep)
+    (rest_same : RewrittenItems f g active listed z last behind rest deep items all) where
   abbrev at : Place
   at = place f.of listed f.short
 
@@ -263,17 +264,17 @@ module _ {f : Function} {g : Fn} {active : List Active} {listed : List ℕ} {z :
   key_words n = operand_wording f listed z left n k
 
   abbrev e_words : ℕ → Wording
-  e_words n = operand_wording f listed z left n o
+  e_words n = operand_wording f listed z mid n o
 
   abbrev rest_words : ℕ → FieldWording
-  rest_words n = items_wording f listed z left n items all
+  rest_words n = items_wording f listed z last n items all
 
   written_is : (n : ℕ) → items_wording f listed z left n (and_keyed k o items) all ≡ and_keyed_item (field_name at k) (key_words n) (e_words (taken_behind_operand k n)) (separator_before items) (rest_words (taken_behind_operand o (taken_behind_operand k n)))
   written_is n =
       let n1 = taken_behind_operand k n in
       let n2 = taken_behind_operand o n1 in
-      ap (λ fs. and_keyed_item (field_name at k) (key_words n) (word_operand at n1 fs o) (separator_before items) (word_items at n2 (left_by_operand o fs) items all)) key_same.unused
-      ∙ ap (λ fs. and_keyed_item (field_name at k) (key_words n) (e_words n1) (separator_before items) (word_items at n2 fs items all)) e_same.unused
+      ap (λ fs. and_keyed_item (field_name at k) (key_words n) (word_operand at n1 fs o) (separator_before items) (word_items at n2 (left_by_operand o fs) items all)) key_same.leaves
+      ∙ ap (λ fs. and_keyed_item (field_name at k) (key_words n) (e_words n1) (separator_before items) (word_items at n2 fs items all)) e_same.leaves
 
   module _ (t done pending : ℕ) (m : Maker) (ahead : IsAhead g active (names_of_fields fields) m) (final : Final (length m.labels) (entries_from 1 t done pending (entries (one_line_fields fields)) m) z) where
     -- behind the key, the item, and its word
@@ -283,8 +284,8 @@ module _ {f : Function} {g : Fn} {active : List Active} {listed : List ℕ} {z :
     abbrev e_got : Got ℕ
     e_got = rk (code e) key_got.after
 
-    abbrev behind : Maker
-    behind = freeing (keyed_item 1 t asked (code e)) m
+    abbrev behind_it : Maker
+    behind_it = freeing (keyed_item 1 t asked (code e)) m
 
     item_ahead : IsAhead g active ((texts ++ names_in e) ++ names_of_fields rest) m
     item_ahead = subst (λ texts. IsAhead g active texts m) is.names ahead
@@ -298,14 +299,14 @@ module _ {f : Function} {g : Fn} {active : List Active} {listed : List ℕ} {z :
     e_ahead : IsAhead g active (names_in e) key_got.after
     e_ahead = ahead_behind texts (names_in e) (key_same.passes m) both_ahead
 
-    rest_ahead : IsAhead g active (names_of_fields rest) behind
+    rest_ahead : IsAhead g active (names_of_fields rest) behind_it
     rest_ahead = ahead_behind (texts ++ names_in e) (names_of_fields rest) (item_passes t texts (names_in e) asked (code e) key_same.passes e_passes m) item_ahead
 
     whole : Final (length m.labels) (keyed_from t done pending asked (code e) (entries (one_line_fields rest)) m) z
     whole = subst (λ n. Final (length m.labels) n z) (is.from t done pending m) final
 
-    behind_final : Final (length m.labels) behind z
-    behind_final = before (grows_entries {v = calm} 1 t done pending (entries (one_line_fields rest)) (grow_entries calm (one_line_fields rest)) behind) whole
+    behind_final : Final (length m.labels) behind_it z
+    behind_final = before (grows_entries {v = calm} 1 t done pending (entries (one_line_fields rest)) (grow_entries calm (one_line_fields rest)) behind_it) whole
 
     e_final : Final (length m.labels) e_got.after z
     e_final = before_put 1 (Piece.Abc Op.SetTable t key_got.value e_got.value) e_got.after (before_free m.free (keyed_item 1 t asked (code e) m) behind_final)
@@ -316,7 +317,7 @@ module _ {f : Function} {g : Fn} {active : List Active} {listed : List ℕ} {z :
     e_later : Final (length key_got.after.labels) e_got.after z
     e_later = let grown = key_same.grown m in later grown.more e_final
 
-    rest_later : Final (length behind.labels) (entries_from 1 t done pending (entries (one_line_fields rest)) behind) z
+    rest_later : Final (length behind_it.labels) (entries_from 1 t done pending (entries (one_line_fields rest)) behind_it) z
     rest_later =
         let grown = key_same.grown m in
         let more = grows_rk {v = calm} (code e) (grows calm (one_line_expression e)) key_got.after in
@@ -325,7 +326,7 @@ module _ {f : Function} {g : Fn} {active : List Active} {listed : List ℕ} {z :
     key_count : length key_got.after.constants ≡ taken_behind_operand k (length m.constants)
     key_count = key_same.taken m key_ahead key_final
 
-    e_count : length behind.constants ≡ taken_behind_operand o (taken_behind_operand k (length m.constants))
+    e_count : length behind_it.constants ≡ taken_behind_operand o (taken_behind_operand k (length m.constants))
     e_count = e_same.taken key_got.after e_ahead e_later ∙ ap (taken_behind_operand o) key_count
 
     keyed_same : entries_from 1 t done pending (entries (items_wording f listed z left (length m.constants) (and_keyed k o items) all).words) m ≡ entries_from 1 t done pending (entries (one_line_fields fields)) m
@@ -338,8 +339,8 @@ module _ {f : Function} {g : Fn} {active : List Active} {listed : List ℕ} {z :
         ∙ ap (λ (got : Got ℕ). behind_key got (coded (e_words n1).words) (entries (rest_words n2).words)) (key_asks_same at n left k m ∙ key_same.as_rk m key_ahead key_final)
         ∙ ap (λ n1. behind_key key_got (coded (e_words n1).words) (entries (rest_words n2).words)) (sym key_count)
         ∙ ap (λ (got : Got ℕ). behind_item key_got got (entries (rest_words n2).words)) (e_same.as_rk key_got.after e_ahead e_later)
-        ∙ ap (λ n2. entries_from 1 t done pending (entries (rest_words n2).words) behind) (sym e_count)
-        ∙ rest_same.part t done pending behind rest_ahead rest_later
+        ∙ ap (λ n2. entries_from 1 t done pending (entries (rest_words n2).words) behind_it) (sym e_count)
+        ∙ rest_same.part t done pending behind_it rest_ahead rest_later
         ∙ sym (is.from t done pending m)
       where
         behind_item : Got ℕ → Got ℕ → List Entry → Maker
@@ -349,12 +350,12 @@ module _ {f : Function} {g : Fn} {active : List Active} {listed : List ℕ} {z :
         behind_key key c others = behind_item key (rk c key.after) others
 
     keyed_taken : length (entries_from 1 t done pending (entries (one_line_fields fields)) m).constants ≡ taken_behind_items (and_keyed k o items) (length m.constants)
-    keyed_taken = ap (λ (n : Maker). length n.constants) (is.from t done pending m) ∙ rest_same.taken t done pending behind rest_ahead rest_later ∙ ap (taken_behind_items items) e_count
+    keyed_taken = ap (λ (n : Maker). length n.constants) (is.from t done pending m) ∙ rest_same.taken t done pending behind_it rest_ahead rest_later ∙ ap (taken_behind_items items) e_count
 
-  pub keyed_rewritten : RewrittenItems f g active listed z left fields deep (and_keyed k o items) all
+  pub keyed_rewritten : RewrittenItems f g active listed z left behind fields deep (and_keyed k o items) all
   keyed_rewritten = record {
-    can = both_hold _ _ key_same.can (both_hold _ _ (ap (λ fs. can_write_operand at fs o) key_same.unused ∙ e_same.can) (ap (λ fs. can_write_items at (left_by_operand o fs) items) key_same.unused ∙ ap (λ fs. can_write_items at fs items) e_same.unused ∙ rest_same.can));
-    unused = ap (λ fs. left_by_items items (left_by_operand o fs)) key_same.unused ∙ ap (left_by_items items) e_same.unused ∙ rest_same.unused;
+    can = both_hold _ _ key_same.can (both_hold _ _ (ap (λ fs. can_write_operand at fs o) key_same.leaves ∙ e_same.can) (ap (λ fs. can_write_items at (left_by_operand o fs) items) key_same.leaves ∙ ap (λ fs. can_write_items at fs items) e_same.leaves ∙ rest_same.can));
+    leaves = ap (λ fs. left_by_items items (left_by_operand o fs)) key_same.leaves ∙ ap (left_by_items items) e_same.leaves ∙ rest_same.leaves;
     few = λ n.
         let n1 = taken_behind_operand k n in
         let same = ap (λ (w : FieldWording). w.levels) (written_is n) in
@@ -373,7 +374,7 @@ module _ {f : Function} {g : Fn} {active : List Active} {listed : List ℕ} {z :
 abbrev begun : List Entry → Part
 begun others m = take_registers 1 (put 1 (Piece.Abc Op.NewTable m.free (size_hint (positional_count others)) (size_hint (other_count others))) m)
 
-module _ {f : Function} {g : Fn} {active : List Active} {listed : List ℕ} {z : Maker} {left : List (Option Inner)} {fields : Fields} {deep : ℕ} {items : ItemList} {all : Bool} (same : RewrittenItems f g active listed z left fields deep items all) where
+module _ {f : Function} {g : Fn} {active : List Active} {listed : List ℕ} {z : Maker} {left behind : List (Option Inner)} {fields : Fields} {deep : ℕ} {items : ItemList} {all : Bool} (same : RewrittenItems f g active listed z left behind fields deep items all) where
   abbrev written : ℕ → List Entry
   written n = entries (items_wording f listed z left n items all).words
 
@@ -407,10 +408,10 @@ module _ {f : Function} {g : Fn} {active : List Active} {listed : List ℕ} {z :
   inner : (r : ℕ) (m : Maker) → Final (length m.labels) (table_code r m) z → Final (length m.labels) (table_at 1 (entries (one_line_fields fields)) m) z
   inner r m final = moved_final (not (m.free == r)) (length m.labels) r m.free (table_at 1 (entries (one_line_fields fields)) m) (before_free m.free _ final)
 
-  pub table_rewritten : (line depth : ℕ) → depth_of_fields fields ≡ deep → Rewritten f g active listed z left (constructor line fields) (table_value items all depth)
+  pub table_rewritten : (line depth : ℕ) → depth_of_fields fields ≡ deep → Rewritten f g active listed z left behind (constructor line fields) (table_value items all depth)
   table_rewritten line depth is_deep = record {
     can = same.can;
-    unused = same.unused;
+    leaves = same.leaves;
     named = λ n. refl;
     folded = λ n. refl;
     several = λ n. refl;
@@ -439,10 +440,10 @@ module _ {f : Function} {g : Fn} {active : List Active} {listed : List ℕ} {z :
       ap (λ (same : Bool). take_registers 1 (free_from m.free (when (not same) (put 1 (Piece.Abc Op.Move m.free m.free 0)) at))) (eq-eqb m.free m.free refl)
       ∙ ap (λ (high : ℕ). record at { free = m.free + 1; high = high }) high
 
-  pub table_rewritten_given : (depth : ℕ) → depth_of_fields fields ≡ deep → RewrittenGiven f g active listed z left (table_argument fields) deep (and_value (table_value items all depth) no_values) false
+  pub table_rewritten_given : (depth : ℕ) → depth_of_fields fields ≡ deep → RewrittenGiven f g active listed z left behind (table_argument fields) deep (and_value (table_value items all depth) no_values) false
   table_rewritten_given depth is_deep = record {
     can = both_hold _ true same.can refl;
-    unused = same.unused;
+    leaves = same.leaves;
     few = λ n. omega (arith, same.few n);
     counts = λ n. refl;
     part = λ m ahead final. next_table (written (length m.constants)) (grow_entries calm (items_wording f listed z left (length m.constants) items all).words) (items_wording f listed z left (length m.constants) items all).words m ∙ table_same m ahead final;

@@ -33,14 +33,15 @@ use Rattle.reads_back.proofs.PartsRead.{IsNoTable}
 use Rattle.reads_back.proofs.Reaches.{Reaches, here, reaches_then}
 use Rattle.reads_back.proofs.StoredTargets.{AreThere, Destination, StoreWordAt, seen_with, seen_with_all, target_to, targets_to, to_global, to_local, to_part, to_upvalue, used_by_all}
 use Rattle.reads_back.proofs.Taking.{max_swap, operand_taken_later, taken_later}
+use Rattle.reads_back.proofs.TargetsStand.{copies_keep}
 use Rattle.reads_back.proofs.TargetsStored.{IsNoItem}
 use Rattle.reads_back.proofs.ValueWords.{next_free}
 use Rattle.reads_back.proofs.WordsRead.{IsFunction, IsQuiet, quiet_before, quiet_from}
 
 -- the parts of a target are read, and what it indexes is no constructor
 abbrev pub ReadsTarget : Function → Fn → List Active → (listed : List ℕ) → Expression → Type 0
-ReadsTarget f g active listed (index_expression line on key) = ReadsCore f g active listed on × ReadsCore f g active listed key × ((v : Value) → IsCore g active on v → IsNoTable v)
-ReadsTarget f g active listed (field_expression line on text) = ReadsCore f g active listed on × ((v : Value) → IsCore g active on v → IsNoTable v)
+ReadsTarget f g active listed (index_expression line on key) = ReadsCore f g active listed on × ReadsCore f g active listed key × ((before behind : ℕ) (v : Value) → IsCore g active on before behind v → IsNoTable v)
+ReadsTarget f g active listed (field_expression line on text) = ReadsCore f g active listed on × ((before behind : ℕ) (v : Value) → IsCore g active on before behind v → IsNoTable v)
 ReadsTarget f g active listed target = Unit {0}
 
 abbrev pub ReadsTargets : Function → Fn → List Active → (listed : List ℕ) → Expressions → Type 0
@@ -73,7 +74,7 @@ AreNoItems base entries [] = Unit {0}
 AreNoItems base entries (d ∷ ds) = IsNoItem base entries d × AreNoItems base entries ds
 
 -- Words come to these parts, in which the targets stand. Keys that are constants are named by the words of the stores.
-pub record TargetsCome (f : Function) (g : Fn) (active : List Active) (listed : List ℕ) (targets : Expressions) (places : List Target) (s : Situation) (free : ℕ) (first last : ℕ) : Type 0 where
+pub record TargetsCome (f : Function) (g : Fn) (active : List Active) (listed : List ℕ) (targets : Expressions) (made_before made_behind : ℕ) (places : List Target) (s : Situation) (free : ℕ) (first last : ℕ) : Type 0 where
   pub ds : List Destination
   pub parts : Entries
   pub behind : Entries
@@ -83,7 +84,7 @@ pub record TargetsCome (f : Function) (g : Fn) (active : List Active) (listed : 
   pub keys : ℕ
   pub reaches : Reaches f first s last (behind_words scope seen parts s)
   pub counts : free ≡ length active + length parts
-  pub are : AreTargets g active targets (targets_to ds)
+  pub are : AreTargets g active targets made_before made_behind (targets_to ds)
   pub there : AreThere f (length active) listed parts ds behind
   pub used : used_by_all (length active) ds (replicate (length parts) false) ≡ replicate (length parts) true
   pub said : AreSaid g places ds
@@ -104,17 +105,17 @@ module _ {f : Function} {g : Fn} {active : List Active} {listed : List ℕ} (is_
   target_leads e is reads to free free1 p q at = absurd is
 
   target_comes : (e : Expression) → IsActTarget e → ReadsTarget f g active listed e → (to : Target) (free free1 : ℕ) (p q : Spot) (s : Situation) → HasLocals active listed s → free ≡ next_free s → IsQuiet f s.scope p.pc q.pc → (free < free1 → IsWanted f s q.pc) → HasGlobal g to →
-      (related g e).target active free to free1 p q → TargetComes f g (length active) listed (IsTarget g active e) to s free1 p.pc q.pc
+      (related g e).target active free to free1 p q → TargetComes f g (length active) listed (IsTarget g active e p.functions q.functions) to s free1 p.pc q.pc
   target_comes (name_expression line text) is reads to free free1 p q s locals next quiet wanted has at =
       let w = meaning active p in
-      subst (λ (to : Target). TargetComes f g (length active) listed (IsTarget g active (name_expression line text)) to s free1 p.pc q.pc) (sym at.is)
-      (name_comes active is_function line text is w free1 p.pc q.pc s at.passed.pc (omega (arith, at.at_free, next, locals.base)) at.means (all.listed_as text w at.means) (subst (HasGlobal g) at.is has))
+      subst (λ (to : Target). TargetComes f g (length active) listed (IsTarget g active (name_expression line text) p.functions q.functions) to s free1 p.pc q.pc) (sym at.is)
+      (name_comes active is_function line text is w free1 p.functions q.functions p.pc q.pc s at.passed.functions at.passed.pc (omega (arith, at.at_free, next, locals.base)) at.means (all.listed_as text w at.means) (subst (HasGlobal g) at.is has))
   target_comes (index_expression line on key) is reads to free free1 p q s locals next quiet wanted has at =
       part_comes is_function all on reads.0 reads.2 (λ active. RkAt g active (related g key)) (λ active p. is_some (local_at (related g key).form active p)) (IsOperand g active key) (rk_held is_function all key reads.1)
-      (IsTarget g active (index_expression line on key)) (λ o k is_on is_key. (is_on, is_key)) to free free1 p q s locals next quiet wanted at
+      (IsTarget g active (index_expression line on key)) (λ before between behind o k is_on is_key. (between, is_on, is_key)) to free free1 p q s locals next quiet wanted at
   target_comes (field_expression line on text) is reads to free free1 p q s locals next quiet wanted has at =
       part_comes is_function all on reads.0 reads.1 (λ active. RkTextAt g text) (λ active p. false) (IsKey g text) (text_held is_function text)
-      (IsTarget g active (field_expression line on text)) (λ o k is_on is_key. (is_on, is_key)) to free free1 p q s locals next quiet wanted at
+      (IsTarget g active (field_expression line on text)) (λ before between behind o k is_on is_key. (between, is_on, is_key)) to free free1 p q s locals next quiet wanted at
   target_comes e is reads to free free1 p q s locals next quiet wanted has at = absurd is
 
   targets_lead : (targets : Expressions) → AreActTargets targets → ReadsTargets f g active listed targets → (to : List Target) (free free1 : ℕ) (p q : Spot) → TargetsAt (all_related g targets) active to free free1 p q → Leads f free free1 p.pc q.pc
@@ -147,10 +148,11 @@ max_more n m k = omega arith
 
 module _ {f : Function} {g : Fn} {active : List Active} {listed : List ℕ} (is_function : IsFunction f g) (all : AreListed f g active listed) where
   -- one before others
-  first_comes : (e : Expression) (es : Expressions) (to : Target) (others : List Target) (free free1 first mid last : ℕ) (s : Situation) (one : TargetComes f g (length active) listed (IsTarget g active e) to s free first mid) →
-      PartsCome f g (length active) listed (AreTargets g active es) others (record s { scope = one.scope; entries = one.entries; seen = one.seen }) free1 mid last →
-      PartsCome f g (length active) listed (AreTargets g active (syntax.expression e es)) (to ∷ others) s free1 first last
-  first_comes e es to others free free1 first mid last s one rest = record {
+  first_comes : (e : Expression) (es : Expressions) (before between behind : ℕ) (to : Target) (others : List Target) (free free1 first mid last : ℕ) (s : Situation)
+      (one : TargetComes f g (length active) listed (IsTarget g active e before between) to s free first mid) →
+      PartsCome f g (length active) listed (AreTargets g active es between behind) others (record s { scope = one.scope; entries = one.entries; seen = one.seen }) free1 mid last →
+      PartsCome f g (length active) listed (AreTargets g active (syntax.expression e es) before behind) (to ∷ others) s free1 first last
+  first_comes e es before between behind to others free free1 first mid last s one rest = record {
     ds = one.d ∷ rest.ds;
     entries = rest.entries;
     scope = rest.scope;
@@ -160,7 +162,7 @@ module _ {f : Function} {g : Fn} {active : List Active} {listed : List ℕ} (is_
     reaches = reaches_then one.reaches rest.reaches;
     counts = rest.counts;
     grows = λ n entry there. rest.grows n entry (one.grows n entry there);
-    are = (one.is, rest.are);
+    are = (between, one.is, rest.are);
     placed = (length one.entries, target_grows f (length active) listed one.entries rest.entries rest.grows g (length s.entries) (length one.entries) to one.d one.placed, rest.placed);
     uses = λ n above within. ⊎_elim (λ before. inl (one.uses n above before)) (λ behind. inr (rest.uses n behind within)) (before_or_behind n (length one.entries));
     taken =
@@ -175,7 +177,7 @@ module _ {f : Function} {g : Fn} {active : List Active} {listed : List ℕ} (is_
   }
 
   parts_come : (targets : Expressions) → AreActTargets targets → ReadsTargets f g active listed targets → (to : List Target) (free free1 : ℕ) (p q : Spot) (s : Situation) → HasLocals active listed s → free ≡ next_free s → IsQuiet f s.scope p.pc q.pc → (free < free1 → IsWanted f s q.pc) →
-      HaveGlobals g to → TargetsAt (all_related g targets) active to free free1 p q → PartsCome f g (length active) listed (AreTargets g active targets) to s free1 p.pc q.pc
+      HaveGlobals g to → TargetsAt (all_related g targets) active to free free1 p q → PartsCome f g (length active) listed (AreTargets g active targets p.functions q.functions) to s free1 p.pc q.pc
   parts_come no_expressions are reads to free free1 p q s locals next quiet wanted have at = record {
     ds = [];
     entries = s.entries;
@@ -186,7 +188,7 @@ module _ {f : Function} {g : Fn} {active : List Active} {listed : List ℕ} (is_
     reaches = subst (λ (pc : ℕ). Reaches f p.pc s pc s) (sym at.same.pc) here;
     counts = omega (arith, at.at_free, next, locals.base);
     grows = λ n entry there. there;
-    are = tt;
+    are = at.same.functions;
     placed = subst (λ (to : List Target). ArePlaced f g (length active) listed s.entries (length s.entries) to []) (sym at.is) tt;
     uses = λ n above within. absurd (omega (arith, above, within));
     taken = sym (max-zero s.seen);
@@ -201,8 +203,8 @@ module _ {f : Function} {g : Fn} {active : List Active} {listed : List ℕ} (is_
       let behind : HasLocals active listed (record s { scope = one.scope; entries = one.entries; seen = one.seen }) = record { base = locals.base; places = one.same.active ∙ locals.places } in
       let rest = parts_come es are.1 reads.1 at.others at.free1 free1 at.mid q (record s { scope = one.scope; entries = one.entries; seen = one.seen }) behind (omega (arith, one.counts, locals.base)) (quiet_same one.same (quiet_from at.mid.pc to_mid.forward quiet))
       (λ more. wanted_later f q.pc s one.scope one.entries one.seen one.same (omega (arith, one.counts, next, locals.base, to_mid.up)) (wanted (omega (arith, more, to_mid.up)))) has.1 at.others_at in
-      subst (λ (to : List Target). PartsCome f g (length active) listed (AreTargets g active (syntax.expression e es)) to s free1 p.pc q.pc) (sym at.is)
-      (first_comes e es at.target at.others at.free1 free1 p.pc at.mid.pc q.pc s one rest)
+      subst (λ (to : List Target). PartsCome f g (length active) listed (AreTargets g active (syntax.expression e es) p.functions q.functions) to s free1 p.pc q.pc) (sym at.is)
+      (first_comes e es p.functions at.mid.functions q.functions at.target at.others at.free1 free1 p.pc at.mid.pc q.pc s one rest)
 
 -- ---- what the words of their stores say
 
@@ -256,7 +258,7 @@ module _ (f : Function) (g : Fn) (count : ℕ) (listed : List ℕ) (entries : En
 module _ {f : Function} {g : Fn} {active : List Active} {listed : List ℕ} (is_function : IsFunction f g) (all : AreListed f g active listed) (targets : Expressions) (are : AreActTargets targets) (reads : ReadsTargets f g active listed targets) where
   -- the lowest register of the step is wanted behind them, where they take any
   pub targets_come : (to places : List Target) (free1 free2 : ℕ) (p mid last : Spot) (s : Situation) → HasLocals active listed s → s.entries ≡ [] → IsQuiet f s.scope p.pc last.pc → (length active < free2 → IsWanted f s last.pc) → HaveGlobals g places →
-      TargetsAt (all_related g targets) active to (length active) free1 p mid → CopiesAt g (length active) to places free1 free2 mid last → TargetsCome f g active listed targets places s free2 p.pc last.pc
+      TargetsAt (all_related g targets) active to (length active) free1 p mid → CopiesAt g (length active) to places free1 free2 mid last → TargetsCome f g active listed targets p.functions last.functions places s free2 p.pc last.pc
   targets_come to places free1 free2 p mid last s locals empty quiet wanted have targets_at copies_at =
       let count = length active in
       let none : length s.entries ≡ 0 = ap length empty in
@@ -265,7 +267,7 @@ module _ {f : Function} {g : Fn} {active : List Active} {listed : List ℕ} (is_
       let wanted_mid : count < free1 → IsWanted f s mid.pc = λ more. leads_wanted s on quiet.within (omega (arith, more, locals.base)) (wanted (omega (arith, more, on.up))) in
       let next : count ≡ next_free s = omega (arith, locals.base, none) in
       let parts = parts_come is_function all targets are reads to count free1 p mid s locals next (quiet_before mid.pc on.forward quiet) wanted_mid (globals_before g count to places free1 free2 mid last copies_at have) targets_at in
-      let come = copies_come is_function all.few (AreTargets g active targets) s locals p.pc count to places free1 free2 mid last (omega arith) to_mid.up quiet parts copies_at in
+      let come = copies_come is_function all.few (AreTargets g active targets p.functions mid.functions) s locals p.pc count to places free1 free2 mid last (omega arith) to_mid.up quiet parts copies_at in
       let there = are_there f count listed come.entries g come.entries (length s.entries) places come.ds come.placed (agrees_all come.entries (length s.entries)) in
       record {
         ds = come.ds;
@@ -277,7 +279,7 @@ module _ {f : Function} {g : Fn} {active : List Active} {listed : List ℕ} (is_
         keys = come.keys;
         reaches = subst (λ (before : Entries). Reaches f p.pc s last.pc (record s { scope = come.scope; entries = before ++ come.entries; seen = come.seen })) (sym empty) come.reaches;
         counts = come.counts;
-        are = come.are;
+        are = subst (λ (made : ℕ). AreTargets g active targets p.functions made (targets_to come.ds)) (sym (copies_keep g count to places free1 free2 mid last copies_at)) come.are;
         there = there.there;
         used = all_used count come.ds (length come.entries) (λ n below. come.uses n (omega (arith, none)) below);
         said = are_said f g count listed come.entries (length s.entries) places come.ds come.placed;

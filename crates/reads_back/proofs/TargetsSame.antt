@@ -113,18 +113,18 @@ constant_plain : (k : Option Constant) → is_name (constant_word k).words ≡ f
 constant_plain None = refl
 constant_plain (Some k) = literal_plain k
 
-module _ {f : Function} {g : Fn} {active : List Active} {listed : List ℕ} {z : Maker} {left : List (Option Inner)} where
+module _ {f : Function} {g : Fn} {active : List Active} {listed : List ℕ} {z : Maker} {left behind : List (Option Inner)} where
   -- what is written of an operand is a name where the expression is one
-  operand_named : (e : Expression) (o : OperandValue) → IsOperand g active e o → ((v : Value) → IsCore g active e v → Rewritten f g active listed z left e v) → (n : ℕ) → is_name (operand_wording f listed z left n o).words ≡ is_name e
-  operand_named e o is written n = by (literal e) refl is
+  operand_named : (e : Expression) (before after : ℕ) (o : OperandValue) → IsOperand g active e before after o → ((v : Value) → IsCore g active e before after v → Rewritten f g active listed z left behind e v) → (n : ℕ) → is_name (operand_wording f listed z left n o).words ≡ is_name e
+  operand_named e before after o is written n = by (literal e) refl is
     where
-      value_named : (v : Value) → IsCore g active e v → o ≡ value_operand v → is_name (operand_wording f listed z left n o).words ≡ is_name e
+      value_named : (v : Value) → IsCore g active e before after v → o ≡ value_operand v → is_name (operand_wording f listed z left n o).words ≡ is_name e
       value_named v core same = ap (λ o. is_name (operand_wording f listed z left n o).words) same ∙ name_wrapped (is_bare (place f.of listed f.short) n v) (wording f listed z left n v) ∙ (written v core).named n
 
-      by : (k : Option Constant) → literal e ≡ k → IsOperandBy k g (IsCore g active e) o → is_name (operand_wording f listed z left n o).words ≡ is_name e
-      by (Some k) known (inl (number, numbered, small, same)) =
+      by : (k : Option Constant) → literal e ≡ k → IsOperandBy k g (IsCore g active e) before after o → is_name (operand_wording f listed z left n o).words ≡ is_name e
+      by (Some k) known (inl (as_many, (number, numbered, small, same))) =
           ap (λ o. is_name (operand_wording f listed z left n o).words) same ∙ constant_plain (constant_at (place f.of listed f.short) number) ∙ sym (literal_no_name e k known)
-      by (Some k) known (inr (large, v, core, same)) = value_named v core same
+      by (Some k) known (inr (large, (v, core, same))) = value_named v core same
       by None known (v, core, same) = value_named v core same
 
 -- ---- what a part of a table is as a target
@@ -154,10 +154,10 @@ key_named_by (Some text) key is = ap is_name (sym (is text refl))
 
 -- ---- one target
 
-module _ (f : Function) (g : Fn) (active : List Active) (listed : List ℕ) (z : Maker) (left : List (Option Inner)) where
+module _ (f : Function) (g : Fn) (active : List Active) (listed : List ℕ) (z : Maker) (left behind : List (Option Inner)) where
   pub record TargetSame (target : Expression) (t : TargetValue) : Type 0 where
     pub can : can_write_target (place f.of listed f.short) left t ≡ true
-    pub unused : left_by_target t left ≡ left
+    pub leaves : left_by_target t left ≡ behind
     pub few : (n : ℕ) → (word_target (place f.of listed f.short) n left t).levels ≤ 3 * depth_of_expression target + 3
     pub passes : AskingPasses (names_in target) (code target).target
     pub same : (m : Maker) → IsAhead g active (names_in target) m → Final (length m.labels) ((code target).target m).after z → (coded (word_target (place f.of listed f.short) (length m.constants) left t).words).target m ≡ (code target).target m
@@ -185,12 +185,12 @@ module _ {f : Function} {g : Fn} {active : List Active} {listed : List ℕ} {z :
       subst (NameWritten (place f.of listed f.short) text) (sym is) (record { can = λ fs. (written fs).can; unused = λ fs. refl; taken = λ n. refl; word_is = λ n fs. (written fs).word_is n })
 
   pub name_same : (left : List (Option Inner)) (line : ℕ) (text : Text) (w : Where) (t : TargetValue) → is_good_name text ≡ true → Means g.law active text w → IsVariableTarget g text w t →
-      TargetSame f g active listed z left (name_expression line text) t
+      TargetSame f g active listed z left left (name_expression line text) t
   name_same left line text w t good means is =
       let written = name_written text w t good means is in
       record {
         can = written.can left;
-        unused = written.unused left;
+        leaves = written.unused left;
         few = λ n. omega (arith, ap (λ (w : Wording). w.levels) (written.word_is n left));
         passes = pass_passes text;
         same = λ m ahead final. ap (λ (w : Wording). (coded w.words).target m) (written.word_is (length m.constants) left);
@@ -198,20 +198,20 @@ module _ {f : Function} {g : Fn} {active : List Active} {listed : List ℕ} {z :
         is_place = λ m ahead. subst (λ w. IsVariableTarget g text w t) (sym (next_means made text w [] m means ahead)) is;
       }
 
-module _ {f : Function} {g : Fn} {active : List Active} {listed : List ℕ} {z : Maker} {left : List (Option Inner)} (target on : Expression) (x : Value) (k : OperandValue) (asked : Asks ℕ) (key_named : Bool) (texts : List Text) (deep : ℕ)
-    (first : Rewritten f g active listed z left on x) (second : KeySame f g active listed z left asked texts k deep) (named : (n : ℕ) → is_name (operand_wording f listed z left n k).words ≡ key_named)
+module _ {f : Function} {g : Fn} {active : List Active} {listed : List ℕ} {z : Maker} {left mid behind : List (Option Inner)} (target on : Expression) (x : Value) (k : OperandValue) (asked : Asks ℕ) (key_named : Bool) (texts : List Text) (deep : ℕ)
+    (first : Rewritten f g active listed z left mid on x) (second : KeySame f g active listed z mid behind asked texts k deep) (named : (n : ℕ) → is_name (operand_wording f listed z mid n k).words ≡ key_named)
     (on_passes : PassesNames (names_in on) (code on)) (mentioned : names_in target ≡ names_in on ++ texts) (deeper : suc (max (depth_of_expression on) deep) ≤ depth_of_expression target)
     (target_is : (m : Maker) → (code target).target m ≡ part_at (code on) asked (is_name (code on).e) key_named m) where
   abbrev words_at : ℕ → Wording
-  words_at n = with_key (field_name (place f.of listed f.short) k) (as_prefix (wording f listed z left n x)) (operand_wording f listed z left (taken_behind x n) k)
+  words_at n = with_key (field_name (place f.of listed f.short) k) (as_prefix (wording f listed z left n x)) (operand_wording f listed z mid (taken_behind x n) k)
 
   words_are : (n : ℕ) → word_target (place f.of listed f.short) n left (index_target x k) ≡ words_at n
-  words_are n = ap (λ fs. with_key (field_name (place f.of listed f.short) k) (as_prefix (wording f listed z left n x)) (word_operand (place f.of listed f.short) (taken_behind x n) fs k)) first.unused
+  words_are n = ap (λ fs. with_key (field_name (place f.of listed f.short) k) (as_prefix (wording f listed z left n x)) (word_operand (place f.of listed f.short) (taken_behind x n) fs k)) first.leaves
 
   part_few : (n : ℕ) → (word_target (place f.of listed f.short) n left (index_target x k)).levels ≤ 3 * depth_of_expression target + 3
   part_few n =
       let w = wording f listed z left n x in
-      let u = operand_wording f listed z left (taken_behind x n) k in
+      let u = operand_wording f listed z mid (taken_behind x n) k in
       let one = levels_wrapped (is_prefix w.words) w in
       let all = key_few (field_name (place f.of listed f.short) k) (as_prefix w) u (3 * depth_of_expression on + 3) (3 * deep + 3) (omega (arith, first.few n, one)) (second.few (taken_behind x n)) in
       omega (arith, all, ap (λ (w : Wording). w.levels) (words_are n), deeper)
@@ -228,10 +228,10 @@ module _ {f : Function} {g : Fn} {active : List Active} {listed : List ℕ} {z :
       let w = wording f listed z left n x in
       ap is_name (coded_is (as_prefix w).words) ∙ name_wrapped (is_prefix w.words) w ∙ first.named n ∙ sym (same_name on) ∙ sym (ap is_name (coded_is (one_line_expression on)))
 
-  key_same_name : (n : ℕ) → key_is_name (field_name (place f.of listed f.short) k) (operand_wording f listed z left n k) ≡ key_named
+  key_same_name : (n : ℕ) → key_is_name (field_name (place f.of listed f.short) k) (operand_wording f listed z mid n k) ≡ key_named
   key_same_name n =
       let at = place f.of listed f.short in
-      key_named_by (field_name at k) (operand_wording f listed z left n k) (named_key at n left k) ∙ named n
+      key_named_by (field_name at k) (operand_wording f listed z mid n k) (named_key at n mid k) ∙ named n
 
   module _ (m : Maker) (ahead : IsAhead g active (names_in target) m) (final : Final (length m.labels) ((code target).target m).after z) where
     abbrev on_at : Got ℕ
@@ -267,23 +267,23 @@ module _ {f : Function} {g : Fn} {active : List Active} {listed : List ℕ} {z :
         let at = place f.of listed f.short in
         let n = length m.constants in
         let w = wording f listed z left n x in
-        let u = operand_wording f listed z left (taken_behind x n) k in
+        let u = operand_wording f listed z mid (taken_behind x n) k in
         ap (λ (w : Wording). (coded w.words).target m) (words_are n)
         ∙ written_part (field_name at k) (as_prefix w) u m
         ∙ ap₂ (λ (of_on of_key : Bool). part_there (operand (coded (as_prefix w).words) m) (key_asks (field_name at k) u) of_on of_key) (on_named n) (key_same_name (taken_behind x n))
         ∙ ap (λ (t : Got ℕ). part_there t (key_asks (field_name at k) u) (is_name (code on).e) key_named) (operand_wrapped (is_prefix w.words) w m ∙ operand_same first m on_ahead on_final)
-        ∙ ap (λ n. part_there on_at (key_asks (field_name at k) (operand_wording f listed z left n k)) (is_name (code on).e) key_named) (sym on_taken)
+        ∙ ap (λ n. part_there on_at (key_asks (field_name at k) (operand_wording f listed z mid n k)) (is_name (code on).e) key_named) (sym on_taken)
         ∙ ap (λ (k : Got ℕ). record { value = part_target on_at.value k.value (local_by (is_name (code on).e) m) (local_by key_named on_at.after); after = k.after })
-        (key_asks_same at (length on_at.after.constants) left k on_at.after ∙ second.as_rk on_at.after key_ahead key_later)
+        (key_asks_same at (length on_at.after.constants) mid k on_at.after ∙ second.as_rk on_at.after key_ahead key_later)
         ∙ sym (target_is m)
 
     part_taken : length ((code target).target m).after.constants ≡ taken_behind_target (index_target x k) (length m.constants)
     part_taken = ap (λ (to : Got Target). length to.after.constants) (target_is m) ∙ second.taken on_at.after key_ahead key_later ∙ ap (taken_behind_operand k) on_taken
 
-  part_target_same : TargetSame f g active listed z left target (index_target x k)
+  part_target_same : TargetSame f g active listed z left behind target (index_target x k)
   part_target_same = record {
-    can = both_hold _ _ first.can (ap (λ fs. can_write_operand (place f.of listed f.short) fs k) first.unused ∙ second.can);
-    unused = ap (left_by_operand k) first.unused ∙ second.unused;
+    can = both_hold _ _ first.can (ap (λ fs. can_write_operand (place f.of listed f.short) fs k) first.leaves ∙ second.can);
+    leaves = ap (left_by_operand k) first.leaves ∙ second.leaves;
     few = part_few;
     passes = part_passes;
     same = part_same;
@@ -291,24 +291,27 @@ module _ {f : Function} {g : Fn} {active : List Active} {listed : List ℕ} {z :
     is_place = λ m ahead. subst (λ (to : Got Target). IsPlace g (index_target x k) to.value) (sym (target_is m)) refl;
   }
 
-module _ {f : Function} {g : Fn} {active : List Active} {listed : List ℕ} {z : Maker} {left : List (Option Inner)} (made : IsMadeBy f g active listed z) where
-  pub index_same : (line : ℕ) (on key : Expression) (x : Value) (k : OperandValue) → HasCore on → HasCore key → Rewritten f g active listed z left on x → ((v : Value) → IsCore g active key v → Rewritten f g active listed z left key v) →
-      IsOperand g active key k → TargetSame f g active listed z left (index_expression line on key) (index_target x k)
-  index_same line on key x k on_has key_has first written is =
-      part_target_same (index_expression line on key) on x k (rk (code key)) (is_name (code key).e) (names_in key) (depth_of_expression key) first (expression_key key k (names_passed key key_has) (operand_rewritten made key k key_has is written))
-      (λ n. operand_named key k is written n ∙ sym (same_name key) ∙ sym (ap is_name (coded_is (one_line_expression key)))) (names_passed on on_has) refl (omega arith) (λ m. refl)
+module _ {f : Function} {g : Fn} {active : List Active} {listed : List ℕ} {z : Maker} (lefts : ℕ → List (Option Inner)) (made : IsMadeBy f g active listed z) where
+  pub index_same : (line : ℕ) (on key : Expression) (before mid behind : ℕ) (x : Value) (k : OperandValue) → HasCore on → HasCore key → Rewritten f g active listed z (lefts before) (lefts mid) on x →
+      ((v : Value) → IsCore g active key mid behind v → Rewritten f g active listed z (lefts mid) (lefts behind) key v) → IsOperand g active key mid behind k →
+      TargetSame f g active listed z (lefts before) (lefts behind) (index_expression line on key) (index_target x k)
+  index_same line on key before mid behind x k on_has key_has first written is =
+      part_target_same (index_expression line on key) on x k (rk (code key)) (is_name (code key).e) (names_in key) (depth_of_expression key) first
+      (expression_key key k (names_passed key key_has) (operand_rewritten lefts made key mid behind k key_has is written))
+      (λ n. operand_named key mid behind k is written n ∙ sym (same_name key) ∙ sym (ap is_name (coded_is (one_line_expression key)))) (names_passed on on_has) refl (omega arith) (λ m. refl)
 
-  pub field_same : (line : ℕ) (on : Expression) (text : Text) (x : Value) (k : OperandValue) → HasCore on → Rewritten f g active listed z left on x → IsKey g text k → TargetSame f g active listed z left (field_expression line on text) (index_target x k)
-  field_same line on text x k has first is =
-      part_target_same (field_expression line on text) on x k (rk_text 1 text) false [] 1 first (text_key 1 text k (key_rewritten made 1 text k is))
-      (operand_named {active = active} (text_literal 1 text) k is (λ v core. text_rewritten made 1 text v core)) (names_passed on has) (sym (append-nil (names_in on))) (omega (arith, some_depth on)) (λ m. refl)
+  pub field_same : (line : ℕ) (on : Expression) (text : Text) (before mid behind : ℕ) (x : Value) (k : OperandValue) → HasCore on → Rewritten f g active listed z (lefts before) (lefts mid) on x → IsKey g text mid behind k →
+      TargetSame f g active listed z (lefts before) (lefts behind) (field_expression line on text) (index_target x k)
+  field_same line on text before mid behind x k has first is =
+      part_target_same (field_expression line on text) on x k (rk_text 1 text) false [] 1 first (text_key 1 text k (key_rewritten lefts made 1 text mid behind k is))
+      (operand_named {active = active} {left = lefts mid} {behind = lefts mid} (text_literal 1 text) mid behind k is (λ v core. text_rewritten made 1 text v core.1)) (names_passed on has) (sym (append-nil (names_in on))) (omega (arith, some_depth on)) (λ m. refl)
 
 -- ---- all targets
 
-module _ (f : Function) (g : Fn) (active : List Active) (listed : List ℕ) (z : Maker) (left : List (Option Inner)) where
+module _ (f : Function) (g : Fn) (active : List Active) (listed : List ℕ) (z : Maker) (left behind : List (Option Inner)) where
   pub record TargetsSame (targets : Expressions) (ts : List TargetValue) : Type 0 where
     pub can : can_write_targets (place f.of listed f.short) left ts ≡ true
-    pub unused : left_by_targets ts left ≡ left
+    pub leaves : left_by_targets ts left ≡ behind
     pub few : (n : ℕ) → (words_targets (place f.of listed f.short) n left ts).levels ≤ 3 * depth_of_expressions targets + 3
     pub count : length (codes_of targets) ≡ length ts
     pub passes : AskingPasses (names_in_all targets) (all_targets (codes_of targets))
@@ -330,22 +333,23 @@ targets_grow (c ∷ cs) grow m = on_part (targets_grow cs grow.1 (c.target m).af
 abbrev and_targets : Got Target → Got (List Target) → Got (List Target)
 and_targets one others = record { value = one.value ∷ others.value; after = others.after }
 
-module _ {f : Function} {g : Fn} {active : List Active} {listed : List ℕ} {z : Maker} {left : List (Option Inner)} where
-  pub none_same : TargetsSame f g active listed z left no_expressions []
-  none_same = record { can = refl; unused = refl; few = λ n. omega arith; count = refl; passes = λ m. passed_none; same = λ m ahead final. refl; taken = λ m ahead final. refl; are_places = λ m ahead. tt }
+module _ {f : Function} {g : Fn} {active : List Active} {listed : List ℕ} {z : Maker} {left behind : List (Option Inner)} where
+  pub none_same : left ≡ behind → TargetsSame f g active listed z left behind no_expressions []
+  none_same same = record { can = refl; leaves = same; few = λ n. omega arith; count = refl; passes = λ m. passed_none; same = λ m ahead final. refl; taken = λ m ahead final. refl; are_places = λ m ahead. tt }
 
-  pub more_same : (target : Expression) (targets : Expressions) (t : TargetValue) (ts : List TargetValue) → TargetSame f g active listed z left target t → TargetsSame f g active listed z left targets ts →
-      TargetsSame f g active listed z left (syntax.expression target targets) (t ∷ ts)
+module _ {f : Function} {g : Fn} {active : List Active} {listed : List ℕ} {z : Maker} {left mid behind : List (Option Inner)} where
+  pub more_same : (target : Expression) (targets : Expressions) (t : TargetValue) (ts : List TargetValue) → TargetSame f g active listed z left mid target t → TargetsSame f g active listed z mid behind targets ts →
+      TargetsSame f g active listed z left behind (syntax.expression target targets) (t ∷ ts)
   more_same target targets t ts first others = record {
-    can = both_hold _ _ first.can (ap (λ fs. can_write_targets at fs ts) first.unused ∙ others.can);
-    unused = ap (left_by_targets ts) first.unused ∙ others.unused;
-    few = λ n. omega (arith, first.few n, ap (λ fs. (words_targets at (taken_behind_target t n) fs ts).levels) first.unused, others.few (taken_behind_target t n));
+    can = both_hold _ _ first.can (ap (λ fs. can_write_targets at fs ts) first.leaves ∙ others.can);
+    leaves = ap (left_by_targets ts) first.leaves ∙ others.leaves;
+    few = λ n. omega (arith, first.few n, ap (λ fs. (words_targets at (taken_behind_target t n) fs ts).levels) first.leaves, others.few (taken_behind_target t n));
     count = ap suc others.count;
     passes = λ m. passed_then (names_in target) (names_in_all targets) (first.passes m) (others.passes (one m).after);
     same = λ m ahead final.
         ap (λ one. and_targets one (all_targets (written (taken_behind_target t (length m.constants)) (left_by_target t left)) one.after)) (first.same m (first_ahead m ahead) (first_final m final))
         ∙ ap (λ n. and_targets (one m) (all_targets (written n (left_by_target t left)) (one m).after)) (sym (first.taken m (first_ahead m ahead) (first_final m final)))
-        ∙ ap (λ fs. and_targets (one m) (all_targets (written (length (one m).after.constants) fs) (one m).after)) first.unused
+        ∙ ap (λ fs. and_targets (one m) (all_targets (written (length (one m).after.constants) fs) (one m).after)) first.leaves
         ∙ ap (and_targets (one m)) (others.same (one m).after (others_ahead m ahead) (others_final m final));
     taken = λ m ahead final. others.taken (one m).after (others_ahead m ahead) (others_final m final) ∙ ap (taken_behind_targets ts) (first.taken m (first_ahead m ahead) (first_final m final));
     are_places = λ m ahead. (first.is_place m (first_ahead m ahead), others.are_places (one m).after (others_ahead m ahead));

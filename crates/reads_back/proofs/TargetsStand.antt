@@ -25,3 +25,13 @@ copies_stand g (suc x) targets places free free1 p q at =
     let before = copies_stand g x targets at.between free at.free1 p at.mid at.earlier_at in
     let behind = copy_stands (clashes x targets) g x at.between places at.free1 free1 at.mid q at.later_at in
     (behind.0 ∙ before.0, behind.1 ∙ before.1)
+
+-- nor do they make a function
+copy_keeps : (clash : Bool) (g : Fn) (x : ℕ) (targets places : List Target) (free free1 : ℕ) (p q : Spot) → CopyBy clash g x targets places free free1 p q → q.functions ≡ p.functions
+copy_keeps true g x targets places free free1 p q at = at.word.functions
+copy_keeps false g x targets places free free1 p q at = at.same.functions
+
+pub copies_keep : (g : Fn) (count : ℕ) (targets places : List Target) (free free1 : ℕ) (p q : Spot) → CopiesAt g count targets places free free1 p q → q.functions ≡ p.functions
+copies_keep g zero targets places free free1 p q at = at.same.functions
+copies_keep g (suc x) targets places free free1 p q at =
+    copy_keeps (clashes x targets) g x at.between places at.free1 free1 at.mid q at.later_at ∙ copies_keep g x targets at.between free at.free1 p at.mid at.earlier_at

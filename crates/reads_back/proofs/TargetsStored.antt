@@ -211,6 +211,14 @@ pub count_words : (g : Fn) (r : ℕ) (ds : List Destination) (p q : Spot) → St
 count_words g r [] p q at = omega (arith, at.pc)
 count_words g r (d ∷ ds) p q at = omega (arith, count_words g (suc r) ds p at.mid at.first_at, at.second_at.next)
 
+-- a store makes no function
+pub store_keeps : {g : Fn} (d : Destination) (r : ℕ) (p q : Spot) → StoreWordAt g d r p q → q.functions ≡ p.functions
+store_keeps {g} d r p q at = let word : WordAt g (store_piece d r) p q = at in word.functions
+
+pub words_keep : (g : Fn) (r : ℕ) (ds : List Destination) (p q : Spot) → StoreWordsAt g r ds p q → q.functions ≡ p.functions
+words_keep g r [] p q at = at.functions
+words_keep g r (d ∷ ds) p q at = store_keeps d r at.mid q at.second_at ∙ words_keep g (suc r) ds p at.mid at.first_at
+
 -- the last target stands behind the others
 pub there_last : (f : Function) (count : ℕ) (listed : List ℕ) (ds : List Destination) (d : Destination) (entries behind : Entries) → AreThere f count listed entries (ds ++ d ∷ []) behind →
     (mid : Entries) × AreThere f count listed entries ds mid × IsThere f count listed mid d behind

@@ -17,7 +17,7 @@ use Rattle.scheme_stands.specs.Expressions.{BinaryAt, LoadOr, OperandAt, TwoAt, 
 use Rattle.scheme_stands.specs.Lists.{CallAt, MethodAt}
 use Rattle.scheme_stands.specs.Relation.{given_rel, related}
 use Rattle.scheme_stands.specs.Words.{Fn, Stretch, WordAt}
-use Rattle.reads_back.specs.Cores.{AllHaveCores, AreGiven, HasCore, HaveCores, HaveItems, IsCalled, IsCore, IsFirst, IsFoldedOr, IsIndexed, IsMethodCalled, IsOperand, IsOperator, core}
+use Rattle.reads_back.specs.Cores.{AllHaveCores, AreGiven, HasCore, HaveCores, HaveItems, IsCalled, IsCore, IsFirst, IsFoldedOr, IsIndexed, IsMethodCalled, IsOperand, IsOperator, core, Counted, called_by, method_called_by, indexed_by, first_and}
 use Rattle.reads_back.proofs.CallResults.{call_open_reads, call_value_reads, vararg_open_reads, vararg_reads}
 use Rattle.reads_back.proofs.CallWords.{call_reads}
 use Rattle.reads_back.proofs.Comes.{Reads, ReadsCall, ReadsCore, ReadsGiven, ReadsOpen, ReadsOperand, ReadsSpine}
@@ -42,26 +42,26 @@ pub record ReadsAll (f : Function) (g : Fn) (active : List Active) (listed : Lis
 
 module _ {f : Function} {g : Fn} {active : List Active} {listed : List ℕ} (is_function : IsFunction f g) (all : AreListed f g active listed) where
   -- a folded number is loaded
-  folded_reads : {Is : Value → Type 0} {deep : ℕ} (folded : Option ℤ) (to : List Active → (free r : ℕ) → Stretch) → Reads f g active listed Is (suc deep) (to active) → Reads f g active listed (IsFoldedOr folded g Is) (suc deep) (LoadOr folded g to active)
+  folded_reads : {Is : Counted Value} {deep : ℕ} (folded : Option ℤ) (to : List Active → (free r : ℕ) → Stretch) → Reads f g active listed Is (suc deep) (to active) → Reads f g active listed (IsFoldedOr folded g Is) (suc deep) (LoadOr folded g to active)
   folded_reads (Some n) to reads = reads_deeper (omega arith) (constant_reads is_function (Constant.Number n))
   folded_reads None to reads = reads
 
   -- parts of a call that are no deeper
   call_of : {deep : ℕ} (on : Expression) (args : Arguments) → deep ≤ 199 → ReadsCore f g active listed on → ReadsGiven f g active listed (AreGiven g active args) (max 1 (depth_of_arguments args)) (given_rel g args) → depth_of_expression on ≤ deep → max 1 (depth_of_arguments args) ≤ deep →
-      ReadsCall f g active listed (IsCalled (IsCore g active on) (AreGiven g active args)) (suc deep) (CallAt g (related g on) (given_rel g args) active)
+      ReadsCall f g active listed (called_by (IsCore g active on) (AreGiven g active args)) (suc deep) (CallAt g (related g on) (given_rel g args) active)
   call_of on args few one given shallow low = call_reads (related g on) (given_rel g args) is_function (omega (arith, few)) (reads_deeper shallow one) (given_deeper low given)
 
   method_of : {deep : ℕ} (on : Expression) (name : Text) (args : Arguments) → deep ≤ 199 → ReadsCore f g active listed on → ReadsGiven f g active listed (AreGiven g active args) (max 1 (depth_of_arguments args)) (given_rel g args) → depth_of_expression on ≤ deep → max 1 (depth_of_arguments args) ≤ deep →
-      ReadsCall f g active listed (IsMethodCalled g name (IsCore g active on) (AreGiven g active args)) (suc deep) (MethodAt g (related g on) name (given_rel g args) active)
+      ReadsCall f g active listed (method_called_by g name (IsCore g active on) (AreGiven g active args)) (suc deep) (MethodAt g (related g on) name (given_rel g args) active)
   method_of on name args few one given shallow low = method_reads (related g on) name (given_rel g args) is_function (omega (arith, few)) (operand_deeper shallow (operand_reads is_function all on one)) (given_deeper low given)
 
-  indexed : {deep : ℕ} {Key : OperandValue → Type 0} {key_at : (free x free1 : ℕ) → Stretch} (on : Expression) → TakesNext g key_at → deep ≤ 199 → ReadsCore f g active listed on → ReadsOperand f g active listed Key deep key_at → depth_of_expression on ≤ deep →
-      Reads f g active listed (IsIndexed (IsCore g active on) Key) (suc deep) (λ free r. TwoAt (OperandAt g active (related g on)) key_at free (λ t k. WordAt g (Piece.Abc Op.GetTable r t k)))
+  indexed : {deep : ℕ} {Key : Counted OperandValue} {key_at : (free x free1 : ℕ) → Stretch} (on : Expression) → TakesNext g key_at → deep ≤ 199 → ReadsCore f g active listed on → ReadsOperand f g active listed Key deep key_at → depth_of_expression on ≤ deep →
+      Reads f g active listed (indexed_by (IsCore g active on) Key) (suc deep) (λ free r. TwoAt (OperandAt g active (related g on)) key_at free (λ t k. WordAt g (Piece.Abc Op.GetTable r t k)))
   indexed on takes few one key shallow = indexed_reads (related g on) takes is_function (omega (arith, few)) (operand_deeper shallow (operand_reads is_function all on one)) key
 
   -- an operator that is no comparison
   operator_of : (op : BinaryOp) (left right : Expression) (deep : ℕ) → is_comparison op ≡ false → deep ≤ 199 → ReadsAll f g active listed left → ReadsAll f g active listed right → depth_of_expression left ≤ deep → depth_of_expression right ≤ deep →
-      Reads f g active listed (IsOperator op (IsOperand g active left) (IsOperand g active right) (IsFirst (IsCore g active left) (core g active right).spine)) (suc deep) (BinaryAt g op (related g left) (related g right) active)
+      Reads f g active listed (IsOperator op (IsOperand g active left) (IsOperand g active right) (first_and (IsCore g active left) (core g active right).spine)) (suc deep) (BinaryAt g op (related g left) (related g right) active)
   operator_of BinaryOp.Add left right deep other few first second low high = add_reads (related g left) (related g right) is_function (omega (arith, few)) (operand_deeper low (rk_reads is_function all left first.one)) (operand_deeper high (rk_reads is_function all right second.one))
   operator_of BinaryOp.Sub left right deep other few first second low high = sub_reads (related g left) (related g right) is_function (omega (arith, few)) (operand_deeper low (rk_reads is_function all left first.one)) (operand_deeper high (rk_reads is_function all right second.one))
   operator_of BinaryOp.Mul left right deep other few first second low high = mul_reads (related g left) (related g right) is_function (omega (arith, few)) (operand_deeper low (rk_reads is_function all left first.one)) (operand_deeper high (rk_reads is_function all right second.one))

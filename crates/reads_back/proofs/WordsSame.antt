@@ -177,7 +177,7 @@ rk_on_right op w m = rk_wrapped (right_binds (level_of_op op) (is_power op) w.wo
 
 -- ---- what is written of a value
 
-module _ {f : Function} {g : Fn} {active : List Active} {listed : List ℕ} {z : Maker} {left : List (Option Inner)} {e : Expression} {v : Value} (rewritten : Rewritten f g active listed z left e v) where
+module _ {f : Function} {g : Fn} {active : List Active} {listed : List ℕ} {z : Maker} {left behind : List (Option Inner)} {e : Expression} {v : Value} (rewritten : Rewritten f g active listed z left behind e v) where
   pub next_same : (m : Maker) → IsAhead g active (names_in e) m → Final (length m.labels) (next_reg (code e) m) z → next_reg (coded (wording f listed z left (length m.constants) v).words) m ≡ next_reg (code e) m
   next_same m ahead final = ap (take_registers 1) (rewritten.to_reg m.free m ahead (before_take 1 ((code e).to_reg m.free m) final))
 

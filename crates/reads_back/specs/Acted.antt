@@ -17,7 +17,7 @@ use Rattle.recover_expr.specs.Lists.{before_last, is_nil, split_last, value_coun
 use Rattle.scheme.specs.Making.{Where, in_register, in_upvalue, in_globals}
 use Rattle.scheme.specs.declared.making.Active.{Active}
 use Rattle.scheme_stands.specs.Words.{Fn, Means}
-use Rattle.reads_back.specs.Cores.{HasNumber, core, IsCore, IsFirst, AreCores, IsOperand, IsKey, HasCore, AllHaveCores, ends_open}
+use Rattle.reads_back.specs.Cores.{Counted, HasNumber, core, IsCore, first_and, AreCores, IsOperand, IsKey, HasCore, AllHaveCores, ends_open}
 
 -- a call as a statement; values that go to targets, locals that are declared with values, or a return of values, where the last one gives all its values or one; behind the values that go to targets an operand may stand that goes to the last target, a part of a table
 pub data Acted : Type 0 where
@@ -33,16 +33,16 @@ IsVariableTarget g text (in_upvalue slot) t = t ≡ upvalue_target slot
 IsVariableTarget g text in_globals t = (number : ℕ) × HasNumber g (Constant.Text text) number × (t ≡ global_target number)
 
 -- a name, or what is indexed with its key
-abbrev pub IsTarget : Fn → List Active → Expression → TargetValue → Type 0
-IsTarget g active (name_expression line text) t = (w : Where) × Means g.law active text w × IsVariableTarget g text w t
-IsTarget g active (index_expression line on key) (index_target o k) = IsCore g active on o × IsOperand g active key k
-IsTarget g active (field_expression line on text) (index_target o k) = IsCore g active on o × IsKey g text k
-IsTarget g active e t = ⊥
+abbrev pub IsTarget : Fn → List Active → Expression → Counted TargetValue
+IsTarget g active (name_expression line text) before behind t = (behind ≡ before) × (w : Where) × Means g.law active text w × IsVariableTarget g text w t
+IsTarget g active (index_expression line on key) before behind (index_target o k) = (mid : ℕ) × IsCore g active on before mid o × IsOperand g active key mid behind k
+IsTarget g active (field_expression line on text) before behind (index_target o k) = (mid : ℕ) × IsCore g active on before mid o × IsKey g text mid behind k
+IsTarget g active e before behind t = ⊥
 
-abbrev pub AreTargets : Fn → List Active → Expressions → List TargetValue → Type 0
-AreTargets g active no_expressions [] = Unit {0}
-AreTargets g active (syntax.expression e es) (t ∷ ts) = IsTarget g active e t × AreTargets g active es ts
-AreTargets g active es ts = ⊥
+abbrev pub AreTargets : Fn → List Active → Expressions → Counted (List TargetValue)
+AreTargets g active no_expressions before behind [] = behind ≡ before
+AreTargets g active (syntax.expression e es) before behind (t ∷ ts) = (mid : ℕ) × IsTarget g active e before mid t × AreTargets g active es mid behind ts
+AreTargets g active es before behind ts = ⊥
 
 -- the last one is a nil, alone or behind a value that cannot be several
 abbrev pub ends_with_nil : Values → Bool
@@ -102,28 +102,30 @@ values_assigned count t is_open vs =
     else record { values = vs; all = true; last = None }
 
 -- values, and an operand behind them
-abbrev pub EndWithOperand : Fn → List Active → Expressions → Values → OperandValue → Type 0
-EndWithOperand g active no_expressions vs o = ⊥
-EndWithOperand g active (syntax.expression e no_expressions) vs o = (vs ≡ no_values) × IsOperand g active e o
-EndWithOperand g active (syntax.expression e (syntax.expression d es)) vs o = IsFirst (core g active e).value (λ rest. EndWithOperand g active (syntax.expression d es) rest o) vs
+abbrev pub EndWithOperand : Fn → List Active → Expressions → OperandValue → Counted Values
+EndWithOperand g active no_expressions o before behind vs = ⊥
+EndWithOperand g active (syntax.expression e no_expressions) o before behind vs = (vs ≡ no_values) × IsOperand g active e before behind o
+EndWithOperand g active (syntax.expression e (syntax.expression d es)) o before behind vs = first_and (core g active e).value (EndWithOperand g active (syntax.expression d es) o) before behind vs
 
 -- as many values as targets, of which the last one goes to a part of a table
-abbrev pub AreWithOperand : Fn → List Active → List TargetValue → Expressions → Assigned → Type 0
-AreWithOperand g active ts es to = (is_part (last_target ts) ≡ true) × (suc (value_count to.values) ≡ length ts) × (o : OperandValue) × EndWithOperand g active es to.values o × (to.all ≡ true) × (to.last ≡ Some o)
+abbrev pub AreWithOperand : Fn → List Active → List TargetValue → Expressions → Counted Assigned
+AreWithOperand g active ts es before behind to =
+    (is_part (last_target ts) ≡ true) × (suc (value_count to.values) ≡ length ts) × (o : OperandValue) × EndWithOperand g active es o before behind to.values × (to.all ≡ true) × (to.last ≡ Some o)
 
-abbrev pub AreValues : Fn → List Active → List TargetValue → Expressions → Assigned → Type 0
-AreValues g active ts es to = (from : Values) × AreCores g active es from × ((is_part (last_target ts) && (value_count from == length ts)) ≡ false) × (values_assigned (length ts) (last_target ts) (ends_open es) from ≡ to)
+abbrev pub AreValues : Fn → List Active → List TargetValue → Expressions → Counted Assigned
+AreValues g active ts es before behind to =
+    (from : Values) × AreCores g active es before behind from × ((is_part (last_target ts) && (value_count from == length ts)) ≡ false) × (values_assigned (length ts) (last_target ts) (ends_open es) from ≡ to)
 
-abbrev pub AreAssigned : Fn → List Active → (targets es : Expressions) → List TargetValue → Assigned → Type 0
-AreAssigned g active targets es ts to = AreTargets g active targets ts × (AreWithOperand g active ts es to ⊎ AreValues g active ts es to)
+abbrev pub AreAssigned : Fn → List Active → (targets es : Expressions) → List TargetValue → Counted Assigned
+AreAssigned g active targets es ts before behind to = (mid : ℕ) × AreTargets g active targets before mid ts × (AreWithOperand g active ts es mid behind to ⊎ AreValues g active ts es mid behind to)
 
-abbrev pub IsActed : Fn → List Active → Statement → Acted → Type 0
-IsActed g active (call_statement e) (called v) = IsCore g active e v
-IsActed g active (assignment targets es) (assigned ts vs all last) = AreAssigned g active targets es ts (record { values = vs; all = all; last = last })
-IsActed g active (local_statement names es) (declared others vs all) =
-    (others ≡ names) × (from : Values) × AreCores g active es from × (declared_values (length names) (ends_open es) from ≡ record { values = vs; all = all })
-IsActed g active (return_statement es) (returned vs all) = AreCores g active es vs × (all ≡ ends_open es)
-IsActed g active statement acted = ⊥
+abbrev pub IsActed : Fn → List Active → Statement → Counted Acted
+IsActed g active (call_statement e) before behind (called v) = IsCore g active e before behind v
+IsActed g active (assignment targets es) before behind (assigned ts vs all last) = AreAssigned g active targets es ts before behind (record { values = vs; all = all; last = last })
+IsActed g active (local_statement names es) before behind (declared others vs all) =
+    (others ≡ names) × (from : Values) × AreCores g active es before behind from × (declared_values (length names) (ends_open es) from ≡ record { values = vs; all = all })
+IsActed g active (return_statement es) before behind (returned vs all) = AreCores g active es before behind vs × (all ≡ ends_open es)
+IsActed g active statement before behind acted = ⊥
 
 -- ---- how it is written
 
