@@ -20,8 +20,8 @@ use Rattle.rules.specs.Cells.{is_open_at, find_open, capture, capture_as, take_c
 use Rattle.rules.specs.Step.{add_closure}
 use Rattle.rules.specs.Run.{Going, step, after}
 use Rattle.scheme_stands.specs.Words.{is_marked, Spot, number_at, instr_by}
-use Rattle.scheme_stands.specs.Functions.{FurtherWordAt, FurtherAt, ClosureAt}
-use Rattle.scheme_stands.specs.Relation.{FunctionOf, related}
+use Rattle.scheme_stands.specs.Functions.{FurtherWordAt, FurtherAt, ClosureAt, FunctionAt}
+use Rattle.scheme_stands.specs.Relation.{FunctionOf, related, StatementsAt}
 use Rattle.agrees.proofs.Cells.{carry_get}
 use Rattle.agrees.proofs.Names.{TakesCells, TakesCell, captures_all}
 use Rattle.agrees.proofs.Registers.{set_word}
@@ -307,7 +307,7 @@ module _ (z : Setup) (self : Self) where
         marked = t.fine.marked;
         once = t.fine.once;
         acts = t.fine.acts;
-        closures = closures_snoc z.bound t.owner g.closures s.closures mc fc t.fine.closures (record { source_cells = cf.cells; carry = t.carry; names = w.names; known = cf.known; before = without_sources p.ahead; behind = w.mid.ahead; stands = subst (λ l. FunctionOf (function_body params vararg b first last) false l (without_sources p.ahead) w.mid.ahead w.chunk) (law_there g.owner x.a w.names ok.acts.0) w.made_at; small = small });
+        closures = closures_snoc z.bound t.owner g.closures s.closures mc fc t.fine.closures (record { source_cells = cf.cells; carry = t.carry; names = w.names; known = cf.known; before = without_sources p.ahead; behind = w.mid.ahead; stands = subst (λ l. FunctionAt l params vararg (λ f. StatementsAt f None b) (without_sources p.ahead) w.mid.ahead w.chunk) (law_there g.owner x.a w.names ok.acts.0) w.made_at.at; small = small });
         deep = t.fine.deep;
       } in (
         g1,

@@ -87,7 +87,7 @@ break_grows line (Some loop) m =
 
 -- before locals ended
 pub before_end : {k : ℕ} {z : Maker} (n : ℕ) (m : Maker) → Final k (end_locals n m) z → Final k m z
-before_end n m f = record { items = f.items; constants = f.constants; functions = f.functions; labels = f.labels; high = f.high; fine = f.fine; near = f.near }
+before_end n m f = record { items = f.items; constants = f.constants; functions = f.functions; labels = f.labels; high = f.high; fine = f.fine; upvalues = f.upvalues; near = f.near }
 
 module _ (z : Maker) where
   abbrev pub loop_at : Option Loop → Option LoopAt

@@ -13,6 +13,7 @@ use Rattle.scheme.specs.declared.making.Active.{Active}
 use Rattle.scheme.specs.declared.making.Local.{Local}
 use Rattle.scheme_stands.specs.Words.{Names, onto, is_named, register_in, own_register, is_among, names_in, MeansBy, CapturedBy, IsCaptured, is_marked}
 use Rattle.scheme_stands.specs.Functions.{Activated}
+use Rattle.scheme_stands.specs.Placed.{AroundAt, FindsBy, FindsIn, NamedAt, NamedBy, OwnAt, names_of_seen}
 use Rattle.scheme_stands.specs.Places.{locals_from, ActiveAt, ScopeAt, UpvalueAt, NameIs, own, upvalue, nothing_is, CaptureIs, own_local, own_upvalue, CapturesAre}
 use Rattle.scheme_stands.proofs.Growth.{kept_end, at_end}
 use Rattle.scheme_stands.proofs.Locals.{AllHidden, end_cases}
@@ -46,40 +47,6 @@ same_text : (a b : Text) → bytes_eq a b ≡ true → a ≡ b
 same_text a b e = (bytes_eq-Decides a b).0 e
 
 -- ---- what is found
-
--- a local of the function, by its declaration
-pub record OwnAt (active : List Active) (name : Text) (d : ℕ) : Type 0 where
-  pub register : ℕ
-  pub is : own_register name active ≡ Some register
-  pub one : Active
-  pub there : slice_get active register ≡ Some one
-  pub declaration : one.local.declaration ≡ Some d
-
--- one of a function around
-pub record AroundAt (all : List Mark) (home : ℕ) (n : Names) (active : List Active) (name : Text) (b : Binding) : Type 0 where
-  pub none : own_register name active ≡ None
-  pub among : is_among name n.around ≡ true
-  pub slot : UpvalueAt home all b → slice_get n.upvalues (slot_of b.declaration (upvalues_of home all)) ≡ Some name
-
-abbrev pub FindsIn : List Mark → (home : ℕ) → Names → List Active → Text → Binding → Bool → Type 0
-FindsIn all home n active name b true = OwnAt active name b.declaration
-FindsIn all home n active name b false = AroundAt all home n active name b
-
-abbrev pub FindsBy : List Mark → (home : ℕ) → Names → List Active → Text → Option Binding → Type 0
-FindsBy all home n active name None = (own_register name active ≡ None) × (is_among name n.around ≡ false)
-FindsBy all home n active name (Some b) = FindsIn all home n active name b (b.home == home)
-
--- the declared locals are marked as captured where they are
-abbrev Marked : List Mark → List Active → Type 0
-Marked all active = (r : ℕ) (x : Active) (d : ℕ) → slice_get active r ≡ Some x → x.local.declaration ≡ Some d → x.local.captured ≡ is_captured d all
-
-pub record NamedBy (all : List Mark) (home : ℕ) (n : Names) (active : List Active) (scope : Scope) : Type 0 where
-  pub finds : (name : Text) → FindsBy all home n active name (scope name)
-  pub apart : (a b : Text) (x y : Binding) → scope a ≡ Some x → scope b ≡ Some y → x.declaration ≡ y.declaration → a ≡ b
-  pub marked : Marked all active
-
-abbrev pub NamedAt : List Mark → Place → List Active → Names → Type 0
-NamedAt all place active n = NamedBy all (innermost place.around) n active place.scope
 
 -- with one local more that has another name, or none
 more_finds : (all : List Mark) (home : ℕ) (n : Names) (active : List Active) (x : Active) (name : Text) → is_named name x ≡ false → (o : Option Binding) → FindsBy all home n active name o → FindsBy all home n (active ++ x ∷ []) name o
@@ -197,11 +164,6 @@ pub name_means : (all : List Mark) (place : Place) (active : List Active) (n : N
 name_means all place active n name w a g (own b r x s h there d e) = subst (MeansBy n active name) (sym e) (own_at all place active n name b r x a g s h there d)
 name_means all place active n name w a g (upvalue b s h u e) = let k = around_at all place active n name b g s h in subst (MeansBy n active name) (sym e) (k.none, k.slot u)
 name_means all place active n name w a g (nothing_is s e) = subst (MeansBy n active name) (sym e) (subst (FindsBy all (innermost place.around) n active name) s (g.finds name))
-
--- and at a CLOSURE: the names of its upvalues
-abbrev pub names_of_seen : (all : List Mark) (place : Place) (active : List Active) (bs : List Binding) (uses : List Use) → CapturesAre all place active bs uses → List Text
-names_of_seen all place active [] uses c = []
-names_of_seen all place active (b ∷ bs) uses c = c.3.0 ∷ names_of_seen all place active bs c.1 c.5
 
 marks_at : (active : List Active) (r : ℕ) (x : Active) → slice_get active r ≡ Some x → slice_get (map is_marked active) r ≡ Some x.local.captured
 marks_at [] r x h = cc

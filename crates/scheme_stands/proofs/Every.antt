@@ -3,7 +3,7 @@ use Rattle.std.proofs.Common.{◌∙◌, ◌≡◌, ℕ, suc, Bool, true, false,
 use Rattle.std.specs.Prelude.{Option, Some, None, ◌||◌, ◌&&◌, is_some}
 use Rattle.lua_tree.specs.Syntax as syntax
 use Rattle.lua_tree.specs.Syntax.{Expressions, no_expressions, Arguments, argument_list, text_argument, table_argument, Fields, no_fields, positional, named, keyed, Statements, no_statements, Statement, assignment, call_statement, do_block, while_loop, repeat_loop, if_statement, numeric_for, generic_for, function_statement, local_function, local_statement, return_statement, break_statement, Branches, no_branches, branch, Otherwise, no_otherwise, otherwise, ForStep, no_step, by_step, FunctionBody, function_body, Expression, nil_literal, true_literal, false_literal, vararg_expression, number_literal, text_literal, name_expression, function_expression, index_expression, field_expression, call_expression, method_call, and_expression, or_expression, binary_expression, unary_expression, constructor, parenthesized}
-use Rattle.lua_tree.specs.Outline.{all_params}
+use Rattle.lua_tree.specs.Outline.{all_params, body_part}
 use Rattle.opcode.specs.declared.op.Op.{Op}
 use Rattle.proto.specs.declared.parts.Constant.{Constant}
 use Rattle.scheme.specs.Making.{Maker, new_label, freeing}
@@ -18,6 +18,7 @@ use Rattle.scheme_stands.proofs.Forms.{form_is}
 use Rattle.scheme_stands.specs.Expressions.{form_of, several, RkAt, RkTextAt}
 use Rattle.scheme_stands.specs.Lists.{ItemBy, is_last_item, CallAt, MethodAt, TableAt, MovedFrom}
 use Rattle.scheme_stands.specs.Functions.{rel_function}
+use Rattle.scheme_stands.specs.Placed.{IsPlaced}
 use Rattle.scheme_stands.specs.Statements.{rel_method, rel_path}
 use Rattle.scheme_stands.specs.Relation.{BranchesAt, OtherwiseAt, StatementsAt, StatementAt, StepAt, FunctionOf, related, all_related, given_rel, ItemsAt}
 use Rattle.scheme_stands.proofs.Growth.{calm, length_end, Final, before, before_free, before_take, later, unplaced, placed, spot, fn_of, room_at}
@@ -160,6 +161,7 @@ mutual
   made (function_body params vararg block first last) method =
       function_made (record { source = None; first_line = first; last_line = last; params = length (all_params method params); vararg = vararg }) last (all_params method params)
       (statements_made block None) (λ f. StatementsAt f None block) (grow_statements block None) (λ z. statements_at z block None) refl
+      (IsPlaced (body_part method (function_body params vararg block first last)))
 
   pub links : (z : Maker) (e : Expression) → Links z (coded e) (related (fn_of z) e)
   links z (nil_literal line) = word_single z line (nil_literal line) (form_of (nil_literal 0)) (λ r. Piece.Abc Op.LoadNil r r 0) refl (λ r. refl)

@@ -6,6 +6,7 @@ use Rattle.std.proofs.lemmas.Bool.{ltb-false, eqb-true}
 use Rattle.lua_tree.specs.Outline.{Mark, mention, local_name, hidden_local, dots, leave, opened, outline}
 use Rattle.lua_tree.specs.Scoping.{Breach, too_many_upvalues, upvalue_breach, breach_at, first_breach, Scoped, upvalues_of, is_known, is_one_of, inside_of}
 use Rattle.lua_tree.specs.Syntax.{Source}
+use Rattle.scheme_stands.specs.Placed.{RulesKept}
 use Rattle.scheme_stands.proofs.Names.{behind_both}
 
 first_none : (a b : Option Breach) → option_or a b ≡ None → a ≡ None
@@ -63,10 +64,5 @@ leave_looped before [] line true rest h = refl
 leave_looped before [] line false rest h = let no = first_none (breach_at before (leave line false)) (first_breach (before ++ leave line false ∷ []) rest) h in cc
 leave_looped before (mark ∷ xs) line looped rest h = leave_looped (before ++ mark ∷ []) xs line looped rest (second_none (breach_at before mark) (first_breach (before ++ mark ∷ []) (xs ++ leave line looped ∷ rest)) h)
 
--- what the marks of such a source keep
-pub record Kept (all : List Mark) : Type 0 where
-  pub few : (f : ℕ) → length (upvalues_of f all) ≤ 60
-  pub in_loop : (before : List Mark) (line : ℕ) (looped : Bool) (rest : List Mark) → all ≡ before ++ leave line looped ∷ rest → looped ≡ true
-
-pub kept : (source : Source) → Scoped source → Kept (outline source)
+pub kept : (source : Source) → Scoped source → RulesKept (outline source)
 kept source h = record { few = λ f. upvalues_few source f h; in_loop = λ before line looped rest is. leave_looped [] before line looped rest (sym (ap (first_breach []) is) ∙ h) }

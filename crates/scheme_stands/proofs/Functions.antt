@@ -1,26 +1,27 @@
 -- Closures stand as the relation says, if the functions in them do.
-use Rattle.std.proofs.Common.{◌≡◌, ℕ, List, [], ◌∷◌, length, refl, ◌∙◌, subst}
+use Rattle.std.proofs.Common.{◌≡◌, ℕ, List, [], ◌∷◌, length, refl, ◌∙◌, subst, map, ap, sym, get_or}
 use lib.ListN.{length-map}
 use Rattle.lua_num.specs.Bytes.{Text}
-use Rattle.lua_tree.specs.Scoping.{Use}
+use Rattle.lua_tree.specs.Scoping.{Use, local_use, upvalue_use, global_use}
 use Rattle.lua_tree.specs.Syntax.{FunctionBody, function_expression}
 use Rattle.opcode.specs.declared.op.Op.{Op}
 use Rattle.proto.specs.Chunk.{own}
 use Rattle.scheme.specs.Making.{Ahead, Maker, put, Where, in_register, in_upvalue, in_globals, where_is}
-use Rattle.scheme.specs.Functions.{Inner, closure, further_words, further_word, source_name, source_names, next_sources, without_sources, with_function, coded_function}
+use Rattle.scheme.specs.Functions.{Inner, closure, further_words, further_word, source_name, source_names, next_sources, without_sources, with_function, coded_function, name_of}
 use Rattle.scheme.specs.declared.making.Piece.{Piece}
 use Rattle.scheme.specs.declared.making.Active.{Active}
 use Rattle.std.specs.Prelude.{None}
 use Rattle.scheme_stands.specs.Words.{Law, WordAt, Spot}
-use Rattle.scheme_stands.specs.Functions.{FunctionRel, FurtherAt, ClosureAt, rel_function, FurtherWordAt}
+use Rattle.scheme_stands.specs.Functions.{FunctionRel, FurtherAt, ClosureAt, rel_function, FurtherWordAt, captured_name}
 use Rattle.scheme_stands.proofs.Growth.{at_end, length_end, calm, Final, before, spot, fn_of, resolved, put_at, before_put, function_stands, made_fine}
 use Rattle.scheme_stands.proofs.Parts.{grows_further}
 use Rattle.scheme_stands.proofs.Links.{Links, single_at}
 
--- a function that keeps its limits stands as its relation says, and has as many upvalues as names
+-- a function that keeps its limits stands as its relation says, with upvalues of these names
 pub record Made (inner : Inner) (rel : FunctionRel) : Type 0 where
   pub made_at : (names : List Text) (ahead : Ahead) → (inner names ahead).misfits ≡ [] → rel ahead (inner names ahead).ahead (inner names ahead).chunk
   pub upvalues : (names : List Text) (ahead : Ahead) → (own (inner names ahead).chunk).upvalues ≡ length names
+  pub named : (names : List Text) (ahead : Ahead) → (own (inner names ahead).chunk).upvalue_names ≡ names
 
 module _ (z : Maker) where
   further_is : (labels : List ℕ) (w : Where) → resolved labels (further_word w) ≡ further_word w
@@ -44,6 +45,12 @@ module _ (z : Maker) where
         second_at = further_at line uses active m1 e f;
       }
 
+  names_are : (m : Maker) (uses : List Use) → source_names m uses ≡ map (captured_name m.active m.upvalue_names) uses
+  names_are m [] = refl
+  names_are m (local_use declaration ∷ uses) = ap (λ names. name_of declaration m.active ∷ names) (names_are m uses)
+  names_are m (upvalue_use slot ∷ uses) = ap (λ names. get_or m.upvalue_names slot [] ∷ names) (names_are m uses)
+  names_are m (global_use ∷ uses) = ap (λ names. [] ∷ names) (names_are m uses)
+
   pub closure_at : (line : ℕ) (inner : Inner) (rel : Law → FunctionRel) → Made inner (rel None) → (free r : ℕ) (m : Maker) {k : ℕ} → Final k (closure line inner r m) z → ClosureAt (fn_of z) rel m.active free r (spot m) (spot (closure line inner r m))
   closure_at line inner rel h free r m f =
       let names = source_names m (next_sources m) in
@@ -63,6 +70,7 @@ module _ (z : Maker) where
         captured = tt;
         made_at = h.made_at names (without_sources m.ahead) (made_fine done m f1);
         upvalues = h.upvalues names (without_sources m.ahead) ∙ length-map (next_sources m) (source_name m);
+        named = h.named names (without_sources m.ahead) ∙ names_are m (next_sources m) ∙ ap (λ around. map (captured_name m.active around) (next_sources m)) (sym f2.upvalues);
         word = record { has = w.has; near = w.near; reads = tt; next = w.next; ahead = refl; functions = refl };
         next = refl;
         one_more = length_end m.functions done.chunk;

@@ -178,10 +178,11 @@ pub record Final (k : ℕ) (n z : Maker) : Type 0 where
   pub labels : (i : ℕ) → k ≤ i → i < length n.labels → get_or z.labels i 0 ≡ get_or n.labels i 0
   pub high : n.high ≤ z.high
   pub fine : n.misfits ≡ []
+  pub upvalues : z.upvalue_names ≡ n.upvalue_names
   pub near : reach_from z.labels 0 z.items ≤ 131071
 
 pub final_self : (z : Maker) → z.misfits ≡ [] → reach_from z.labels 0 z.items ≤ 131071 → Final 0 z z
-final_self z e l = record { items = λ i x e. e; constants = λ i x e. e; functions = λ i x e. e; labels = λ i l h. refl; high = omega arith; fine = e; near = l }
+final_self z e l = record { items = λ i x e. e; constants = λ i x e. e; functions = λ i x e. e; labels = λ i l h. refl; high = omega arith; fine = e; upvalues = refl; near = l }
 
 -- before a part that keeps the labels
 pub before : {v : Mode} {k : ℕ} {n o z : Maker} → Grown v n o → Final k o z → Final k n z
@@ -192,12 +193,13 @@ before g f = record {
   labels = λ i l h. f.labels i l (omega (arith, g.more, h)) ∙ g.labels i h;
   high = omega (arith, g.high, f.high);
   fine = g.fine f.fine;
+  upvalues = f.upvalues ∙ g.upvalues;
   near = f.near;
 }
 
 -- of fewer labels
 pub later : {j k : ℕ} {n z : Maker} → j ≤ k → Final j n z → Final k n z
-later l f = record { items = f.items; constants = f.constants; functions = f.functions; labels = λ i h b. f.labels i (omega (arith, l, h)) b; high = f.high; fine = f.fine; near = f.near }
+later l f = record { items = f.items; constants = f.constants; functions = f.functions; labels = λ i h b. f.labels i (omega (arith, l, h)) b; high = f.high; fine = f.fine; upvalues = f.upvalues; near = f.near }
 
 -- before a label was placed, and where it stands
 pub unplaced : {k : ℕ} {n z : Maker} (label : ℕ) → k ≤ label → Final k (place label n) z → Final (suc label) n z
@@ -208,6 +210,7 @@ unplaced {k} {n} {z} label l f = record {
   labels = λ i h b. f.labels i (omega (arith, l, h)) (omega (arith, b, length_set n.labels label (length n.items))) ∙ get_or-set_other n.labels label i (length n.items) 0 (λ e. omega (arith, e, h));
   high = f.high;
   fine = f.fine;
+  upvalues = f.upvalues;
   near = f.near;
 }
 
@@ -220,6 +223,7 @@ unplaced_below {k} {n} {z} label l f = record {
   labels = λ i h b. f.labels i h (omega (arith, b, length_set n.labels label (length n.items))) ∙ get_or-set_other n.labels label i (length n.items) 0 (λ e. omega (arith, e, h, l));
   high = f.high;
   fine = f.fine;
+  upvalues = f.upvalues;
   near = f.near;
 }
 
@@ -237,7 +241,7 @@ spot m = record { pc = length m.items; ahead = m.ahead; functions = length m.fun
 
 -- the finished function
 abbrev pub fn_of : Maker → Fn
-fn_of z = record { code = words_from z.labels 0 z.items; constants = z.constants; functions = functions_of z.functions; size = register_count z; law = None }
+fn_of z = record { code = words_from z.labels 0 z.items; constants = z.constants; functions = functions_of z.functions; size = register_count z; upvalue_names = z.upvalue_names; law = None }
 
 -- a word with its label as a place
 abbrev pub resolved : List ℕ → Piece → Piece

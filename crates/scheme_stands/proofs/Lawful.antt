@@ -15,7 +15,7 @@ use Rattle.lua_tree.specs.Precedence.{left_binds, right_binds}
 use Rattle.opcode.specs.declared.op.Op.{Op}
 use Rattle.proto.specs.Chunk.{Chunk}
 use Rattle.proto.specs.declared.parts.Constant.{Constant}
-use Rattle.scheme.specs.Making.{head_or, any_captured}
+use Rattle.scheme.specs.Making.{head_or, any_captured, Ahead}
 use Rattle.scheme.specs.Functions.{without_sources}
 use Rattle.scheme.specs.Scheme.{has_branch, has_otherwise}
 use Rattle.scheme.specs.Statements.{numeric_names, generic_names}
@@ -26,10 +26,11 @@ use Rattle.scheme.specs.declared.making.Local.{Local}
 use Rattle.scheme_stands.specs.Words.{Names, Fn, fn, asking, Spot, Plain, WordAt, names_in, onto}
 use Rattle.scheme_stands.specs.Expressions.{Form, Rel, form_of, rel_name, rel_field}
 use Rattle.scheme_stands.specs.Lists.{CallAt, MethodAt, rels_count}
-use Rattle.scheme_stands.specs.Functions.{Step, rel_function, Activated, ClosureAt}
+use Rattle.scheme_stands.specs.Functions.{Step, rel_function, Activated, ClosureAt, FunctionAt}
 use Rattle.scheme_stands.specs.Statements.{LoopAt, rel_fields, rel_path, rel_method, UntilBy, ListReturnAt, ReturnBy, ReturnAt, AssignAt, EachStoredAt, BlockAt, TurnAt, BreakAt}
 use Rattle.scheme_stands.specs.Relation.{related, all_related, given_rel, StatementsAt, StatementAt, BranchesAt, OtherwiseAt, StepAt, FunctionOf, MainAt}
-use Rattle.scheme_stands.specs.Places.{RelMoves, ScopeAt}
+use Rattle.scheme_stands.specs.Placed.{NamedAt, RulesKept, names_of_seen}
+use Rattle.scheme_stands.specs.Places.{RelMoves, ScopeAt, Here, CapturesAre}
 use Rattle.scheme_stands.proofs.Counting.{expression_closed, expressions_closed, declares_closed, path_closed, statement_counted, branches_closed, closed_inner, statements_counted, values_closed}
 use Rattle.scheme_stands.proofs.Entering.{behind_name, in_numeric, in_generic, entered_by, function_enters, local_function_enters, numeric_enters, generic_enters, looped}
 use Rattle.scheme_stands.proofs.Locals.{none_of, closed_active}
@@ -38,15 +39,15 @@ use Rattle.scheme_stands.proofs.Moving.{behind, chain}
 use Rattle.scheme_stands.proofs.Walks.{and_left, and_right, AllMoves, adjust_moves, copies_same, jump_same, block_moves, within_moves}
 use Rattle.scheme_stands.proofs.Scopes.{statements_move, expression_moves, all_move, fields_move, branches_move, step_moves, method_all, called}
 use Rattle.scheme_stands.proofs.Sequences.{function_onwards, main_onwards, repeat_onwards, until_here}
-use Rattle.scheme_stands.proofs.Few.{Kept, kept}
-use Rattle.scheme_stands.proofs.Environment.{NamedAt, names_of_seen, seen_length, named_enters, named_locals, named_hidden, named_still, named_first}
+use Rattle.scheme_stands.proofs.Few.{kept}
+use Rattle.scheme_stands.proofs.Environment.{seen_length, named_enters, named_locals, named_hidden, named_still, named_first}
 use Rattle.scheme_stands.proofs.Small.{Setting, field_a, field_b, CountRoom, count_small, activated_length, declared_length, captured_inside}
 use Rattle.scheme_stands.proofs.Words.{Lifted, alone, plain_first, same_lift, abc_lift, jump_lift, jmp_lift, jump_on_lift, constant_lift, close_lift}
 use Rattle.scheme_stands.proofs.Lifts.{Stands, Calm, stands_first, stands_behind, Lift, WordLift, RelLifts, ValueLifts, value_of, one_lift, GivenLifts, single_lifts, load_lift, field_lifts, name_lifts, paren_lifts, unary_lifts, binary_lifts, index_lifts, logic_lifts, call_lift, method_lift, call_lifts, moved_lift, vararg_lifts}
 use Rattle.scheme_stands.proofs.Lifting.{calm_expression, FunctionLifts, AllLift, AllFit, FieldsLift, counts, open_lifts, list_room, adjust_lifts, table_lift, closure_lift, copies_lift, assign_lift, store_lift, store_word}
 use Rattle.scheme_stands.proofs.Standing.{stands_statement, stands_onwards, named_statements, statements_room}
 
-module _ (all : List Mark) (rules : Kept all) where
+module _ (all : List Mark) (rules : RulesKept all) where
   -- ---- functions
 
   new_home : (place : Place) → ScopeAt place → ((b : Binding) → is_one_of b.home place.around ≡ true → b.home ≡ place.functions → ⊥) → (name : Text) (b : Binding) → place.scope name ≡ Some b → (b.home == place.functions) ≡ false
@@ -61,45 +62,77 @@ module _ (all : List Mark) (rules : Kept all) where
       (n : Names) (f : Fn) → Setting n f → (loop : Option LoopAt) (place : Place) (rest : List Mark) (active after : List Active) (p q : Spot) → is_some loop ≡ place.looped →
       Stands all n f (statements_part ss) place rest active p → StatementsAt f loop ss active after p q → Lifted f (StatementsAt (asking n f) loop ss active after p q) q
 
-  function_lift : (params : List Text) (vararg : Bool) (block : Statements) (first last : ℕ) (method : Bool) → StatementsLift block → FunctionLifts all (function_body params vararg block first last) method
-  function_lift params vararg block first last method lift n f place rest active p behind' chunk s c t =
+  -- what is named where its statements begin, and it has few upvalues
+  pub function_named : (method : Bool) (params : List Text) (vararg : Bool) (block : Statements) (first last : ℕ) (place : Place) (rest : List Mark) (n : Names) (active : List Active) (p : Spot) (behind : Ahead) (chunk : Chunk) →
+      Here all (body_part method (function_body params vararg block first last)) place rest p → NamedAt all place active n → (c : CapturesAre all place active (upvalues_of place.functions all) (head_or [] p.ahead.sources)) →
+      (t : FunctionAt None (all_params method params) vararg (λ f. StatementsAt f None block) (without_sources p.ahead) behind chunk) →
+      (length (names_of_seen all place active (upvalues_of place.functions all) (head_or [] p.ahead.sources) c) ≤ 60)
+      × NamedAt all (entered_by (all_params method params) first (in_function vararg place)) t.active (record { around = names_in (onto active []) ++ n.around; upvalues = names_of_seen all place active (upvalues_of place.functions all) (head_or [] p.ahead.sources) c })
+  function_named method params vararg block first last place rest n active p behind' chunk h g c t =
       let ps = all_params method params in
       let uses = head_or [] p.ahead.sources in
-      let h = s.here in
       let o = h.between in
-      let inside = here_function all method params vararg block first last place rest p h in
-      let b = inside.between in
+      let b = (here_function all method params vararg block first last place rest p h).between in
       let names = names_of_seen all place active (upvalues_of place.functions all) uses c in
       let inner : Names = record { around = names_in (onto active []) ++ n.around; upvalues = names } in
       let e = function_enters all method params vararg block first last place rest (without_sources p.ahead) behind' chunk (λ f. StatementsAt f None block) t b.reached o.around_it h.scope (ap without_sources h.ahead) in
+      let entered = named_enters all vararg place active n uses h.scope (new_home place h.scope (λ b one same. none_of place.functions place.around o.around_it (sym (ap (λ k. is_one_of k place.around) same) ∙ one))) g c in (
+        subst (λ k. k ≤ 60) (sym (seen_length all place active (upvalues_of place.functions all) uses c)) (rules.few place.functions),
+        named_locals all place.functions place.declarations inner ps [] t.active place.scope h.scope.declared (subst (λ ls. Activated ls [] t.active) e.0 t.activated) entered,
+      )
+
+  function_lift : (params : List Text) (vararg : Bool) (block : Statements) (first last : ℕ) (method : Bool) → StatementsLift block → FunctionLifts all (function_body params vararg block first last) method
+  function_lift params vararg block first last method lift n f place rest active p behind' chunk s c made =
+      let t = made.at in
+      let ps = all_params method params in
+      let uses = head_or [] p.ahead.sources in
+      let h = s.here in
+      let names = names_of_seen all place active (upvalues_of place.functions all) uses c in
+      let inner : Names = record { around = names_in (onto active []) ++ n.around; upvalues = names } in
       let w = function_onwards all method params vararg block first last place rest p behind' chunk (λ f. StatementsAt f None block) h t in
-      let g = named_enters all vararg place active n uses h.scope (new_home place h.scope (λ b one same. none_of place.functions place.around o.around_it (sym (ap (λ k. is_one_of k place.around) same) ∙ one))) s.named c in
-      let g1 : NamedAt all (entered_by ps first (in_function vararg place)) t.active inner = named_locals all place.functions place.declarations inner ps [] t.active place.scope h.scope.declared (subst (λ ls. Activated ls [] t.active) e.0 t.activated) g in
-      let few : length names ≤ 60 = subst (λ k. k ≤ 60) (sym (seen_length all place active (upvalues_of place.functions all) uses c)) (rules.few place.functions) in
-      let setting : Setting inner (fn None chunk) = record { lawless = refl; limits = t.limits; few = few } in
-      let body = lift inner (fn None chunk) setting None (entered_by ps first (in_function vararg place)) rest t.active t.inner t.first t.mid refl (record { here = w.here; active_at = w.active_at; named = g1; room = t.room; plain = plain_first (fn None chunk) t.first t.begins }) t.body_at in
+      let g = function_named method params vararg block first last place rest n active p behind' chunk h s.named c t in
+      let setting : Setting inner (fn None chunk) = record { lawless = refl; limits = t.limits; few = g.0 } in
+      let body = lift inner (fn None chunk) setting None (entered_by ps first (in_function vararg place)) rest t.active t.inner t.first t.mid refl (record { here = w.here; active_at = w.active_at; named = g.1; room = t.room; plain = plain_first (fn None chunk) t.first t.begins }) t.body_at in
       let end = abc_lift inner (fn None chunk) Op.Return 0 1 0 (alone Op.Return refl) (omega arith) (omega arith) (omega arith) t.mid t.last body.plain t.end in
       let limits = t.limits in
       record {
-        param_count = t.param_count;
-        flags = t.flags;
-        limits = record { two = limits.two; registers = limits.registers; constants = limits.constants; functions = limits.functions };
-        locals = t.locals;
-        active = t.active;
-        inner = t.inner;
-        first = t.first;
-        mid = t.mid;
-        last = t.last;
-        begins = t.begins;
-        none_made = t.none_made;
-        declared = t.declared;
-        activated = t.activated;
-        room = t.room;
-        body_at = body.is;
-        end = end.is;
-        ends = t.ends;
-        all_made = t.all_made;
-        goes_on = t.goes_on;
+        at = record {
+          param_count = t.param_count;
+          flags = t.flags;
+          limits = record { two = limits.two; registers = limits.registers; constants = limits.constants; functions = limits.functions };
+          locals = t.locals;
+          active = t.active;
+          inner = t.inner;
+          first = t.first;
+          mid = t.mid;
+          last = t.last;
+          begins = t.begins;
+          none_made = t.none_made;
+          declared = t.declared;
+          activated = t.activated;
+          room = t.room;
+          body_at = body.is;
+          end = end.is;
+          ends = t.ends;
+          all_made = t.all_made;
+          goes_on = t.goes_on;
+        };
+        is = made.is;
+        placed = record {
+          all = all;
+          kept = rules;
+          place = place;
+          rest = rest;
+          around = n;
+          active = active;
+          ahead = p.ahead;
+          here = record { between = h.between; scope = h.scope; ahead = h.ahead };
+          active_at = s.active_at;
+          named = s.named;
+          captures = c;
+          before_is = refl;
+          inside_is = refl;
+        };
       }
 
   -- ---- parts of statements

@@ -25,9 +25,10 @@ use Rattle.scheme_stands.specs.Lists.{AllNextAt, AllMultiAt, rels_open, rels_cou
 use Rattle.scheme_stands.specs.Functions.{ClosureAt}
 use Rattle.scheme_stands.specs.Statements.{SetAt, StoreRegisterAt, StoreAt, EachStoredAt, StoredFromAt, TargetsAt, CopyBy, CopiesAt, StoresBy, AssignAt}
 use Rattle.scheme_stands.specs.Relation.{related, all_related, FunctionOf, ItemsAt}
+use Rattle.scheme_stands.specs.Placed.{names_of_seen}
 use Rattle.scheme_stands.specs.Places.{Moves, RelMoves, Closed, CapturesAre}
 use Rattle.scheme_stands.proofs.Counting.{expression_closed, expressions_closed, closed_row}
-use Rattle.scheme_stands.proofs.Environment.{names_of_seen, closure_captures}
+use Rattle.scheme_stands.proofs.Environment.{closure_captures}
 use Rattle.scheme_stands.proofs.Forms.{form_is}
 use Rattle.scheme_stands.proofs.Here.{tame_expression, tame_expressions, tame_fields, tame_both, captures_are}
 use Rattle.scheme_stands.proofs.Moving.{behind, ahead_of, chain, rk_moves, text_same}
@@ -239,6 +240,7 @@ module _ (all : List Mark) (n : Names) (f : Fn) where
             captured = captured;
             made_at = h n f place rest active p (t.mid).ahead t.chunk s c lawless;
             upvalues = t.upvalues;
+            named = t.named;
             word = word.0;
             next = t.next;
             one_more = t.one_more;

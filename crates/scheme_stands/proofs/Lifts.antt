@@ -20,11 +20,12 @@ use Rattle.scheme.specs.declared.making.Piece.{Piece}
 use Rattle.scheme_stands.specs.Words.{Names, MeansBy, Fn, Spot, Stretch, Passed, Seq, asking, Plain, WordAt, ConstantWord, meaning}
 use Rattle.scheme_stands.specs.Expressions.{Form, form_of, several, Rel, OperandBy, OperandAt, RkBy, RkAt, RkTextAt, OneAt, TwoAt, TestBy, TestAt, CompareAt, rel_alone, rel_single, rel_name, BareAt, rel_paren, rel_index, rel_field, NameBy, NameAt, IndexAt, PartTargetAt, ArithmeticAt, TruthAt, SpineAt, ConcatAt, BinaryAt, LoadOr, BinaryJump, BinarySpine, rel_binary, UnaryAt, UnaryJump, rel_unary, DecideBy, HereAt, LogicAt, LogicJump, rel_logic, local_at, NextAt}
 use Rattle.scheme_stands.specs.Lists.{GivenRel, CallAt, MethodAt, MovedFrom, rel_call, VarargAt, rel_vararg}
+use Rattle.scheme_stands.specs.Placed.{NamedAt}
 use Rattle.scheme_stands.specs.Places.{Moves, ValueMoves, RelMoves, ActiveAt, Here, Closed}
 use Rattle.scheme_stands.proofs.Locals.{closed_active}
 use Rattle.scheme_stands.proofs.Here.{Tame, here_first, here_behind, here_at, name_is}
 use Rattle.scheme_stands.proofs.Moving.{operand_moves, rk_moves, behind, text_same}
-use Rattle.scheme_stands.proofs.Environment.{NamedAt, named_still, name_means}
+use Rattle.scheme_stands.proofs.Environment.{named_still, name_means}
 use Rattle.scheme_stands.proofs.Small.{Setting, field_a, field_b, WhereFits, where_fits, TargetFits, local_low, operand_low, rk_low, text_low, CountRoom, count_small, want_room, base_room, results_asking}
 use Rattle.scheme_stands.proofs.Words.{Lifted, Alone, alone, unary_alone, truth_small, same_lift, abc_lift, jmp_lift, jump_on_lift, constant_lift, comparison_lift}
 

@@ -218,7 +218,8 @@ module _ (all : List Mark) where
     step_moves f (by_step x) h active free p q t = let v = (expression_moves f x h).value in v.to_reg active free free p q t
 
     pub function_moves : (body : FunctionBody) (method : Bool) → formed_body body ≡ true → (l : Law) → FunctionMoves all (body_part method body) (FunctionOf body method l)
-    function_moves (function_body params vararg block first last) method h = function_all params vararg block first last method (λ f. statements_move f None block (and_right (are_names params) (formed_statements block) h))
+    function_moves (function_body params vararg block first last) method h =
+        λ l before behind chunk t. function_all params vararg block first last method (λ f. statements_move f None block (and_right (are_names params) (formed_statements block) h)) l before behind chunk t.at
 
     pub expression_moves : (f : Fn) (x : Expression) → formed_expression x ≡ true → RelMoves all (expression_part x) (is_target x) (related f x)
     expression_moves f (nil_literal line) h = plain_all f (nil_literal line) _ refl (λ active free r p q w place rest e. w.ahead ∙ e)

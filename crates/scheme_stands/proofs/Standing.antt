@@ -13,10 +13,11 @@ use Rattle.scheme_stands.specs.Words.{Names, Fn, Spot, Plain}
 use Rattle.scheme_stands.specs.Functions.{Activated}
 use Rattle.scheme_stands.specs.Statements.{LoopAt, LocalPartAt}
 use Rattle.scheme_stands.specs.Relation.{all_related, FunctionOf, StatementsAt, StatementAt}
+use Rattle.scheme_stands.specs.Placed.{NamedAt}
 use Rattle.scheme_stands.specs.Places.{ActiveAt, Here}
 use Rattle.scheme_stands.proofs.Counting.{expressions_closed, body_closed, statement_closed, declares_none}
 use Rattle.scheme_stands.proofs.Entering.{behind_name, local_enters, local_function_enters}
-use Rattle.scheme_stands.proofs.Environment.{NamedAt, named_locals, named_still}
+use Rattle.scheme_stands.proofs.Environment.{named_locals, named_still}
 use Rattle.scheme_stands.proofs.Walks.{and_left, and_right}
 use Rattle.scheme_stands.proofs.Rooms.{adjust_room}
 use Rattle.scheme_stands.proofs.Sequences.{onwards, here_statement}

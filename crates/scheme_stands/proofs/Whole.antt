@@ -9,8 +9,8 @@ use Rattle.scheme.specs.Making.{Misfit, too_many_registers, too_many_constants, 
 use Rattle.scheme.specs.Functions.{Heading, function_from, whole_function, with_params, empty_maker, misfits_of, unless_within, register_count, reach_from, words_from}
 use Rattle.scheme.specs.declared.making.Piece.{Piece}
 use Rattle.scheme.specs.declared.making.Item.{Item}
-use Rattle.scheme_stands.specs.Words.{Fn}
-use Rattle.scheme_stands.specs.Functions.{Step, Limits, FunctionAt, Declared, Activated}
+use Rattle.scheme_stands.specs.Words.{Fn, Names}
+use Rattle.scheme_stands.specs.Functions.{Step, Limits, FunctionAt, Declared, Activated, MadeAt}
 use Rattle.scheme_stands.proofs.Growth.{calm, on_put, on_take, Final, final_self, later, before, before_put, spot, fn_of, put_at, front_empty, back_empty}
 use Rattle.scheme_stands.proofs.Functions.{Made}
 use Rattle.scheme_stands.proofs.Lines.{grows_declare, grows_activate, declare_active, declare_items, declare_functions, declare_free, declare_length, declared, activated, activate_spot, activate_free, activate_length}
@@ -57,13 +57,13 @@ limits_kept line z e =
     }
 
 module _ (heading : Heading) (end_line : ℕ) (params : List Text) (statements : Part) (body : Fn → Step) (g : GrowsWell statements) (l : (z : Maker) → StandsWell z statements (body (fn_of z))) (count : heading.params ≡ length params) where
-  abbrev begun : (names : List Text) → Ahead → Maker
+  abbrev pub begun : (names : List Text) → Ahead → Maker
   begun names ahead = with_params params (empty_maker ahead names)
 
-  abbrev whole : (names : List Text) → Ahead → Maker
+  abbrev pub whole : (names : List Text) → Ahead → Maker
   whole names ahead = whole_function end_line params statements (empty_maker ahead names)
 
-  begun_settled : (names : List Text) (ahead : Ahead) → Settled (begun names ahead)
+  pub begun_settled : (names : List Text) (ahead : Ahead) → Settled (begun names ahead)
   begun_settled names ahead =
       let m = empty_maker ahead names in
       let d = declare params m in
@@ -71,7 +71,7 @@ module _ (heading : Heading) (end_line : ℕ) (params : List Text) (statements :
       let b = activate_free d.value d.after in
       omega (arith, a, b, declare_free params m, declare_length params m, ap length (declare_active params m))
 
-  whole_stands : (names : List Text) (ahead : Ahead) → (function_from heading end_line params statements names ahead).misfits ≡ [] →
+  pub whole_stands : (names : List Text) (ahead : Ahead) → (function_from heading end_line params statements names ahead).misfits ≡ [] →
       FunctionAt None params heading.vararg body ahead (function_from heading end_line params statements names ahead).ahead (function_from heading end_line params statements names ahead).chunk
   whole_stands names ahead none =
       let m = empty_maker ahead names in
@@ -112,6 +112,20 @@ module _ (heading : Heading) (end_line : ℕ) (params : List Text) (statements :
         goes_on = refl;
       }
 
+  -- it begins where the parameters are active
+  pub begins_there : (names : List Text) (ahead : Ahead) (none : (function_from heading end_line params statements names ahead).misfits ≡ []) →
+      ((whole_stands names ahead none).first ≡ spot (begun names ahead)) × ((whole_stands names ahead none).active ≡ (begun names ahead).active)
+  unfolding whole_stands
+  begins_there names ahead none = (refl, refl)
+
+  -- behind the statements
+  pub statements_final : (names : List Text) (ahead : Ahead) → (function_from heading end_line params statements names ahead).misfits ≡ [] → Final 0 (statements (begun names ahead)) (whole names ahead)
+  statements_final names ahead none =
+      let m3 = statements (begun names ahead) in
+      let z = whole names ahead in
+      let k = limits_kept heading.first_line z (back_empty z.misfits (misfits_of heading.first_line z) none) in
+      before_end 0 m3 (before_put end_line (Piece.Abc Op.Return 0 1 0) (end_locals 0 m3) (final_self z (front_empty z.misfits (misfits_of heading.first_line z) none) k.near))
+
   upvalues_kept : (names : List Text) (ahead : Ahead) → (whole names ahead).upvalue_names ≡ names
   upvalues_kept names ahead =
       let m = empty_maker ahead names in
@@ -123,5 +137,15 @@ module _ (heading : Heading) (end_line : ℕ) (params : List Text) (statements :
       let g4 = on_put end_line (Piece.Abc Op.Return 0 1 0) (end_any 0 (statements m2)) in
       g4.upvalues ∙ g3.upvalues ∙ g2.upvalues ∙ g1.upvalues
 
-  pub function_made : Made (function_from heading end_line params statements) (FunctionAt None params heading.vararg body)
-  function_made = record { made_at = whole_stands; upvalues = λ names ahead. ap length (upvalues_kept names ahead) }
+  placed_at : (IsPlaced : Names → Ahead → Type 0) (names : List Text) (ahead : Ahead) → (function_from heading end_line params statements names ahead).misfits ≡ [] →
+      MadeAt None (FunctionAt None params heading.vararg body) (function_from heading end_line params statements) IsPlaced ahead (function_from heading end_line params statements names ahead).ahead (function_from heading end_line params statements names ahead).chunk
+  placed_at IsPlaced names ahead none =
+      let made = function_from heading end_line params statements in
+      record {
+        at = whole_stands names ahead none;
+        is = ap (λ (names : List Text). made names ahead) (upvalues_kept names ahead) ∙ ap (λ misfits. record { chunk = (made names ahead).chunk; ahead = (made names ahead).ahead; misfits = misfits }) none;
+        placed = tt;
+      }
+
+  pub function_made : (IsPlaced : Names → Ahead → Type 0) → Made (function_from heading end_line params statements) (MadeAt None (FunctionAt None params heading.vararg body) (function_from heading end_line params statements) IsPlaced)
+  function_made IsPlaced = record { made_at = placed_at IsPlaced; upvalues = λ names ahead. ap length (upvalues_kept names ahead); named = upvalues_kept }

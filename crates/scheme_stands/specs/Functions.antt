@@ -1,16 +1,16 @@
 -- Serves the laws. Names that are declared; closures and whole functions.
-use Rattle.std.specs.Prelude.{◌≡◌, ◌≤◌, ℕ, suc, Bool, false, List, [], ◌∷◌, ◌++◌, length, drop, slice_get, Some}
+use Rattle.std.specs.Prelude.{◌≡◌, ◌≤◌, ℕ, suc, Bool, false, List, [], ◌∷◌, ◌++◌, length, drop, get_or, map, slice_get, Some, None}
 use Rattle.lua_num.specs.Bytes.{Text}
 use Rattle.lua_tree.specs.Syntax.{no_statements, function_body, function_expression}
-use Rattle.lua_tree.specs.Scoping.{Use}
+use Rattle.lua_tree.specs.Scoping.{Use, local_use, upvalue_use, global_use}
 use Rattle.opcode.specs.declared.op.Op.{Op}
 use Rattle.proto.specs.Chunk.{Chunk, own, functions, function_at, function_count}
 use Rattle.scheme.specs.Making.{Ahead, head_or, where_is}
-use Rattle.scheme.specs.Functions.{further_word, without_sources, vararg_flags}
+use Rattle.scheme.specs.Functions.{Inner, further_word, name_of, without_sources, vararg_flags}
 use Rattle.scheme.specs.declared.making.Piece.{Piece}
 use Rattle.scheme.specs.declared.making.Active.{Active}
 use Rattle.scheme.specs.declared.making.Local.{Local}
-use Rattle.scheme_stands.specs.Words.{Law, Lawful, Fn, fn, Spot, Stretch, number_at, IsRead, WordAt, Same, Seq, Captured, law_inside}
+use Rattle.scheme_stands.specs.Words.{Law, Lawful, Names, Fn, fn, Spot, Stretch, number_at, IsRead, WordAt, Same, Seq, Captured, law_inside}
 use Rattle.scheme_stands.specs.Expressions.{form_of, Rel, rel_single}
 
 -- ==== names that are declared
@@ -45,6 +45,12 @@ abbrev pub FurtherAt : Fn → List Active → List Use → Stretch
 FurtherAt f active [] = Same
 FurtherAt f active (one ∷ uses) = Seq (FurtherWordAt f (further_word (where_is one active))) (FurtherAt f active uses)
 
+-- the name of what a closure captures
+abbrev pub captured_name : List Active → (upvalue_names : List Text) → Use → Text
+captured_name active names (local_use declaration) = name_of declaration active
+captured_name active names (upvalue_use slot) = get_or names slot []
+captured_name active names global_use = []
+
 -- a closure of a function, whose chunk is the next one of those of this function; `mid` is behind the CLOSURE, and the source goes on
 -- there where that of the function ends
 pub record ClosureAt (f : Fn) (made : Law → FunctionRel) (active : List Active) (free r : ℕ) (p q : Spot) : Type 0 where
@@ -58,6 +64,8 @@ pub record ClosureAt (f : Fn) (made : Law → FunctionRel) (active : List Active
   pub made_at : made (law_inside f.law active names) (without_sources p.ahead) mid.ahead chunk
   -- the upvalues are as many as the further words
   pub upvalues : (own chunk).upvalues ≡ length (head_or [] p.ahead.sources)
+  -- each is named as what it captures
+  pub named : (own chunk).upvalue_names ≡ map (captured_name active f.upvalue_names) (head_or [] p.ahead.sources)
   pub word : WordAt f (Piece.Abx Op.Closure r p.functions) p begun
   pub next : mid.pc ≡ begun.pc
   pub one_more : mid.functions ≡ suc begun.functions
@@ -100,3 +108,14 @@ pub record FunctionAt (l : Law) (params : List Text) (vararg : Bool) (body : Fn 
   -- each function of the chunk is made once, in order
   pub all_made : last.functions ≡ function_count (functions chunk)
   pub goes_on : last.ahead ≡ behind
+
+-- where the law is asked, what is known with the names of the function
+abbrev pub LawfulBy : Law → (Names → Type 0) → Type 0
+LawfulBy None P = Unit {0}
+LawfulBy (Some n) P = P n
+
+-- a function whose chunk stands so is made by the scheme within its limits, at a place of the source
+pub record MadeAt (l : Law) (function : FunctionRel) (made : Inner) (IsPlaced : Names → Ahead → Type 0) (before behind : Ahead) (chunk : Chunk) : Type 0 where
+  pub at : function before behind chunk
+  pub is : made (own chunk).upvalue_names before ≡ record { chunk = chunk; ahead = behind; misfits = [] }
+  pub placed : LawfulBy l (λ n. IsPlaced n before)

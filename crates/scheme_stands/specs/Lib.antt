@@ -5,3 +5,4 @@ pub mod Functions
 pub mod Statements
 pub mod Relation
 pub mod Places
+pub mod Placed

@@ -3,20 +3,21 @@
 use Rattle.std.specs.Prelude.{ℕ, suc, ◌+◌, nat_lt, Bool, true, false, ◌||◌, ◌&&◌, List, [], ◌∷◌, length, Option, Some, None, is_some, pos}
 use Rattle.lua_tree.specs.Syntax as syntax
 use Rattle.lua_tree.specs.Syntax.{Source, Expressions, no_expressions, Arguments, argument_list, text_argument, table_argument, Fields, no_fields, positional, named, keyed, Statements, no_statements, Statement, assignment, call_statement, do_block, while_loop, repeat_loop, if_statement, numeric_for, generic_for, function_statement, local_function, local_statement, return_statement, break_statement, Branches, no_branches, branch, Otherwise, no_otherwise, otherwise, ForStep, no_step, by_step, FunctionBody, function_body, Expression, nil_literal, true_literal, false_literal, vararg_expression, number_literal, text_literal, name_expression, function_expression, index_expression, field_expression, call_expression, method_call, and_expression, or_expression, binary_expression, unary_expression, constructor, parenthesized}
-use Rattle.lua_tree.specs.Outline.{all_params}
+use Rattle.lua_tree.specs.Outline.{all_params, body_part}
 use Rattle.lua_tree.specs.Resolved.{resolved}
 use Rattle.opcode.specs.declared.op.Op.{Op}
 use Rattle.proto.specs.Chunk.{Chunk}
 use Rattle.proto.specs.declared.parts.Constant.{Constant}
 use Rattle.scheme.specs.Making.{Ahead}
 use Rattle.scheme.specs.Lists.{pending_after}
-use Rattle.scheme.specs.Scheme.{has_branch, has_otherwise, ahead_of}
+use Rattle.scheme.specs.Scheme.{has_branch, has_otherwise, ahead_of, inner}
 use Rattle.scheme.specs.declared.making.Piece.{Piece}
 use Rattle.scheme.specs.declared.making.Active.{Active}
 use Rattle.scheme_stands.specs.Words.{Law, Fn, Stretch, WordAt, Same, Seq, ConstantWord}
 use Rattle.scheme_stands.specs.Expressions.{form_of, several, Rel, NextAt, RkAt, RkTextAt, rel_single, rel_name, rel_paren, rel_index, rel_field, rel_binary, rel_unary, rel_logic}
+use Rattle.scheme_stands.specs.Placed.{IsPlaced}
 use Rattle.scheme_stands.specs.Lists.{OpenListAt, rels_count, GivenRel, CallAt, MethodAt, MovedFrom, rel_call, rel_vararg, SetListIf, ItemBy, KeyedAt, is_last_item, TableAt}
-use Rattle.scheme_stands.specs.Functions.{FunctionRel, rel_function, Step, FunctionAt}
+use Rattle.scheme_stands.specs.Functions.{FunctionRel, rel_function, Step, FunctionAt, MadeAt}
 use Rattle.scheme_stands.specs.Statements.{StaysAt, ThenAt, LoopAt, BlockAt, LocalPartAt, LocalFunctionAt, AssignAt, rel_path, rel_method, WhileAt, RepeatAt, ArmAt, NumericAt, GenericAt, BreakAt, ReturnAt}
 
 -- ==== the whole tree
@@ -61,7 +62,9 @@ abbrev mutual
 
   -- a method has a first parameter `self`
   pub FunctionOf : FunctionBody → (method : Bool) → Law → FunctionRel
-  FunctionOf (function_body params vararg block first last) method l = FunctionAt l (all_params method params) vararg (λ f. StatementsAt f None block)
+  FunctionOf (function_body params vararg block first last) method l =
+      let body = function_body params vararg block first last in
+      MadeAt l (FunctionAt l (all_params method params) vararg (λ f. StatementsAt f None block)) (inner body method) (IsPlaced (body_part method body))
 
   pub all_related : Fn → Expressions → List Rel
   all_related f no_expressions = []

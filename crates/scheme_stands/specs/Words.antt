@@ -54,10 +54,11 @@ pub record Fn : Type 0 where
   pub functions : Functions
   -- the number of registers
   pub size : ℕ
+  pub upvalue_names : List Text
   pub law : Law
 
 abbrev pub fn : Law → Chunk → Fn
-fn l c = record { code = (own c).code; constants = (own c).constants; functions = functions c; size = (own c).registers; law = l }
+fn l c = record { code = (own c).code; constants = (own c).constants; functions = functions c; size = (own c).registers; upvalue_names = (own c).upvalue_names; law = l }
 
 -- the same function with the law asked of it
 abbrev pub asking : Names → Fn → Fn
