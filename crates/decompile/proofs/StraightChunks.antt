@@ -21,11 +21,11 @@ use Rattle.recover_flow.specs.Built.{built_body}
 use Rattle.recover_flow.specs.Debug.{LacksDebug}
 use Rattle.recover_flow.specs.Parts.{begins_open, is_open}
 use Rattle.recover_flow.specs.Plans.{Plans, body_levels}
-use Rattle.recover_flow.specs.Recovering.{IsFunctionFound, IsMainFound, IsLostOnlyWhere, IsSourceFound, IsSourceless, IsUnrecovered, StandsNowhere, is_vararg, main_of}
+use Rattle.recover_flow.specs.Recovering.{IsFound, IsFunctionFound, IsLost, IsLostOnlyWhere, IsMainFound, IsSourceFound, IsSourceless, IsUnrecovered, StandsNowhere, is_vararg, main_of}
 use Rattle.recover_flow.specs.declared.lost.Lost.{Lost}
 use Rattle.recover_flow.specs.Searching.{whole_body}
 use Rattle.recover_flow.specs.Standing.{BodyStands}
-use Rattle.reads_back.specs.ReadAs.{IsStraightChunk, IsStepOf, AreStepsOf, kind_of, part_of, parts_of, ArePlain, IsReadBack, StraightSourcesAreRead, IsAlone, StraightChunksAreAlone, FlatSourcesAreStraight}
+use Rattle.reads_back.specs.ReadAs.{IsStraightChunk, IsStepOf, AreStepsOf, IsKindOf, part_of, parts_of, ArePlain, IsReadBack, StraightSourcesAreRead, IsAlone, StraightChunksAreAlone, FlatSourcesAreStraight}
 use Rattle.scheme.specs.Scheme.{scheme}
 use Rattle.scheme_lines.specs.Alike.{SemicolonsDoNotMatter}
 use Rattle.scheme_lines.specs.Bare.{bare_statements}
@@ -108,15 +108,27 @@ all_low count no_statements steps are = subst (AreLow 200) (sym are) tt
 all_low count (syntax.statement line semi s rest) [] are = absurd are
 all_low count (syntax.statement line semi s rest) (step ∷ steps) are = (are.0.levels, all_low count rest steps are.1)
 
-returns_is : (count : ℕ) (s : Statement) → is_return_step (kind_of count s) ≡ is_return s
-returns_is count (local_statement names es) = refl
-returns_is count (return_statement es) = refl
-returns_is count s = refl
+returns_is : (count : ℕ) (s : Statement) (kind : StepKind) → IsKindOf count s kind → is_return_step kind ≡ is_return s
+returns_is count (local_statement names es) kind is = ap is_return_step is.1
+returns_is count (return_statement es) kind is = ap is_return_step is
+returns_is count s kind is = ap is_return_step is
 
 all_steps : (count : ℕ) (block : Statements) (steps : List Step) → AreStepsOf count block steps → acts.AreStepsOf block steps
 all_steps count no_statements steps are = are
 all_steps count (syntax.statement line semi s rest) [] are = absurd are
-all_steps count (syntax.statement line semi s rest) (step ∷ steps) are = (ap is_return_step are.0.kind ∙ returns_is count s, all_steps count rest steps are.1)
+all_steps count (syntax.statement line semi s rest) (step ∷ steps) are = (returns_is count s step.kind are.0.kind, all_steps count rest steps are.1)
+
+-- ---- a function with no functions in it
+
+found_alone : (chunk : Chunk) → functions chunk ≡ no_functions → (found : Inner) → IsFound false chunk found → IsFunctionFound chunk [] false found
+found_alone (function f no_functions) none found (left, empty, is) = subst (λ those. IsFunctionFound (function f no_functions) those false found) empty is
+found_alone (function f (and_function c rest)) none found is = cc
+
+lost_alone : (chunk : Chunk) → functions chunk ≡ no_functions → IsLost false 0 chunk → IsUnrecovered chunk [] false
+lost_alone (function f no_functions) none (inl deep) = absurd (omega (arith, deep))
+lost_alone (function f no_functions) none (inr (inl one)) = absurd one
+lost_alone (function f no_functions) none (inr (inr (left, empty, unrecovered))) = subst (λ those. IsUnrecovered (function f no_functions) those false) empty unrecovered
+lost_alone (function f (and_function c rest)) none lost = cc
 
 -- ---- what is recovered
 
@@ -180,12 +192,12 @@ module _ {chunk : Chunk} {of : Source} (is_read : IsChunkRead chunk of) where
       none-some _ (sym unbuilt.3 ∙ built_of steps unbuilt.0 (same_Some steps is_read.steps (sym read ∙ is_read.read)) unbuilt.1)
 
   -- a tree that is found has these statements
-  tree_is : {tree : Source} → IsSourceFound chunk tree → tree.body ≡ of.body
-  tree_is {tree} is = ap (λ (t : Source). t.body) is.is_main ∙ ap (λ body. (main_of body).body) (main_is is.function)
+  tree_is : functions chunk ≡ no_functions → {tree : Source} → IsSourceFound chunk tree → tree.body ≡ of.body
+  tree_is none {tree} is = ap (λ (t : Source). t.body) is.is_main ∙ ap (λ body. (main_of body).body) (main_is is.function)
     where
       main_is : IsMainFound chunk is.found → is.found.body ≡ function_body [] (is_vararg chunk) of.body 1 1
-      main_is (inl found) = found_is is.found found
-      main_is (inr (unrecovered, found)) = absurd (is_recovered unrecovered)
+      main_is (inl found) = found_is is.found (found_alone chunk none is.found found)
+      main_is (inr (lost, found)) = absurd (is_recovered (lost_alone chunk none lost))
 
 -- a tree with the statements of one that is well formed is so too
 formed_again : (of tree : Source) → WellFormed of → tree.body ≡ of.body → WellFormed tree
@@ -222,9 +234,9 @@ lacks_nothing (function f (and_function c rest)) alone path (inr lacks) = absurd
     no_more c rest same = cc
 
 -- none is without a source
-has_source : {chunk : Chunk} {of : Source} → WellFormed of → IsChunkRead chunk of → IsSourceless chunk → ⊥
-has_source well is_read (inl (unrecovered, shortest)) = is_recovered is_read unrecovered
-has_source {of = of} well is_read (inr (source, found, misformed)) = misformed (formed_again of source well (tree_is is_read found))
+has_source : {chunk : Chunk} {of : Source} → functions chunk ≡ no_functions → WellFormed of → IsChunkRead chunk of → IsSourceless chunk → ⊥
+has_source {chunk} none well is_read (inl (lost, shortest)) = is_recovered is_read (lost_alone chunk none lost)
+has_source {of = of} none well is_read (inr (source, found, misformed)) = misformed (formed_again of source well (tree_is is_read none found))
 
 -- and it is one of the chunk
 is_tree_for : SemicolonsDoNotMatter → {chunk : Chunk} (straight : IsStraightChunk chunk) (steps : Steps) (back : IsReadBack straight.source steps) (tree : Source) → WellFormed tree → tree.body ≡ back.tree.body →
@@ -261,14 +273,14 @@ module _ (laws : StraightLaws) (chunk : Chunk) (short : IsShort chunk) (straight
   chunk_read = as_read laws.found laws.built laws.low steps_read.0 steps_read.1 steps_read.2
 
   -- what is recovered of it is a tree of it
-  pub straight_given : (tree : Source) → WellFormed tree → (functions chunk ≡ no_functions → IsSourceFound chunk tree) → IsTreeFor chunk tree
+  pub straight_given : (tree : Source) → WellFormed tree → IsSourceFound chunk tree → IsTreeFor chunk tree
   straight_given tree formed found =
-      is_tree_for laws.semicolons straight steps_read.0 steps_read.2 tree formed (tree_is chunk_read (found (laws.alone chunk straight).none))
+      is_tree_for laws.semicolons straight steps_read.0 steps_read.2 tree formed (tree_is chunk_read (laws.alone chunk straight).none found)
 
   -- and nothing is lost but for want of memory
-  pub straight_lost : (lost : Lost) → (functions chunk ≡ no_functions → IsLostOnlyWhere chunk lost) → IsGiven (Err (refused_by lost))
-  straight_lost (Lost.NoDebug path) why = let alone = laws.alone chunk straight in absurd (lacks_nothing chunk alone path (why alone.none))
-  straight_lost (Lost.At path pc reason) why = absurd (has_source steps_read.2.formed chunk_read (why (laws.alone chunk straight).none))
+  pub straight_lost : (lost : Lost) → IsLostOnlyWhere chunk lost → IsGiven (Err (refused_by lost))
+  straight_lost (Lost.NoDebug path) why = absurd (lacks_nothing chunk (laws.alone chunk straight) path why)
+  straight_lost (Lost.At path pc reason) why = absurd (has_source (laws.alone chunk straight).none steps_read.2.formed chunk_read why)
   straight_lost Lost.OutOfMemory why = tt
 
 -- ---- flat sources

@@ -24,7 +24,7 @@ use Rattle.reads_back.specs.Acted.{Acted, called, declared, returned, IsActed, a
 use Rattle.reads_back.specs.Cores.{IsCore}
 use Rattle.reads_back.specs.ReadAs.{part_of}
 use Rattle.reads_back.proofs.Comes.{CallComes, ReadsCall}
-use Rattle.reads_back.proofs.BehindWords.{HasLocals, NoneCaptured, SameLocals, behind_words}
+use Rattle.reads_back.proofs.BehindWords.{HasLocals, SameLocals, behind_words}
 use Rattle.reads_back.proofs.Reaches.{reaches_on, step_ends, Reaches}
 use Rattle.reads_back.proofs.ValueWords.{next_free}
 use Rattle.reads_back.proofs.WordsRead.{IsFunction, IsQuiet, word_of, word_there, turn_there}
@@ -47,14 +47,13 @@ abbrev pub numbers_from : (first count : ℕ) → List ℕ
 numbers_from first zero = []
 numbers_from first (suc count) = first ∷ numbers_from (suc first) count
 
--- so many locals more are declared and active, and none is captured where none was
+-- so many locals more are declared and active
 pub record Declares (count : ℕ) (before behind : Scope) : Type 0 where
   pub declared_more : length behind.declared ≡ length before.declared + count
   pub active_more : behind.active ≡ before.active ++ numbers_from (length before.declared) count
-  pub uncaptured : NoneCaptured before.declared → NoneCaptured behind.declared
 
 pub same_declares : {before behind : Scope} → SameLocals before behind → Declares 0 before behind
-same_declares {before} same = record { declared_more = same.declared ∙ sym (add-zero (length before.declared)); active_more = same.active ∙ sym (append-nil before.active); uncaptured = same.uncaptured }
+same_declares {before} same = record { declared_more = same.declared ∙ sym (add-zero (length before.declared)); active_more = same.active ∙ sym (append-nil before.active) }
 
 -- the words from one pc up to another are one step, an act that the statement is, and so it is written
 pub record ActRead (f : Function) (g : Fn) (active : List Active) (statement : Statement) (made_before made_behind : ℕ) (s : Situation) (first last : ℕ) : Type 0 where

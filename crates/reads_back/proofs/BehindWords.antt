@@ -1,5 +1,5 @@
 -- What is known of locals, entries and constants behind words.
-use Rattle.std.proofs.Common.{◌≡◌, ℕ, false, List, [], ◌∷◌, ◌++◌, length, refl, ap, ◌∙◌, drop}
+use Rattle.std.proofs.Common.{◌≡◌, ℕ, List, [], ◌∷◌, ◌++◌, length, refl, ap, ◌∙◌, drop}
 use Rattle.std.specs.List.{prefix_len}
 use Rattle.std.specs.Prelude.{◌==◌}
 use Rattle.proto.specs.declared.parts.LocVar.{LocVar}
@@ -7,26 +7,19 @@ use Rattle.core_expr.specs.Values.{Values, no_values, and_value}
 use Rattle.recover_expr.specs.Entries.{Entries, value_entry}
 use Rattle.recover_expr.specs.Locals.{Scope}
 use Rattle.recover_expr.specs.Situation.{Function, Situation}
-use Rattle.recover_expr.specs.declared.locals.Declared.{Declared}
 use Rattle.scheme.specs.declared.making.Active.{Active}
 use Rattle.reads_back.proofs.WordsRead.{IsQuiet}
 
--- no closure captures any of these
-abbrev pub NoneCaptured : List Declared → Type 0
-NoneCaptured [] = Unit {0}
-NoneCaptured (one ∷ others) = (one.captured ≡ false) × NoneCaptured others
-
--- the same locals are declared and active, and none is captured where none was
+-- the same locals are declared and active, some more of them captured maybe
 pub record SameLocals (before behind : Scope) : Type 0 where
   pub declared : length behind.declared ≡ length before.declared
   pub active : behind.active ≡ before.active
-  pub uncaptured : NoneCaptured before.declared → NoneCaptured behind.declared
 
 pub same_locals : (scope : Scope) → SameLocals scope scope
-same_locals scope = record { declared = refl; active = refl; uncaptured = λ none. none }
+same_locals scope = record { declared = refl; active = refl }
 
 pub same_then : {scope mid behind : Scope} → SameLocals scope mid → SameLocals mid behind → SameLocals scope behind
-same_then one more = record { declared = more.declared ∙ one.declared; active = more.active ∙ one.active; uncaptured = λ none. more.uncaptured (one.uncaptured none) }
+same_then one more = record { declared = more.declared ∙ one.declared; active = more.active ∙ one.active }
 
 pub quiet_same : {f : Function} {scope behind : Scope} {first last : ℕ} → SameLocals scope behind → IsQuiet f scope first last → IsQuiet f behind first last
 quiet_same {f} same quiet = record {

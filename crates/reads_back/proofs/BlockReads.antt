@@ -23,7 +23,7 @@ use Rattle.scheme_stands.specs.Words.{Fn}
 use Rattle.reads_back.specs.Acted.{Acted, IsAct, IsActed, act_levels, act_statement, assigned, called, declared, left_by_act, returned}
 use Rattle.reads_back.specs.ReadAs.{part_of}
 use Rattle.reads_back.proofs.ActsRead.{ActRead, Declares, kind_of_act, locals_of, numbers_from}
-use Rattle.reads_back.proofs.BehindWords.{HasLocals, NoneCaptured}
+use Rattle.reads_back.proofs.BehindWords.{HasLocals}
 use Rattle.reads_back.proofs.BlockMakers.{actives_by, all_made, entries_by, entries_from, good_names, made_by, statement_moves}
 use Rattle.reads_back.proofs.DeclarationsRead.{StartHere}
 use Rattle.reads_back.proofs.DeclaredLocals.{actives_of, entries_at}
@@ -87,7 +87,6 @@ pub record IsThere (f : Function) (m : Maker) (now : Situation) : Type 0 where
   pub declared : length now.scope.declared ≡ length m.active
   pub active : length m.items < f.last → now.scope.active ≡ listed_by m
   pub left : now.left ≡ []
-  pub uncaptured : NoneCaptured now.scope.declared
 
 module _ {f : Function} {g : Fn} {z : Maker} (whole : IsWhole f g z) where
   module _ {block : Statements} {m : Maker} (next : ComesNext f g z block m) where
@@ -232,7 +231,6 @@ module _ {f : Function} {g : Fn} {z : Maker} (whole : IsWhole f g z) where
             ∙ all_left f.last (length n.items) (length n.active) (n.locals ++ entries_from rest (settle n)) act.behind.scope before all_active as_many
             ∙ all_active;
         left = act.left ∙ ap (left_by_act act.acted) there.left ∙ (written (made_there whole next) s next.straight.0.0 (low whole next) (length m.functions) (length n.functions) act.acted act.is).leaves;
-        uncaptured = act.declares.uncaptured there.uncaptured;
       }
 
   -- ---- steps up to the last word
@@ -244,7 +242,6 @@ module _ {f : Function} {g : Fn} {z : Maker} (whole : IsWhole f g z) where
     pub behind : Situation
     pub reads : (count : ℕ) → f.last ≤ count + length m.items → drafts_from f count (drafts, length m.items, now) ≡ Some (drafts ++ more, f.last, behind)
     pub drafts_are : AreDraftsOf (length f.of.locals) written more
-    pub uncaptured : NoneCaptured behind.scope.declared
     pub all_declared : length f.of.locals ≡ length behind.scope.declared
 
   no_steps : (m : Maker) (drafts : List Drafted) (now : Situation) → ComesNext f g z no_statements m → length m.items ≡ f.last → IsThere f m now → StepsRead no_statements m drafts now
@@ -255,7 +252,6 @@ module _ {f : Function} {g : Fn} {z : Maker} (whole : IsWhole f g z) where
     behind = now;
     reads = reads;
     drafts_are = refl;
-    uncaptured = there.uncaptured;
     all_declared =
         ap length next.listing.listed
         ∙ length-map (m.locals ++ []) (ended f.last)
@@ -291,7 +287,6 @@ module _ {f : Function} {g : Fn} {z : Maker} (whole : IsWhole f g z) where
     behind = others.behind;
     reads = reads;
     drafts_are = (record { kind = kind; part = part; few = few }, others.drafts_are);
-    uncaptured = others.uncaptured;
     all_declared = others.all_declared;
   }
     where

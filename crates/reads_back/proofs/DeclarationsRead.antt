@@ -30,7 +30,7 @@ use Rattle.reads_back.specs.Cores.{AllHaveCores}
 use Rattle.reads_back.specs.ReadAs.{part_of}
 use Rattle.reads_back.proofs.ActsRead.{ActRead, CanAct, Declares, act_draft, after_act, kind_of_act}
 use Rattle.reads_back.proofs.AdjustedEntries.{written_not_own}
-use Rattle.reads_back.proofs.BehindWords.{HasLocals, NoneCaptured, SameLocals}
+use Rattle.reads_back.proofs.BehindWords.{HasLocals, SameLocals}
 use Rattle.reads_back.proofs.Comes.{IsWanted}
 use Rattle.reads_back.proofs.DeclaredComes.{DeclaredComes, declared_comes, declared_on}
 use Rattle.reads_back.proofs.NameReads.{AreListed}
@@ -49,19 +49,10 @@ pub record StartHere (f : Function) (scope : Scope) (names : List Text) (pc : �
   pub shown : is_hidden f.of.locals (length scope.declared) ≡ false
   pub declares : (step : Option ℕ) → (behind : Scope) × (declare f.of.locals (length names) pc step scope ≡ Some behind) × Declares (length names) scope behind
 
-none_front : (front behind : List Declared) → NoneCaptured (front ++ behind) → NoneCaptured front
-none_front [] behind none = tt
-none_front (one ∷ front) behind none = (none.0, none_front front behind none.1)
-
-none_end : (front : List Declared) (last : Declared) → NoneCaptured front → last.captured ≡ false → NoneCaptured (front ++ last ∷ [])
-none_end [] last none plain = (plain, tt)
-none_end (one ∷ front) last none plain = (none.0, none_end front last none.1 plain)
-
 entered_same : (step : Option ℕ) (before other : Scope) → SameLocals before other → SameLocals (entered step before) (entered step other)
 entered_same step before other same = record {
   declared = length-append other.declared _ ∙ ap (λ (n : ℕ). n + 1) same.declared ∙ sym (length-append before.declared _);
   active = ap₂ (λ (active : List ℕ) (n : ℕ). active ++ n ∷ []) same.active same.declared;
-  uncaptured = λ none. none_end other.declared _ (same.uncaptured (none_front before.declared _ none)) refl;
 }
 
 -- where the same locals are declared and active the same are declared next
@@ -96,7 +87,7 @@ declared_behind {f} {before} {other} {names} {pc} step same start =
     let one = start.declares step in
     let more = declares_same f.of.locals (length names) pc step before other one.0 same one.1 in
     let behind = more.2 in
-    (more.0, more.1, record { declared_more = behind.declared ∙ one.2.declared_more; active_more = behind.active ∙ one.2.active_more; uncaptured = λ none. behind.uncaptured (one.2.uncaptured none) })
+    (more.0, more.1, record { declared_more = behind.declared ∙ one.2.declared_more; active_more = behind.active ∙ one.2.active_more })
 
 -- ---- the step
 

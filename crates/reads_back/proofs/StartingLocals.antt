@@ -10,7 +10,6 @@ use Rattle.core_expr.specs.Places.{name_of_local}
 use Rattle.recover_expr.specs.Locals.{Scope, before_names, begins_hidden, declare, declare_next, end_of, ends_within, entered, innermost, innermost_end, is_over, leave, left_of, names_from, nests}
 use Rattle.recover_expr.specs.declared.locals.Declared.{Declared}
 use Rattle.reads_back.proofs.ActsRead.{Declares, numbers_from}
-use Rattle.reads_back.proofs.BehindWords.{NoneCaptured}
 use Rattle.reads_back.proofs.DeclaredLocals.{entries_at}
 use Rattle.reads_back.proofs.ListedLocals.{ended}
 use Rattle.reads_back.proofs.Tests.{both_hold, first_of_both, second_of_both}
@@ -121,14 +120,10 @@ within_all end zero entries scope active few = ap (λ active. ends_within (optio
 within_all end (suc count) entries scope active few =
     ap (λ outer. ends_within outer end) (innermost_ends end count entries scope active (omega (arith, few))) ∙ le-leb end end (omega arith)
 
-none_more : (declared : List Declared) (one : Declared) → one.captured ≡ false → NoneCaptured declared → NoneCaptured (declared ++ one ∷ [])
-none_more [] one free none = (free, tt)
-none_more (first ∷ declared) one free none = (none.0, none_more declared one free none.1)
-
 one_declared : (step : Option ℕ) (scope : Scope) → Declares 1 scope (entered step scope)
 one_declared step scope =
     let one : Declared = record { outer = innermost scope; register = length scope.active; step = step; captured = false } in
-    record { declared_more = length-append scope.declared (one ∷ []); active_more = refl; uncaptured = none_more scope.declared one refl }
+    record { declared_more = length-append scope.declared (one ∷ []); active_more = refl }
 
 more_declared : (count : ℕ) (scope mid behind : Scope) → Declares 1 scope mid → Declares count mid behind → Declares (suc count) scope behind
 more_declared count scope mid behind one more = record {
@@ -138,13 +133,12 @@ more_declared count scope mid behind one more = record {
       more.active_more
       ∙ ap₂ (λ active first. active ++ numbers_from first count) one.active_more next
       ∙ append_assoc scope.active (length scope.declared ∷ []) (numbers_from (suc (length scope.declared)) count);
-  uncaptured = λ none. more.uncaptured (one.uncaptured none);
 }
 
 pub are_declared : (end pc : ℕ) (front : List LocVar) (texts : List Text) (others : List LocVar) (step : Option ℕ) (scope : Scope) → pc ≤ end → length scope.declared ≡ length front → scope.active ≡ numbers_from 0 (length front) → length front + length texts ≤ 250 →
     (behind : Scope) × (declare (map (ended end) (front ++ (entries_at texts pc ++ others))) (length texts) pc step scope ≡ Some behind) × Declares (length texts) scope behind
 are_declared end pc front [] others step scope before declared active few =
-    (scope, refl, record { declared_more = omega arith; active_more = sym (append-nil scope.active); uncaptured = λ none. none })
+    (scope, refl, record { declared_more = omega arith; active_more = sym (append-nil scope.active) })
 are_declared end pc front (text ∷ texts) others step scope before declared active few =
     let entry : LocVar = record { name = text; start = pc; end = pc } in
     let all = front ++ (entry ∷ entries_at texts pc ++ others) in

@@ -1,4 +1,4 @@
--- The steps that are read of a block are placed as its statements: where all locals end at the last word and no closure captures one, a declaration reaches up to the end.
+-- The steps that are read of a block are placed as its statements: where all locals end at the last word, a declaration reaches up to the end.
 use Rattle.std.proofs.Common.{◌≡◌, ℕ, zero, suc, ◌+◌, ◌<◌, ◌≤◌, ◌&&◌, ◌||◌, Bool, true, false, nat_lt, List, [], ◌∷◌, ◌++◌, take, drop, length, length-drop, length-set, map, replicate, append-nil, append_assoc, Option, Some, None, refl, sym, ap, ap₂, ◌∙◌, subst, arith, eq-eqb, get_or-set_same, le-leb, lt-ltb, if◌then◌else◌}
 use Rattle.std.proofs.lemmas.List.{drop-map, length-map, length-replicate}
 use Rattle.std.proofs.lemmas.Option.{slice_get-get_or}
@@ -8,15 +8,14 @@ use Rattle.lua_num.specs.Bytes.{Text}
 use Rattle.lua_tree.specs.Syntax.{Statement, Statements, local_statement, no_statements, return_statement, statement}
 use Rattle.proto.specs.declared.parts.LocVar.{LocVar}
 use Rattle.recover_expr.specs.Drafts.{Drafted, Part}
-use Rattle.recover_expr.specs.Locals.{Scope, all_end, end_of, highest_captured, up_to}
+use Rattle.recover_expr.specs.Locals.{Scope, all_end, end_of, highest_captured, up_to, any_captured}
 use Rattle.recover_expr.specs.Placing.{Numbers, Steps, and_step, declaration_placed, end_shared, kind_placed, number_all, number_at, numbers_of, placed, set_number, shared_end, step_of_kind, steps_placed, there}
 use Rattle.recover_expr.specs.Situation.{Function}
 use Rattle.recover_expr.specs.declared.draft.DraftKind.{DraftKind}
 use Rattle.recover_expr.specs.declared.locals.Declared.{Declared}
 use Rattle.recover_expr.specs.declared.steps.Step.{Step}
 use Rattle.recover_expr.specs.declared.steps.StepKind.{StepKind}
-use Rattle.reads_back.specs.ReadAs.{AreStepsOf, kind_of, part_of, parts_of}
-use Rattle.reads_back.proofs.BehindWords.{NoneCaptured}
+use Rattle.reads_back.specs.ReadAs.{AreStepsOf, IsKindOf, part_of, parts_of}
 use Rattle.reads_back.proofs.ListedLocals.{ended}
 use Rattle.reads_back.proofs.Tests.{both_hold}
 
@@ -40,22 +39,11 @@ AreDraftsOf listed no_statements drafts = drafts ≡ []
 AreDraftsOf listed (statement line semi s rest) [] = ⊥
 AreDraftsOf listed (statement line semi s rest) (draft ∷ drafts) = IsDraftOf listed s draft × AreDraftsOf listed rest drafts
 
--- what is known where all steps are read: every listed local ends at the last word, and none is captured
-pub record AreEnding (f : Function) (scope : Scope) : Type 0 where
+-- what is known where all steps are read: every listed local ends at the last word
+pub record AreEnding (f : Function) : Type 0 where
   pub entries : List LocVar
   pub listed : f.of.locals ≡ map (ended f.last) entries
-  pub uncaptured : NoneCaptured scope.declared
   pub within : f.last < length f.of.code
-
--- ---- no local is captured
-
-none_captured : (first count : ℕ) (declared : List Declared) → NoneCaptured declared → list_any (λ (one : Declared). one.captured) (take count (drop first declared)) ≡ false
-none_captured zero zero declared none = refl
-none_captured zero (suc count) [] none = refl
-none_captured zero (suc count) (one ∷ others) none = ap (λ captured. captured || list_any (λ (one : Declared). one.captured) (take count others)) none.0 ∙ none_captured zero count others none.1
-none_captured (suc first) zero declared none = refl
-none_captured (suc first) (suc count) [] none = refl
-none_captured (suc first) (suc count) (one ∷ others) none = none_captured first (suc count) others none.1
 
 -- ---- the last word has the number behind all steps
 
@@ -108,18 +96,19 @@ ends_shared numbers end number entries first count is some within =
 
 -- ---- steps
 
-module _ (f : Function) (scope : Scope) (ending : AreEnding f scope) (numbers : Numbers) (number : ℕ) (is : number_at numbers f.last ≡ Some number) where
-  declaration_is_placed : (first count : ℕ) → 0 < count → first + count ≤ length f.of.locals → kind_placed f scope numbers (DraftKind.Declaration first count) ≡ Some (StepKind.Declaration number false)
+module _ (f : Function) (scope : Scope) (ending : AreEnding f) (numbers : Numbers) (number : ℕ) (is : number_at numbers f.last ≡ Some number) where
+  declaration_is_placed : (first count : ℕ) → 0 < count → first + count ≤ length f.of.locals → kind_placed f scope numbers (DraftKind.Declaration first count) ≡ Some (StepKind.Declaration number (any_captured first count scope))
   declaration_is_placed first count some within =
       let shared : shared_end f.of.locals numbers first count ≡ Some number =
       ap (λ (locals : List LocVar). shared_end locals numbers first count) ending.listed
       ∙ ends_shared numbers f.last number ending.entries first count is some (omega (arith, within, ap length ending.listed, length-map ending.entries (ended f.last))) in
-      ap (option_map (declaration_placed scope first count)) shared ∙ ap (λ captured. Some (StepKind.Declaration number captured)) (none_captured first count scope.declared ending.uncaptured)
+      ap (option_map (declaration_placed scope first count)) shared
 
-  kind_is_placed : (s : Statement) (kind : DraftKind) → KindIs (length f.of.locals) s kind → kind_placed f scope numbers kind ≡ Some (kind_of number s)
-  kind_is_placed (local_statement names es) kind are = ap (kind_placed f scope numbers) are.1 ∙ declaration_is_placed are.0 (length names) are.2 are.3
-  kind_is_placed (return_statement es) kind are = ap (kind_placed f scope numbers) are
-  kind_is_placed s kind are = ap (kind_placed f scope numbers) are
+  kind_is_placed : (s : Statement) (kind : DraftKind) → KindIs (length f.of.locals) s kind → (step : StepKind) × (kind_placed f scope numbers kind ≡ Some step) × IsKindOf number s step
+  kind_is_placed (local_statement names es) kind are =
+      (StepKind.Declaration number (any_captured are.0 (length names) scope), ap (kind_placed f scope numbers) are.1 ∙ declaration_is_placed are.0 (length names) are.2 are.3, (any_captured are.0 (length names) scope, refl))
+  kind_is_placed (return_statement es) kind are = (StepKind.Return, ap (kind_placed f scope numbers) are, refl)
+  kind_is_placed s kind are = (StepKind.Act, ap (kind_placed f scope numbers) are, refl)
 
   -- behind steps that are placed, those of a block
   record ArePlaced (highest : List ℕ) (sofar : Steps) (block : Statements) (drafts : List Drafted) : Type 0 where
@@ -139,20 +128,21 @@ module _ (f : Function) (scope : Scope) (ending : AreEnding f scope) (numbers : 
   }
   block_placed highest sofar (statement line semi s rest) [] are = absurd are
   block_placed highest sofar (statement line semi s rest) (draft ∷ drafts) are =
-      let step : Step = step_of_kind (kind_of number s) (up_to highest draft.innermost) draft in
+      let one = kind_is_placed s draft.kind are.0.kind in
+      let step : Step = step_of_kind one.0 (up_to highest draft.innermost) draft in
       let others : ArePlaced highest (and_step draft step sofar) rest drafts = block_placed highest (and_step draft step sofar) rest drafts are.1 in
       record {
         steps = step ∷ others.steps;
         placed =
-            ap (option_and_then (λ kind. steps_placed f scope numbers highest drafts (and_step draft (step_of_kind kind (up_to highest draft.innermost) draft) sofar))) (kind_is_placed s draft.kind are.0.kind)
+            ap (option_and_then (λ kind. steps_placed f scope numbers highest drafts (and_step draft (step_of_kind kind (up_to highest draft.innermost) draft) sofar))) one.1
             ∙ others.placed
             ∙ ap₂ (λ (steps : List Step) (parts : List Part). Some (record sofar { steps = steps; parts = parts })) (append_assoc sofar.steps (step ∷ []) others.steps)
             (append_assoc sofar.parts (draft.part ∷ []) (parts_of rest) ∙ ap (λ part. sofar.parts ++ part ∷ parts_of rest) are.0.part);
         as_many = ap suc others.as_many;
-        are = (record { kind = refl; levels = are.0.few }, others.are);
+        are = (record { kind = one.2; levels = are.0.few }, others.are);
       }
 
-pub steps_are_placed : (f : Function) (scope : Scope) → AreEnding f scope → (params : List Text) (block : Statements) (drafts : List Drafted) → AreDraftsOf (length f.of.locals) block drafts →
+pub steps_are_placed : (f : Function) (scope : Scope) → AreEnding f → (params : List Text) (block : Statements) (drafts : List Drafted) → AreDraftsOf (length f.of.locals) block drafts →
     (steps : List Step) × (placed f scope params drafts ≡ Some (record { params = params; steps = steps; parts = parts_of block })) × AreStepsOf (length steps) block steps
 steps_are_placed f scope ending params block drafts are =
     let all = block_placed f scope ending (numbers_of f drafts) (length drafts) (last_number f drafts ending.within) (highest_captured scope) (record { params = params; steps = []; parts = [] }) block drafts are in

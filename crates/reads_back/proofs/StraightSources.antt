@@ -192,7 +192,7 @@ module _ (stand : NamesStand) (semicolons : SemicolonsDoNotMatter) (chunk : Chun
     before = left_at f 0 (at_first [])
 
     there : IsThere f (begun plain) before
-    there = record { declared = refl; active = λ some. refl; left = refl; uncaptured = tt }
+    there = record { declared = refl; active = λ some. refl; left = refl }
 
     read : StepsRead whole plain.body (begun plain) [] before
     read = block_read whole plain.body (begun plain) [] before first_next (sym last_is) there
@@ -240,8 +240,8 @@ module _ (stand : NamesStand) (semicolons : SemicolonsDoNotMatter) (chunk : Chun
     unfolding f
     within = omega (arith, words_count)
 
-    ending : AreEnding f read.behind.scope
-    ending = record { entries = entries_from plain.body (begun plain); listed = listed; uncaptured = read.uncaptured; within = within }
+    ending : AreEnding f
+    ending = record { entries = entries_from plain.body (begun plain); listed = listed; within = within }
 
     all_placed : (steps : List _) × (placed f read.behind.scope [] read.more ≡ Some (record { params = []; steps = steps; parts = parts_of read.written })) × AreStepsOf (length steps) read.written steps
     all_placed = steps_are_placed f read.behind.scope ending [] read.written read.more read.drafts_are

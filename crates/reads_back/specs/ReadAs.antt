@@ -1,5 +1,5 @@
 -- To be believed. What the words of the chunk of a straight source are read as: one step for each statement, and these statements are a source with the same chunk.
-use Rattle.std.specs.Prelude.{◌≡◌, ◌≤◌, ◌<◌, ◌^◌, ℕ, false, List, [], ◌∷◌, length, Some, IsSome}
+use Rattle.std.specs.Prelude.{◌≡◌, ◌≤◌, ◌<◌, ◌^◌, ℕ, Bool, false, List, [], ◌∷◌, length, Some, IsSome}
 use Rattle.lua_num.specs.Bytes.{Text}
 use Rattle.lua_tree.specs.Scoping.{Scoped}
 use Rattle.lua_tree.specs.Syntax.{Statement, Statements, local_statement, no_statements, return_statement, statement, Source}
@@ -28,10 +28,10 @@ pub record IsStraightChunk (chunk : Chunk) : Type 0 where
 -- ---- steps
 
 -- what a step of the statement is, in a function of so many steps, where no local ends before the function does
-abbrev pub kind_of : (count : ℕ) → Statement → StepKind
-kind_of count (local_statement names es) = StepKind.Declaration count false
-kind_of count (return_statement es) = StepKind.Return
-kind_of count s = StepKind.Act
+abbrev pub IsKindOf : (count : ℕ) → Statement → StepKind → Type 0
+IsKindOf count (local_statement names es) kind = (captured : Bool) × (kind ≡ StepKind.Declaration count captured)
+IsKindOf count (return_statement es) kind = kind ≡ StepKind.Return
+IsKindOf count s kind = kind ≡ StepKind.Act
 
 -- what stands of it in its step
 abbrev pub part_of : Statement → Part
@@ -44,7 +44,7 @@ parts_of (statement line semi s rest) = part_of s ∷ parts_of rest
 
 -- with no more levels than a tree may have
 pub record IsStepOf (count : ℕ) (s : Statement) (step : Step) : Type 0 where
-  pub kind : step.kind ≡ kind_of count s
+  pub kind : IsKindOf count s step.kind
   pub levels : step.levels ≤ 200
 
 abbrev pub AreStepsOf : (count : ℕ) → Statements → List Step → Type 0

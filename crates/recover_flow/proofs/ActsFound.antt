@@ -1,5 +1,5 @@
 -- Where each step is a statement by itself, and only the last one may be a return, each is a piece, and nothing else stands there.
-use Rattle.std.proofs.Common.{◌≡◌, ◌∙◌, ◌⊎◌, inl, inr, refl, sym, ap, subst, ℕ, zero, suc, ◌+◌, ◌≤◌, ◌-◌, max, true, false, not, ◌&&◌, ◌==◌, nat_le, List, [], ◌∷◌, ◌++◌, length, slice_get, Option, None, Some, add-one, arith, if◌then◌else◌}
+use Rattle.std.proofs.Common.{◌≡◌, ◌∙◌, ◌⊎◌, inl, inr, refl, sym, ap, subst, Bool, ℕ, zero, suc, ◌+◌, ◌≤◌, ◌-◌, max, true, false, not, ◌&&◌, ◌==◌, nat_le, List, [], ◌∷◌, ◌++◌, length, slice_get, Option, None, Some, add-one, arith, if◌then◌else◌}
 use Rattle.std.specs.Prelude.{option_map, option_and_then}
 use Rattle.std.proofs.Math.Bool.{and-false}
 use Rattle.std.proofs.lemmas.Bool.Decides.{nat_tests}
@@ -9,7 +9,7 @@ use Rattle.recover_expr.specs.declared.steps.Step.{Step}
 use Rattle.recover_expr.specs.declared.steps.StepKind.{StepKind}
 use Rattle.recover_flow.specs.Acts.{IsPlain, ArePlain, AreLow, plan_of, plans_of, ActsAreFound, ActsAreLow}
 use Rattle.recover_flow.specs.Asked.{break_exit, closing_exit, goes_back, is_closed, is_other, is_single, is_this, kind_at, last_back, number_before, target_of}
-use Rattle.recover_flow.specs.Cutting.{begun_behind, behind_kind, behind_place, behind_step, cut_behind, ends_with_body, pieces_from, pieces_of, reach_to, turn_behind, within}
+use Rattle.recover_flow.specs.Cutting.{begun_behind, behind_kind, behind_place, behind_step, cut_behind, ends_with_body, locals_reach, pieces_from, pieces_of, reach_to, turn_behind, within}
 use Rattle.recover_flow.specs.Forms.{choice_at, choice_of_kind, choice_of_step, ending, is_own, loop_or_straight, may_stand}
 use Rattle.recover_flow.specs.Plans.{Plans, no_plans, and_plan, PlanTree, step_plan, end_plan, do_plan, for_plan, while_plan, repeat_plan, if_plan, body_levels, levels_at, plan_levels, step_levels}
 use Rattle.recover_flow.specs.Searching.{whole_body}
@@ -72,7 +72,7 @@ from_next steps place step rest from = record {
 
 no_target_of : (count : ℕ) (kind : StepKind) → IsShort count kind → target_of kind ≡ None
 no_target_of count kind (inl (inl acts)) = ap target_of acts
-no_target_of count kind (inl (inr declares)) = ap target_of declares
+no_target_of count kind (inl (inr (captured, declares))) = ap target_of declares
 no_target_of count kind (inr returns) = ap target_of returns
 
 no_target : (steps : List Step) → ArePlain (length steps) steps → (place : ℕ) → option_and_then target_of (kind_at steps place) ≡ None
@@ -85,7 +85,7 @@ none_back steps plain place to = last_none (goes_back steps place) to (λ jump p
 
 no_exit_of : (steps : List Step) (count declaration close base : ℕ) (kind : StepKind) → IsShort count kind → closing_exit steps declaration close base kind ≡ None
 no_exit_of steps count declaration close base kind (inl (inl acts)) = ap (closing_exit steps declaration close base) acts
-no_exit_of steps count declaration close base kind (inl (inr declares)) = ap (closing_exit steps declaration close base) declares
+no_exit_of steps count declaration close base kind (inl (inr (captured, declares))) = ap (closing_exit steps declaration close base) declares
 no_exit_of steps count declaration close base kind (inr returns) = ap (closing_exit steps declaration close base) returns
 
 no_exit : (steps : List Step) → ArePlain (length steps) steps → (declaration close : ℕ) → break_exit steps declaration close ≡ None
@@ -135,9 +135,9 @@ own_locals steps plain place =
 -- no step takes its piece further
 kind_reach : (steps : List Step) → ArePlain (length steps) steps → (place base : ℕ) (kind : StepKind) → IsShort (length steps) kind → behind_kind steps (whole_body steps) place base kind (behind_one place) ≡ Some (behind_one place)
 kind_reach steps plain place base kind (inl (inl acts)) = ap (λ kind. behind_kind steps (whole_body steps) place base kind (behind_one place)) acts
-kind_reach steps plain place base kind (inl (inr declares)) =
+kind_reach steps plain place base kind (inl (inr (captured, declares))) =
     ap (λ kind. behind_kind steps (whole_body steps) place base kind (behind_one place)) declares
-    ∙ ap Some (at_true (ends_with_body steps (whole_body steps) place (length steps) (behind_one place)) (behind_one place) (reach_to (length steps) (behind_one place)) (own_locals steps plain place))
+    ∙ ap Some (at_true (ends_with_body steps (whole_body steps) place (length steps) (behind_one place)) (behind_one place) (reach_to (locals_reach (length steps) captured) (behind_one place)) (own_locals steps plain place))
 kind_reach steps plain place base kind (inr returns) = ap (λ kind. behind_kind steps (whole_body steps) place base kind (behind_one place)) returns
 
 behind_first : (steps : List Step) → ArePlain (length steps) steps → (place : ℕ) (step : Step) (rest : List Step) → AreFrom steps place (step ∷ rest)
@@ -244,6 +244,11 @@ return_only steps plain place step there is last =
     let chosen = return_stands steps plain place step there is last in
     record { stands = chosen; only = only_tree steps (whole_body steps) (one_piece place) (end_plan (End.Return place) false) (ap tree_of_choice chosen) }
 
+-- the body of a function may have captured locals
+may_declare : (steps : List Step) (end : ℕ) (captured : Bool) → may_stand (whole_body steps) (StepKind.Declaration end captured) ≡ true
+may_declare steps end true = refl
+may_declare steps end false = refl
+
 first_only : (steps : List Step) → ArePlain (length steps) steps → (place : ℕ) (step : Step) (rest : List Step) → AreFrom steps place (step ∷ rest) → IsOnly steps (one_piece place) (plan_of step.kind place)
 first_only steps plain place step rest from = by_kind (first_plain (length steps) step rest from.plain)
   where
@@ -252,9 +257,9 @@ first_only steps plain place step rest from = by_kind (first_plain (length steps
 
     by_kind : IsPlain (length steps) step.kind ⊎ ((step.kind ≡ StepKind.Return) × (length rest ≡ 0)) → IsOnly steps (one_piece place) (plan_of step.kind place)
     by_kind (inl (inl acts)) = subst (λ kind. IsOnly steps (one_piece place) (plan_of kind place)) (sym acts) (own_only steps place step there StepKind.Act acts refl refl)
-    by_kind (inl (inr declares)) =
+    by_kind (inl (inr (captured, declares))) =
         subst (λ kind. IsOnly steps (one_piece place) (plan_of kind place)) (sym declares)
-        (own_only steps place step there (StepKind.Declaration (length steps) false) declares (same_number (length steps)) refl)
+        (own_only steps place step there (StepKind.Declaration (length steps) captured) declares (same_number (length steps)) (may_declare steps (length steps) captured))
     by_kind (inr returns) =
         subst (λ kind. IsOnly steps (one_piece place) (plan_of kind place)) (sym returns.0) (return_only steps plain place step there returns.0 (omega (arith, from.fits, returns.1)))
 

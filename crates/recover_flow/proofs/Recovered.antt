@@ -1,5 +1,5 @@
 -- What is recovered of a function and of a chunk, from what the calls on the way give.
-use Rattle.std.proofs.Common.{◌≡◌, ◌∙◌, ◌==◌, ◌≤◌, ◌<◌, ◌⊎◌, inl, inr, refl, sym, ap, subst, true≢false, not, ℕ, Bool, false, IsTrue, ◌↔◌, List, [], ◌∷◌, map, Option, None, Some, Result, Ok, Err, IfErr, arith}
+use Rattle.std.proofs.Common.{◌≡◌, ◌∙◌, ◌==◌, ◌≤◌, inr, refl, sym, ap, subst, true≢false, not, ℕ, Bool, false, IsTrue, ◌↔◌, List, [], ◌∷◌, ◌++◌, map, Option, None, Some, Result, Ok, Err, IfErr, arith}
 use Rattle.std.specs.Result.{IsErrAnd}
 use Rattle.lua_num.specs.declared.names.Names.{Names}
 use Rattle.lua_tree.specs.Syntax.{function_body, Source}
@@ -7,7 +7,7 @@ use Rattle.lua_tree.specs.WellFormed.{WellFormed}
 use Rattle.lua_tree.specs.View.{view_block, view_body}
 use Rattle.lua_tree.specs.declared.tree.Block.{Block}
 use Rattle.lua_tree.specs.declared.tree.Body.{Body, Body', out-Body, roll-Body}
-use Rattle.proto.specs.Chunk.{Chunk, own, functions, functions_of, no_functions}
+use Rattle.proto.specs.Chunk.{Chunk, Functions, function, own, functions, functions_of}
 use Rattle.proto.specs.View.{view_proto}
 use Rattle.proto.specs.declared.proto.Proto.{Proto, out-Proto}
 use Rattle.proto.proofs.Views.{view_proto_fields}
@@ -22,8 +22,7 @@ use Rattle.recover_flow.specs.Built.{built_body}
 use Rattle.recover_flow.specs.Held.{BodyFound, BodyHeld, Store, view_store}
 use Rattle.recover_flow.specs.Parts.{IsGoneOnlyWhere}
 use Rattle.recover_flow.specs.Plans.{Plans, body_levels}
-use Rattle.recover_flow.specs.Debug.{HasDebug}
-use Rattle.recover_flow.specs.Recovering.{IsFunctionFound, IsLostOnlyWhere, IsMainFound, IsRefusedOnlyWhere, IsSourceFound, IsUnrecovered, is_vararg, main_of}
+use Rattle.recover_flow.specs.Recovering.{AreFound, IsFound, IsFunctionFound, IsMainFound, IsRefusedOnlyWhere, IsSourceFound, is_vararg, main_of}
 use Rattle.recover_flow.specs.Searching.{Answers, BodyAnswer, Keeps, steps_of, store_of, whole_body}
 use Rattle.recover_flow.specs.Stops.{TellsUnbuilt}
 use Rattle.recover_flow.specs.declared.function.Stop.{Stop}
@@ -119,11 +118,20 @@ function_found proto left short reading store parts behind best block read same 
       levels = found.1.levels;
     }
 
--- ---- a chunk with no functions in it
+-- ---- a function and those in it
 
-pub no_protos : (chunk : Chunk) (protos : List Proto) → functions chunk ≡ functions_of (map view_proto protos) → functions chunk ≡ no_functions → protos ≡ []
-no_protos chunk [] same none = refl
-no_protos chunk (first ∷ protos) same none = cc (same, none)
+-- it is found behind those in it
+pub found_behind : (short : Bool) (chunk : Chunk) (inner : Functions) (left : List (Option Inner)) (found : Inner) → functions chunk ≡ inner → AreFound short inner left → IsFunctionFound chunk left short found → IsFound short chunk found
+found_behind short (function f within) inner left found same are is = (left, subst (λ those. AreFound short those left) (sym same) are, is)
+
+-- one more is found
+pub one_more_found : (short : Bool) (protos : List Proto) (left : List (Option Inner)) (proto : Proto) (found : Inner) → AreFound short (functions_of (map view_proto protos)) left → IsFound short (view_proto proto) found
+    → AreFound short (functions_of (map view_proto (protos ++ proto ∷ []))) (left ++ Some found ∷ [])
+one_more_found short [] left proto found none is = (found, [], is, refl, ap (λ those. those ++ Some found ∷ []) none)
+one_more_found short (first ∷ protos) left proto found (first_found, others, first_is, are, same) is =
+    (first_found, others ++ Some found ∷ [], first_is, one_more_found short protos others proto found are is, ap (λ those. those ++ Some found ∷ []) same)
+
+-- ---- a chunk
 
 main_made : (body : Body) → main_of (view_body body) ≡ record { body = view_block (out-Body body).block; last_line = 1 }
 unfolding out-Body denote.Hole.Carrier.out

@@ -11,9 +11,9 @@ use Rattle.recover_flow.specs.Searching.{whole_body}
 use Rattle.recover_flow.specs.Standing.{BodyStands}
 use Rattle.recover_flow.specs.declared.plan.End.{End}
 
--- an act, or a declaration of locals that end with the function, behind so many steps, and that no closure captures
+-- an act, or a declaration of locals that end with the function, behind so many steps
 abbrev pub IsPlain : (count : ℕ) → StepKind → Type 0
-IsPlain count kind = (kind ≡ StepKind.Act) ⊎ (kind ≡ StepKind.Declaration count false)
+IsPlain count kind = (kind ≡ StepKind.Act) ⊎ ((captured : Bool) × (kind ≡ StepKind.Declaration count captured))
 
 -- each step is such a one, and the last one may be a return
 abbrev pub ArePlain : (count : ℕ) → List Step → Type 0

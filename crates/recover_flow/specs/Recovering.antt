@@ -1,9 +1,9 @@
--- Serves a body. What is recovered of a function, and of a chunk with no functions in it; and why nothing is.
-use Rattle.std.specs.Prelude.{◌≡◌, ◌⊎◌, ◌==◌, ◌≤◌, not, Bool, true, false, List, [], Option, None, Some}
+-- Serves a body. What is recovered of a function, with those in it, and of a chunk; and why nothing is.
+use Rattle.std.specs.Prelude.{◌≡◌, ◌⊎◌, ◌==◌, ◌≤◌, ◌<◌, ℕ, suc, not, Bool, true, false, List, [], ◌∷◌, Option, None, Some}
 use Rattle.core_expr.specs.Values.{Inner}
 use Rattle.lua_tree.specs.Syntax.{Statements, FunctionBody, function_body, Source}
 use Rattle.lua_tree.specs.WellFormed.{WellFormed}
-use Rattle.proto.specs.Chunk.{Chunk, own}
+use Rattle.proto.specs.Chunk.{Chunk, Functions, function, no_functions, and_function, own}
 use Rattle.recover_expr.specs.Drafts.{Part}
 use Rattle.recover_expr.specs.Placing.{Steps}
 use Rattle.recover_expr.specs.Reading.{read_steps}
@@ -58,15 +58,36 @@ abbrev pub IsRefusedOnlyWhere : Chunk → List (Option Inner) → (short : Bool)
 IsRefusedOnlyWhere chunk left short (Stop.At pc reason) = IsUnrecovered chunk left short
 IsRefusedOnlyWhere chunk left short Stop.OutOfMemory = Unit {0}
 
--- ---- a chunk with no functions in it
+-- ---- a function and those in it
 
-abbrev pub IsFailedOnlyWhere : Chunk → (short : Bool) → Failure → Type 0
-IsFailedOnlyWhere chunk short (Failure.At path pc reason) = IsUnrecovered chunk [] short
-IsFailedOnlyWhere chunk short Failure.OutOfMemory = Unit {0}
+-- each is found behind those in it, and they are left to it by their numbers
+abbrev mutual
+  pub IsFound : (short : Bool) → Chunk → Inner → Type 0
+  IsFound short (function f inner) found = (left : List (Option Inner)) × AreFound short inner left × IsFunctionFound (function f inner) left short found
 
--- its function in natural forms, or in those of fewest levels where there is none in these
+  pub AreFound : (short : Bool) → Functions → List (Option Inner) → Type 0
+  AreFound short no_functions left = left ≡ []
+  AreFound short (and_function c rest) left = (found : Inner) × (others : List (Option Inner)) × IsFound short c found × AreFound short rest others × (left ≡ Some found ∷ others)
+
+-- a function that stands so deep in others is lost: it stands too deep, one of those in it is lost, or it is not recovered where these are found
+abbrev mutual
+  pub IsLost : (short : Bool) → (depth : ℕ) → Chunk → Type 0
+  IsLost short depth (function f inner) =
+      (200 < depth) ⊎ (IsOneLost short (suc depth) inner ⊎ ((left : List (Option Inner)) × AreFound short inner left × IsUnrecovered (function f inner) left short))
+
+  pub IsOneLost : (short : Bool) → (depth : ℕ) → Functions → Type 0
+  IsOneLost short depth no_functions = ⊥
+  IsOneLost short depth (and_function c rest) = IsLost short depth c ⊎ IsOneLost short depth rest
+
+abbrev pub IsFailedOnlyWhere : (lost : Type 0) → Failure → Type 0
+IsFailedOnlyWhere lost (Failure.At path pc reason) = lost
+IsFailedOnlyWhere lost Failure.OutOfMemory = Unit {0}
+
+-- ---- a chunk
+
+-- its function in natural forms, or in those of fewest levels where it is lost in these
 abbrev pub IsMainFound : Chunk → Inner → Type 0
-IsMainFound chunk found = IsFunctionFound chunk [] false found ⊎ (IsUnrecovered chunk [] false × IsFunctionFound chunk [] true found)
+IsMainFound chunk found = IsFound false chunk found ⊎ (IsLost false 0 chunk × IsFound true chunk found)
 
 -- the source with the block of a function
 abbrev pub main_of : FunctionBody → Source
@@ -77,10 +98,9 @@ pub record IsSourceFound (chunk : Chunk) (source : Source) : Type 0 where
   pub function : IsMainFound chunk found
   pub is_main : source ≡ main_of found.body
 
--- there is none in either forms, or the one that is found is not well formed
+-- it is lost in either forms, or the source that is found is not well formed
 abbrev pub IsSourceless : Chunk → Type 0
-IsSourceless chunk =
-    (IsUnrecovered chunk [] false × IsUnrecovered chunk [] true) ⊎ ((source : Source) × IsSourceFound chunk source × (WellFormed source → ⊥))
+IsSourceless chunk = (IsLost false 0 chunk × IsLost true 0 chunk) ⊎ ((source : Source) × IsSourceFound chunk source × (WellFormed source → ⊥))
 
 -- its source is lost only there, or where it does not tell enough, or where memory is wanting
 abbrev pub IsLostOnlyWhere : Chunk → Lost → Type 0

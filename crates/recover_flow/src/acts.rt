@@ -2,7 +2,7 @@
 
 ghost use Rattle.recover_flow.specs.Acts.{ActsAreFound, ActsAreBuilt, ActsAreLow};
 
-/// Where each step is an act or a declaration of locals that end with the function and that no closure captures, and the last one may be a return, one body stands, of these statements, and it needs no more levels than they do; and it is built of their parts. A law,
+/// Where each step is an act or a declaration of locals that end with the function, captured or not, and the last one may be a return, one body stands, of these statements, and it needs no more levels than they do; and it is built of their parts. A law,
 /// with nothing to run.
 pub fn acts_are_found()
     ensures found { ActsAreFound }

@@ -3,12 +3,12 @@ ghost use Rattle.std.specs.Prelude.{◌≡◌, ◌∷◌, [], ◌<◌, ◌≤◌
 ghost use Rattle.core_expr.specs.Values.{view_bodies, view_recovered};
 ghost use Rattle.lua_tree.specs.View.{view_tree};
 ghost use Rattle.lua_tree.specs.WellFormed.{WellFormed};
-ghost use Rattle.proto.specs.Chunk.{Chunk, Functions, functions, functions_of, function_at, no_functions};
+ghost use Rattle.proto.specs.Chunk.{Chunk, Functions, functions_of, function_at};
 ghost use Rattle.proto.specs.Short.{IsShort, AreShort};
 ghost use Rattle.proto.specs.View.{view_proto};
 ghost use Rattle.recover_flow.specs.Debug.{HasDebug};
 ghost use Rattle.recover_flow.specs.Lost.{IsLostBy};
-ghost use Rattle.recover_flow.specs.Recovering.{IsFailedOnlyWhere, IsFunctionFound, IsLostOnlyWhere, IsMainFound, IsSourceFound};
+ghost use Rattle.recover_flow.specs.Recovering.{AreFound, IsFailedOnlyWhere, IsFound, IsLost, IsLostOnlyWhere, IsMainFound, IsOneLost, IsSourceFound};
 ghost use Rattle.recover_flow.specs.Stops.{FailsBy, FailsAmong, IsUnfound};
 ghost use Rattle.recover_flow.specs.declared.recovering.Failure.TheVariants.{OutOfMemory};
 
@@ -28,8 +28,8 @@ pub fn recover(alloc: Global, proto: &Proto) -> Result<Tree, Lost>
     ensures told { OnOk result (HasDebug (view_proto proto.now)) }
     ensures formed { IfOk result (λ tree. WellFormed (view_tree tree)) }
     ensures lost { IfErr result (IsLostBy (view_proto proto.now)) }
-    ensures alone { functions (view_proto proto.now) ≡ no_functions → IfOk result (λ tree. IsSourceFound (view_proto proto.now) (view_tree tree)) }
-    ensures never { functions (view_proto proto.now) ≡ no_functions → IfErr result (IsLostOnlyWhere (view_proto proto.now)) }
+    ensures found { IfOk result (λ tree. IsSourceFound (view_proto proto.now) (view_tree tree)) }
+    ensures only { IfErr result (IsLostOnlyWhere (view_proto proto.now)) }
 {
     if let Some(path) = untold(alloc, proto)? {
         return Err(Lost::NoDebug { path });
@@ -73,8 +73,8 @@ fn recovered(alloc: Global, proto: &Proto) -> Result<Tree, Lost>
     requires short { IsShort (view_proto proto.now) }
     ensures formed { IfOk result (λ tree. WellFormed (view_tree tree)) }
     ensures lost { IfErr result (IsUnfound (view_proto proto.now)) }
-    ensures alone { functions (view_proto proto.now) ≡ no_functions → IfOk result (λ tree. IsSourceFound (view_proto proto.now) (view_tree tree)) }
-    ensures never { functions (view_proto proto.now) ≡ no_functions → IfErr result (IsLostOnlyWhere (view_proto proto.now)) }
+    ensures found { IfOk result (λ tree. IsSourceFound (view_proto proto.now) (view_tree tree)) }
+    ensures only { IfErr result (IsLostOnlyWhere (view_proto proto.now)) }
 {
     let Recovered { body, .. } = main_function(alloc, proto)?;
     let Body { block, .. } = body;
@@ -96,8 +96,8 @@ fn recovered(alloc: Global, proto: &Proto) -> Result<Tree, Lost>
 fn main_function(alloc: Global, proto: &Proto) -> Result<Recovered, Lost>
     requires short { IsShort (view_proto proto.now) }
     ensures lost { IfErr result (IsUnfound (view_proto proto.now)) }
-    ensures alone { functions (view_proto proto.now) ≡ no_functions → IfOk result (λ found. IsMainFound (view_proto proto.now) (view_recovered found)) }
-    ensures never { functions (view_proto proto.now) ≡ no_functions → IfErr result (IsLostOnlyWhere (view_proto proto.now)) }
+    ensures found { IfOk result (λ found. IsMainFound (view_proto proto.now) (view_recovered found)) }
+    ensures only { IfErr result (IsLostOnlyWhere (view_proto proto.now)) }
 {
     match inner_function(alloc, proto, 0, false) {
         Ok(found) => Ok(found),
@@ -119,8 +119,8 @@ fn inner_function(
 ) -> Result<Recovered, Failure>
     requires short { IsShort (view_proto proto.now) }
     ensures failed { IfErr result (FailsBy (view_proto proto.now)) }
-    ensures alone { functions (view_proto proto.now) ≡ no_functions → IfOk result (λ found. IsFunctionFound (view_proto proto.now) [] short (view_recovered found)) }
-    ensures never { functions (view_proto proto.now) ≡ no_functions → depth ≤ 200 → IfErr result (IsFailedOnlyWhere (view_proto proto.now) short) }
+    ensures found { IfOk result (λ found. IsFound short (view_proto proto.now) (view_recovered found)) }
+    ensures only { IfErr result (IsFailedOnlyWhere (IsLost short depth (view_proto proto.now))) }
 {
     if depth > LIMIT {
         return Err(Failure::At {
@@ -151,8 +151,8 @@ fn inner_functions(
     requires few { length protos.now < 2 ^ 32 }
     requires short { AreShort (functions_of (map view_proto protos.now)) }
     ensures failed { IfErr result (FailsAmong (functions_of (map view_proto protos.now))) }
-    ensures none { protos.now ≡ [] → IfOk result (λ bodies. view_bodies bodies ≡ []) }
-    ensures never { protos.now ≡ [] → IfErr result (λ failure. failure ≡ OutOfMemory) }
+    ensures found { IfOk result (λ bodies. AreFound short (functions_of (map view_proto protos.now)) (view_bodies bodies)) }
+    ensures only { IfErr result (IsFailedOnlyWhere (IsOneLost short depth (functions_of (map view_proto protos.now)))) }
 {
     let mut bodies = Bodies::new(alloc);
     for (number, proto) in protos.iter().enumerate() {
@@ -167,7 +167,8 @@ fn inner_functions(
 // A failure in the function of a number, as the function around it sees it.
 fn below(number: usize, failure: Failure) -> Failure
     requires { number < 2 ^ 32 }
-    ensures { (inner : Functions) (c : Chunk) → function_at inner number ≡ Some c → FailsBy c failure → FailsAmong inner result }
+    ensures failed { (inner : Functions) (c : Chunk) → function_at inner number ≡ Some c → FailsBy c failure → FailsAmong inner result }
+    ensures memory { failure ≡ OutOfMemory → result ≡ OutOfMemory }
 {
     match failure {
         Failure::At { path, pc, reason } => match longer(number, path) {

@@ -8,6 +8,6 @@ pub returns-then-not-is_well_formed : goal.returns-then-not-is_well_formed
 returns-then-not-is_well_formed c = record {
   formed = tt;
   lost = fails_here (view_proto c.args.proto.now) _ _ _ c.new.ensures tt;
-  alone = λ none. tt;
-  never = λ none. inr (_, source_found (view_proto c.args.proto.now) c.in_ok-body.field-0 (c.in_ok-body.ensures.alone none), not_formed c.is_well_formed.result _ c.is_well_formed.ensures c.if-not-is_well_formed.true);
+  found = tt;
+  only = inr (_, source_found (view_proto c.args.proto.now) c.in_ok-body.field-0 c.in_ok-body.ensures.found, not_formed c.is_well_formed.result _ c.is_well_formed.ensures c.if-not-is_well_formed.true);
 }
