@@ -21,9 +21,10 @@ use Rattle.scheme_stands.specs.Words.{Fn}
 use Rattle.reads_back.specs.Acted.{Acted, AreTargets, AreValues, AreWithOperand, Assigned, IsAct, IsActed, IsTarget, IsVariableTarget, act_levels, act_statement, assigned, called, can_act, can_write_last, can_write_targets, declared, last_target, left_by_targets, returned, some_missing, taken_behind_targets, with_last_nil, words_assigned, words_targets}
 use Rattle.reads_back.specs.Cores.{AreCores, IsCore, IsVariable, ends_open}
 use Rattle.reads_back.specs.Straight.{BeginsWithName, StatementBeginsWithName}
+use Rattle.reads_back.proofs.FunctionsLeft.{each_by_target, each_by_targets, each_by_values}
 use Rattle.reads_back.proofs.MarksSame.{over_made}
 use Rattle.reads_back.proofs.Tests.{both_hold, first_of_both, not_so, or_first, or_second, second_of_both}
-use Rattle.reads_back.proofs.WrittenFormed.{AreFine, IsFine, none_by, none_by_operand, none_by_values, operand_fine, values_fine, word_fine}
+use Rattle.reads_back.proofs.WrittenFormed.{AreFine, AreFineLeft, IsFine, operand_fine, values_fine, word_fine}
 
 -- ---- a target is written as the value that is read there
 
@@ -48,8 +49,8 @@ can_be_read at fs (upvalue_target u) can = can
 can_be_read at fs (global_target k) can = can
 can_be_read at fs (index_target on key) can = both_hold _ _ (first_of_both _ _ can) (and_true _ (second_of_both _ _ can))
 
-target_fine : (at : Place) (n : ℕ) (t : TargetValue) → can_write_target at [] t ≡ true → IsFine (word_target at n [] t)
-target_fine at n t can = subst IsFine (sym (written_as_value at n [] t)) (word_fine at (value_of_target t) n [] refl (can_be_read at [] t can))
+target_fine : (at : Place) (n : ℕ) (left : List (Option Inner)) → AreFineLeft left → (t : TargetValue) → can_write_target at left t ≡ true → IsFine (word_target at n left t)
+target_fine at n left fine_left t can = subst IsFine (sym (written_as_value at n left t)) (word_fine at (value_of_target t) n left fine_left (can_be_read at left t can))
 
 -- it is a name, an index or a field
 named_target : (name : Option Text) → is_some name ≡ true → is_target (name_word name).words ≡ true
@@ -60,32 +61,22 @@ keyed_target : (name : Option Text) (on key : Wording) → is_target (with_key n
 keyed_target None on key = refl
 keyed_target (Some name) on key = refl
 
-target_is : (at : Place) (n : ℕ) (t : TargetValue) → can_write_target at [] t ≡ true → is_target (word_target at n [] t).words ≡ true
-target_is at n (local_target r) can = named_target (local_name at r) can
-target_is at n (upvalue_target u) can = named_target (upvalue_name at u) can
-target_is at n (global_target k) can = named_target (constant_name at k) can
-target_is at n (index_target on key) can = keyed_target (field_name at key) _ _
-
--- no functions are left behind it
-pub none_by_target : (t : TargetValue) → left_by_target t [] ≡ []
-none_by_target (index_target on key) = ap (left_by_operand key) (none_by on) ∙ none_by_operand key
-none_by_target t = refl
+target_is : (at : Place) (n : ℕ) (left : List (Option Inner)) (t : TargetValue) → can_write_target at left t ≡ true → is_target (word_target at n left t).words ≡ true
+target_is at n left (local_target r) can = named_target (local_name at r) can
+target_is at n left (upvalue_target u) can = named_target (upvalue_name at u) can
+target_is at n left (global_target k) can = named_target (constant_name at k) can
+target_is at n left (index_target on key) can = keyed_target (field_name at key) _ _
 
 -- ---- values that go to targets
 
--- no function is left behind targets
-pub none_by_targets : (ts : List TargetValue) (fs : List (Option Inner)) → fs ≡ [] → left_by_targets ts fs ≡ []
-none_by_targets [] fs none = none
-none_by_targets (t ∷ ts) fs none = none_by_targets ts (left_by_target t fs) (ap (left_by_target t) none ∙ none_by_target t)
-
--- they keep the rules of form
-targets_fine : (at : Place) (ts : List TargetValue) (n : ℕ) (fs : List (Option Inner)) → fs ≡ [] → can_write_targets at fs ts ≡ true → AreFine (words_targets at n fs ts) × (are_targets (words_targets at n fs ts).words ≡ true)
-targets_fine at [] n fs none can = (record { formed = refl; shallow = λ few. omega arith }, refl)
-targets_fine at (t ∷ ts) n fs none can =
-    let first = subst (λ (fs : List (Option Inner)). can_write_target at fs t ≡ true) none (first_of_both _ _ can) in
-    let one = subst (λ (fs : List (Option Inner)). IsFine (word_target at n fs t)) (sym none) (target_fine at n t first) in
-    let is = subst (λ (fs : List (Option Inner)). is_target (word_target at n fs t).words ≡ true) (sym none) (target_is at n t first) in
-    let rest = targets_fine at ts (taken_behind_target t n) (left_by_target t fs) (ap (left_by_target t) none ∙ none_by_target t) (second_of_both (can_write_target at fs t) _ can) in
+-- targets keep the rules of form
+targets_fine : (at : Place) (ts : List TargetValue) (n : ℕ) (left : List (Option Inner)) → AreFineLeft left → can_write_targets at left ts ≡ true → AreFine (words_targets at n left ts) × (are_targets (words_targets at n left ts).words ≡ true)
+targets_fine at [] n left fine_left can = (record { formed = refl; shallow = λ few. omega arith }, refl)
+targets_fine at (t ∷ ts) n left fine_left can =
+    let first = first_of_both _ _ can in
+    let one = target_fine at n left fine_left t first in
+    let is = target_is at n left t first in
+    let rest = targets_fine at ts (taken_behind_target t n) (left_by_target t left) (each_by_target _ t left fine_left) (second_of_both (can_write_target at left t) _ can) in
     let fine = rest.0 in (
       record {
         formed = both_hold _ _ one.formed fine.formed;
@@ -103,13 +94,13 @@ end_depth : (es : Expressions) (e : Expression) → depth_of_expressions (join_e
 end_depth no_expressions e = omega arith
 end_depth (syntax.expression d es) e = let rest = end_depth es e in omega (arith, rest)
 
-values_assigned_fine : (at : Place) (vs : Values) (all : Bool) (last : Option OperandValue) (n : ℕ) (fs : List (Option Inner)) → fs ≡ [] → can_write_values at fs vs ≡ true → can_write_last at (left_by_values vs fs) last ≡ true → AreFine (words_assigned at n fs vs all last)
-values_assigned_fine at vs all None n fs none can can_last = values_fine at vs all n fs none can
-values_assigned_fine at vs all (Some o) n fs none can can_last =
-    let front = values_fine at vs all n fs none can in
-    let words = (word_values at n fs vs all).words in
-    let one = operand_fine at o (taken_behind_values vs n) (left_by_values vs fs) (ap (left_by_values vs) none ∙ none_by_values vs) can_last in
-    let operand = word_operand at (taken_behind_values vs n) (left_by_values vs fs) o in
+values_assigned_fine : (at : Place) (vs : Values) (all : Bool) (last : Option OperandValue) (n : ℕ) (left : List (Option Inner)) → AreFineLeft left → can_write_values at left vs ≡ true → can_write_last at (left_by_values vs left) last ≡ true → AreFine (words_assigned at n left vs all last)
+values_assigned_fine at vs all None n left fine_left can can_last = values_fine at vs all n left fine_left can
+values_assigned_fine at vs all (Some o) n left fine_left can can_last =
+    let front = values_fine at vs all n left fine_left can in
+    let words = (word_values at n left vs all).words in
+    let one = operand_fine at o (taken_behind_values vs n) (left_by_values vs left) (each_by_values _ vs left fine_left) can_last in
+    let operand = word_operand at (taken_behind_values vs n) (left_by_values vs left) o in
     record {
       formed = end_formed words operand.words front.formed one.formed;
       shallow = λ few.
@@ -118,12 +109,12 @@ values_assigned_fine at vs all (Some o) n fs none can can_last =
           omega (arith, low, high, end_depth words operand.words);
     }
 
-assigned_parts : (at : Place) (ts : List TargetValue) (vs : Values) (all : Bool) (last : Option OperandValue) (n : ℕ) → can_act at [] (assigned ts vs all last) ≡ true →
-    (AreFine (words_targets at n [] ts) × (are_targets (words_targets at n [] ts).words ≡ true)) × AreFine (words_assigned at (taken_behind_targets ts n) (left_by_targets ts []) vs all last)
-assigned_parts at ts vs all last n can =
-    let values = second_of_both (can_write_targets at [] ts) _ can in (
-      targets_fine at ts n [] refl (first_of_both _ _ can),
-      values_assigned_fine at vs all last (taken_behind_targets ts n) (left_by_targets ts []) (none_by_targets ts [] refl) (first_of_both _ _ values) (second_of_both (can_write_values at (left_by_targets ts []) vs) _ values),
+assigned_parts : (at : Place) (ts : List TargetValue) (vs : Values) (all : Bool) (last : Option OperandValue) (n : ℕ) (left : List (Option Inner)) → AreFineLeft left → can_act at left (assigned ts vs all last) ≡ true →
+    (AreFine (words_targets at n left ts) × (are_targets (words_targets at n left ts).words ≡ true)) × AreFine (words_assigned at (taken_behind_targets ts n) (left_by_targets ts left) vs all last)
+assigned_parts at ts vs all last n left fine_left can =
+    let values = second_of_both (can_write_targets at left ts) _ can in (
+      targets_fine at ts n left fine_left (first_of_both _ _ can),
+      values_assigned_fine at vs all last (taken_behind_targets ts n) (left_by_targets ts left) (each_by_targets _ ts left fine_left) (first_of_both _ _ values) (second_of_both (can_write_values at (left_by_targets ts left) vs) _ values),
     )
 
 -- ---- there are some of both
@@ -171,10 +162,10 @@ module _ (g : Fn) (active : List Active) where
   some_assigned es ts before behind to some (inr is) =
       ap has_assigned (sym is.3) ∙ some_by (not (ends_open es) && nat_lt (value_count is.0) (length ts)) (suc (value_count is.0) == length ts) (last_target ts) is.0 (some_values es before behind is.0 some is.1)
 
-  some_targets : (at : Place) (n : ℕ) (targets : Expressions) (before behind : ℕ) (ts : List TargetValue) → has_expressions targets ≡ true → AreTargets g active targets before behind ts → has_expressions (words_targets at n [] ts).words ≡ true
-  some_targets at n no_expressions before behind ts some are = not_so some
-  some_targets at n (syntax.expression target targets) before behind [] some are = absurd are
-  some_targets at n (syntax.expression target targets) before behind (t ∷ ts) some are = refl
+  some_targets : (at : Place) (n : ℕ) (left : List (Option Inner)) (targets : Expressions) (before behind : ℕ) (ts : List TargetValue) → has_expressions targets ≡ true → AreTargets g active targets before behind ts → has_expressions (words_targets at n left ts).words ≡ true
+  some_targets at n left no_expressions before behind ts some are = not_so some
+  some_targets at n left (syntax.expression target targets) before behind [] some are = absurd are
+  some_targets at n left (syntax.expression target targets) before behind (t ∷ ts) some are = refl
 
 -- ---- a value that begins with a variable is written as it begins
 
@@ -269,48 +260,48 @@ called_is at g active left (method_call line on name args on_line) before behind
 called_is at g active left e before behind v n call is = not_so call
 
 module _ (at : Place) (g : Fn) (active : List Active) where
-  pub act_formed : (s : Statement) (before behind : ℕ) (acted : Acted) (n : ℕ) → IsAct s → IsActed g active s before behind acted → can_act at [] acted ≡ true → formed_statement (act_statement at n [] acted) ≡ true
-  act_formed (call_statement e) before behind (called v) n has is can = let fine = word_fine at v n [] refl can in both_hold _ _ (called_is at g active [] e before behind v n has.0 is) fine.formed
-  act_formed (assignment targets es) before behind (assigned ts vs all last) n has is can =
-      let fine = assigned_parts at ts vs all last n can in
+  pub act_formed : (s : Statement) (before behind : ℕ) (acted : Acted) (n : ℕ) (left : List (Option Inner)) → AreFineLeft left → IsAct s → IsActed g active s before behind acted → can_act at left acted ≡ true → formed_statement (act_statement at n left acted) ≡ true
+  act_formed (call_statement e) before behind (called v) n left fine_left has is can = let fine = word_fine at v n left fine_left can in both_hold _ _ (called_is at g active left e before behind v n has.0 is) fine.formed
+  act_formed (assignment targets es) before behind (assigned ts vs all last) n left fine_left has is can =
+      let fine = assigned_parts at ts vs all last n left fine_left can in
       let to = fine.0.0 in
       let values = fine.1 in
-      let some = some_words at (taken_behind_targets ts n) (left_by_targets ts []) vs all last (some_assigned g active es ts is.0 behind (record { values = vs; all = all; last = last }) has.given is.2) in
-      both_hold _ _ (some_targets g active at n targets before is.0 ts has.some is.1) (both_hold _ _ fine.0.1 (both_hold _ _ to.formed (both_hold _ _ some values.formed)))
-  act_formed (local_statement names es) before behind (declared others vs all) n has is can =
-      let fine = values_fine at vs all n [] refl can in
+      let some = some_words at (taken_behind_targets ts n) (left_by_targets ts left) vs all last (some_assigned g active es ts is.0 behind (record { values = vs; all = all; last = last }) has.given is.2) in
+      both_hold _ _ (some_targets g active at n left targets before is.0 ts has.some is.1) (both_hold _ _ fine.0.1 (both_hold _ _ to.formed (both_hold _ _ some values.formed)))
+  act_formed (local_statement names es) before behind (declared others vs all) n left fine_left has is can =
+      let fine = values_fine at vs all n left fine_left can in
       both_hold _ _ (ap are_some_names is.0 ∙ has.0) fine.formed
-  act_formed (return_statement es) before behind (returned vs all) n has is can = let fine = values_fine at vs all n [] refl can in fine.formed
-  act_formed s before behind acted n has is can = absurd is
+  act_formed (return_statement es) before behind (returned vs all) n left fine_left has is can = let fine = values_fine at vs all n left fine_left can in fine.formed
+  act_formed s before behind acted n left fine_left has is can = absurd is
 
-  pub act_shallow : (s : Statement) (before behind : ℕ) (acted : Acted) (n : ℕ) → IsAct s → IsActed g active s before behind acted → can_act at [] acted ≡ true → act_levels at n [] acted ≤ 400 → suc (depth_of_statement (act_statement at n [] acted)) ≤ act_levels at n [] acted
-  act_shallow s before behind (called v) n has is can few = let fine = word_fine at v n [] refl can in let low = fine.shallow (omega (arith, few)) in omega (arith, few, low)
-  act_shallow s before behind (assigned ts vs all last) n has is can few =
-      let fine = assigned_parts at ts vs all last n can in
+  pub act_shallow : (s : Statement) (before behind : ℕ) (acted : Acted) (n : ℕ) (left : List (Option Inner)) → AreFineLeft left → IsAct s → IsActed g active s before behind acted → can_act at left acted ≡ true → act_levels at n left acted ≤ 400 → suc (depth_of_statement (act_statement at n left acted)) ≤ act_levels at n left acted
+  act_shallow s before behind (called v) n left fine_left has is can few = let fine = word_fine at v n left fine_left can in let low = fine.shallow (omega (arith, few)) in omega (arith, few, low)
+  act_shallow s before behind (assigned ts vs all last) n left fine_left has is can few =
+      let fine = assigned_parts at ts vs all last n left fine_left can in
       let targets = fine.0.0 in
       let values = fine.1 in
       let low = targets.shallow (omega (arith, few)) in
       let high = values.shallow (omega (arith, few)) in
       omega (arith, few, low, high)
-  act_shallow s before behind (declared names vs all) n has is can few = let fine = values_fine at vs all n [] refl can in let low = fine.shallow (omega (arith, few)) in omega (arith, few, low)
-  act_shallow s before behind (returned vs all) n has is can few = let fine = values_fine at vs all n [] refl can in let low = fine.shallow (omega (arith, few)) in omega (arith, few, low)
+  act_shallow s before behind (declared names vs all) n left fine_left has is can few = let fine = values_fine at vs all n left fine_left can in let low = fine.shallow (omega (arith, few)) in omega (arith, few, low)
+  act_shallow s before behind (returned vs all) n left fine_left has is can few = let fine = values_fine at vs all n left fine_left can in let low = fine.shallow (omega (arith, few)) in omega (arith, few, low)
 
-  pub act_closed : (s : Statement) (before behind : ℕ) (acted : Acted) (n : ℕ) → StatementBeginsWithName s → IsAct s → IsActed g active s before behind acted → can_act at [] acted ≡ true → statement_begins_with_paren (act_statement at n [] acted) ≡ false
-  act_closed (call_statement e) before behind (called v) n begins has is can = let open_words = variable_open at v n [] (name_begins g active e before behind v begins is) can in open_words.bare
-  act_closed (assignment targets es) before behind (assigned [] vs all last) n begins has is can = refl
-  act_closed (assignment no_expressions es) before behind (assigned (t ∷ ts) vs all last) n begins has is can = absurd is.1
-  act_closed (assignment (syntax.expression target targets) es) before behind (assigned (t ∷ ts) vs all last) n begins has is can =
+  pub act_closed : (s : Statement) (before behind : ℕ) (acted : Acted) (n : ℕ) (left : List (Option Inner)) → StatementBeginsWithName s → IsAct s → IsActed g active s before behind acted → can_act at left acted ≡ true → statement_begins_with_paren (act_statement at n left acted) ≡ false
+  act_closed (call_statement e) before behind (called v) n left begins has is can = let open_words = variable_open at v n left (name_begins g active e before behind v begins is) can in open_words.bare
+  act_closed (assignment targets es) before behind (assigned [] vs all last) n left begins has is can = refl
+  act_closed (assignment no_expressions es) before behind (assigned (t ∷ ts) vs all last) n left begins has is can = absurd is.1
+  act_closed (assignment (syntax.expression target targets) es) before behind (assigned (t ∷ ts) vs all last) n left begins has is can =
       let first = is.1 in
-      let open_words = variable_open at (value_of_target t) n [] (target_begins g active target before first.0 t begins.0 first.1) (can_be_read at [] t (first_of_both _ _ (first_of_both _ _ can))) in
-      ap (λ w. begins_with_paren w.words) (written_as_value at n [] t) ∙ open_words.bare
-  act_closed (local_statement names es) before behind (declared others vs all) n begins has is can = refl
-  act_closed (return_statement es) before behind (returned vs all) n begins has is can = refl
-  act_closed s before behind acted n begins has is can = absurd is
+      let open_words = variable_open at (value_of_target t) n left (target_begins g active target before first.0 t begins.0 first.1) (can_be_read at left t (first_of_both _ _ (first_of_both _ _ can))) in
+      ap (λ w. begins_with_paren w.words) (written_as_value at n left t) ∙ open_words.bare
+  act_closed (local_statement names es) before behind (declared others vs all) n left begins has is can = refl
+  act_closed (return_statement es) before behind (returned vs all) n left begins has is can = refl
+  act_closed s before behind acted n left begins has is can = absurd is
 
 -- a return ends its block, and nothing else does
-pub act_ends : (at : Place) (g : Fn) (active : List Active) (s : Statement) (before behind : ℕ) (acted : Acted) (n : ℕ) → IsActed g active s before behind acted → ends_block (act_statement at n [] acted) ≡ ends_block s
-act_ends at g active (call_statement e) before behind (called v) n is = refl
-act_ends at g active (assignment targets es) before behind (assigned ts vs all last) n is = refl
-act_ends at g active (local_statement names es) before behind (declared others vs all) n is = refl
-act_ends at g active (return_statement es) before behind (returned vs all) n is = refl
-act_ends at g active s before behind acted n is = absurd is
+pub act_ends : (at : Place) (g : Fn) (active : List Active) (s : Statement) (before behind : ℕ) (acted : Acted) (n : ℕ) (left : List (Option Inner)) → IsActed g active s before behind acted → ends_block (act_statement at n left acted) ≡ ends_block s
+act_ends at g active (call_statement e) before behind (called v) n left is = refl
+act_ends at g active (assignment targets es) before behind (assigned ts vs all last) n left is = refl
+act_ends at g active (local_statement names es) before behind (declared others vs all) n left is = refl
+act_ends at g active (return_statement es) before behind (returned vs all) n left is = refl
+act_ends at g active s before behind acted n left is = absurd is

@@ -1,9 +1,9 @@
 -- What is written of an act mentions the same names as the act, in the same order.
-use Rattle.std.proofs.Common.{◌≡◌, ℕ, ◌⊎◌, inl, inr, Bool, false, List, [], ◌∷◌, length, Option, Some, None, refl, sym, ap, ◌∙◌, subst, true}
+use Rattle.std.proofs.Common.{◌≡◌, ℕ, ◌⊎◌, inl, inr, Bool, false, List, [], ◌∷◌, length, Option, Some, None, refl, ap, ◌∙◌, true}
 use Rattle.lua_num.specs.Bytes.{Text}
 use Rattle.lua_tree.specs.Joins.{join_expressions}
 use Rattle.lua_tree.specs.OneLine.{one_line_expression, one_line_expressions, one_line_statement}
-use Rattle.lua_tree.specs.Outline.{both, come, declares, expression_part, expressions_part, nothing, statement_part}
+use Rattle.lua_tree.specs.Outline.{Part, both, come, declares, expression_part, expressions_part, nothing, statement_part}
 use Rattle.lua_tree.specs.Syntax as syntax
 use Rattle.lua_tree.specs.Syntax.{Expression, Expressions, Statement, assignment, call_statement, field_expression, index_expression, local_statement, name_expression, no_expressions, return_statement}
 use Rattle.core_expr.specs.Counting.{left_by_values, taken_behind_values}
@@ -18,20 +18,20 @@ use Rattle.scheme.specs.declared.making.Active.{Active}
 use Rattle.scheme_stands.specs.Words.{Fn}
 use Rattle.reads_back.specs.Acted.{Acted, AreActTargets, AreTargets, AreValues, AreWithOperand, Assigned, EndWithOperand, IsAct, IsActTarget, IsActed, IsTarget, IsVariableTarget, act_statement, assigned, called, can_act, can_write_last, can_write_targets, declared, last_target, left_by_targets, returned, taken_behind_targets, words_assigned, words_targets}
 use Rattle.reads_back.specs.Cores.{AllHaveCores, IsVariable, ends_open}
-use Rattle.reads_back.proofs.ActsFormed.{can_be_read, none_by_target, none_by_targets, value_of_target, written_as_value}
-use Rattle.reads_back.proofs.Marks.{SamePart, both_assoc, both_same, nothing_behind, operand_part, part_back, part_of, part_of_operand, part_then, parts_of, same_part, values_part, word_part}
+use Rattle.reads_back.proofs.ActsFormed.{can_be_read, value_of_target, written_as_value}
+use Rattle.reads_back.proofs.Marks.{ArePartsLeft, IsPartLeft, SamePart, both_assoc, both_same, nothing_behind, operand_part, part_back, part_of, part_of_operand, part_then, parts_of, same_part, values_part, word_part}
+use Rattle.reads_back.proofs.FunctionsLeft.{each_by_target, each_by_targets, each_by_values}
 use Rattle.reads_back.proofs.DeclaredValues.{assigned_part, assigned_parts, declared_parts, last_part}
-use Rattle.reads_back.proofs.MarksSame.{key_part, list_part, marks_of, of_operand}
+use Rattle.reads_back.proofs.MarksSame.{ArePartsMade, key_part, list_part, marks_of, of_operand}
 use Rattle.reads_back.proofs.NameReads.{AreListed}
 use Rattle.reads_back.proofs.Tests.{first_of_both, second_of_both}
 use Rattle.reads_back.proofs.WordsRead.{IsFunction}
-use Rattle.reads_back.proofs.WrittenFormed.{none_by_values}
 
-module _ (at : Place) (natural : at.short ≡ false) where
-  target_part : (t : TargetValue) (n : ℕ) → can_write_target at [] t ≡ true → SamePart (expression_part (word_target at n [] t).words) (part_of at (value_of_target t))
-  target_part t n can = part_then (λ here. ap (λ w. expression_part w.words here) (written_as_value at n [] t)) (word_part at natural (value_of_target t) n [] refl (can_be_read at [] t can))
+module _ (at : Place) (of : ℕ → Part) (natural : at.short ≡ false) where
+  target_part : (t : TargetValue) (n : ℕ) (fs : List (Option Inner)) → ArePartsLeft of fs → can_write_target at fs t ≡ true → SamePart (expression_part (word_target at n fs t).words) (part_of at of (value_of_target t))
+  target_part t n fs parts_left can = part_then (λ here. ap (λ w. expression_part w.words here) (written_as_value at n fs t)) (word_part at of natural (value_of_target t) n fs parts_left (can_be_read at fs t can))
 
-module _ {f : Function} {g : Fn} {active : List Active} {listed : List ℕ} (is_function : IsFunction f g) (listed_names : AreListed f g active listed) where
+module _ {f : Function} {g : Fn} {active : List Active} {listed : List ℕ} (is_function : IsFunction f g) (listed_names : AreListed f g active listed) (of : ℕ → Part) (parts_made : ArePartsMade g active of) where
   abbrev at : Place
   at = place f.of listed f.short
 
@@ -41,27 +41,25 @@ module _ {f : Function} {g : Fn} {active : List Active} {listed : List ℕ} (is_
   variable_value text in_globals t (number, has, is) = (number, has, ap value_of_target is)
 
   -- what is assigned to
-  target_marks : (e : Expression) (before behind : ℕ) (t : TargetValue) → IsActTarget e → IsTarget g active e before behind t → SamePart (part_of at (value_of_target t)) (expression_part (one_line_expression e))
+  target_marks : (e : Expression) (before behind : ℕ) (t : TargetValue) → IsActTarget e → IsTarget g active e before behind t → SamePart (part_of at of (value_of_target t)) (expression_part (one_line_expression e))
   target_marks (name_expression line text) before behind t has is =
-      (marks_of is_function listed_names (name_expression line text) has).one before behind (value_of_target t) (is.0, (is.1, is.2, variable_value text is.1 t is.3))
+      (marks_of is_function listed_names of parts_made (name_expression line text) has).one before behind (value_of_target t) (is.0, (is.1, is.2, variable_value text is.1 t is.3))
   target_marks (index_expression line on key) before behind (index_target o k) has is =
-      both_same ((marks_of is_function listed_names on has.0).one before is.0 o is.1)
-      (part_then (nothing_behind (part_of_operand at k)) (of_operand is_function listed_names key is.0 behind k (literal key) refl (marks_of is_function listed_names key has.1).one is.2))
+      both_same ((marks_of is_function listed_names of parts_made on has.0).one before is.0 o is.1)
+      (part_then (nothing_behind (part_of_operand at of k)) (of_operand is_function listed_names of parts_made key is.0 behind k (literal key) refl (marks_of is_function listed_names of parts_made key has.1).one is.2))
   target_marks (field_expression line on text) before behind (index_target o k) has is =
-      let key = key_part is_function listed_names text is.0 behind k is.2 in
-      part_then (both_same ((marks_of is_function listed_names on has).one before is.0 o is.1) (part_then (nothing_behind (part_of_operand at k)) key)) (nothing_behind (expression_part (one_line_expression on)))
+      let key = key_part is_function listed_names of parts_made text is.0 behind k is.2 in
+      part_then (both_same ((marks_of is_function listed_names of parts_made on has).one before is.0 o is.1) (part_then (nothing_behind (part_of_operand at of k)) key)) (nothing_behind (expression_part (one_line_expression on)))
   target_marks e before behind t has is = absurd (assumption is)
 
-  targets_marks : (es : Expressions) (before behind : ℕ) (ts : List TargetValue) (n : ℕ) (fs : List (Option Inner)) → fs ≡ [] → AreActTargets es → AreTargets g active es before behind ts → can_write_targets at fs ts ≡ true →
+  targets_marks : (es : Expressions) (before behind : ℕ) (ts : List TargetValue) (n : ℕ) (fs : List (Option Inner)) → ArePartsLeft of fs → AreActTargets es → AreTargets g active es before behind ts → can_write_targets at fs ts ≡ true →
       SamePart (expressions_part (words_targets at n fs ts).words) (expressions_part (one_line_expressions es))
-  targets_marks no_expressions before behind [] n fs none are is can = same_part nothing
-  targets_marks no_expressions before behind (t ∷ ts) n fs none are is can = absurd is
-  targets_marks (syntax.expression e es) before behind [] n fs none are is can = absurd is
-  targets_marks (syntax.expression e es) before behind (t ∷ ts) n fs none are is can =
-      let there = subst (λ (fs : List (Option Inner)). can_write_target at fs t ≡ true) none (first_of_both _ _ can) in
-      let one = part_then (target_part at is_function.natural t n there) (target_marks e before is.0 t are.0 is.1) in
-      both_same (subst (λ (fs : List (Option Inner)). SamePart (expression_part (word_target at n fs t).words) (expression_part (one_line_expression e))) (sym none) one)
-      (targets_marks es is.0 behind ts (taken_behind_target t n) (left_by_target t fs) (ap (left_by_target t) none ∙ none_by_target t) are.1 is.2 (second_of_both (can_write_target at fs t) _ can))
+  targets_marks no_expressions before behind [] n fs parts_left are is can = same_part nothing
+  targets_marks no_expressions before behind (t ∷ ts) n fs parts_left are is can = absurd is
+  targets_marks (syntax.expression e es) before behind [] n fs parts_left are is can = absurd is
+  targets_marks (syntax.expression e es) before behind (t ∷ ts) n fs parts_left are is can =
+      both_same (part_then (target_part at of is_function.natural t n fs parts_left (first_of_both _ _ can)) (target_marks e before is.0 t are.0 is.1))
+      (targets_marks es is.0 behind ts (taken_behind_target t n) (left_by_target t fs) (each_by_target (IsPartLeft of) t fs parts_left) are.1 is.2 (second_of_both (can_write_target at fs t) _ can))
 
   -- ---- the values that are assigned
 
@@ -70,42 +68,42 @@ module _ {f : Function} {g : Fn} {active : List Active} {listed : List ℕ} (is_
   end_part no_expressions e = nothing_behind (expression_part e)
   end_part (syntax.expression d es) e = part_then (both_same (same_part (expression_part d)) (end_part es e)) (part_back (both_assoc (expression_part d) (expressions_part es) (expression_part e)))
 
-  assigned_words : (vs : Values) (all : Bool) (last : Option OperandValue) (n : ℕ) (fs : List (Option Inner)) → fs ≡ [] → can_write_values at fs vs ≡ true → can_write_last at (left_by_values vs fs) last ≡ true →
-      SamePart (expressions_part (words_assigned at n fs vs all last).words) (assigned_part at (record { values = vs; all = all; last = last }))
-  assigned_words vs all None n fs none can can_last = part_then (values_part at is_function.natural vs all n fs none can) (part_back (nothing_behind (parts_of at vs)))
-  assigned_words vs all (Some o) n fs none can can_last =
+  assigned_words : (vs : Values) (all : Bool) (last : Option OperandValue) (n : ℕ) (fs : List (Option Inner)) → ArePartsLeft of fs → can_write_values at fs vs ≡ true → can_write_last at (left_by_values vs fs) last ≡ true →
+      SamePart (expressions_part (words_assigned at n fs vs all last).words) (assigned_part at of (record { values = vs; all = all; last = last }))
+  assigned_words vs all None n fs parts_left can can_last = part_then (values_part at of is_function.natural vs all n fs parts_left can) (part_back (nothing_behind (parts_of at of vs)))
+  assigned_words vs all (Some o) n fs parts_left can can_last =
       let operand = word_operand at (taken_behind_values vs n) (left_by_values vs fs) o in
       part_then (end_part (word_values at n fs vs all).words operand.words)
-      (both_same (values_part at is_function.natural vs all n fs none can) (operand_part at is_function.natural o (taken_behind_values vs n) (left_by_values vs fs) (ap (left_by_values vs) none ∙ none_by_values vs) can_last))
+      (both_same (values_part at of is_function.natural vs all n fs parts_left can) (operand_part at of is_function.natural o (taken_behind_values vs n) (left_by_values vs fs) (each_by_values (IsPartLeft of) vs fs parts_left) can_last))
 
   -- as many values as targets, with an operand behind them
-  ended_part : (es : Expressions) (o : OperandValue) (before behind : ℕ) (vs : Values) → AllHaveCores es → EndWithOperand g active es o before behind vs → SamePart (both (parts_of at vs) (part_of_operand at o)) (expressions_part (one_line_expressions es))
+  ended_part : (es : Expressions) (o : OperandValue) (before behind : ℕ) (vs : Values) → AllHaveCores es → EndWithOperand g active es o before behind vs → SamePart (both (parts_of at of vs) (part_of_operand at of o)) (expressions_part (one_line_expressions es))
   ended_part no_expressions o before behind vs has is = absurd is
   ended_part (syntax.expression e no_expressions) o before behind vs has is =
-      let last = of_operand is_function listed_names e before behind o (literal e) refl (marks_of is_function listed_names e has.0).one is.1 in
-      part_then (both_same (λ place. ap (λ vs. parts_of at vs place) is.0) last) (part_back (nothing_behind (expression_part (one_line_expression e))))
+      let last = of_operand is_function listed_names of parts_made e before behind o (literal e) refl (marks_of is_function listed_names of parts_made e has.0).one is.1 in
+      part_then (both_same (λ place. ap (λ vs. parts_of at of vs place) is.0) last) (part_back (nothing_behind (expression_part (one_line_expression e))))
   ended_part (syntax.expression e (syntax.expression d es)) o before behind vs has (mid, is) =
-      let front : SamePart (parts_of at vs) (both (part_of at is.0) (parts_of at is.1)) = λ place. ap (λ vs. parts_of at vs place) is.4 in
-      part_then (both_same front (same_part (part_of_operand at o)))
-      (part_then (both_assoc (part_of at is.0) (parts_of at is.1) (part_of_operand at o)) (both_same ((marks_of is_function listed_names e has.0).one before mid is.0 is.2) (ended_part (syntax.expression d es) o mid behind is.1 has.1 is.3)))
+      let front : SamePart (parts_of at of vs) (both (part_of at of is.0) (parts_of at of is.1)) = λ place. ap (λ vs. parts_of at of vs place) is.4 in
+      part_then (both_same front (same_part (part_of_operand at of o)))
+      (part_then (both_assoc (part_of at of is.0) (parts_of at of is.1) (part_of_operand at of o)) (both_same ((marks_of is_function listed_names of parts_made e has.0).one before mid is.0 is.2) (ended_part (syntax.expression d es) o mid behind is.1 has.1 is.3)))
 
-  values_marks : (es : Expressions) (ts : List TargetValue) (before behind : ℕ) (to : Assigned) → AllHaveCores es → AreWithOperand g active ts es before behind to ⊎ AreValues g active ts es before behind to → SamePart (assigned_part at to) (expressions_part (one_line_expressions es))
+  values_marks : (es : Expressions) (ts : List TargetValue) (before behind : ℕ) (to : Assigned) → AllHaveCores es → AreWithOperand g active ts es before behind to ⊎ AreValues g active ts es before behind to → SamePart (assigned_part at of to) (expressions_part (one_line_expressions es))
   values_marks es ts before behind to has (inl is) =
-      part_then (both_same (same_part (parts_of at to.values)) (λ place. ap (λ (last : Option OperandValue). last_part at last place) is.5)) (ended_part es is.2 before behind to.values has is.3)
+      part_then (both_same (same_part (parts_of at of to.values)) (λ place. ap (λ (last : Option OperandValue). last_part at of last place) is.5)) (ended_part es is.2 before behind to.values has is.3)
   values_marks es ts before behind to has (inr is) =
-      part_then (assigned_parts at (length ts) (last_target ts) (ends_open es) is.0 to is.3) (list_part is_function listed_names es has before behind is.0 is.1)
+      part_then (assigned_parts at of (length ts) (last_target ts) (ends_open es) is.0 to is.3) (list_part is_function listed_names of parts_made es has before behind is.0 is.1)
 
-  pub act_marks : (s : Statement) (before behind : ℕ) (acted : Acted) (n line : ℕ) → IsAct s → IsActed g active s before behind acted → can_act at [] acted ≡ true → SamePart (statement_part line (act_statement at n [] acted)) (statement_part line (one_line_statement s))
-  act_marks (call_statement e) before behind (called v) n line has is can = part_then (word_part at is_function.natural v n [] refl can) ((marks_of is_function listed_names e has.1).one before behind v is)
-  act_marks (assignment targets es) before behind (assigned ts vs all last) n line has is can =
-      let values = second_of_both (can_write_targets at [] ts) _ can in
-      both_same (targets_marks targets before is.0 ts n [] refl has.targets is.1 (first_of_both _ _ can))
-      (part_then (assigned_words vs all last (taken_behind_targets ts n) (left_by_targets ts []) (none_by_targets ts [] refl) (first_of_both _ _ values) (second_of_both (can_write_values at (left_by_targets ts []) vs) _ values))
+  pub act_marks : (s : Statement) (before behind : ℕ) (acted : Acted) (n line : ℕ) (left : List (Option Inner)) → ArePartsLeft of left → IsAct s → IsActed g active s before behind acted → can_act at left acted ≡ true → SamePart (statement_part line (act_statement at n left acted)) (statement_part line (one_line_statement s))
+  act_marks (call_statement e) before behind (called v) n line left parts_left has is can = part_then (word_part at of is_function.natural v n left parts_left can) ((marks_of is_function listed_names of parts_made e has.1).one before behind v is)
+  act_marks (assignment targets es) before behind (assigned ts vs all last) n line left parts_left has is can =
+      let values = second_of_both (can_write_targets at left ts) _ can in
+      both_same (targets_marks targets before is.0 ts n left parts_left has.targets is.1 (first_of_both _ _ can))
+      (part_then (assigned_words vs all last (taken_behind_targets ts n) (left_by_targets ts left) (each_by_targets (IsPartLeft of) ts left parts_left) (first_of_both _ _ values) (second_of_both (can_write_values at (left_by_targets ts left) vs) _ values))
       (values_marks es ts is.0 behind (record { values = vs; all = all; last = last }) has.values is.2))
-  act_marks (local_statement names es) before behind (declared others vs all) n line has is can =
-      let made = part_then (declared_parts at (length names) (ends_open es) is.1 vs all is.3) (list_part is_function listed_names es has.1 before behind is.1 is.2) in
-      let values = part_then (values_part at is_function.natural vs all n [] refl can) made in
-      λ here. ap (λ names. both (declares line 0 names) (both (expressions_part (word_values at n [] vs all).words) (come 0 names here.declarations)) here) is.0
+  act_marks (local_statement names es) before behind (declared others vs all) n line left parts_left has is can =
+      let made = part_then (declared_parts at of (length names) (ends_open es) is.1 vs all is.3) (list_part is_function listed_names of parts_made es has.1 before behind is.1 is.2) in
+      let values = part_then (values_part at of is_function.natural vs all n left parts_left can) made in
+      λ here. ap (λ names. both (declares line 0 names) (both (expressions_part (word_values at n left vs all).words) (come 0 names here.declarations)) here) is.0
       ∙ both_same (same_part (declares line 0 names)) (both_same values (same_part (come 0 names here.declarations))) here
-  act_marks (return_statement es) before behind (returned vs all) n line has is can = part_then (values_part at is_function.natural vs all n [] refl can) (list_part is_function listed_names es has before behind vs is.0)
-  act_marks s before behind acted n line has is can = absurd is
+  act_marks (return_statement es) before behind (returned vs all) n line left parts_left has is can = part_then (values_part at of is_function.natural vs all n left parts_left can) (list_part is_function listed_names of parts_made es has before behind vs is.0)
+  act_marks s before behind acted n line left parts_left has is can = absurd is

@@ -72,9 +72,13 @@ pub record ActRead (f : Function) (g : Fn) (active : List Active) (statement : S
   pub seen : behind.seen ≡ taken_behind_act acted s.seen
   pub later : first < last
 
--- whatever act the statement is, it can be written
-pub record CanAct (f : Function) (g : Fn) (active : List Active) (listed : List ℕ) (statement : Statement) : Type 0 where
-  pub can : (before behind : ℕ) (acted : Acted) → IsActed g active statement before behind acted → (left : List (Option Inner)) → can_act (place f.of listed f.short) left acted ≡ true
+-- whatever act the statement is, it can be written, with the functions that are left where so many were made
+pub record CanAct (f : Function) (g : Fn) (active : List Active) (listed : List ℕ) (lefts : ℕ → List (Option Inner)) (statement : Statement) : Type 0 where
+  pub can : (before behind : ℕ) (acted : Acted) → IsActed g active statement before behind acted → can_act (place f.of listed f.short) (lefts before) acted ≡ true
+
+pub can_now : {f : Function} {g : Fn} {active : List Active} {listed : List ℕ} {lefts : ℕ → List (Option Inner)} {statement : Statement} {before : ℕ} {left : List (Option Inner)} → CanAct f g active listed lefts statement → (behind : ℕ) (acted : Acted) →
+    left ≡ lefts before → IsActed g active statement before behind acted → can_act (place f.of listed f.short) left acted ≡ true
+can_now {f} {listed = listed} {before = before} can behind acted left_is is = subst (λ (left : List (Option Inner)). can_act (place f.of listed f.short) left acted ≡ true) (sym left_is) (can.can before behind acted is)
 
 -- the step of an act, and what is known behind it
 abbrev pub act_draft : (f : Function) → (next : ℕ) → Acted → Situation → Drafted
@@ -103,15 +107,15 @@ call_is_written f w v s can empty =
     ap (λ (entries : Entries). if length entries == 0 then option_map (call_ended w) (if can_write (place_in_step f s) s.left v then Some wrote else None) else None) empty
     ∙ ap (λ can. option_map (call_ended w) (if can then Some wrote else None)) can
 
-module _ {f : Function} {g : Fn} {active : List Active} {listed : List ℕ} (e : Expression) {deep : ℕ} (can : CanAct f g active listed (call_statement e)) where
-  call_acts : (free : ℕ) (p q : Spot) (s : Situation) → HasLocals active listed s → s.entries ≡ [] → CallComes f (IsCore g active e p.functions q.functions) deep s Op.Call free 1 p.pc q.pc →
+module _ {f : Function} {g : Fn} {active : List Active} {listed : List ℕ} {lefts : ℕ → List (Option Inner)} (e : Expression) {deep : ℕ} (can : CanAct f g active listed lefts (call_statement e)) where
+  call_acts : (free : ℕ) (p q : Spot) (s : Situation) → HasLocals active listed s → s.left ≡ lefts p.functions → s.entries ≡ [] → CallComes f (IsCore g active e p.functions q.functions) deep s Op.Call free 1 p.pc q.pc →
       ActRead f g active (call_statement e) p.functions q.functions s p.pc q.pc
-  call_acts free p q s locals empty comes =
+  call_acts free p q s locals left_is empty comes =
       let v = comes.value in
       let w = word_of comes.pc (Piece.Abc Op.Call free comes.b 1) in
       let t = behind_words comes.scope comes.seen comes.more s in
       let u = record s { scope = comes.scope; seen = comes.seen } in
-      let there : can_write (place_in_step f u) s.left v ≡ true = subst (λ (listed : List ℕ). can_write (place f.of listed f.short) s.left v ≡ true) (sym (comes.same.active ∙ locals.places)) (can.can p.functions q.functions (called v) comes.is s.left) in
+      let there : can_write (place_in_step f u) s.left v ≡ true = subst (λ (listed : List ℕ). can_write (place f.of listed f.short) s.left v ≡ true) (sym (comes.same.active ∙ locals.places)) (can_now can q.functions (called v) left_is comes.is) in
       let does : read_word f w (see w.instr t) ≡ Some (ends (act_draft f (suc comes.pc) (called v) u), after_act (called v) u) =
       ap (option_and_then (call_made f w)) comes.makes ∙ ap (option_map as_end) (call_is_written f w v u there empty) in
       record {
@@ -131,9 +135,9 @@ module _ {f : Function} {g : Fn} {active : List Active} {listed : List ℕ} (e :
         later = omega (arith, comes.next, reaches_on comes.reaches);
       }
 
-pub call_statement_read : {f : Function} {g : Fn} {active : List Active} {listed : List ℕ} → IsFunction f g → (e : Expression) (deep : ℕ) → ReadsCall f g active listed (IsCore g active e) deep ((related g e).multi active) →
-    CanAct f g active listed (call_statement e) →
-    (p q : Spot) (s : Situation) → HasLocals active listed s → s.entries ≡ [] → s.taken ≡ s.seen → IsQuiet f s.scope p.pc q.pc → (related g e).multi active (length active) Op.Call (Some 0) p q → ActRead f g active (call_statement e) p.functions q.functions s p.pc q.pc
-call_statement_read {active = active} is_function e deep reads can p q s locals empty taken quiet at =
+pub call_statement_read : {f : Function} {g : Fn} {active : List Active} {listed : List ℕ} {lefts : ℕ → List (Option Inner)} → IsFunction f g → (e : Expression) (deep : ℕ) → ReadsCall f g active listed (IsCore g active e) deep ((related g e).multi active) →
+    CanAct f g active listed lefts (call_statement e) →
+    (p q : Spot) (s : Situation) → HasLocals active listed s → s.left ≡ lefts p.functions → s.entries ≡ [] → s.taken ≡ s.seen → IsQuiet f s.scope p.pc q.pc → (related g e).multi active (length active) Op.Call (Some 0) p q → ActRead f g active (call_statement e) p.functions q.functions s p.pc q.pc
+call_statement_read {active = active} is_function e deep reads can p q s locals left_is empty taken quiet at =
     let next : length active ≡ next_free s = omega (arith, locals.base, ap length empty) in
-    call_acts e can (length active) p q s locals empty (reads.comes (length active) Op.Call (Some 0) p q s locals next quiet (inl refl) at)
+    call_acts e can (length active) p q s locals left_is empty (reads.comes (length active) Op.Call (Some 0) p q s locals next quiet (inl refl) at)

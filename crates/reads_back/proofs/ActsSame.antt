@@ -18,11 +18,11 @@ use Rattle.scheme_stands.proofs.Stores.{grows_assign}
 use Rattle.scheme_stands.specs.Words.{Fn}
 use Rattle.reads_back.specs.Acted.{called, IsAct}
 use Rattle.reads_back.specs.Cores.{HasCore}
-use Rattle.reads_back.proofs.AssignedNames.{assignment_passes}
-use Rattle.reads_back.proofs.NamesAhead.{Passed}
-use Rattle.reads_back.proofs.PassedNames.{names_passed}
+use Rattle.reads_back.proofs.AssignedMentions.{assignment_passes}
+use Rattle.reads_back.proofs.Mentions.{Passed}
+use Rattle.reads_back.proofs.PassedMentions.{mentions_passed}
 use Rattle.reads_back.proofs.ReturnsSame.{return_passes}
-use Rattle.reads_back.proofs.Rewriting.{Rewritten, RewrittenAct, names_of_statement}
+use Rattle.reads_back.proofs.Rewriting.{Rewritten, RewrittenAct, mentions_of_statement}
 use Rattle.reads_back.proofs.WordsSame.{coded_is, same_multiple}
 
 -- ---- what declares nothing
@@ -45,8 +45,8 @@ act_grows s is nothing m = absurd is
 call_multiple : (e : Expression) → is_call e ≡ true → is_multiple (coded (one_line_expression e)).e ≡ true
 call_multiple e is = ap is_multiple (coded_is (one_line_expression e)) ∙ same_multiple e ∙ ap (λ call. call || is_vararg e) is
 
-pub act_passes : (s : Statement) → IsAct s → DeclaresNothing s → (m : Maker) → Passed (names_of_statement s) m (statement_made (one_line_statement s) 1 None m)
-act_passes (call_statement e) is nothing m = (names_passed e is.1).multi (call_multiple e is.0) Op.Call (Some 0) m
+pub act_passes : (s : Statement) → IsAct s → DeclaresNothing s → (m : Maker) → Passed (mentions_of_statement s) m (statement_made (one_line_statement s) 1 None m)
+act_passes (call_statement e) is nothing m = (mentions_passed e is.1).multi (call_multiple e is.0) Op.Call (Some 0) m
 act_passes (assignment targets es) is nothing m = assignment_passes targets es is m
 act_passes (return_statement es) is nothing m = return_passes es is m
 act_passes (local_statement names es) is nothing m = absurd nothing

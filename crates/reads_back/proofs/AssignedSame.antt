@@ -27,12 +27,12 @@ use Rattle.scheme_stands.specs.Words.{Fn}
 use Rattle.reads_back.specs.Acted.{AreActTargets, AreAssigned, AreTargets, AreValues, AreWithOperand, Assigned, EndWithOperand, Assigns, IsActTarget, IsTarget, all_named_behind, assigned, can_write_last, is_part, last_target, left_by_last, left_by_targets, some_missing, taken_behind_last, taken_behind_targets, with_last_nil, words_assigned, words_targets}
 use Rattle.reads_back.specs.Cores.{AllHaveCores, AreCores, IsCore, ends_open}
 use Rattle.reads_back.proofs.AdjustedEntries.{count_last}
-use Rattle.reads_back.proofs.AssignedNames.{copies_pass}
+use Rattle.reads_back.proofs.AssignedMentions.{copies_pass}
 use Rattle.reads_back.proofs.DeclaredSame.{Adjusts, adjust_closed, closed_written, more_written, nil_written, nils_one, open_written}
 use Rattle.reads_back.proofs.EachStoredSame.{EachSame, LastNoLocal, Placed, and_nil, as_many_places, before_each, before_stored, each_values, each_with_operand, nil_all_rewritten, nil_cores, nil_count, nil_from, nil_have, nil_names, nil_operand, operand_written, placed_of, places, places_are, stored_taken, targets_are, targets_of, with_operand_coded}
 use Rattle.reads_back.proofs.GivenSame.{AllRewritten}
 use Rattle.reads_back.proofs.ListsSame.{coded_count, codes_of, cores_count, list_few, opens_is, values_coded}
-use Rattle.reads_back.proofs.NamesAhead.{IsAhead, ahead_behind, ahead_front, names_in_all}
+use Rattle.reads_back.proofs.Mentions.{IsAhead, ahead_behind, ahead_front, mentions_in_all}
 use Rattle.reads_back.proofs.Rewriting.{IsMadeBy, Rewritten, RewrittenAct}
 use Rattle.reads_back.proofs.TargetsSame.{ArePlaces, TargetSame, TargetsSame, copies_constants, copies_grow, copies_places, field_same, index_same, more_same, name_same, none_same, targets_grow, written_count}
 use Rattle.reads_back.proofs.Tests.{both_hold}
@@ -79,8 +79,8 @@ taken_by to n = taken_behind_last to.last (taken_behind_values to.values n)
 module _ (f : Function) (g : Fn) (active : List Active) (listed : List ℕ) (z : Maker) where
   -- what is written of the values, where so many constants are taken, goes to these places as the expressions do
   record Goes (placed : List (Placed g)) (es : Expressions) (written : ℕ → List Coded) (taken : ℕ → ℕ) : Type 0 where
-    same : (m : Maker) → IsAhead g active (names_in_all es) m → Final (length m.labels) (goes_to placed (codes_of es) m) z → goes_to placed (written (length m.constants)) m ≡ goes_to placed (codes_of es) m
-    takes : (m : Maker) → IsAhead g active (names_in_all es) m → Final (length m.labels) (goes_to placed (codes_of es) m) z → length (goes_to placed (codes_of es) m).constants ≡ all_named_behind (targets_of placed) (taken (length m.constants))
+    same : (m : Maker) → IsAhead g active (mentions_in_all es) m → Final (length m.labels) (goes_to placed (codes_of es) m) z → goes_to placed (written (length m.constants)) m ≡ goes_to placed (codes_of es) m
+    takes : (m : Maker) → IsAhead g active (mentions_in_all es) m → Final (length m.labels) (goes_to placed (codes_of es) m) z → length (goes_to placed (codes_of es) m).constants ≡ all_named_behind (targets_of placed) (taken (length m.constants))
 
 module _ (f : Function) (g : Fn) (active : List Active) (listed : List ℕ) (z : Maker) (left behind : List (Option Inner)) (ts : List TargetValue) (es : Expressions) where
   -- what is asked of the values that are written, whichever places the targets have
@@ -143,7 +143,7 @@ module _ {f : Function} {g : Fn} {active : List Active} {listed : List ℕ} {z :
           (adjust_closed (codes_of es) (length (places placed)) m (omega (arith, exact)) (opens_is es ∙ closed) ∙ ap (λ k. nils 1 k (all_next (codes_of es) m)) one ∙ nils_one (all_next (codes_of es) m))
           ∙ sym (nil_from placed es m (sym exact) no_local)
 
-      nil_ahead : (m : Maker) → IsAhead g active (names_in_all es) m → IsAhead g active (names_in_all (and_nil es)) m
+      nil_ahead : (m : Maker) → IsAhead g active (mentions_in_all es) m → IsAhead g active (mentions_in_all (and_nil es)) m
       nil_ahead m ahead = subst (λ texts. IsAhead g active texts m) (sym (nil_names es)) ahead
 
       inner : (m : Maker) → Final (length m.labels) (goes_to placed (codes_of es) m) z → Final (length m.labels) (each_stored 1 (places placed) (codes_of (and_nil es)) m) z
@@ -309,9 +309,9 @@ module _ {f : Function} {g : Fn} {active : List Active} {listed : List ℕ} {z :
   abbrev places_of : Maker → Got (List Target)
   places_of m = with_copies (all_targets (codes_of targets) m)
 
-  module _ (m : Maker) (ahead : IsAhead g active (names_in_all targets ++ names_in_all es) m) where
-    targets_ahead : IsAhead g active (names_in_all targets) m
-    targets_ahead = ahead_front (names_in_all targets) (names_in_all es) ahead
+  module _ (m : Maker) (ahead : IsAhead g active (mentions_in_all targets ++ mentions_in_all es) m) where
+    targets_ahead : IsAhead g active (mentions_in_all targets) m
+    targets_ahead = ahead_front (mentions_in_all targets) (mentions_in_all es) ahead
 
     are_there : ArePlaces g ts (places_of m).value
     are_there = let parts = all_targets (codes_of targets) m in copies_places g (active_count parts.after) ts parts.value parts.after (first.are_places m targets_ahead)
@@ -319,8 +319,8 @@ module _ {f : Function} {g : Fn} {active : List Active} {listed : List ℕ} {z :
     abbrev placed_there : List (Placed g)
     placed_there = placed_of g ts (places_of m).value are_there
 
-    es_ahead : IsAhead g active (names_in_all es) (places_of m).after
-    es_ahead = let parts = all_targets (codes_of targets) m in ahead_behind (names_in_all targets) (names_in_all es) (copies_pass (active_count parts.after) parts.value parts.after (first.passes m)) ahead
+    es_ahead : IsAhead g active (mentions_in_all es) (places_of m).after
+    es_ahead = let parts = all_targets (codes_of targets) m in ahead_behind (mentions_in_all targets) (mentions_in_all es) (copies_pass (active_count parts.after) parts.value parts.after (first.passes m)) ahead
 
     count_there : length ts ≡ length (places placed_there)
     count_there = sym (as_many_places placed_there ∙ ap length (targets_are g ts (places_of m).value are_there))

@@ -1,7 +1,7 @@
 -- The words of an assignment are read as one step, which is that assignment.
 use Rattle.std.proofs.Common.{add-one, ◌≡◌, ◌≢◌, ◌⊎◌, ℕ, zero, suc, ◌+◌, ◌<◌, ◌≤◌, ◌&&◌, ◌||◌, nat_le, max, Bool, true, false, List, [], ◌∷◌, ◌++◌, length, length-append, Option, Some, None, refl, sym, ap, ap₂, ◌∙◌, subst, subst₂, arith, le-leb, lt-ltb, eq-eqb, inl, inr, is_some}
 use Rattle.std.proofs.lemmas.Bool.{eqb-true, le-ltb, ne_eqb}
-use Rattle.std.specs.Prelude.{◌==◌, not, option_map, if◌then◌else◌, replicate}
+use Rattle.std.specs.Prelude.{◌==◌, not, option_map, if◌then◌else◌, replicate, Option}
 use Rattle.lua_tree.specs.Syntax as syntax
 use Rattle.lua_tree.specs.Syntax.{Expression, Expressions, field_expression, index_expression, name_expression, no_expressions, assignment}
 use Rattle.lua_tree.specs.WellFormed.{depth_of_expression, depth_of_expressions}
@@ -10,7 +10,7 @@ use Rattle.opcode.specs.declared.word.Instr.{Instr}
 use Rattle.core_expr.specs.Counting.{taken_behind_values}
 use Rattle.core_expr.specs.Places.{place}
 use Rattle.core_expr.specs.Targets.{TargetValue}
-use Rattle.core_expr.specs.Values.{OperandValue, Values}
+use Rattle.core_expr.specs.Values.{OperandValue, Values, Inner}
 use Rattle.recover_expr.specs.Assigning.{assigned_from, stored_function}
 use Rattle.recover_expr.specs.Effects.{is_from, makes_value, reads_from}
 use Rattle.recover_expr.specs.Entries.{Entries, and_last_value, value_entry}
@@ -28,9 +28,9 @@ use Rattle.scheme_stands.specs.Lists.{AdjustAt}
 use Rattle.scheme_stands.specs.Relation.{all_related, related}
 use Rattle.scheme_stands.specs.Statements.{AssignAt, CopiesAt, CopyBy, EachStoredAt, NoTargetsAt, StoreAt, StoreRegisterAt, StoresBy, TargetsAt}
 use Rattle.scheme_stands.specs.Words.{Fn, Spot, Stretch, WordAt, instr_by}
-use Rattle.reads_back.specs.Acted.{Acted, AreActTargets, AreTargets, AreValues, AreWithOperand, Assigned, Assigns, EndWithOperand, IsActTarget, IsActed, all_named_behind, assigned, can_act, is_part, last_target, some_missing, taken_behind_act, taken_behind_last, taken_behind_targets, values_assigned}
+use Rattle.reads_back.specs.Acted.{Acted, AreActTargets, AreTargets, AreValues, AreWithOperand, Assigned, Assigns, EndWithOperand, IsActTarget, IsActed, all_named_behind, assigned, can_act, is_part, last_target, some_missing, stores_function, taken_behind_act, taken_behind_last, taken_behind_targets, values_assigned}
 use Rattle.reads_back.specs.Cores.{AllHaveCores, AreCores, Counted, HasCore, ends_open}
-use Rattle.reads_back.proofs.ActsRead.{ActRead, CanAct}
+use Rattle.reads_back.proofs.ActsRead.{ActRead, CanAct, can_now}
 use Rattle.reads_back.proofs.AdjustedEntries.{count_last}
 use Rattle.reads_back.proofs.AdjustedWords.{adjust_begins, adjust_fits, adjust_forward, next_fit}
 use Rattle.reads_back.proofs.AssignedComes.{AssignedComes, assigned_come, some_related}
@@ -44,6 +44,7 @@ use Rattle.reads_back.proofs.GivenLists.{AllCome, AllRead, all_forward}
 use Rattle.reads_back.proofs.HeldOperands.{IsTaken, ReadsHeld, operand_held, rk_held, text_held}
 use Rattle.reads_back.proofs.LastStored.{Begun, GoesTo, LastStored, last_forward, last_stored, no_item_below}
 use Rattle.reads_back.proofs.NameReads.{AreListed}
+use Rattle.reads_back.proofs.NoFunctions.{IsNoFunctionExpression}
 use Rattle.reads_back.proofs.PartsUsed.{all_there_length}
 use Rattle.reads_back.proofs.Reaches.{Reaches, reaches_on, reaches_then}
 use Rattle.reads_back.proofs.SeveralValues.{wanted_come}
@@ -142,7 +143,7 @@ module _ {f : Function} {g : Fn} {active : List Active} {listed : List ℕ} (is_
     local_wants : (r : ℕ) → r < s.base → BeginsFor f free r p.pc q.pc → IsWanted f s p.pc
     local_wants r below (inl begins) = begins_wants s begins higher
     local_wants r below (inr alone) =
-        store_wants f p.pc q.pc alone.instr s alone.there (makes_alone alone.instr.op alone.instr s.base alone.makes (omega (arith, alone.register, below))) alone.none alone.next before behind
+        store_wants f p.pc q.pc alone.instr s alone.there (makes_alone alone.instr.op alone.instr s.base alone.makes (omega (arith, alone.register, below))) alone.next before behind
 
     -- the word of the store is one that stores
     far_wants : {Is : Counted OperandValue} {to : (free x free1 : ℕ) → Stretch} (operand : ReadsHeld f g active listed Is to) (words : ℕ → Stretch) → ((x : ℕ) (mid : Spot) → words x mid q → (mid.pc < q.pc) × IsWanted f s mid.pc) → OneAt to free words p q → IsWanted f s p.pc
@@ -158,14 +159,14 @@ module _ {f : Function} {g : Fn} {active : List Active} {listed : List ℕ} (is_
     last_wants (name_target text (in_register r)) below at = local_wants r (omega (arith, below, locals.base)) (value_first is_function all e has few free r p q (omega (arith, before)) at)
     last_wants (name_target text (in_upvalue slot)) below at =
         far_wants (operand_held is_function all e value_reads) (StoreRegisterAt g (name_target text (in_upvalue slot)))
-        (λ x mid at. (omega (arith, at.next), store_wants f mid.pc q.pc (instr_by mid.pc (Piece.Abc Op.SetUpval x slot 0)) s (instr_is is_function at (abc_is_read is_function at)) refl refl at.next before behind)) at
+        (λ x mid at. (omega (arith, at.next), store_wants f mid.pc q.pc (instr_by mid.pc (Piece.Abc Op.SetUpval x slot 0)) s (instr_is is_function at (abc_is_read is_function at)) refl (omega (arith, at.next)) before behind)) at
     last_wants (name_target text in_globals) below at =
         far_wants (operand_held is_function all e value_reads) (StoreRegisterAt g (name_target text in_globals))
         (λ x mid at. let word = at.word in
-        (omega (arith, word.next), store_wants f mid.pc q.pc (instr_by mid.pc (Piece.Abx Op.SetGlobal x at.number)) s (instr_is is_function word (abx_is_read is_function word)) refl refl word.next before behind)) at
+        (omega (arith, word.next), store_wants f mid.pc q.pc (instr_by mid.pc (Piece.Abx Op.SetGlobal x at.number)) s (instr_is is_function word (abx_is_read is_function word)) refl (omega (arith, word.next)) before behind)) at
     last_wants (part_target on key on_local key_local) below at =
         far_wants (rk_held is_function all e value_reads) (StoreRegisterAt g (part_target on key on_local key_local))
-        (λ x mid at. (omega (arith, at.next), store_wants f mid.pc q.pc (instr_by mid.pc (Piece.Abc Op.SetTable on key x)) s (instr_is is_function at (abc_is_read is_function at)) refl refl at.next before behind)) at
+        (λ x mid at. (omega (arith, at.next), store_wants f mid.pc q.pc (instr_by mid.pc (Piece.Abc Op.SetTable on key x)) s (instr_is is_function at (abc_is_read is_function at)) refl (omega (arith, at.next)) before behind)) at
 
   -- one value that goes to the only target: its store reads a register of the target
   module _ (s : Situation) (locals : HasLocals active listed s) where
@@ -330,10 +331,18 @@ several_there targets zero entries some given other enough each = absurd (omega 
 several_there (suc (suc targets)) values entries some given other enough each = omega (arith, enough)
 several_there targets (suc (suc values)) entries some given other enough each = omega (arith, each)
 
+-- no function goes alone to one target
+no_function_alone : (g : Fn) (active : List Active) (targets : Expressions) (before behind : ℕ) (ts : List TargetValue) → AreTargets g active targets before behind ts → length ts ≡ 1 → (e : Expression) → stores_function targets (syntax.expression e no_expressions) ≡ false → IsNoFunctionExpression e
+no_function_alone g active (syntax.expression target no_expressions) before behind ts are one e plain = plain
+no_function_alone g active (syntax.expression target (syntax.expression other targets)) before behind (t ∷ []) are one e plain = absurd are.2
+no_function_alone g active (syntax.expression target (syntax.expression other targets)) before behind (t ∷ u ∷ ts) are one e plain = cc
+no_function_alone g active targets before behind [] are one e plain = cc
+no_function_alone g active no_expressions before behind (t ∷ ts) are one e plain = absurd are
+
 -- ---- behind the targets
 
-module _ {f : Function} {g : Fn} {active : List Active} {listed : List ℕ} (is_function : IsFunction f g) (all : AreListed f g active listed) (targets es : Expressions) (assigns : Assigns targets es) (few : depth_of_expressions es ≤ 199)
-    (can : CanAct f g active listed (assignment targets es)) (places : List Target) (s : Situation) (locals : HasLocals active listed s) (empty : s.entries ≡ []) (free : ℕ) (low : free ≤ 250) (p last q : Spot) (quiet : IsQuiet f s.scope p.pc q.pc)
+module _ {f : Function} {g : Fn} {active : List Active} {listed : List ℕ} {lefts : ℕ → List (Option Inner)} (is_function : IsFunction f g) (all : AreListed f g active listed) (targets es : Expressions) (assigns : Assigns targets es) (few : depth_of_expressions es ≤ 199)
+    (can : CanAct f g active listed lefts (assignment targets es)) (places : List Target) (s : Situation) (locals : HasLocals active listed s) (empty : s.entries ≡ []) (free : ℕ) (low : free ≤ 250) (p last q : Spot) (left_is : s.left ≡ lefts p.functions) (quiet : IsQuiet f s.scope p.pc q.pc)
     (come : TargetsCome f g active listed targets p.functions last.functions places s free p.pc last.pc) where
   abbrev there : Situation
   there = record s { scope = come.scope; entries = come.parts; seen = come.seen }
@@ -384,7 +393,7 @@ module _ {f : Function} {g : Fn} {active : List Active} {listed : List ℕ} (is_
         let acts : IsActed g active (assignment targets es) p.functions mid.functions acted = (last.functions, subst (λ (ds : List Destination). AreTargets g active targets p.functions last.functions (targets_to ds)) is come.are, values) in
         let u = record there { scope = begun.scope; entries = come.parts ++ begun.values; seen = seen_with d (taken_behind_last to.last (taken_behind_values to.values come.seen)) } in
         let step : IsInStep f (length active) listed u = record { base = locals.base; places = begun.same.active ∙ locals_there.places } in
-        let can_there : can_act (place_in_step f u) s.left acted ≡ true = subst (λ (listed : List ℕ). can_act (place f.of listed f.short) s.left acted ≡ true) (sym step.places) (can.can p.functions mid.functions acted acts s.left) in
+        let can_there : can_act (place_in_step f u) s.left acted ≡ true = subst (λ (listed : List ℕ). can_act (place f.of listed f.short) s.left acted ≡ true) (sym step.places) (can_now can mid.functions acted left_is acts) in
         let used = subst (λ (ds : List Destination). used_by_all (length active) ds (replicate (length come.parts) false) ≡ replicate (length come.parts) true) is come.used in
         let ends = targets_end is_function ds d begun.pc begun.straight begun.used to come.parts begun.values come.behind mid q u step refl stand used begun.enough (omega (arith, fit, come.counts))
         (subst (λ (free : ℕ). StoreWordsAt g free ds mid q) come.counts at) quiet.within begun.writes (λ none. begun.plain (ap length none)) can_there in
@@ -419,13 +428,20 @@ module _ {f : Function} {g : Fn} {active : List Active} {listed : List ℕ} (is_
     front_come =
         wanted_come f g active listed 200 at.front (fronts is_function all es few come.ds free last q at) free last at.mid there locals_there next (quiet_before at.mid.pc (omega (arith, to_stored, to_end)) quiet_there) front_wanted at.front_at
 
+    abbrev ts : List TargetValue
+    ts = targets_to (at.vs ++ at.to ∷ [])
+
+    are_targets : AreTargets g active targets p.functions last.functions ts
+    are_targets = subst (λ (ds : List Destination). AreTargets g active targets p.functions last.functions (targets_to ds)) at.is come.are
+
+    last_plain : length (all_related g at.front) ≡ 0 → IsNoFunctionExpression at.last
+    last_plain none =
+        no_function_alone g active targets p.functions last.functions ts are_targets (omega (arith, count_targets at.vs at.to, at.counts, none)) at.last (subst (λ (es : Expressions). stores_function targets es ≡ false) (at.alone none) assigns.plain)
+
     last_goes : LastStored f g active at.last at.mid.functions at.stored.functions at.to there (length (all_related g at.front)) front_come.values last.pc at.stored.pc
     last_goes =
         last_stored is_function all at.place at.to at.said at.fits at.last (last_read is_function all es few come.ds free last q at) there stands.0 come.behind first_above at.mid at.stored locals_there stands.2 (mid_length at.vs at.to at.is) (no_item at.vs at.to at.is) front_come
-        (omega (arith, come.counts)) above_low (quiet_from at.mid.pc (front_on is_function all es few come.ds free last q at) (quiet_before at.stored.pc to_end quiet_there)) at.last_at
-
-    abbrev ts : List TargetValue
-    ts = targets_to (at.vs ++ at.to ∷ [])
+        (omega (arith, come.counts)) above_low (quiet_from at.mid.pc (front_on is_function all es few come.ds free last q at) (quiet_before at.stored.pc to_end quiet_there)) last_plain at.last_at
 
     values_are : (vs : Values) (to : Assigned) → AreCores g active at.front last.functions at.mid.functions vs → value_count vs ≡ length at.vs → GoesTo g active at.last at.to vs at.mid.functions at.stored.functions to →
         AreWithOperand g active ts es last.functions at.stored.functions to ⊎ AreValues g active ts es last.functions at.stored.functions to
@@ -560,17 +576,17 @@ module _ {f : Function} {g : Fn} {active : List Active} {listed : List ℕ} (is_
       come empty =
           targets_come is_function all targets assigns.targets reads at.parts at.places at.free1 at.free2 p at.mid at.last s locals empty (quiet_before at.last.pc on quiet) (are_wanted _ refl at.stores_at) (are_globals _ refl at.stores_at) at.targets_at at.copies_at
 
-      module _ (can : CanAct f g active listed (assignment targets es)) (empty : s.entries ≡ []) where
+      module _ {lefts : ℕ → List (Option Inner)} (can : CanAct f g active listed lefts (assignment targets es)) (left_is : s.left ≡ lefts p.functions) (empty : s.entries ≡ []) where
         by_count : (as_many : Bool) → (length (all_related g es) == length (all_related g targets)) ≡ as_many → StoresBy as_many g at.places (all_related g es) active at.free2 at.last q → ActRead f g active (assignment targets es) p.functions q.functions s p.pc q.pc
         by_count true same stores =
             let targets_there = come empty in
             let each = each_at g active at.places targets_there.ds es targets_there.said targets_there.fit assigns.values some_places (eqb-true _ _ same ∙ sym counts) at.free2 at.last q stores in
-            each_acts is_function all targets es assigns few can at.places s locals empty at.free2 low p at.last q quiet targets_there each
+            each_acts is_function all targets es assigns few can at.places s locals empty at.free2 low p at.last q left_is quiet targets_there each
         by_count false other stores =
             let targets_there = come empty in
             let words = all_stored g at.places targets_there.ds targets_there.said some_places at.free2 stores.mid q stores.second_at in
             let count : length at.places ≡ suc (length words.front) = all_counted g at.places targets_there.ds targets_there.said ∙ ap length words.is ∙ length-append words.front (words.last ∷ []) ∙ add-one (length words.front) in
-            adjusted_acts is_function all targets es assigns few can at.places s locals empty at.free2 low p at.last q quiet targets_there stores.mid words
+            adjusted_acts is_function all targets es assigns few can at.places s locals empty at.free2 low p at.last q left_is quiet targets_there stores.mid words
             (subst (λ (count : ℕ). AdjustAt g (all_related g es) count active at.free2 at.last stores.mid) count stores.first_at)
             (λ same. not_so (sym other ∙ eq-eqb _ _ (same ∙ sym count ∙ counts)))
 
@@ -578,6 +594,6 @@ module _ {f : Function} {g : Fn} {active : List Active} {listed : List ℕ} (is_
   assignment_forward p q at =
       omega (arith, targets_forward is_function all targets assigns.targets reads at.parts at.places at.free1 at.free2 p at.mid at.last at.targets_at at.copies_at, on p q at)
 
-  pub assignment_read : CanAct f g active listed (assignment targets es) → (p q : Spot) (s : Situation) → HasLocals active listed s → s.entries ≡ [] → s.taken ≡ s.seen → IsQuiet f s.scope p.pc q.pc →
+  pub assignment_read : {lefts : ℕ → List (Option Inner)} → CanAct f g active listed lefts (assignment targets es) → (p q : Spot) (s : Situation) → HasLocals active listed s → s.left ≡ lefts p.functions → s.entries ≡ [] → s.taken ≡ s.seen → IsQuiet f s.scope p.pc q.pc →
       AssignAt g (all_related g targets) (all_related g es) active p q → ActRead f g active (assignment targets es) p.functions q.functions s p.pc q.pc
-  assignment_read can p q s locals empty taken quiet at = by_count p q at s locals quiet can empty _ refl at.stores_at
+  assignment_read can p q s locals left_is empty taken quiet at = by_count p q at s locals quiet can left_is empty _ refl at.stores_at

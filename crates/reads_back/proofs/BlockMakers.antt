@@ -18,8 +18,12 @@ use Rattle.reads_back.specs.Acted.{IsAct}
 use Rattle.reads_back.proofs.ActsSame.{act_passes}
 use Rattle.reads_back.proofs.DeclaredLocals.{actives_of, entries_at, local_declares}
 use Rattle.reads_back.proofs.ListedLocals.{AreListedAs, as_many_listed, declared_listed, listed_behind}
-use Rattle.reads_back.proofs.NamesAhead.{Passed}
+use Rattle.reads_back.specs.Coming.{Coming}
+use Rattle.reads_back.proofs.Mentions.{Passed, coming, coming_behind}
+use Rattle.reads_back.proofs.NoneMade.{none_functions, statement_makes_none}
 use Rattle.reads_back.proofs.PlainStraight.{AreOnLine}
+use Rattle.reads_back.proofs.Rewriting.{mentions_of_statement}
+use Rattle.reads_back.specs.Straight.{AreStraight}
 
 -- all are acts
 abbrev pub AreAllActs : Statements → Type 0
@@ -69,17 +73,19 @@ entries_by s n = []
 pub record Moves (s : Statement) (m n : Maker) : Type 0 where
   pub active : n.active ≡ m.active ++ actives_by s m
   pub locals : n.locals ≡ m.locals ++ entries_by s n
-  pub functions : n.functions ≡ m.functions
+  pub upvalues : n.upvalue_names ≡ m.upvalue_names
+  pub behind : coming n ≡ coming_behind m.active m.upvalue_names (mentions_of_statement s) (coming m)
 
-stays_moved : (s : Statement) (m n : Maker) {texts : List _} → actives_by s m ≡ [] → entries_by s n ≡ [] → Passed texts m n → Moves s m n
+stays_moved : (s : Statement) (m n : Maker) → actives_by s m ≡ [] → entries_by s n ≡ [] → Passed (mentions_of_statement s) m n → Moves s m n
 stays_moved s m n none no_entries passed = record {
   active = ap (λ around. around.active) passed.around ∙ sym (ap (λ more. m.active ++ more) none ∙ append-nil m.active);
   locals = ap (λ around. around.locals) passed.around ∙ sym (ap (λ more. m.locals ++ more) no_entries ∙ append-nil m.locals);
-  functions = ap (λ around. around.functions) passed.around;
+  upvalues = ap (λ around. around.upvalue_names) passed.around;
+  behind = passed.behind;
 }
 
 pub statement_moves : (s : Statement) → IsAct s → (m : Maker) → Moves s m (made_by s m)
-statement_moves (local_statement names es) is m = let declares = local_declares names es is.1 m in record { active = declares.active; locals = declares.locals; functions = declares.functions }
+statement_moves (local_statement names es) is m = let declares = local_declares names es is.1 m in record { active = declares.active; locals = declares.locals; upvalues = declares.upvalues; behind = declares.behind }
 statement_moves (call_statement e) is m = stays_moved (call_statement e) m (made_by (call_statement e) m) refl refl (act_passes (call_statement e) is tt m)
 statement_moves (assignment targets es) is m = stays_moved (assignment targets es) m (made_by (assignment targets es) m) refl refl (act_passes (assignment targets es) is tt m)
 statement_moves (return_statement es) is m = stays_moved (return_statement es) m (made_by (return_statement es) m) refl refl (act_passes (return_statement es) is tt m)
@@ -121,9 +127,13 @@ block_locals (syntax.statement line semi s rest) acts m =
     let moves = statement_moves s acts.0 m in
     block_locals rest acts.1 (settle n) ∙ ap (λ locals. locals ++ entries_from rest (settle n)) moves.locals ∙ append_assoc m.locals (entries_by s n) (entries_from rest (settle n))
 
-pub block_functions : (block : Statements) → AreAllActs block → (m : Maker) → (all_made block m).functions ≡ m.functions
-block_functions no_statements acts m = refl
-block_functions (syntax.statement line semi s rest) acts m = let moves = statement_moves s acts.0 m in block_functions rest acts.1 (settle (made_by s m)) ∙ moves.functions
+-- where no function stands in it none is made
+pub block_functions : (block : Statements) → AreAllActs block → AreStraight block → (m : Maker) → length (all_made block m).functions ≡ length m.functions
+block_functions no_statements acts straight m = refl
+block_functions (syntax.statement line semi s rest) acts straight m =
+    let n = made_by s m in
+    let moves = statement_moves s acts.0 m in
+    block_functions rest acts.1 straight.1 (settle n) ∙ ap (λ (c : Coming). c.functions) moves.behind ∙ none_functions m.active m.upvalue_names (mentions_of_statement s) (coming m) (statement_makes_none s straight.0.0)
 
 pub block_listed : (block : Statements) → AreAllActs block → (m : Maker) → AreListedAs 0 m.active m.locals → AreListedAs 0 (all_made block m).active (all_made block m).locals
 block_listed no_statements acts m are = are

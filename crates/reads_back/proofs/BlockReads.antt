@@ -161,14 +161,14 @@ module _ {f : Function} {g : Fn} {z : Maker} (whole : IsWhole f g z) where
       starts_with other is now as_many active within = absurd (subst IsAct is next.straight.0.0)
 
       -- its words are read
-      act_there : last_pc ≤ f.last → (now : Situation) → length now.scope.declared ≡ length m.active → HasLocals m.active (listed_by m) now → now.entries ≡ [] → now.taken ≡ now.seen → ActRead f g m.active s (length m.functions) (length behind.functions) now first_pc last_pc
-      act_there within now as_many locals empty taken =
-          act_read (made_there whole next) s next.straight.0.0 next.straight.0.1 (low whole next) behind.active (spot m) (spot behind) next.stand.0 now locals empty taken (is_quiet now.scope as_many within) (starts_with s refl now as_many locals.places within)
+      act_there : last_pc ≤ f.last → (now : Situation) → length now.scope.declared ≡ length m.active → HasLocals m.active (listed_by m) now → now.left ≡ [] → now.entries ≡ [] → now.taken ≡ now.seen → ActRead f g m.active s (length m.functions) (length behind.functions) now first_pc last_pc
+      act_there within now as_many locals left_is empty taken =
+          act_read (made_there whole next) s next.straight.0.0 next.straight.0.1 (low whole next) behind.active (spot m) (spot behind) next.stand.0 now locals left_is empty taken (is_quiet now.scope as_many within) (starts_with s refl now as_many locals.places within)
 
       -- and they are some
       is_later : last_pc ≤ f.last → first_pc < last_pc
       is_later within =
-          let act = act_there within (invented m) (length-replicate (length m.active) no_local) (record { base = refl; places = refl }) refl refl in
+          let act = act_there within (invented m) (length-replicate (length m.active) no_local) (record { base = refl; places = refl }) refl refl refl in
           act.later
 
   block_forward : (block : Statements) (m : Maker) → ComesNext f g z block m → length m.items ≤ length (all_made block m).items
@@ -334,7 +334,7 @@ module _ {f : Function} {g : Fn} {z : Maker} (whole : IsWhole f g z) where
       let later = is_later next rest_later within in
       let active = there.active (omega (arith, later, within)) in
       let base : length now.scope.active ≡ length m.active = ap length active ∙ numbers_length 0 (length m.active) in
-      let act = act_there next rest_later within (begun (length drafts) (length m.items) now) there.declared (record { base = base; places = active }) refl refl in
+      let act = act_there next rest_later within (begun (length drafts) (length m.items) now) there.declared (record { base = base; places = active }) there.left refl refl in
       let quiet = is_quiet next rest_later now.scope there.declared within in
       let few : length now.scope.active ≤ 250 = omega (arith, base, next.room, whole.is_function.few) in
       let is_read = act_is_read m now act (quiet.none (length m.items) (omega arith) later) few within in

@@ -27,8 +27,8 @@ use Rattle.reads_back.specs.Cores.{HasCore, HasNumber}
 use Rattle.reads_back.proofs.ConstantsSame.{constant_taken}
 use Rattle.reads_back.proofs.Deeper.{some_depth}
 use Rattle.reads_back.proofs.LiteralReads.{constant_there}
-use Rattle.reads_back.proofs.NamesAhead.{IsAhead, Passed, ahead_behind, ahead_front, names_given, names_in}
-use Rattle.reads_back.proofs.PassedNames.{names_passed, next_passes, operand_passes, rk_text_passes}
+use Rattle.reads_back.proofs.Mentions.{IsAhead, Passed, ahead_behind, ahead_front, mentions_given, mentions_in}
+use Rattle.reads_back.proofs.PassedMentions.{mentions_passed, next_passes, operand_passes, rk_text_passes}
 use Rattle.reads_back.proofs.Rewriting.{IsMadeBy, Rewritten, RewrittenGiven, arguments_wording, code, wording}
 use Rattle.reads_back.proofs.Tests.{both_hold, given_is}
 use Rattle.reads_back.proofs.WordsSame.{levels_wrapped, next_same, next_taken, next_wrapped, operand_same, operand_taken, operand_wrapped}
@@ -93,13 +93,13 @@ module _ {f : Function} {g : Fn} {active : List Active} {listed : List ℕ} {z :
   behind_on : (op : Op) (want : Want) (m : Maker) → Final (length m.labels) (of_call op want m) z → Final (length (next_reg (code on) m).labels) ((given (one_line_arguments args) 1).part (next_reg (code on) m)) z
   behind_on op want m final = let grown = grows_next {v = calm} (code on) (grows calm (one_line_expression on)) m in later grown.more (before_word op want m final)
 
-  on_ahead : (m : Maker) → IsAhead g active (names_in on ++ names_given args) m → IsAhead g active (names_in on) m
-  on_ahead m ahead = ahead_front (names_in on) (names_given args) ahead
+  on_ahead : (m : Maker) → IsAhead g active (mentions_in on ++ mentions_given args) m → IsAhead g active (mentions_in on) m
+  on_ahead m ahead = ahead_front (mentions_in on) (mentions_given args) ahead
 
-  behind_ahead : (m : Maker) → IsAhead g active (names_in on ++ names_given args) m → IsAhead g active (names_given args) (next_reg (code on) m)
-  behind_ahead m ahead = ahead_behind (names_in on) (names_given args) (next_passes (names_in on) (code on) (names_passed on has) m) ahead
+  behind_ahead : (m : Maker) → IsAhead g active (mentions_in on ++ mentions_given args) m → IsAhead g active (mentions_given args) (next_reg (code on) m)
+  behind_ahead m ahead = ahead_behind (mentions_in on) (mentions_given args) (next_passes (mentions_in on) (code on) (mentions_passed on has) m) ahead
 
-  call_same : (op : Op) (want : Want) (m : Maker) → IsAhead g active (names_in on ++ names_given args) m → Final (length m.labels) (of_call op want m) z → written_call (length m.constants) op want m ≡ of_call op want m
+  call_same : (op : Op) (want : Want) (m : Maker) → IsAhead g active (mentions_in on ++ mentions_given args) m → Final (length m.labels) (of_call op want m) z → written_call (length m.constants) op want m ≡ of_call op want m
   call_same op want m ahead final =
       let n = length m.constants in
       let on_made = next_reg (code on) m in
@@ -108,7 +108,7 @@ module _ {f : Function} {g : Fn} {active : List Active} {listed : List ℕ} {z :
       (ap (λ n. (given (arguments_wording f listed z mid n values all).words 1).part on_made) (sym (next_taken on_written m (on_ahead m ahead) (before_args op want m final))) ∙ args_written.part on_made (behind_ahead m ahead) (behind_on op want m final))
       (args_written.counts (taken_behind o n))
 
-  call_taken : (op : Op) (want : Want) (m : Maker) → IsAhead g active (names_in on ++ names_given args) m → Final (length m.labels) (of_call op want m) z →
+  call_taken : (op : Op) (want : Want) (m : Maker) → IsAhead g active (mentions_in on ++ mentions_given args) m → Final (length m.labels) (of_call op want m) z →
       length (of_call op want m).constants ≡ taken_behind_values values (taken_behind o (length m.constants))
   call_taken op want m ahead final =
       results_keep m.free want _
@@ -212,25 +212,25 @@ module _ {f : Function} {g : Fn} {active : List Active} {listed : List ℕ} {z :
       let two = grows_rk_text {v = calm} 1 name (take_registers 2 (free_from m.free (operand (code on) m).after)) in
       later (omega (arith, one.more, two.more)) (behind_given op want m final)
 
-  self_ahead : (m : Maker) → IsAhead g active (names_in on ++ names_given args) m → IsAhead g active (names_in on) m
-  self_ahead m ahead = ahead_front (names_in on) (names_given args) ahead
+  self_ahead : (m : Maker) → IsAhead g active (mentions_in on ++ mentions_given args) m → IsAhead g active (mentions_in on) m
+  self_ahead m ahead = ahead_front (mentions_in on) (mentions_given args) ahead
 
   -- the name of a method is a constant, and so no name of the scope
-  name_passed : (m : Maker) → Passed [] (take_registers 2 (free_from m.free (operand (code on) m).after)) (before_given m)
-  name_passed m = let passed = rk_text_passes 1 name (take_registers 2 (free_from m.free (operand (code on) m).after)) in record { around = passed.around; names = passed.names }
+  name_is_passed : (m : Maker) → Passed [] (take_registers 2 (free_from m.free (operand (code on) m).after)) (before_given m)
+  name_is_passed m = let passed = rk_text_passes 1 name (take_registers 2 (free_from m.free (operand (code on) m).after)) in record { around = passed.around; behind = passed.behind }
 
-  self_passed : (m : Maker) → Passed (names_in on) m (take_registers 2 (free_from m.free (operand (code on) m).after))
-  self_passed m = let passed = operand_passes (names_in on) (code on) (names_passed on has) m in record { around = passed.around; names = passed.names }
+  self_passed : (m : Maker) → Passed (mentions_in on) m (take_registers 2 (free_from m.free (operand (code on) m).after))
+  self_passed m = let passed = operand_passes (mentions_in on) (code on) (mentions_passed on has) m in record { around = passed.around; behind = passed.behind }
 
-  given_ahead : (m : Maker) → IsAhead g active (names_in on ++ names_given args) m → IsAhead g active (names_given args) (before_given m)
-  given_ahead m ahead = ahead_behind [] (names_given args) (name_passed m) (ahead_behind (names_in on) (names_given args) (self_passed m) ahead)
+  given_ahead : (m : Maker) → IsAhead g active (mentions_in on ++ mentions_given args) m → IsAhead g active (mentions_given args) (before_given m)
+  given_ahead m ahead = ahead_behind [] (mentions_given args) (name_is_passed m) (ahead_behind (mentions_in on) (mentions_given args) (self_passed m) ahead)
 
-  given_taken : (op : Op) (want : Want) (m : Maker) → IsAhead g active (names_in on ++ names_given args) m → Final (length m.labels) (of_method op want m) z → length (before_given m).constants ≡ behind_name (length m.constants)
+  given_taken : (op : Op) (want : Want) (m : Maker) → IsAhead g active (mentions_in on ++ mentions_given args) m → Final (length m.labels) (of_method op want m) z → length (before_given m).constants ≡ behind_name (length m.constants)
   given_taken op want m ahead final =
       name_taken made name number (take_registers 2 (free_from m.free (operand (code on) m).after)) numbered (behind_rk op want m final)
       ∙ ap (λ n. with_constant n number) (operand_taken on_written m (self_ahead m ahead) (behind_operand op want m final))
 
-  method_same : (op : Op) (want : Want) (m : Maker) → IsAhead g active (names_in on ++ names_given args) m → Final (length m.labels) (of_method op want m) z → written_method (length m.constants) op want m ≡ of_method op want m
+  method_same : (op : Op) (want : Want) (m : Maker) → IsAhead g active (mentions_in on ++ mentions_given args) m → Final (length m.labels) (of_method op want m) z → written_method (length m.constants) op want m ≡ of_method op want m
   method_same op want m ahead final =
       let n = length m.constants in
       method_at_same (coded (on_words n).words) (code on) name (given (arguments_wording f listed z mid (behind_name n) values all).words 1) (given (one_line_arguments args) 1) op want m
@@ -238,7 +238,7 @@ module _ {f : Function} {g : Fn} {active : List Active} {listed : List ℕ} {z :
       (ap (λ n. (given (arguments_wording f listed z mid n values all).words 1).part (before_given m)) (sym (given_taken op want m ahead final)) ∙ args_written.part (before_given m) (given_ahead m ahead) (given_final op want m final))
       (args_written.counts (behind_name n))
 
-  method_taken : (op : Op) (want : Want) (m : Maker) → IsAhead g active (names_in on ++ names_given args) m → Final (length m.labels) (of_method op want m) z →
+  method_taken : (op : Op) (want : Want) (m : Maker) → IsAhead g active (mentions_in on ++ mentions_given args) m → Final (length m.labels) (of_method op want m) z →
       length (of_method op want m).constants ≡ taken_behind_values values (behind_name (length m.constants))
   method_taken op want m ahead final = results_keep m.free want _ ∙ args_written.taken (before_given m) (given_ahead m ahead) (given_final op want m final) ∙ ap (taken_behind_values values) (given_taken op want m ahead final)
 

@@ -6,7 +6,7 @@ use Rattle.opcode.specs.declared.op.Op.{Op}
 use Rattle.opcode.specs.declared.word.Instr.{Instr}
 use Rattle.core_expr.specs.Counting.{taken_behind, taken_behind_values, taken_behind_operand}
 use Rattle.core_expr.specs.Making.{depth_of, depth_of_operand, deepest}
-use Rattle.core_expr.specs.Values.{Value, Values, OperandValue, value_operand}
+use Rattle.core_expr.specs.Values.{Value, Values, OperandValue}
 use Rattle.recover_expr.specs.Drafts.{makes}
 use Rattle.recover_expr.specs.Effects.{makes_value, reads_from}
 use Rattle.recover_expr.specs.Entries.{Entries, EntryValue, value_entry, open_entry, single_of, singles_of, take_list, is_temporary}

@@ -22,8 +22,8 @@ use Rattle.scheme.specs.declared.making.Piece.{Piece}
 use Rattle.scheme_stands.proofs.Growth.{calm, Final, before, before_free, before_put, before_take, later}
 use Rattle.scheme_stands.proofs.Parts.{grows, grows_next}
 use Rattle.scheme_stands.specs.Words.{Fn}
-use Rattle.reads_back.proofs.NamesAhead.{IsAhead, ahead_behind, ahead_front, names_in}
-use Rattle.reads_back.proofs.PassedNames.{PassesNames, next_passes}
+use Rattle.reads_back.proofs.Mentions.{IsAhead, ahead_behind, ahead_front, mentions_in}
+use Rattle.reads_back.proofs.PassedMentions.{PassesMentions, next_passes}
 use Rattle.reads_back.proofs.OperatorsSame.{few_more}
 use Rattle.reads_back.proofs.Tests.{given_is}
 use Rattle.reads_back.proofs.WordsSame.{levels_wrapped, next_wrapped}
@@ -75,7 +75,7 @@ module _ {f : Function} {g : Fn} {active : List Active} {listed : List ℕ} {z :
       let one = levels_wrapped (right_binds 4 false w.words) w in
       omega (arith, value.few n, one)
 
-  module _ (m : Maker) (ahead : IsAhead g active (names_in e) m) (final : Final (length m.labels) ((code e).spine m) z) where
+  module _ (m : Maker) (ahead : IsAhead g active (mentions_in e) m) (final : Final (length m.labels) ((code e).spine m) z) where
     alone_final : Final (length m.labels) ((code e).to_reg m.free m) z
     alone_final = before_take 1 ((code e).to_reg m.free m) (subst (λ n. Final (length m.labels) n z) (alone m) final)
 
@@ -126,12 +126,12 @@ module _ {f : Function} {g : Fn} {active : List Active} {listed : List ℕ} {z :
       let all = few_more (max (on_left BinaryOp.Concat w).levels u.levels) in
       omega (arith, first.few n, others.few n', same, one, all)
 
-  module _ (kept : PassesNames (names_in l) (code l)) (m : Maker) (ahead : IsAhead g active (names_in l ++ names_in r) m) (final : Final (length m.labels) ((code r).spine (next_reg (code l) m)) z) where
-    first_ahead : IsAhead g active (names_in l) m
-    first_ahead = ahead_front (names_in l) (names_in r) ahead
+  module _ (kept : PassesMentions (mentions_in l) (code l)) (m : Maker) (ahead : IsAhead g active (mentions_in l ++ mentions_in r) m) (final : Final (length m.labels) ((code r).spine (next_reg (code l) m)) z) where
+    first_ahead : IsAhead g active (mentions_in l) m
+    first_ahead = ahead_front (mentions_in l) (mentions_in r) ahead
 
-    others_ahead : IsAhead g active (names_in r) (next_reg (code l) m)
-    others_ahead = ahead_behind (names_in l) (names_in r) (next_passes (names_in l) (code l) kept m) ahead
+    others_ahead : IsAhead g active (mentions_in r) (next_reg (code l) m)
+    others_ahead = ahead_behind (mentions_in l) (mentions_in r) (next_passes (mentions_in l) (code l) kept m) ahead
 
     first_final : Final (length m.labels) ((code l).to_reg m.free m) z
     first_final =
@@ -166,7 +166,7 @@ abbrev behind_operands : (to : ℕ) → Maker → Maker → Maker
 behind_operands to m n = free_from m.free (put 1 (Piece.Abc Op.Concat to m.free (n.free - 1)) n)
 
 module _ {f : Function} {g : Fn} {active : List Active} {listed : List ℕ} {z : Maker} {left mid behind : List (Option Inner)} where
-  pub spine_of_first : (line : ℕ) (l r : Expression) (v : Value) (rest : Values) → Rewritten f g active listed z left mid l v → RewrittenSpine f g active listed z mid behind r rest → ends_values rest ≡ false → PassesNames (names_in l) (code l) →
+  pub spine_of_first : (line : ℕ) (l r : Expression) (v : Value) (rest : Values) → Rewritten f g active listed z left mid l v → RewrittenSpine f g active listed z mid behind r rest → ends_values rest ≡ false → PassesMentions (mentions_in l) (code l) →
       RewrittenSpine f g active listed z left behind (binary_expression line BinaryOp.Concat l r) (and_value v rest)
   spine_of_first line l r v rest first others some kept = record {
     can = joined_can first others some;
@@ -176,7 +176,7 @@ module _ {f : Function} {g : Fn} {active : List Active} {listed : List ℕ} {z :
     taken = λ m ahead final. joined_taken first others some kept m ahead final;
   }
 
-  pub concat_rewritten : (line : ℕ) (l r : Expression) (first : Value) (rest : Values) (v : Value) → Rewritten f g active listed z left mid l first → RewrittenSpine f g active listed z mid behind r rest → ends_values rest ≡ false → PassesNames (names_in l) (code l) →
+  pub concat_rewritten : (line : ℕ) (l r : Expression) (first : Value) (rest : Values) (v : Value) → Rewritten f g active listed z left mid l first → RewrittenSpine f g active listed z mid behind r rest → ends_values rest ≡ false → PassesMentions (mentions_in l) (code l) →
       made_concat (and_value first rest) ≡ Some v → Rewritten f g active listed z left behind (binary_expression line BinaryOp.Concat l r) v
   concat_rewritten line l r of rest v first others some kept made = subst (Rewritten f g active listed z left behind (binary_expression line BinaryOp.Concat l r)) (given_is (nat_lt (deepest (and_value of rest)) 400) _ v made) (record {
     can = joined_can first others some;

@@ -3,14 +3,14 @@ use Rattle.std.proofs.Common.{◌≡◌, ℕ, zero, suc, ◌^◌, ◌+◌, ◌<�
 use Rattle.std.proofs.lemmas.Bool.{le-ltb}
 use Rattle.std.proofs.lemmas.Option.{same_Some}
 use Rattle.std.specs.List.{prefix_len}
-use Rattle.std.specs.Prelude.{◌==◌, option_and_then, option_map, slice_get, if◌then◌else◌}
+use Rattle.std.specs.Prelude.{◌==◌, option_and_then, option_map, slice_get, if◌then◌else◌, Option}
 use Rattle.lua_num.specs.Bytes.{Text}
 use Rattle.lua_tree.specs.Syntax.{Expressions, local_statement}
 use Rattle.lua_tree.specs.WellFormed.{depth_of_expressions}
 use Rattle.proto.specs.declared.parts.LocVar.{LocVar}
 use Rattle.core_expr.specs.Counting.{left_by_values, taken_behind_values}
 use Rattle.core_expr.specs.Places.{place}
-use Rattle.core_expr.specs.Values.{Values}
+use Rattle.core_expr.specs.Values.{Values, Inner}
 use Rattle.core_expr.specs.Writing.{Wordings, can_write_values, word_values}
 use Rattle.recover_expr.specs.Declaring.{captures_itself, declaration, declared_by, local_made, local_of, locals_declared, loop_head, statement_made, without_nil as without_last}
 use Rattle.recover_expr.specs.Drafts.{Drafted}
@@ -20,7 +20,6 @@ use Rattle.recover_expr.specs.Locals.{Scope, declare, entered, is_hidden, names_
 use Rattle.recover_expr.specs.Reading.{as_over, over, turn_at, turn_of}
 use Rattle.recover_expr.specs.Situation.{Function, Situation, place_in_step, word_at}
 use Rattle.recover_expr.specs.Writing.{list_written}
-use Rattle.recover_expr.specs.declared.locals.Declared.{Declared}
 use Rattle.scheme.specs.declared.making.Active.{Active}
 use Rattle.scheme_stands.specs.Relation.{all_related}
 use Rattle.scheme_stands.specs.Statements.{LocalPartAt}
@@ -28,7 +27,7 @@ use Rattle.scheme_stands.specs.Words.{Fn, Spot}
 use Rattle.reads_back.specs.Acted.{Acted, declared, IsActed, act_levels, act_statement, can_act}
 use Rattle.reads_back.specs.Cores.{AllHaveCores}
 use Rattle.reads_back.specs.ReadAs.{part_of}
-use Rattle.reads_back.proofs.ActsRead.{ActRead, CanAct, Declares, act_draft, after_act, kind_of_act}
+use Rattle.reads_back.proofs.ActsRead.{ActRead, CanAct, Declares, act_draft, after_act, kind_of_act, can_now}
 use Rattle.reads_back.proofs.AdjustedEntries.{written_not_own}
 use Rattle.reads_back.proofs.BehindWords.{HasLocals, SameLocals}
 use Rattle.reads_back.proofs.Comes.{IsWanted}
@@ -137,8 +136,8 @@ module _ (f : Function) (names : List Text) (pc : ℕ) (s : Situation) (values :
         ∙ ap (option_map as_over) (are_declared (ap (λ (n : ℕ). names_from f.of.locals n count) same.declared ∙ start.named) plain declares)
 
 -- the values come, and then the locals start
-module _ {f : Function} {g : Fn} {active : List Active} {listed : List ℕ} (names : List Text) (es : Expressions) (can : CanAct f g active listed (local_statement names es)) {made_before made_behind first last : ℕ} (s : Situation)
-    (locals : HasLocals active listed s) (start : StartHere f s.scope names last) (come : DeclaredComes f g active es made_before made_behind s (length names) first last) where
+module _ {f : Function} {g : Fn} {active : List Active} {listed : List ℕ} {lefts : ℕ → List (Option Inner)} (names : List Text) (es : Expressions) (can : CanAct f g active listed lefts (local_statement names es)) {made_before made_behind first last : ℕ} (s : Situation)
+    (locals : HasLocals active listed s) (left_is : s.left ≡ lefts made_before) (start : StartHere f s.scope names last) (come : DeclaredComes f g active es made_before made_behind s (length names) first last) where
   abbrev acted : Acted
   acted = declared names come.values come.all
 
@@ -149,7 +148,7 @@ module _ {f : Function} {g : Fn} {active : List Active} {listed : List ℕ} (nam
   acts = (refl, come.from, come.are, come.written)
 
   can_be_written : can_act (place_in_step f begun) s.left acted ≡ true
-  can_be_written = subst (λ (listed : List ℕ). can_act (place f.of listed f.short) s.left acted ≡ true) (sym (come.same.active ∙ locals.places)) (can.can made_before made_behind acted acts s.left)
+  can_be_written = subst (λ (listed : List ℕ). can_act (place f.of listed f.short) s.left acted ≡ true) (sym (come.same.active ∙ locals.places)) (can_now can made_behind acted left_is acts)
 
   local_step : s.entries ≡ [] → first < last → ActRead f g active (local_statement names es) made_before made_behind s first last
   local_step empty later =
@@ -183,14 +182,14 @@ module _ {f : Function} {g : Fn} {active : List Active} {listed : List ℕ} (is_
       let on = declared_on is_function all es has (omega (arith, few)) (length names) at.mid q at.values_at in
       omega (arith, on.0, at.same)
 
-  pub local_read : (names : List Text) (es : Expressions) → AllHaveCores es → depth_of_expressions es ≤ 199 → CanAct f g active listed (local_statement names es) →
-      (after : List Active) (p q : Spot) (s : Situation) → HasLocals active listed s → s.entries ≡ [] → s.taken ≡ s.seen → IsQuiet f s.scope p.pc q.pc →
+  pub local_read : {lefts : ℕ → List (Option Inner)} (names : List Text) (es : Expressions) → AllHaveCores es → depth_of_expressions es ≤ 199 → CanAct f g active listed lefts (local_statement names es) →
+      (after : List Active) (p q : Spot) (s : Situation) → HasLocals active listed s → s.left ≡ lefts p.functions → s.entries ≡ [] → s.taken ≡ s.seen → IsQuiet f s.scope p.pc q.pc →
       StartHere f s.scope names q.pc → LocalPartAt g names (all_related g es) active after p q → ActRead f g active (local_statement names es) p.functions q.functions s p.pc q.pc
-  local_read names es has few can after p q s locals empty taken quiet start at =
+  local_read {lefts} names es has few can after p q s locals left_is empty taken quiet start at =
       let shallow : depth_of_expressions es ≤ 200 = omega (arith, few) in
       let next : length active ≡ next_free s = omega (arith, locals.base, ap length empty) in
       let quiet_there = subst (λ (pc : ℕ). IsQuiet f s.scope pc q.pc) (sym at.same) quiet in
       let wanted : IsWanted f s q.pc = inr (inl (omega (arith, start.starts, start.some))) in
       let come = declared_comes is_function all es has shallow (length names) at.mid q s locals next quiet_there wanted at.values_at in
       let on = declared_on is_function all es has shallow (length names) at.mid q at.values_at in
-      subst₂ (λ (made pc : ℕ). ActRead f g active (local_statement names es) made q.functions s pc q.pc) at.as_many at.same (local_step names es can s locals start come empty (on.1 start.some))
+      subst₂ (λ (made pc : ℕ). ActRead f g active (local_statement names es) made q.functions s pc q.pc) at.as_many at.same (local_step names es can s locals (left_is ∙ ap lefts (sym at.as_many)) start come empty (on.1 start.some))

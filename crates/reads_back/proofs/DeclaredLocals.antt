@@ -5,6 +5,7 @@ use Rattle.lua_num.specs.Bytes.{Text}
 use Rattle.lua_tree.specs.OneLine.{one_line_expressions, one_line_statement}
 use Rattle.lua_tree.specs.Syntax.{Expressions, local_statement}
 use Rattle.opcode.specs.declared.op.Op.{Op}
+use Rattle.proto.specs.Chunk.{Chunk}
 use Rattle.proto.specs.declared.parts.LocVar.{LocVar}
 use Rattle.scheme.specs.Lists.{adjust, all_multi, all_next, ends_open, filled, nils}
 use Rattle.scheme.specs.Making.{Maker, activate, declare, head_or}
@@ -12,8 +13,8 @@ use Rattle.scheme.specs.Scheme.{all_coded, statement_made}
 use Rattle.scheme.specs.declared.making.Active.{Active}
 use Rattle.scheme_stands.proofs.Growth.{length_end}
 use Rattle.reads_back.specs.Cores.{AllHaveCores}
-use Rattle.reads_back.proofs.NamesAhead.{Passes, names_behind, names_in_all}
-use Rattle.reads_back.proofs.PassedNames.{all_next_passed, all_multi_passed}
+use Rattle.reads_back.proofs.Mentions.{AskingPasses, Mention, Passes, coming, coming_behind, locals_mention, mentions_in_all, passed_then}
+use Rattle.reads_back.proofs.PassedMentions.{all_next_passed, all_multi_passed}
 
 -- ---- the locals
 
@@ -60,34 +61,27 @@ activated_over (text ∷ texts) m before =
 
 -- ---- they are declared
 
-record DeclaredOver (texts : List Text) (m n : Maker) : Type 0 where
-  active : n.active ≡ m.active
-  locals : n.locals ≡ m.locals
-  functions : n.functions ≡ m.functions
-  upvalues : n.upvalue_names ≡ m.upvalue_names
-  names : n.ahead.names ≡ m.ahead.names
-
-declared_over : (texts : List Text) (m : Maker) → DeclaredOver texts m (declare texts m).after
-declared_over [] m = record { active = refl; locals = refl; functions = refl; upvalues = refl; names = refl }
-declared_over (text ∷ texts) m =
+pub declare_passes : (texts : List Text) → AskingPasses (locals_mention texts ∷ []) (declare texts)
+declare_passes [] m = record { around = refl; behind = refl }
+declare_passes (text ∷ texts) m =
     let later = record m { ahead = record (m.ahead) { captures = drop 1 m.ahead.captures; declarations = suc m.ahead.declarations } } in
-    let others = declared_over texts later in
-    record { active = others.active; locals = others.locals; functions = others.functions; upvalues = others.upvalues; names = others.names }
+    let others = declare_passes texts later in
+    record { around = others.around; behind = others.behind }
 
 -- ---- their values
 
-cond_passes : {texts : List Text} (b : Bool) (one other : Maker → Maker) → (b ≡ true → Passes texts one) → (b ≡ false → Passes texts other) → Passes texts (cond b one other)
+cond_passes : {mentions : List Mention} (b : Bool) (one other : Maker → Maker) → (b ≡ true → Passes mentions one) → (b ≡ false → Passes mentions other) → Passes mentions (cond b one other)
 cond_passes true one other first second = first refl
 cond_passes false one other first second = second refl
 
-pub adjust_passes : (es : Expressions) → AllHaveCores es → (count : ℕ) → Passes (names_in_all es) (adjust 1 (all_coded (one_line_expressions es)) count)
+pub adjust_passes : (es : Expressions) → AllHaveCores es → (count : ℕ) → Passes (mentions_in_all es) (adjust 1 (all_coded (one_line_expressions es)) count)
 adjust_passes es have count m =
     let cs = all_coded (one_line_expressions es) in
     let missing = count - length cs in
     cond_passes (nat_lt (length cs) count) (filled 1 cs missing) (λ n. record (all_next cs n) { free = m.free + count })
     (λ fewer n. cond_passes (ends_open cs) (all_multi Op.Call (Some (missing + 1)) cs) (λ o. nils 1 missing (all_next cs o))
-    (λ is. all_multi_passed es have Op.Call (Some (missing + 1)) is) (λ is o. let passed = all_next_passed es have o in record { around = passed.around; names = passed.names }) n)
-    (λ as_many n. let passed = all_next_passed es have n in record { around = passed.around; names = passed.names }) m
+    (λ is. all_multi_passed es have Op.Call (Some (missing + 1)) is) (λ is o. let passed = all_next_passed es have o in record { around = passed.around; behind = passed.behind }) n)
+    (λ as_many n. let passed = all_next_passed es have n in record { around = passed.around; behind = passed.behind }) m
 
 -- ---- the statement
 
@@ -95,24 +89,21 @@ adjust_passes es have count m =
 pub record DeclaredBy (texts : List Text) (es : Expressions) (m n : Maker) : Type 0 where
   pub active : n.active ≡ m.active ++ actives_of texts m.ahead.captures m.ahead.declarations (length m.locals)
   pub locals : n.locals ≡ m.locals ++ entries_at texts (length n.items)
-  pub functions : n.functions ≡ m.functions
   pub upvalues : n.upvalue_names ≡ m.upvalue_names
-  pub names : n.ahead.names ≡ names_behind (names_in_all es) m.ahead.names
+  pub behind : coming n ≡ coming_behind m.active m.upvalue_names (locals_mention texts ∷ mentions_in_all es) (coming m)
 
 pub local_declares : (texts : List Text) (es : Expressions) → AllHaveCores es → (m : Maker) → DeclaredBy texts es m (statement_made (one_line_statement (local_statement texts es)) 1 None m)
 local_declares texts es have m =
     let m1 = (declare texts m).after in
     let m2 = adjust 1 (all_coded (one_line_expressions es)) (length texts) m1 in
-    let first = declared_over texts m in
-    let passed = adjust_passes es have (length texts) m1 in
+    let passed = passed_then (locals_mention texts ∷ []) (mentions_in_all es) (declare_passes texts m) (adjust_passes es have (length texts) m1) in
     let last = activated_over texts m m2 in
-    let locals : m2.locals ≡ m.locals = ap (λ around. around.locals) passed.around ∙ first.locals in
+    let locals : m2.locals ≡ m.locals = ap (λ around. around.locals) passed.around in
     record {
       active =
           last.active
-          ∙ ap₂ (λ active (locals : List LocVar). active ++ actives_of texts m.ahead.captures m.ahead.declarations (length locals)) (ap (λ around. around.active) passed.around ∙ first.active) locals;
+          ∙ ap₂ (λ active (locals : List LocVar). active ++ actives_of texts m.ahead.captures m.ahead.declarations (length locals)) (ap (λ around. around.active) passed.around) locals;
       locals = last.locals ∙ ap₂ (λ locals pc. locals ++ entries_at texts pc) locals (ap length (sym last.items));
-      functions = last.functions ∙ ap (λ around. around.functions) passed.around ∙ first.functions;
-      upvalues = last.upvalues ∙ ap (λ around. around.upvalue_names) passed.around ∙ first.upvalues;
-      names = ap (λ ahead. ahead.names) last.ahead ∙ passed.names ∙ ap (names_behind (names_in_all es)) first.names;
+      upvalues = last.upvalues ∙ ap (λ around. around.upvalue_names) passed.around;
+      behind = ap₂ (λ ahead (functions : List Chunk). record { ahead = ahead; functions = length functions }) last.ahead last.functions ∙ passed.behind;
     }

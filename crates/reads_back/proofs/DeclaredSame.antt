@@ -24,7 +24,7 @@ use Rattle.scheme.specs.declared.making.Active.{Active}
 use Rattle.scheme.specs.declared.making.Local.{Local}
 use Rattle.scheme.specs.declared.making.Piece.{Piece}
 use Rattle.scheme_stands.proofs.Growth.{Final, before, before_free, before_put, before_take, calm, later, loose}
-use Rattle.scheme_stands.proofs.Lines.{all_next_free, declare_active, grows_activate, grows_declare}
+use Rattle.scheme_stands.proofs.Lines.{all_next_free, grows_activate, grows_declare}
 use Rattle.scheme_stands.proofs.Parts.{grow_all}
 use Rattle.scheme_stands.specs.Words.{Fn}
 use Rattle.reads_back.specs.Acted.{declared, declared_values, ends_with_nil, filled as filled_values, without_nil}
@@ -33,7 +33,8 @@ use Rattle.reads_back.proofs.DeclaredValues.{nil_last}
 use Rattle.reads_back.proofs.GivenSame.{AllRewritten, list_rewritten}
 use Rattle.reads_back.proofs.AdjustedEntries.{count_last, last_split, taken_end}
 use Rattle.reads_back.proofs.ListsSame.{EachFine, can_last, codes_of, coded_count, cores_count, cores_fine, fine_front, fine_last, left_last, list_closed, list_few, multi_all, multi_all_taken, next_all, next_all_taken, nil_next, opens_is, values_coded}
-use Rattle.reads_back.proofs.NamesAhead.{AreMeant, IsAhead, names_in_all}
+use Rattle.reads_back.proofs.DeclaredLocals.{declare_passes}
+use Rattle.reads_back.proofs.Mentions.{IsAhead, ahead_behind, locals_mention, mentions_in_all}
 use Rattle.reads_back.proofs.Rewriting.{IsMadeBy, RewrittenAct, RewrittenGiven}
 use Rattle.reads_back.proofs.Tests.{and_not, first_of_both, not_so, second_of_both}
 
@@ -74,10 +75,6 @@ declare_constants : (names : List Text) (m : Maker) → (declare names m).after.
 declare_constants [] m = refl
 declare_constants (name ∷ names) m = declare_constants names _
 
-declare_names : (names : List Text) (m : Maker) → (declare names m).after.ahead.names ≡ m.ahead.names
-declare_names [] m = refl
-declare_names (name ∷ names) m = declare_names names _
-
 activate_constants : (locals : List Local) (m : Maker) → (activate locals m).constants ≡ m.constants
 activate_constants [] m = refl
 activate_constants (local ∷ locals) m = activate_constants locals _
@@ -109,9 +106,9 @@ module _ (f : Function) (g : Fn) (active : List Active) (listed : List ℕ) (z :
     pub can : can_write_values (place f.of listed f.short) left vs ≡ true
     pub leaves : left_by_values vs left ≡ behind
     pub fine : (n : ℕ) → EachFine (place f.of listed f.short) (3 * depth_of_expressions es + 2) n left vs
-    pub same : (m : Maker) → IsAhead g active (names_in_all es) m → Final (length m.labels) (adjust 1 (codes_of es) count m) z →
+    pub same : (m : Maker) → IsAhead g active (mentions_in_all es) m → Final (length m.labels) (adjust 1 (codes_of es) count m) z →
         adjust 1 (values_coded (place f.of listed f.short) (length m.constants) left vs all) count m ≡ adjust 1 (codes_of es) count m
-    pub taken : (m : Maker) → IsAhead g active (names_in_all es) m → Final (length m.labels) (adjust 1 (codes_of es) count m) z → length (adjust 1 (codes_of es) count m).constants ≡ taken_behind_values vs (length m.constants)
+    pub taken : (m : Maker) → IsAhead g active (mentions_in_all es) m → Final (length m.labels) (adjust 1 (codes_of es) count m) z → length (adjust 1 (codes_of es) count m).constants ≡ taken_behind_values vs (length m.constants)
 
   -- the names are declared before the values, and active behind them
   adjusts_act : (names : List Text) (es : Expressions) (vs : Values) (all : Bool) → Adjusts (length names) es vs all → RewrittenAct f g active listed z left behind (local_statement names es) (declared names vs all)
@@ -130,11 +127,8 @@ module _ (f : Function) (g : Fn) (active : List Active) (listed : List ℕ) (z :
         ∙ ap (λ constants. taken_behind_values vs (length constants)) (declare_constants names m);
   }
     where
-      names_ahead : (m : Maker) → IsAhead g active (names_in_all es) m → IsAhead g active (names_in_all es) (declare names m).after
-      names_ahead m ahead = record {
-        active_are = declare_active names m ∙ ahead.active_are;
-        names = subst (λ uses. AreMeant g.law active (names_in_all es) uses) (sym (declare_names names m)) ahead.names;
-      }
+      names_ahead : (m : Maker) → IsAhead g active (locals_mention names ∷ mentions_in_all es) m → IsAhead g active (mentions_in_all es) (declare names m).after
+      names_ahead m ahead = ahead_behind (locals_mention names ∷ []) (mentions_in_all es) (declare_passes names m) ahead
 
       inner : (m : Maker) → Final (length m.labels) (local_part 1 names (codes_of es) m) z → Final (length (declare names m).after.labels) (adjust 1 (codes_of es) (length names) (declare names m).after) z
       inner m final =
@@ -187,7 +181,7 @@ module _ {f : Function} {g : Fn} {active : List Active} {listed : List ℕ} {z :
     more_final : (m : Maker) → Final (length m.labels) (adjust 1 cs count m) z → Final (length m.labels) (all_next cs m) z
     more_final m final = before_free (m.free + count) (all_next cs m) (subst (λ (n : Maker). Final (length m.labels) n z) (more_is m) final)
 
-    more_taken : (m : Maker) → IsAhead g active (names_in_all es) m → Final (length m.labels) (adjust 1 cs count m) z → length (adjust 1 cs count m).constants ≡ taken_behind_values from (length m.constants)
+    more_taken : (m : Maker) → IsAhead g active (mentions_in_all es) m → Final (length m.labels) (adjust 1 cs count m) z → length (adjust 1 cs count m).constants ≡ taken_behind_values from (length m.constants)
     more_taken m ahead final = ap (λ (n : Maker). length n.constants) (more_is m) ∙ next_all_taken f g active listed z lefts es before behind from has written are m ahead (more_final m final)
 
     pub more_written : IsWritten from true
@@ -240,7 +234,7 @@ module _ {f : Function} {g : Fn} {active : List Active} {listed : List ℕ} {z :
     closed_final : (m : Maker) → Final (length m.labels) (adjust 1 cs count m) z → Final (length m.labels) (all_next cs m) z
     closed_final m final = before_nils (count - length cs) (all_next cs m) (subst (λ (n : Maker). Final (length m.labels) n z) (closed_is m) final)
 
-    closed_taken : (m : Maker) → IsAhead g active (names_in_all es) m → Final (length m.labels) (adjust 1 cs count m) z → length (adjust 1 cs count m).constants ≡ taken_behind_values from (length m.constants)
+    closed_taken : (m : Maker) → IsAhead g active (mentions_in_all es) m → Final (length m.labels) (adjust 1 cs count m) z → length (adjust 1 cs count m).constants ≡ taken_behind_values from (length m.constants)
     closed_taken m ahead final = ap (λ (n : Maker). length n.constants) (closed_is m) ∙ next_all_taken f g active listed z lefts es before behind from has written are m ahead (closed_final m final)
 
     pub closed_written : IsWritten from false

@@ -43,50 +43,50 @@ nil_last (and_value v (and_value w (and_value x rest))) ends =
 
 -- ---- they mention the same names
 
-module _ (at : Place) where
-  nil_behind : (vs : Values) → SamePart (parts_of at (and_last_value vs nil_value)) (parts_of at vs)
+module _ (at : Place) (of : ℕ → Part) where
+  nil_behind : (vs : Values) → SamePart (parts_of at of (and_last_value vs nil_value)) (parts_of at of vs)
   nil_behind no_values = nothing_behind nothing
-  nil_behind (and_value v rest) = both_same (same_part (part_of at v)) (nil_behind rest)
+  nil_behind (and_value v rest) = both_same (same_part (part_of at of v)) (nil_behind rest)
 
-  with_nil_parts : (missing_one : Bool) (vs : Values) → SamePart (parts_of at (with_nil missing_one vs)) (parts_of at vs)
+  with_nil_parts : (missing_one : Bool) (vs : Values) → SamePart (parts_of at of (with_nil missing_one vs)) (parts_of at of vs)
   with_nil_parts true vs = nil_behind vs
-  with_nil_parts false vs = same_part (parts_of at vs)
+  with_nil_parts false vs = same_part (parts_of at of vs)
 
-  without_nil_parts : (left_out : Bool) (vs : Values) → (left_out ≡ true → ends_with_nil vs ≡ true) → SamePart (parts_of at (without_nil left_out vs).values) (parts_of at vs)
-  without_nil_parts true vs ends = part_then (part_back (nil_behind (before_last (split_last vs)))) (λ place. ap (λ vs. parts_of at vs place) (nil_last vs (ends refl)))
-  without_nil_parts false vs ends = same_part (parts_of at vs)
+  without_nil_parts : (left_out : Bool) (vs : Values) → (left_out ≡ true → ends_with_nil vs ≡ true) → SamePart (parts_of at of (without_nil left_out vs).values) (parts_of at of vs)
+  without_nil_parts true vs ends = part_then (part_back (nil_behind (before_last (split_last vs)))) (λ place. ap (λ vs. parts_of at of vs place) (nil_last vs (ends refl)))
+  without_nil_parts false vs ends = same_part (parts_of at of vs)
 
-  filled_parts : (missing_some : Bool) (count : ℕ) (missing_one : Bool) (vs : Values) → SamePart (parts_of at (filled missing_some count missing_one vs).values) (parts_of at vs)
-  filled_parts true count missing_one vs = same_part (parts_of at vs)
+  filled_parts : (missing_some : Bool) (count : ℕ) (missing_one : Bool) (vs : Values) → SamePart (parts_of at of (filled missing_some count missing_one vs).values) (parts_of at of vs)
+  filled_parts true count missing_one vs = same_part (parts_of at of vs)
   filled_parts false count missing_one vs =
       let all = with_nil missing_one vs in
       part_then (without_nil_parts ((value_count all == count) && ends_with_nil all) all (λ both. second_of_both (value_count all == count) _ both)) (with_nil_parts missing_one vs)
 
-  pub declared_parts : (count : ℕ) (is_open : Bool) (from vs : Values) (all : Bool) → declared_values count is_open from ≡ record { values = vs; all = all } → SamePart (parts_of at vs) (parts_of at from)
+  pub declared_parts : (count : ℕ) (is_open : Bool) (from vs : Values) (all : Bool) → declared_values count is_open from ≡ record { values = vs; all = all } → SamePart (parts_of at of vs) (parts_of at of from)
   declared_parts count is_open from vs all is =
-      part_then (λ place. ap (λ (list : Listed). parts_of at list.values place) (sym is)) (filled_parts (not is_open && nat_lt (suc (value_count from)) count) count (not is_open && (suc (value_count from) == count)) from)
+      part_then (λ place. ap (λ (list : Listed). parts_of at of list.values place) (sym is)) (filled_parts (not is_open && nat_lt (suc (value_count from)) count) count (not is_open && (suc (value_count from) == count)) from)
 
   -- ---- of an assignment, with the operand that goes to a part of a table
 
   abbrev pub last_part : Option OperandValue → Part
   last_part None = nothing
-  last_part (Some o) = part_of_operand at o
+  last_part (Some o) = part_of_operand at of o
 
   abbrev pub assigned_part : Assigned → Part
-  assigned_part to = both (parts_of at to.values) (last_part to.last)
+  assigned_part to = both (parts_of at of to.values) (last_part to.last)
 
-  nil_parts : (t : Option TargetValue) (vs : Values) → SamePart (assigned_part (with_last_nil t vs)) (parts_of at vs)
-  nil_parts None vs = part_then (nothing_behind (parts_of at (and_last_value vs nil_value))) (nil_behind vs)
-  nil_parts (Some (local_target r)) vs = nothing_behind (parts_of at vs)
-  nil_parts (Some (upvalue_target slot)) vs = part_then (nothing_behind (parts_of at (and_last_value vs nil_value))) (nil_behind vs)
-  nil_parts (Some (global_target number)) vs = part_then (nothing_behind (parts_of at (and_last_value vs nil_value))) (nil_behind vs)
-  nil_parts (Some (index_target on key)) vs = nothing_behind (parts_of at vs)
+  nil_parts : (t : Option TargetValue) (vs : Values) → SamePart (assigned_part (with_last_nil t vs)) (parts_of at of vs)
+  nil_parts None vs = part_then (nothing_behind (parts_of at of (and_last_value vs nil_value))) (nil_behind vs)
+  nil_parts (Some (local_target r)) vs = nothing_behind (parts_of at of vs)
+  nil_parts (Some (upvalue_target slot)) vs = part_then (nothing_behind (parts_of at of (and_last_value vs nil_value))) (nil_behind vs)
+  nil_parts (Some (global_target number)) vs = part_then (nothing_behind (parts_of at of (and_last_value vs nil_value))) (nil_behind vs)
+  nil_parts (Some (index_target on key)) vs = nothing_behind (parts_of at of vs)
 
-  missing_parts : (fewer one : Bool) (t : Option TargetValue) (vs : Values) → SamePart (assigned_part (if fewer then some_missing one t vs else record { values = vs; all = true; last = None })) (parts_of at vs)
+  missing_parts : (fewer one : Bool) (t : Option TargetValue) (vs : Values) → SamePart (assigned_part (if fewer then some_missing one t vs else record { values = vs; all = true; last = None })) (parts_of at of vs)
   missing_parts true true t vs = nil_parts t vs
-  missing_parts true false t vs = nothing_behind (parts_of at vs)
-  missing_parts false one t vs = nothing_behind (parts_of at vs)
+  missing_parts true false t vs = nothing_behind (parts_of at of vs)
+  missing_parts false one t vs = nothing_behind (parts_of at of vs)
 
-  pub assigned_parts : (count : ℕ) (t : Option TargetValue) (is_open : Bool) (from : Values) (to : Assigned) → values_assigned count t is_open from ≡ to → SamePart (assigned_part to) (parts_of at from)
+  pub assigned_parts : (count : ℕ) (t : Option TargetValue) (is_open : Bool) (from : Values) (to : Assigned) → values_assigned count t is_open from ≡ to → SamePart (assigned_part to) (parts_of at of from)
   assigned_parts count t is_open from to is =
       part_then (λ place. ap (λ (to : Assigned). assigned_part to place) (sym is)) (missing_parts (not is_open && nat_lt (value_count from) count) (suc (value_count from) == count) t from)

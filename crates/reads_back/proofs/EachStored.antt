@@ -88,6 +88,7 @@ pub record EachAt (g : Fn) (active : List Active) (ds : List Destination) (es : 
   pub last_at : StoreAt g place (related g last) active (free + length (all_related g front)) mid stored
   pub others_at : StoreWordsAt g free vs stored q
   pub counts : length (all_related g front) ≡ length vs
+  pub alone : length (all_related g front) ≡ 0 → es ≡ syntax.expression last no_expressions
   pub cores : (before between behind : ℕ) (values : Values) (v : Value) → AreCores g active front before between values → IsCore g active last between behind v → AreCores g active es before behind (and_last_value values v)
   pub operand : (before between behind : ℕ) (values : Values) (o : OperandValue) → AreCores g active front before between values → IsOperand g active last between behind o → EndWithOperand g active es o before behind values
   pub has_front : AllHaveCores front
@@ -116,6 +117,7 @@ each_more g active place d said e e2 es has free p mid stored q room first at ds
       last_at = subst (λ (free : ℕ). StoreAt g rest.place (related g rest.last) active free rest.mid rest.stored) next rest.last_at;
       others_at = record { mid = stored; first_at = subst (λ (r : ℕ). StoreWordsAt g r rest.vs rest.stored stored) above rest.others_at; second_at = said free stored q at };
       counts = ap suc rest.counts;
+      alone = λ none. cc;
       cores = λ before between behind values v are is. let on = are.1 in (are.0, (on.0, and_last_value on.1 v, on.2, rest.cores are.0 between behind on.1 v on.3 is, ap (λ values. and_last_value values v) on.4));
       operand = λ before between behind values o are is. let on = are.1 in (are.0, (on.0, on.1, on.2, rest.operand are.0 between behind on.1 o on.3 is, on.4));
       has_front = (has, rest.has_front);
@@ -171,6 +173,7 @@ module _ (g : Fn) where
         last_at = subst (λ (free : ℕ). StoreAt g place (related g e) active free p q) here at;
         others_at = record { pc = refl; ahead = refl; functions = refl };
         counts = refl;
+        alone = λ none. refl;
         cores = λ before between behind values v are is. (behind, (v, no_values, subst (λ (before : ℕ). IsCore g active e before behind v) are.0 is, (refl, refl), ap (λ values. and_last_value values v) are.1));
         operand = λ before between behind values o are is. (are.1, subst (λ (before : ℕ). IsOperand g active e before behind o) are.0 is);
         has_front = tt;

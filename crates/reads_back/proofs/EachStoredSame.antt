@@ -32,7 +32,7 @@ use Rattle.reads_back.proofs.ConstantsSame.{constant_taken}
 use Rattle.reads_back.proofs.GivenSame.{AllRewritten}
 use Rattle.reads_back.proofs.LeavesSame.{nil_rewritten, parenthesized_rewritten}
 use Rattle.reads_back.proofs.ListsSame.{codes_of, first_ahead, others_ahead, others_final, values_coded}
-use Rattle.reads_back.proofs.NamesAhead.{IsAhead, names_in, names_in_all}
+use Rattle.reads_back.proofs.Mentions.{IsAhead, mentions_in, mentions_in_all}
 use Rattle.reads_back.proofs.OperandsSame.{operand_rewritten}
 use Rattle.reads_back.proofs.Rewriting.{IsMadeBy, Rewritten, RewrittenOperand, code, operand_wording, wording}
 use Rattle.reads_back.proofs.TargetsSame.{ArePlaces, IsPlace}
@@ -147,26 +147,26 @@ module _ {f : Function} {g : Fn} {active : List Active} {listed : List ℕ} {z :
 
 module _ {f : Function} {g : Fn} {active : List Active} {listed : List ℕ} {z : Maker} {left behind : List (Option Inner)} {e : Expression} {v : Value} (written : Rewritten f g active listed z left behind e v) where
   -- that goes as an operand to a name that is no local
-  operand_stored : (bare : Bool) (text : Text) (w : Where) (m : Maker) → IsAhead g active (names_in e) m → Final (length m.labels) (store_operand 1 text w (code e) m) z →
+  operand_stored : (bare : Bool) (text : Text) (w : Where) (m : Maker) → IsAhead g active (mentions_in e) m → Final (length m.labels) (store_operand 1 text w (code e) m) z →
       store_operand 1 text w (coded (unless bare (wording f listed z left (length m.constants) v)).words) m ≡ store_operand 1 text w (code e) m
   operand_stored bare text w m ahead final =
       ap (λ (x : Got ℕ). set_where 1 x.value text w x.after)
       (operand_wrapped bare (wording f listed z left (length m.constants) v) m ∙ operand_same written m ahead (value_final text w (code e) m final))
 
-  store_same : (bare : Bool) (text : Text) (w : Where) (m : Maker) → IsAhead g active (names_in e) m → Final (length m.labels) (store 1 (name_target text w) (code e) m) z →
+  store_same : (bare : Bool) (text : Text) (w : Where) (m : Maker) → IsAhead g active (mentions_in e) m → Final (length m.labels) (store 1 (name_target text w) (code e) m) z →
       store 1 (name_target text w) (coded (unless bare (wording f listed z left (length m.constants) v)).words) m ≡ store 1 (name_target text w) (code e) m
   store_same bare text (in_register x) m ahead final = to_reg_wrapped bare (wording f listed z left (length m.constants) v) x m ∙ written.to_reg x m ahead final
   store_same bare text (in_upvalue slot) m ahead final = operand_stored bare text (in_upvalue slot) m ahead final
   store_same bare text in_globals m ahead final = operand_stored bare text in_globals m ahead final
 
   module _ (made : IsMadeBy f g active listed z) where
-    operand_takes : (text : Text) (w : Where) (t : TargetValue) (m : Maker) → IsVariableTarget g text w t → IsAhead g active (names_in e) m → Final (length m.labels) (store_operand 1 text w (code e) m) z →
+    operand_takes : (text : Text) (w : Where) (t : TargetValue) (m : Maker) → IsVariableTarget g text w t → IsAhead g active (mentions_in e) m → Final (length m.labels) (store_operand 1 text w (code e) m) z →
         length (store_operand 1 text w (code e) m).constants ≡ named_behind t (taken_behind v (length m.constants))
     operand_takes text w t m is ahead final =
         let x = operand (code e) m in
         set_taken made x.value text w t x.after is final ∙ ap (named_behind t) (operand_taken written m ahead (value_final text w (code e) m final))
 
-    store_taken : (text : Text) (w : Where) (t : TargetValue) (m : Maker) → IsVariableTarget g text w t → IsAhead g active (names_in e) m → Final (length m.labels) (store 1 (name_target text w) (code e) m) z →
+    store_taken : (text : Text) (w : Where) (t : TargetValue) (m : Maker) → IsVariableTarget g text w t → IsAhead g active (mentions_in e) m → Final (length m.labels) (store 1 (name_target text w) (code e) m) z →
         length (store 1 (name_target text w) (code e) m).constants ≡ named_behind t (taken_behind v (length m.constants))
     store_taken text (in_register x) t m is ahead final = written.taken x m ahead final ∙ ap (λ t. named_behind t (taken_behind v (length m.constants))) (sym is)
     store_taken text (in_upvalue slot) t m is ahead final = operand_takes text (in_upvalue slot) t m is ahead final
@@ -177,8 +177,8 @@ module _ {f : Function} {g : Fn} {active : List Active} {listed : List ℕ} {z :
 module _ (f : Function) (g : Fn) (active : List Active) (listed : List ℕ) (z : Maker) where
   -- what is written of the values, where so many constants are taken, is stored as the expressions are
   pub record EachSame (placed : List (Placed g)) (es : Expressions) (written : ℕ → List Coded) (taken : ℕ → ℕ) : Type 0 where
-    pub same : (m : Maker) → IsAhead g active (names_in_all es) m → Final (length m.labels) (each_stored 1 (places placed) (codes_of es) m) z → each_stored 1 (places placed) (written (length m.constants)) m ≡ each_stored 1 (places placed) (codes_of es) m
-    pub takes : (m : Maker) → IsAhead g active (names_in_all es) m → Final (length m.labels) (each_stored 1 (places placed) (codes_of es) m) z →
+    pub same : (m : Maker) → IsAhead g active (mentions_in_all es) m → Final (length m.labels) (each_stored 1 (places placed) (codes_of es) m) z → each_stored 1 (places placed) (written (length m.constants)) m ≡ each_stored 1 (places placed) (codes_of es) m
+    pub takes : (m : Maker) → IsAhead g active (mentions_in_all es) m → Final (length m.labels) (each_stored 1 (places placed) (codes_of es) m) z →
         length (each_stored 1 (places placed) (codes_of es) m).constants ≡ all_named_behind (targets_of placed) (taken (length m.constants))
 
 module _ {f : Function} {g : Fn} {active : List Active} {listed : List ℕ} {z : Maker} {left behind : List (Option Inner)} (made : IsMadeBy f g active listed z) where
@@ -304,9 +304,9 @@ module _ {f : Function} {g : Fn} {active : List Active} {listed : List ℕ} {z :
 abbrev pub and_nil : Expressions → Expressions
 and_nil es = join_expressions es (syntax.expression (parenthesized 1 (nil_literal 1)) no_expressions)
 
-pub nil_names : (es : Expressions) → names_in_all (and_nil es) ≡ names_in_all es
+pub nil_names : (es : Expressions) → mentions_in_all (and_nil es) ≡ mentions_in_all es
 nil_names no_expressions = refl
-nil_names (syntax.expression e es) = ap (λ texts. names_in e ++ texts) (nil_names es)
+nil_names (syntax.expression e es) = ap (λ texts. mentions_in e ++ texts) (nil_names es)
 
 pub nil_have : (es : Expressions) → AllHaveCores es → AllHaveCores (and_nil es)
 nil_have no_expressions has = (tt, tt)

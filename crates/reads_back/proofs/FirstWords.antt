@@ -1,8 +1,8 @@
--- The first word of a value that goes to a register: it begins a value for a register that is free, or it is the only one.
-use Rattle.std.proofs.Common.{◌≡◌, ℕ, suc, ◌+◌, ◌≤◌, ◌⊎◌, true, false, List, Option, Some, None, refl, sym, subst, arith, inl, inr}
+-- The first word of a value that goes to a register: it begins a value for a register that is free, or it is the only one, but for the further words of a closure.
+use Rattle.std.proofs.Common.{◌≡◌, ℕ, ◌+◌, ◌≤◌, ◌⊎◌, true, false, List, [], length, Option, Some, None, refl, sym, ap, ◌∙◌, subst, arith, inl, inr}
 use Rattle.std.specs.Prelude.{ℤ}
 use Rattle.lua_num.specs.Bytes.{Text}
-use Rattle.lua_tree.specs.Syntax.{Expression, nil_literal, true_literal, false_literal, vararg_expression, number_literal, text_literal, name_expression, index_expression, field_expression, call_expression, method_call, binary_expression, unary_expression, constructor, parenthesized}
+use Rattle.lua_tree.specs.Syntax.{FunctionBody, Expression, nil_literal, true_literal, false_literal, vararg_expression, number_literal, text_literal, name_expression, function_expression, index_expression, field_expression, call_expression, method_call, binary_expression, unary_expression, constructor, parenthesized}
 use Rattle.lua_tree.specs.WellFormed.{depth_of_expression, is_call}
 use Rattle.lua_tree.specs.declared.tree.BinaryOp.{BinaryOp}
 use Rattle.lua_tree.specs.declared.tree.UnaryOp.{UnaryOp}
@@ -11,16 +11,19 @@ use Rattle.opcode.specs.declared.word.Instr.{Instr}
 use Rattle.core_expr.specs.Values.{OperandValue}
 use Rattle.recover_expr.specs.Effects.{makes_value}
 use Rattle.recover_expr.specs.Items.{further_words}
+use Rattle.recover_expr.specs.Locals.{or_zero}
 use Rattle.recover_expr.specs.Situation.{Function, instr_at}
 use Rattle.scheme.specs.Expressions.{fold, is_comparison, unary_word}
-use Rattle.scheme.specs.Making.{Where, in_register, in_upvalue, in_globals}
+use Rattle.scheme.specs.Making.{Where, head_or, in_register, in_upvalue, in_globals}
 use Rattle.scheme.specs.declared.making.Active.{Active}
 use Rattle.scheme.specs.declared.making.Piece.{Piece}
 use Rattle.scheme_stands.specs.Expressions.{ArithmeticAt, BinaryAt, LoadOr, NameBy, TwoAt, UnaryAt}
+use Rattle.scheme_stands.specs.Functions.{ClosureAt}
 use Rattle.scheme_stands.specs.Lists.{MovedFrom, TableAt}
-use Rattle.scheme_stands.specs.Relation.{ItemsAt, related}
+use Rattle.scheme_stands.specs.Relation.{FunctionOf, ItemsAt, related}
 use Rattle.scheme_stands.specs.Words.{Fn, IsRead, Spot, Stretch, WordAt, instr_by, meaning}
 use Rattle.reads_back.specs.Cores.{Counted, HasCore}
+use Rattle.reads_back.proofs.ClosureReads.{are_further}
 use Rattle.reads_back.proofs.Comes.{Begins}
 use Rattle.reads_back.proofs.HeldOperands.{ReadsHeld, operand_held, rk_held, taken_up, text_held}
 use Rattle.reads_back.proofs.NameReads.{AreListed}
@@ -30,14 +33,13 @@ use Rattle.reads_back.proofs.ValueReads.{call_read, reads_all}
 use Rattle.reads_back.proofs.WordsBegin.{instr_is, word_begins}
 use Rattle.reads_back.proofs.WordsRead.{IsFunction, abc_is_read, abx_is_read}
 
--- the only word between makes a value for this register
+-- the only word between, but for its further words, makes a value for this register
 pub record IsAlone (f : Function) (r first last : ℕ) : Type 0 where
   pub instr : Instr
   pub there : instr_at f first ≡ Some instr
   pub makes : makes_value instr.op ≡ true
   pub register : instr.a ≡ r
-  pub none : further_words f instr.op instr ≡ 0
-  pub next : last ≡ suc first
+  pub next : last ≡ first + 1 + further_words f instr.op instr
 
 -- the first word begins a value for a register from one on, or it is the only one
 abbrev pub BeginsFor : Function → (free r first last : ℕ) → Type 0
@@ -46,7 +48,7 @@ BeginsFor f free r first last = Begins f free first ⊎ IsAlone f r first last
 is_alone : {f : Function} {g : Fn} {w : Piece} {p q : Spot} (r : ℕ) → IsFunction f g → WordAt g w p q → IsRead p.pc w → makes_value (instr_by p.pc w).op ≡ true → (instr_by p.pc w).a ≡ r →
     further_words f (instr_by p.pc w).op (instr_by p.pc w) ≡ 0 → IsAlone f r p.pc q.pc
 is_alone {w = w} {p} r is_function at read makes register none =
-    record { instr = instr_by p.pc w; there = instr_is is_function at read; makes = makes; register = register; none = none; next = at.next }
+    record { instr = instr_by p.pc w; there = instr_is is_function at read; makes = makes; register = register; next = omega (arith, none, at.next) }
 
 -- no words stand before it
 behind_none : {f : Function} {free r first mid last : ℕ} → first ≡ mid → IsAlone f r mid last → BeginsFor f free r first last
@@ -61,6 +63,19 @@ module _ {f : Function} {g : Fn} {active : List Active} {listed : List ℕ} (is_
   name_first text (in_register x) r p q at = is_alone r is_function at (abc_is_read is_function at) refl refl refl
   name_first text (in_upvalue slot) r p q at = is_alone r is_function at (abc_is_read is_function at) refl refl refl
   name_first text in_globals r p q at = is_alone r is_function at.word (abx_is_read is_function at.word) refl refl refl
+
+  closure_first : (body : FunctionBody) (free r : ℕ) (p q : Spot) → ClosureAt g (FunctionOf body false) active free r p q → IsAlone f r p.pc q.pc
+  closure_first body free r p q at =
+      let w = Piece.Abx Op.Closure r p.functions in
+      let uses = head_or [] p.ahead.sources in
+      let further : further_words f Op.Closure (instr_by p.pc w) ≡ length uses = ap or_zero (is_function.upvalues p.functions at.chunk at.is) ∙ at.upvalues in
+      record {
+        instr = instr_by p.pc w;
+        there = instr_is is_function at.word (abx_is_read is_function at.word);
+        makes = refl;
+        register = refl;
+        next = omega (arith, further, at.word.next, at.next, (are_further g active uses at.mid q at.further).pc);
+      }
 
   -- two operands, and a word that makes a value of them
   both_first : {Left Right : Counted OperandValue} {left_at right_at : (free x free1 : ℕ) → Stretch} (code : Op) → makes_value code ≡ true → ((i : Instr) → further_words f code i ≡ 0) → ReadsHeld f g active listed Left left_at → ReadsHeld f g active listed Right right_at →
@@ -126,6 +141,7 @@ module _ {f : Function} {g : Fn} {active : List Active} {listed : List ℕ} (is_
   value_first (number_literal line n) has few free r p q within at = inr (is_alone r is_function at.word (abx_is_read is_function at.word) refl refl refl)
   value_first (text_literal line text) has few free r p q within at = inr (is_alone r is_function at.word (abx_is_read is_function at.word) refl refl refl)
   value_first (name_expression line text) has few free r p q within at = let words = at.1 in behind_none (sym words.first_at.pc) (name_first text (meaning active p) r words.mid q words.second_at)
+  value_first (function_expression line body) has few free r p q within at = inr (closure_first body free r p q at)
   value_first (index_expression line on key) has few free r p q within at =
       let table = operand_held is_function all on (reads_all is_function all on has.0 (omega (arith, few))).one in
       both_first Op.GetTable refl (λ i. refl) table (rk_held is_function all key (reads_all is_function all key has.1 (omega (arith, few))).one) free r p q within at

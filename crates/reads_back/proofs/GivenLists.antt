@@ -21,7 +21,7 @@ use Rattle.scheme_stands.specs.Expressions.{several}
 use Rattle.scheme_stands.specs.Lists.{AllNextAt, AllMultiAt, OpenBy, TableAt, rels_open}
 use Rattle.scheme_stands.specs.Relation.{all_related, given_rel, ItemsAt}
 use Rattle.scheme_stands.specs.Words.{Fn, Spot, ConstantWord}
-use Rattle.reads_back.specs.Cores.{IsFirst, IsOnly, IsConstant, IsTextGiven, AreCores, AreGiven, AreItems, ends_open, Counted, IsCore, still, first_and}
+use Rattle.reads_back.specs.Cores.{IsOnly, IsConstant, AreCores, AreGiven, AreItems, ends_open, Counted, IsCore, still, first_and}
 use Rattle.reads_back.proofs.Comes.{AreEntries, Begins, IsElementRead, IsWanted, Comes, Reads, ReadsTable, comes_next, GivenComes, ReadsGiven}
 use Rattle.reads_back.proofs.BehindWords.{HasLocals, SameLocals, same_locals, same_then, quiet_same, behind_words}
 use Rattle.reads_back.proofs.LiteralReads.{constant_reads}

@@ -24,8 +24,8 @@ use Rattle.scheme_stands.specs.Words.{Fn}
 use Rattle.reads_back.specs.Cores.{AllHaveCores, AreCores, HasCore, HasNumber, IsCore, IsTextGiven, ends_open}
 use Rattle.reads_back.proofs.ConstantsSame.{constant_taken}
 use Rattle.reads_back.proofs.LiteralReads.{constant_there}
-use Rattle.reads_back.proofs.NamesAhead.{IsAhead, ahead_behind, ahead_front, names_in, names_in_all}
-use Rattle.reads_back.proofs.PassedNames.{names_passed, next_passes}
+use Rattle.reads_back.proofs.Mentions.{IsAhead, ahead_behind, ahead_front, mentions_in, mentions_in_all, Mention}
+use Rattle.reads_back.proofs.PassedMentions.{mentions_passed, next_passes}
 use Rattle.reads_back.proofs.Rewriting.{IsMadeBy, Rewritten, RewrittenGiven, code, wording}
 use Rattle.reads_back.proofs.Tests.{both_hold}
 use Rattle.reads_back.proofs.WordsSame.{coded_is, levels_wrapped, next_same, next_taken, next_wrapped, same_multiple}
@@ -95,9 +95,9 @@ module _ {f : Function} {g : Fn} {active : List Active} {listed : List ℕ} {z :
     counts = λ n. count_by (coded (wording f listed z left n v).words ∷ []) true (written_opens n) ∙ sym (count_by (code e ∷ []) true (opens_last e true is));
     part = λ m ahead final.
         open_by (coded (wording f listed z left (length m.constants) v).words ∷ []) true m (written_opens (length m.constants))
-        ∙ written.multi (sym is) Op.Call None m (ahead_front (names_in e) [] ahead) (inner m final)
+        ∙ written.multi (sym is) Op.Call None m (ahead_front (mentions_in e) [] ahead) (inner m final)
         ∙ sym (open_by (code e ∷ []) true m (opens_last e true is));
-    taken = λ m ahead final. ap (λ (m : Maker). length m.constants) (open_by (code e ∷ []) true m (opens_last e true is)) ∙ written.multi_taken (sym is) Op.Call None m (ahead_front (names_in e) [] ahead) (inner m final);
+    taken = λ m ahead final. ap (λ (m : Maker). length m.constants) (open_by (code e ∷ []) true m (opens_last e true is)) ∙ written.multi_taken (sym is) Op.Call None m (ahead_front (mentions_in e) [] ahead) (inner m final);
   }
     where
       written_opens : (n : ℕ) → opens (coded (wording f listed z left n v).words ∷ []) ≡ true
@@ -115,9 +115,9 @@ module _ {f : Function} {g : Fn} {active : List Active} {listed : List ℕ} {z :
     part = λ m ahead final.
         open_by (coded (last (length m.constants)).words ∷ []) false m (written_closed (length m.constants))
         ∙ next_wrapped (not (true && can_be_several v)) (wording f listed z left (length m.constants) v) m
-        ∙ next_same written m (ahead_front (names_in e) [] ahead) (inner m final)
+        ∙ next_same written m (ahead_front (mentions_in e) [] ahead) (inner m final)
         ∙ sym (open_by (code e ∷ []) false m (opens_last e false is));
-    taken = λ m ahead final. ap (λ (m : Maker). length m.constants) (open_by (code e ∷ []) false m (opens_last e false is)) ∙ next_taken written m (ahead_front (names_in e) [] ahead) (inner m final);
+    taken = λ m ahead final. ap (λ (m : Maker). length m.constants) (open_by (code e ∷ []) false m (opens_last e false is)) ∙ next_taken written m (ahead_front (mentions_in e) [] ahead) (inner m final);
   }
     where
       last : (n : ℕ) → Wording
@@ -184,14 +184,14 @@ module _ {f : Function} {g : Fn} {active : List Active} {listed : List ℕ} {z :
       here : (m : Maker) → Final (length m.labels) (open_list (code e ∷ behind_first) m) z → Final (length m.labels) (next_reg (code e) m) z
       here m final = before (grows_open {v = calm} behind_first (grow_all calm (one_line_expressions (syntax.expression d es))) (next_reg (code e) m)) (inner m final)
 
-      rest_names : List Text
-      rest_names = names_in_all (syntax.expression d es)
+      rest_mentions : List Mention
+      rest_mentions = mentions_in_all (syntax.expression d es)
 
-      first_ahead : (m : Maker) → IsAhead g active (names_in e ++ rest_names) m → IsAhead g active (names_in e) m
-      first_ahead m ahead = ahead_front (names_in e) rest_names ahead
+      first_ahead : (m : Maker) → IsAhead g active (mentions_in e ++ rest_mentions) m → IsAhead g active (mentions_in e) m
+      first_ahead m ahead = ahead_front (mentions_in e) rest_mentions ahead
 
-      others_ahead : (m : Maker) → IsAhead g active (names_in e ++ rest_names) m → IsAhead g active rest_names (next_reg (code e) m)
-      others_ahead m ahead = ahead_behind (names_in e) rest_names (next_passes (names_in e) (code e) (names_passed e has) m) ahead
+      others_ahead : (m : Maker) → IsAhead g active (mentions_in e ++ rest_mentions) m → IsAhead g active rest_mentions (next_reg (code e) m)
+      others_ahead m ahead = ahead_behind (mentions_in e) rest_mentions (next_passes (mentions_in e) (code e) (mentions_passed e has) m) ahead
 
       final_behind : (m : Maker) → Final (length m.labels) (open_list (code e ∷ behind_first) m) z → Final (length (next_reg (code e) m).labels) (open_list behind_first (next_reg (code e) m)) z
       final_behind m final = let grown = grows_next {v = calm} (code e) (grows calm (one_line_expression e)) m in later grown.more (inner m final)

@@ -24,10 +24,10 @@ use Rattle.scheme_stands.proofs.Growth.{calm, Grown, Final, before, before_free,
 use Rattle.scheme_stands.proofs.Parts.{grows, grows_operand, grows_rk, grows_rk_text}
 use Rattle.scheme_stands.specs.Words.{Fn}
 use Rattle.reads_back.proofs.Deeper.{some_depth}
-use Rattle.reads_back.proofs.NamesAhead.{AskingPasses, IsAhead, ahead_behind, ahead_front, names_in}
+use Rattle.reads_back.proofs.Mentions.{AskingPasses, IsAhead, ahead_behind, ahead_front, mentions_in, Mention}
 use Rattle.reads_back.proofs.Operators.{last_taken}
 use Rattle.reads_back.proofs.OperatorsSame.{few_more}
-use Rattle.reads_back.proofs.PassedNames.{PassesNames, operand_passes, rk_passes, rk_text_passes}
+use Rattle.reads_back.proofs.PassedMentions.{PassesMentions, operand_passes, rk_passes, rk_text_passes}
 use Rattle.reads_back.proofs.Rewriting.{Rewritten, RewrittenOperand, code, keys_of, operand_wording, wording}
 use Rattle.reads_back.proofs.WordsSame.{levels_wrapped, no_local, operand_same, operand_taken, operand_wrapped}
 use Rattle.reads_back.proofs.Tests.{first_of_both, given_is, second_of_both}
@@ -179,30 +179,30 @@ key_few None on key deep more first second = let all = few_more (max on.levels k
 key_few (Some name) on key deep more first second = let all = few_more on.levels in omega (arith, first, all)
 
 -- what is known of a key that asks so
-pub record KeySame (f : Function) (g : Fn) (active : List Active) (listed : List ℕ) (z : Maker) (left behind : List (Option Inner)) (asked : Asks ℕ) (texts : List Text) (key : OperandValue) (deep : ℕ) : Type 0 where
+pub record KeySame (f : Function) (g : Fn) (active : List Active) (listed : List ℕ) (z : Maker) (left behind : List (Option Inner)) (asked : Asks ℕ) (mentions : List Mention) (key : OperandValue) (deep : ℕ) : Type 0 where
   pub can : can_write_operand (place f.of listed f.short) left key ≡ true
   pub leaves : left_by_operand key left ≡ behind
   pub few : (n : ℕ) → (operand_wording f listed z left n key).levels ≤ 3 * deep + 3
-  pub passes : AskingPasses texts asked
+  pub passes : AskingPasses mentions asked
   pub grown : (m : Maker) → Grown calm m (asked m).after
-  pub as_rk : (m : Maker) → IsAhead g active texts m → Final (length m.labels) (asked m).after z → rk (coded (operand_wording f listed z left (length m.constants) key).words) m ≡ asked m
-  pub taken : (m : Maker) → IsAhead g active texts m → Final (length m.labels) (asked m).after z → length (asked m).after.constants ≡ taken_behind_operand key (length m.constants)
+  pub as_rk : (m : Maker) → IsAhead g active mentions m → Final (length m.labels) (asked m).after z → rk (coded (operand_wording f listed z left (length m.constants) key).words) m ≡ asked m
+  pub taken : (m : Maker) → IsAhead g active mentions m → Final (length m.labels) (asked m).after z → length (asked m).after.constants ≡ taken_behind_operand key (length m.constants)
 
 -- as much of it as an index asks for, which has no names to come behind its key
-record KeyWritten (f : Function) (g : Fn) (active : List Active) (listed : List ℕ) (z : Maker) (left behind : List (Option Inner)) (asked : Asks ℕ) (texts : List Text) (key : OperandValue) (deep : ℕ) : Type 0 where
+record KeyWritten (f : Function) (g : Fn) (active : List Active) (listed : List ℕ) (z : Maker) (left behind : List (Option Inner)) (asked : Asks ℕ) (mentions : List Mention) (key : OperandValue) (deep : ℕ) : Type 0 where
   can : can_write_operand (place f.of listed f.short) left key ≡ true
   leaves : left_by_operand key left ≡ behind
   few : (n : ℕ) → (operand_wording f listed z left n key).levels ≤ 3 * deep + 3
   grown : (m : Maker) → Grown calm m (asked m).after
-  as_rk : (m : Maker) → IsAhead g active texts m → Final (length m.labels) (asked m).after z → rk (coded (operand_wording f listed z left (length m.constants) key).words) m ≡ asked m
-  taken : (m : Maker) → IsAhead g active texts m → Final (length m.labels) (asked m).after z → length (asked m).after.constants ≡ taken_behind_operand key (length m.constants)
+  as_rk : (m : Maker) → IsAhead g active mentions m → Final (length m.labels) (asked m).after z → rk (coded (operand_wording f listed z left (length m.constants) key).words) m ≡ asked m
+  taken : (m : Maker) → IsAhead g active mentions m → Final (length m.labels) (asked m).after z → length (asked m).after.constants ≡ taken_behind_operand key (length m.constants)
 
 -- the word behind both
 abbrev behind_key : (to : ℕ) → Maker → ℕ → Got ℕ → Maker
 behind_key to m x y = free_from m.free (put 1 (Piece.Abc Op.GetTable to x y.value) y.after)
 
-module _ {f : Function} {g : Fn} {active : List Active} {listed : List ℕ} {z : Maker} {left mid behind : List (Option Inner)} {on : Expression} {o : Value} {asked : Asks ℕ} {texts : List Text} {key : OperandValue} {deep : ℕ} {v : Value}
-    (first : Rewritten f g active listed z left mid on o) (second : KeyWritten f g active listed z mid behind asked texts key deep) (made : made_index o key ≡ Some v) where
+module _ {f : Function} {g : Fn} {active : List Active} {listed : List ℕ} {z : Maker} {left mid behind : List (Option Inner)} {on : Expression} {o : Value} {asked : Asks ℕ} {mentions : List Mention} {key : OperandValue} {deep : ℕ} {v : Value}
+    (first : Rewritten f g active listed z left mid on o) (second : KeyWritten f g active listed z mid behind asked mentions key deep) (made : made_index o key ≡ Some v) where
   is : Indexes (place f.of listed f.short) o key v
   is = indexes (place f.of listed f.short) o key v made
 
@@ -228,12 +228,12 @@ module _ {f : Function} {g : Fn} {active : List Active} {listed : List ℕ} {z :
       let more : suc (keys_of o) ≤ 200 = omega (arith, few, first.keys) in
       is.can left more first.can (ap (λ fs. can_write_operand (place f.of listed f.short) fs key) first.leaves ∙ second.can)
 
-  module _ (kept : PassesNames (names_in on) (code on)) (to : ℕ) (m : Maker) (ahead : IsAhead g active (names_in on ++ texts) m) (final : Final (length m.labels) (freeing (indexed_value 1 (code on) asked to) m) z) where
-    on_ahead : IsAhead g active (names_in on) m
-    on_ahead = ahead_front (names_in on) texts ahead
+  module _ (kept : PassesMentions (mentions_in on) (code on)) (to : ℕ) (m : Maker) (ahead : IsAhead g active (mentions_in on ++ mentions) m) (final : Final (length m.labels) (freeing (indexed_value 1 (code on) asked to) m) z) where
+    on_ahead : IsAhead g active (mentions_in on) m
+    on_ahead = ahead_front (mentions_in on) mentions ahead
 
-    key_ahead : IsAhead g active texts (operand (code on) m).after
-    key_ahead = ahead_behind (names_in on) texts (operand_passes (names_in on) (code on) kept m) ahead
+    key_ahead : IsAhead g active mentions (operand (code on) m).after
+    key_ahead = ahead_behind (mentions_in on) mentions (operand_passes (mentions_in on) (code on) kept m) ahead
 
     both_final : Final (length m.labels) (asked (operand (code on) m).after).after z
     both_final =
@@ -266,11 +266,11 @@ module _ {f : Function} {g : Fn} {active : List Active} {listed : List ℕ} {z :
         ∙ sym (is.taken (length m.constants))
 
   -- an expression whose code this is
-  indexed_rewritten : (e : Expression) → names_in e ≡ names_in on ++ texts → suc (max (depth_of_expression on) deep) ≤ depth_of_expression e → depth_of_expression e ≤ 200 → is_name e ≡ false → fold e ≡ None → is_multiple e ≡ false →
-      ((to : ℕ) (m : Maker) → (code e).to_reg to m ≡ freeing (indexed_value 1 (code on) asked to) m) → PassesNames (names_in on) (code on) → Rewritten f g active listed z left behind e v
+  indexed_rewritten : (e : Expression) → mentions_in e ≡ mentions_in on ++ mentions → suc (max (depth_of_expression on) deep) ≤ depth_of_expression e → depth_of_expression e ≤ 200 → is_name e ≡ false → fold e ≡ None → is_multiple e ≡ false →
+      ((to : ℕ) (m : Maker) → (code e).to_reg to m ≡ freeing (indexed_value 1 (code on) asked to) m) → PassesMentions (mentions_in on) (code on) → Rewritten f g active listed z left behind e v
   indexed_rewritten e mentioned deeper shallow plain none single code_is kept =
       let name = field_name (place f.of listed f.short) key in
-      let ahead_of : (m : Maker) → IsAhead g active (names_in e) m → IsAhead g active (names_in on ++ texts) m = λ m ahead. subst (λ texts. IsAhead g active texts m) mentioned ahead in
+      let ahead_of : (m : Maker) → IsAhead g active (mentions_in e) m → IsAhead g active (mentions_in on ++ mentions) m = λ m ahead. subst (λ mentions. IsAhead g active mentions m) mentioned ahead in
       record {
         can = indexed_can (omega (arith, deeper, shallow));
         leaves = is.unused left ∙ ap (left_by_operand key) first.leaves ∙ second.leaves;
@@ -291,10 +291,10 @@ module _ {f : Function} {g : Fn} {active : List Active} {listed : List ℕ} {z :
 
 module _ {f : Function} {g : Fn} {active : List Active} {listed : List ℕ} {z : Maker} {left mid behind : List (Option Inner)} where
   -- a tree is no deeper than 200, so it has no more keys one behind the other
-  pub index_rewritten : (line : ℕ) (on key : Expression) (o : Value) (k : OperandValue) (v : Value) → depth_of_expression (index_expression line on key) ≤ 200 → PassesNames (names_in on) (code on) →
+  pub index_rewritten : (line : ℕ) (on key : Expression) (o : Value) (k : OperandValue) (v : Value) → depth_of_expression (index_expression line on key) ≤ 200 → PassesMentions (mentions_in on) (code on) →
       Rewritten f g active listed z left mid on o → RewrittenOperand f g active listed z mid behind key k → made_index o k ≡ Some v → Rewritten f g active listed z left behind (index_expression line on key) v
   index_rewritten line on key o k v shallow kept first second made =
-      let asks : KeyWritten f g active listed z mid behind (rk (code key)) (names_in key) k (depth_of_expression key) = record {
+      let asks : KeyWritten f g active listed z mid behind (rk (code key)) (mentions_in key) k (depth_of_expression key) = record {
         can = second.can;
         leaves = second.leaves;
         few = second.few;
@@ -304,26 +304,26 @@ module _ {f : Function} {g : Fn} {active : List Active} {listed : List ℕ} {z :
       } in
       indexed_rewritten first asks made (index_expression line on key) refl (omega arith) shallow refl refl refl (λ to m. refl) kept
 
-  pub field_rewritten : (line : ℕ) (on : Expression) (text : Text) (o : Value) (k : OperandValue) (v : Value) → depth_of_expression (field_expression line on text) ≤ 200 → PassesNames (names_in on) (code on) →
+  pub field_rewritten : (line : ℕ) (on : Expression) (text : Text) (o : Value) (k : OperandValue) (v : Value) → depth_of_expression (field_expression line on text) ≤ 200 → PassesMentions (mentions_in on) (code on) →
       Rewritten f g active listed z left mid on o → KeySame f g active listed z mid behind (rk_text 1 text) [] k 1 → made_index o k ≡ Some v → Rewritten f g active listed z left behind (field_expression line on text) v
   field_rewritten line on text o k v shallow kept first key made =
       let asks : KeyWritten f g active listed z mid behind (rk_text 1 text) [] k 1 = record { can = key.can; leaves = key.leaves; few = key.few; grown = key.grown; as_rk = key.as_rk; taken = key.taken } in
-      indexed_rewritten first asks made (field_expression line on text) (sym (append-nil (names_in on))) (omega (arith, some_depth on)) shallow refl refl refl (λ to m. refl) kept
+      indexed_rewritten first asks made (field_expression line on text) (sym (append-nil (mentions_in on))) (omega (arith, some_depth on)) shallow refl refl refl (λ to m. refl) kept
 
 module _ {f : Function} {g : Fn} {active : List Active} {listed : List ℕ} {z : Maker} {left behind : List (Option Inner)} where
   -- a key that is an expression
-  pub expression_key : (key : Expression) (k : OperandValue) → PassesNames (names_in key) (code key) → RewrittenOperand f g active listed z left behind key k → KeySame f g active listed z left behind (rk (code key)) (names_in key) k (depth_of_expression key)
+  pub expression_key : (key : Expression) (k : OperandValue) → PassesMentions (mentions_in key) (code key) → RewrittenOperand f g active listed z left behind key k → KeySame f g active listed z left behind (rk (code key)) (mentions_in key) k (depth_of_expression key)
   expression_key key k passed operand = record {
     can = operand.can;
     leaves = operand.leaves;
     few = operand.few;
-    passes = rk_passes (names_in key) (code key) passed;
+    passes = rk_passes (mentions_in key) (code key) passed;
     grown = grows_rk (code key) (grows calm (one_line_expression key));
     as_rk = operand.as_rk;
     taken = operand.taken;
   }
 
-  pub key_deeper : {asked : Asks ℕ} {texts : List Text} {k : OperandValue} {deep more : ℕ} → deep ≤ more → KeySame f g active listed z left behind asked texts k deep → KeySame f g active listed z left behind asked texts k more
+  pub key_deeper : {asked : Asks ℕ} {mentions : List Mention} {k : OperandValue} {deep more : ℕ} → deep ≤ more → KeySame f g active listed z left behind asked mentions k deep → KeySame f g active listed z left behind asked mentions k more
   key_deeper deeper key = record { can = key.can; leaves = key.leaves; few = λ n. omega (arith, key.few n, deeper); passes = key.passes; grown = key.grown; as_rk = key.as_rk; taken = key.taken }
 
   -- the name of a field is a string, which is an operand as one that is an expression of its own

@@ -31,7 +31,7 @@ use Rattle.reads_back.proofs.Comes.{Arrives, IsOperandWanted, Made, Moved, Reads
 use Rattle.reads_back.proofs.GivenLists.{AllCome}
 use Rattle.reads_back.proofs.HeldOperands.{Kept, StandsIn, counts_none, entries_in, in_local, in_next, in_word, operand_held, operand_of, rk_held}
 use Rattle.reads_back.proofs.NameReads.{AreListed}
-use Rattle.reads_back.proofs.NoFunctions.{IsNoFunction, IsNoFunctionOperand, no_function, operand_none}
+use Rattle.reads_back.proofs.NoFunctions.{IsNoFunction, IsNoFunctionExpression, IsNoFunctionOperand, no_function, operand_none}
 use Rattle.reads_back.proofs.OneTarget.{core_of}
 use Rattle.reads_back.proofs.PartsRead.{value_of}
 use Rattle.reads_back.proofs.PartsUsed.{get_front}
@@ -152,9 +152,9 @@ module _ {f : Function} {g : Fn} {active : List Active} {listed : List ℕ} (is_
   taken_all v seen taken = sym (taken_end front.values v s.seen ∙ ap (taken_behind v) front.taken ∙ taken)
 
   -- the last word makes it, for a local
-  made_begins : (e : Expression) (made_before made_behind r : ℕ) {low last : ℕ} → IsThere f (length active) listed entries (to_local r) behind → (made : Made f (IsCore g active e made_before made_behind) low (behind_all front) r begun last) →
+  made_begins : (e : Expression) → (others ≡ 0 → IsNoFunctionExpression e) → (made_before made_behind r : ℕ) {low last : ℕ} → IsThere f (length active) listed entries (to_local r) behind → (made : Made f (IsCore g active e made_before made_behind) low (behind_all front) r begun last) →
       Begun f (length active) s others (to_local r) (to_name front.values made.value) first last
-  made_begins e made_before made_behind r {last = last} there made =
+  made_begins e plain made_before made_behind r {last = last} there made =
       let v = made.value in
       let all = s.entries ++ front.entries in
       let straight = Some (straight_value v) in
@@ -174,7 +174,7 @@ module _ {f : Function} {g : Fn} {active : List Active} {listed : List ℕ} (is_
             ∙ ap (λ (seen : ℕ). stored (to_local r) straight [] made.word.pc last made.scope all seen (length s.entries)) (taken_all v made.seen made.taken);
         enough = omega (arith, size);
         writes = straight_written f front.entries (to_local r) (suc others) front.values v front.singles;
-        plain = λ none. no_function g active e made_before made_behind v made.is;
+        plain = λ none. no_function g active e (plain none) made_before made_behind v made.is;
       }
 
   -- it comes to the next register
@@ -191,8 +191,8 @@ module _ {f : Function} {g : Fn} {active : List Active} {listed : List ℕ} (is_
       Reaches f first s last (record s { scope = scope; entries = s.entries ++ (front.entries ++ entry ∷ []); seen = seen })
   next_reached scope seen last entry reaches = reaches_then front.reaches (subst (λ (entries : Entries). Reaches f begun (behind_all front) last (record s { scope = scope; entries = entries; seen = seen })) (sym (next_there entry)) reaches)
 
-  next_plain : (entry : EntryValue) (v : Value) → single_of entry ≡ Some v → IsNoFunction v → others ≡ 0 → stored_function None (front.entries ++ entry ∷ []) ≡ None
-  next_plain entry v single plain none = only_plain front.entries entry v single plain (omega (arith, size, none))
+  next_plain : (entry : EntryValue) (v : Value) → single_of entry ≡ Some v → (others ≡ 0 → IsNoFunction v) → others ≡ 0 → stored_function None (front.entries ++ entry ∷ []) ≡ None
+  next_plain entry v single plain none = only_plain front.entries entry v single (plain none) (omega (arith, size, none))
 
   next_written : (d : Destination) (entry : EntryValue) (v : Value) → single_of entry ≡ Some v → is_part (Some (target_to d)) ≡ false → ((r : ℕ) → d ≡ to_local r → is_nil v ≡ false) →
       WritesValues f (front.entries ++ entry ∷ []) None d (suc others) (to_name front.values v)
@@ -204,9 +204,9 @@ module _ {f : Function} {g : Fn} {active : List Active} {listed : List ℕ} (is_
   part_written d entry v single part = last_written f (front.entries ++ entry ∷ []) d (suc others) front.values v (and_last_entry front.entries front.values entry v front.singles single) (ap suc front.counts) part
 
   -- it moves on from there to a local
-  moved_begins : (e : Expression) (made_before made_behind r : ℕ) {low last : ℕ} → IsThere f (length active) listed entries (to_local r) behind → next_free (behind_all front) ≤ 250 →
+  moved_begins : (e : Expression) → (others ≡ 0 → IsNoFunctionExpression e) → (made_before made_behind r : ℕ) {low last : ℕ} → IsThere f (length active) listed entries (to_local r) behind → next_free (behind_all front) ≤ 250 →
       (moved : Moved f (IsCore g active e made_before made_behind) low (behind_all front) r begun last) → Begun f (length active) s others (to_local r) (to_name front.values moved.comes.value) first last
-  moved_begins e made_before made_behind r {last = last} there few moved =
+  moved_begins e plain made_before made_behind r {last = last} there few moved =
       let come = moved.comes in
       let v = come.value in
       let all = s.entries ++ front.entries in
@@ -230,7 +230,7 @@ module _ {f : Function} {g : Fn} {active : List Active} {listed : List ℕ} (is_
             ∙ ap₂ (λ (entries : Entries) (seen : ℕ). stored (to_local r) None (true ∷ []) moved.mid last come.scope entries seen (length s.entries)) (sym (next_there come.entry)) (taken_all v come.seen come.taken);
         enough = next_enough come.entry;
         writes = next_written (to_local r) come.entry v come.single refl (λ r local. moved.no_nil);
-        plain = next_plain come.entry v come.single (no_function g active e made_before made_behind v come.is);
+        plain = next_plain come.entry v come.single (λ none. no_function g active e (plain none) made_before made_behind v come.is);
       }
 
   -- an operand x of the word of the store comes to this situation
@@ -246,7 +246,7 @@ module _ {f : Function} {g : Fn} {active : List Active} {listed : List ℕ} (is_
     seen_all to taken = seen_before d seen (counted x) ∙ ap (seen_with d) taken
 
     -- it stands in the next register
-    next_begins : (to : Assigned) (entry : EntryValue) (v : Value) → StandsIn f (length active) listed free x free1 (in_next entry v) → IsNoFunction v → Reaches f begun (behind_all front) p.pc (behind_words scope seen (entry ∷ []) (behind_all front)) →
+    next_begins : (to : Assigned) (entry : EntryValue) (v : Value) → StandsIn f (length active) listed free x free1 (in_next entry v) → (others ≡ 0 → IsNoFunction v) → Reaches f begun (behind_all front) p.pc (behind_words scope seen (entry ∷ []) (behind_all front)) →
         max seen (counted x) ≡ taken_by to s.seen → WritesValues f (front.entries ++ entry ∷ []) None d (suc others) to → Begun f (length active) s others d to first q.pc
     next_begins to entry v stands plain reaches taken writes =
         let all = s.entries ++ (front.entries ++ entry ∷ []) in
@@ -300,7 +300,7 @@ module _ {f : Function} {g : Fn} {active : List Active} {listed : List ℕ} (is_
         }
 
     -- it goes to a name that is no local
-    name_begins : (kept : Kept) → is_part (Some (target_to d)) ≡ false → ((r : ℕ) → d ≡ to_local r → ⊥) → IsValueKept kept → IsNoFunction (value_of kept) → max seen (counted x) ≡ taken_behind_operand (operand_of kept) front.seen →
+    name_begins : (kept : Kept) → is_part (Some (target_to d)) ≡ false → ((r : ℕ) → d ≡ to_local r → ⊥) → IsValueKept kept → (others ≡ 0 → IsNoFunction (value_of kept)) → max seen (counted x) ≡ taken_behind_operand (operand_of kept) front.seen →
         StandsIn f (length active) listed free x free1 kept → Reaches f begun (behind_all front) p.pc (behind_words scope seen (entries_in kept) (behind_all front)) → Begun f (length active) s others d (to_name front.values (value_of kept)) first q.pc
     name_begins (in_word number) named far value plain taken stands reaches = absurd value
     name_begins (in_local r) named far value plain taken stands reaches =
@@ -309,11 +309,11 @@ module _ {f : Function} {g : Fn} {active : List Active} {listed : List ℕ} (is_
         next_begins (to_name front.values v) entry v stands plain reaches (taken_all v (max seen (counted x)) (sym taken)) (next_written d entry v stands.3 named (λ r local. absurd (far r local)))
 
     -- it goes to a part of a table
-    part_begins : (kept : Kept) → is_part (Some (target_to d)) ≡ true → IsNoFunctionOperand (operand_of kept) → max seen (counted x) ≡ taken_behind_operand (operand_of kept) front.seen →
+    part_begins : (kept : Kept) → is_part (Some (target_to d)) ≡ true → (others ≡ 0 → IsNoFunctionOperand (operand_of kept)) → max seen (counted x) ≡ taken_behind_operand (operand_of kept) front.seen →
         StandsIn f (length active) listed free x free1 kept → Reaches f begun (behind_all front) p.pc (behind_words scope seen (entries_in kept) (behind_all front)) → Begun f (length active) s others d (with_operand front.values (operand_of kept)) first q.pc
     part_begins kept part plain taken stands reaches = by kept plain (taken ∙ ap (taken_behind_operand (operand_of kept)) (sym front.taken)) stands reaches
       where
-        by : (kept : Kept) → IsNoFunctionOperand (operand_of kept) → max seen (counted x) ≡ taken_behind_operand (operand_of kept) (taken_behind_values front.values s.seen) → StandsIn f (length active) listed free x free1 kept →
+        by : (kept : Kept) → (others ≡ 0 → IsNoFunctionOperand (operand_of kept)) → max seen (counted x) ≡ taken_behind_operand (operand_of kept) (taken_behind_values front.values s.seen) → StandsIn f (length active) listed free x free1 kept →
             Reaches f begun (behind_all front) p.pc (behind_words scope seen (entries_in kept) (behind_all front)) → Begun f (length active) s others d (with_operand front.values (operand_of kept)) first q.pc
         by (in_word number) plain taken stands reaches =
             straight_begins (with_operand front.values (constant_operand number)) (in_word number) stands refl (part_takes d (in_word number) part) refl reaches taken (operand_written f front.entries d (suc others) front.values (constant_operand number) front.singles)
@@ -329,7 +329,7 @@ store_said d {q = q} said at = record { x = at.x; free1 = at.free1; mid = at.mid
 
 module _ {f : Function} {g : Fn} {active : List Active} {listed : List ℕ} (is_function : IsFunction f g) (all : AreListed f g active listed) (d : Destination) (e : Expression) (reads : ReadsCore f g active listed e) where
   module _ (s : Situation) (entries behind : Entries) {Front : Values → Type 0} {deep others first : ℕ} (free : ℕ) (p q : Spot) (locals : HasLocals active listed s) (there : IsThere f (length active) listed entries d behind) (height : length entries ≡ length s.entries)
-      (none : IsNoItem (length active) s.entries d) (front : AllCome f Front deep s others first p.pc) (next : free ≡ next_free (behind_all front)) (few : free ≤ 250) (quiet : IsQuiet f s.scope p.pc q.pc) where
+      (none : IsNoItem (length active) s.entries d) (front : AllCome f Front deep s others first p.pc) (next : free ≡ next_free (behind_all front)) (few : free ≤ 250) (quiet : IsQuiet f s.scope p.pc q.pc) (plain : others ≡ 0 → IsNoFunctionExpression e) where
     locals_there : HasLocals active listed (behind_all front)
     locals_there = record { base = locals.base; places = front.same.active ∙ locals.places }
 
@@ -343,13 +343,13 @@ module _ {f : Function} {g : Fn} {active : List Active} {listed : List ℕ} (is_
     arrived r there (inl made) = record {
       to = to_name front.values made.value;
       goes = inl (refl, made.value, made.is, refl);
-      begun = made_begins is_function s locals entries behind height front e p.functions q.functions r there made;
+      begun = made_begins is_function s locals entries behind height front e plain p.functions q.functions r there made;
     }
     arrived r there (inr (inl (same, comes))) = absurd (omega (arith, same, locals.base, there.0))
     arrived r there (inr (inr moved)) = record {
       to = to_name front.values moved.comes.value;
       goes = inl (refl, moved.comes.value, moved.comes.is, refl);
-      begun = moved_begins is_function s locals entries behind height front e p.functions q.functions r there (omega (arith, next, few)) moved;
+      begun = moved_begins is_function s locals entries behind height front e plain p.functions q.functions r there (omega (arith, next, few)) moved;
     }
 
     local_stored : (r : ℕ) → IsThere f (length active) listed entries (to_local r) behind → (related g e).to_reg active free r p q → Gives (to_local r)
@@ -375,7 +375,7 @@ module _ {f : Function} {g : Fn} {active : List Active} {listed : List ℕ} (is_
           goes = inl (named, value_of held.kept, is, refl);
           begun =
               name_begins is_function s locals entries behind height front d there none free at.x at.free1 next at.mid q held.scope held.same held.seen (quiet_from at.mid.pc (reaches_on held.reaches) quiet) at.words_at held.kept named far value
-              (no_function g active e p.functions q.functions (value_of held.kept) is) held.taken held.stands held.reaches;
+              (λ none. no_function g active e (plain none) p.functions q.functions (value_of held.kept) is) held.taken held.stands held.reaches;
         }
 
     part_stored : is_part (Some (target_to d)) ≡ true → OneAt (RkAt g active (related g e)) free (StoreWordAt g d) p q → Gives d
@@ -387,7 +387,7 @@ module _ {f : Function} {g : Fn} {active : List Active} {listed : List ℕ} (is_
           goes = inr (part, operand_of held.kept, is, refl);
           begun =
               part_begins is_function s locals entries behind height front d there none free at.x at.free1 next at.mid q held.scope held.same held.seen (quiet_from at.mid.pc (reaches_on held.reaches) quiet) at.words_at held.kept part
-              (operand_none g active e p.functions q.functions (operand_of held.kept) is) held.taken held.stands held.reaches;
+              (λ none. operand_none g active e (plain none) p.functions q.functions (operand_of held.kept) is) held.taken held.stands held.reaches;
         }
 
     -- by what the place says
@@ -411,9 +411,9 @@ module _ {f : Function} {g : Fn} {active : List Active} {listed : List ℕ} (is_
   pub last_forward : (free : ℕ) (p q : Spot) → StoreAt g place (related g e) active free p q → p.pc ≤ q.pc
   last_forward free p q at = forward_by is_function all d e reads place said free p q at
 
-  -- the parts stand in these entries, where the target's are taken behind those of the others
+  -- the parts stand in these entries, where the target's are taken behind those of the others; an only value is no function
   pub last_stored : {Front : Values → Type 0} (s : Situation) (entries behind : Entries) {deep others first : ℕ} (free : ℕ) (p q : Spot) → HasLocals active listed s → IsThere f (length active) listed entries d behind → length entries ≡ length s.entries → IsNoItem (length active) s.entries d →
-      (front : AllCome f Front deep s others first p.pc) → free ≡ length active + (length s.entries + others) → free ≤ 250 → IsQuiet f s.scope p.pc q.pc → StoreAt g place (related g e) active free p q → LastStored f g active e p.functions q.functions d s others front.values first q.pc
-  last_stored s entries behind free p q locals there height none front is few quiet at =
+      (front : AllCome f Front deep s others first p.pc) → free ≡ length active + (length s.entries + others) → free ≤ 250 → IsQuiet f s.scope p.pc q.pc → (others ≡ 0 → IsNoFunctionExpression e) → StoreAt g place (related g e) active free p q → LastStored f g active e p.functions q.functions d s others front.values first q.pc
+  last_stored s entries behind free p q locals there height none front is few quiet plain at =
       let next : free ≡ next_free (behind_all front) = omega (arith, is, locals.base, length-append s.entries front.entries, count_of_entries front.entries front.values front.singles, front.counts) in
-      by_place is_function all d e reads s entries behind free p q locals there height none front next few quiet place said fits at
+      by_place is_function all d e reads s entries behind free p q locals there height none front next few quiet plain place said fits at

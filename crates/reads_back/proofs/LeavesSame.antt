@@ -27,7 +27,7 @@ use Rattle.reads_back.proofs.Rewriting.{IsMadeBy, Rewritten, code, keys_of}
 use Rattle.reads_back.proofs.WholeNumbers.{IsWhole}
 use Rattle.reads_back.proofs.WordsSame.{no_local}
 use Rattle.reads_back.proofs.NameReads.{IsListed}
-use Rattle.reads_back.proofs.NamesAhead.{IsAhead}
+use Rattle.reads_back.proofs.Mentions.{IsAhead, Mention, name_mention}
 
 -- ---- no expression is without depth
 
@@ -192,9 +192,9 @@ pub record IsWritten (f : Function) (listed : List ℕ) (left : List (Option Inn
 
 module _ {f : Function} {g : Fn} {active : List Active} {listed : List ℕ} {z : Maker} (made : IsMadeBy f g active listed z) where
   -- the name that comes next means what the scope finds
-  pub next_means : (text : Text) (w : Where) (others : List Text) (m : Maker) → Means g.law active text w → IsAhead g active (text ∷ others) m → next_name m ≡ w
+  pub next_means : (text : Text) (w : Where) (others : List Mention) (m : Maker) → Means g.law active text w → IsAhead g active (name_mention text ∷ others) m → next_name m ≡ w
   next_means text w others m means ahead =
-      ap (where_is (head_or global_use m.ahead.names)) ahead.active_are ∙ made.certain text (where_is (head_or global_use m.ahead.names) active) w ahead.names.0 means
+      ap (where_is (head_or global_use m.ahead.names)) ahead.active_are ∙ made.certain text (where_is (head_or global_use m.ahead.names) active) w ahead.meant.0 means
 
   before_read : {j : ℕ} (r : ℕ) (text : Text) (m : Maker) → Final j (reads r text in_globals m) z → Final j (constant (Constant.Text text) (pass_name m)).after z
   before_read r text m final = before_put 1 (Piece.Abx Op.GetGlobal r (constant (Constant.Text text) (pass_name m)).value) (constant (Constant.Text text) (pass_name m)).after (before_free m.free (read_where 1 r text in_globals (pass_name m)) final)

@@ -12,6 +12,7 @@ pub mod TableWords
 pub mod TableReads
 pub mod LiteralReads
 pub mod NameReads
+pub mod ClosureReads
 pub mod OperandReads
 pub mod GivenLists
 pub mod Concats
@@ -28,8 +29,10 @@ pub mod WholeNumbers
 pub mod WrittenFormed
 pub mod Marks
 pub mod MarksSame
-pub mod NamesAhead
-pub mod PassedNames
+pub mod Mentions
+pub mod NoneMade
+pub mod FunctionsLeft
+pub mod PassedMentions
 pub mod WordsSame
 pub mod ConstantsSame
 pub mod LeavesSame
@@ -50,7 +53,7 @@ pub mod CopiesCome
 pub mod GlobalTargets
 pub mod OneTarget
 pub mod TargetsCome
-pub mod NamesMeant
+pub mod MentionsMeant
 pub mod TargetsStand
 pub mod StatementsMeant
 pub mod ReturnsRead
@@ -63,7 +66,7 @@ pub mod PlainWords
 pub mod OperandsSame
 pub mod ListsSame
 pub mod ReturnsSame
-pub mod AssignedNames
+pub mod AssignedMentions
 pub mod ActsSame
 pub mod DeclaredSame
 pub mod TargetsSame

@@ -23,8 +23,8 @@ use Rattle.scheme_stands.proofs.Parts.{grow_all, grows, grows_all, grows_multi, 
 use Rattle.scheme_stands.specs.Words.{Fn}
 use Rattle.reads_back.specs.Cores.{AllHaveCores, AreCores, ends_open}
 use Rattle.reads_back.proofs.GivenSame.{AllRewritten, closed_unless}
-use Rattle.reads_back.proofs.NamesAhead.{IsAhead, ahead_behind, ahead_front, names_in, names_in_all}
-use Rattle.reads_back.proofs.PassedNames.{names_passed, next_passes}
+use Rattle.reads_back.proofs.Mentions.{IsAhead, ahead_behind, ahead_front, mentions_in, mentions_in_all}
+use Rattle.reads_back.proofs.PassedMentions.{mentions_passed, next_passes}
 use Rattle.reads_back.proofs.Rewriting.{code, wording}
 use Rattle.reads_back.proofs.Tests.{not_so}
 use Rattle.reads_back.proofs.WordsSame.{coded_is, levels_wrapped, next_same, next_taken, next_wrapped, same_multiple}
@@ -139,12 +139,12 @@ module _ (at : Place) where
 -- ---- the code
 
 -- what is known between the first one and the others
-module _ {g : Fn} {active : List Active} (e : Expression) (es : Expressions) (has : AllHaveCores (syntax.expression e es)) (m : Maker) (ahead : IsAhead g active (names_in e ++ names_in_all es) m) where
-  pub first_ahead : IsAhead g active (names_in e) m
-  first_ahead = ahead_front (names_in e) (names_in_all es) ahead
+module _ {g : Fn} {active : List Active} (e : Expression) (es : Expressions) (has : AllHaveCores (syntax.expression e es)) (m : Maker) (ahead : IsAhead g active (mentions_in e ++ mentions_in_all es) m) where
+  pub first_ahead : IsAhead g active (mentions_in e) m
+  first_ahead = ahead_front (mentions_in e) (mentions_in_all es) ahead
 
-  pub others_ahead : IsAhead g active (names_in_all es) (next_reg (code e) m)
-  others_ahead = ahead_behind (names_in e) (names_in_all es) (next_passes (names_in e) (code e) (names_passed e has.0) m) ahead
+  pub others_ahead : IsAhead g active (mentions_in_all es) (next_reg (code e) m)
+  others_ahead = ahead_behind (mentions_in e) (mentions_in_all es) (next_passes (mentions_in e) (code e) (mentions_passed e has.0) m) ahead
 
 module _ {z : Maker} (e : Expression) (es : Expressions) (m : Maker) where
   first_next : Final (length m.labels) (all_next (codes_of es) (next_reg (code e) m)) z → Final (length m.labels) (next_reg (code e) m) z
@@ -159,7 +159,7 @@ module _ {z : Maker} (e : Expression) (es : Expressions) (m : Maker) where
 module _ (f : Function) (g : Fn) (active : List Active) (listed : List ℕ) (z : Maker) (lefts : ℕ → List (Option Inner)) where
   -- each goes to the next register, whether the last one could give all its values or not
   pub next_all : (es : Expressions) (before behind : ℕ) (vs : Values) (all : Bool) → AllHaveCores es → AllRewritten f g active listed z lefts es → AreCores g active es before behind vs →
-      (m : Maker) → IsAhead g active (names_in_all es) m → Final (length m.labels) (all_next (codes_of es) m) z →
+      (m : Maker) → IsAhead g active (mentions_in_all es) m → Final (length m.labels) (all_next (codes_of es) m) z →
       all_next (values_coded (place f.of listed f.short) (length m.constants) (lefts before) vs all) m ≡ all_next (codes_of es) m
   next_all no_expressions before behind vs all has written are m ahead final = ap (λ vs. all_next (values_coded (place f.of listed f.short) (length m.constants) (lefts before) vs all) m) are.1
   next_all (syntax.expression e es) before behind vs all has written (between, (v, rest, core, are, is)) m ahead final =
@@ -175,7 +175,7 @@ module _ (f : Function) (g : Fn) (active : List Active) (listed : List ℕ) (z :
       ∙ next_all es between behind rest all has.1 written.1 are mid (others_ahead e es has m ahead) (others_final e es m final)
 
   pub next_all_taken : (es : Expressions) (before behind : ℕ) (vs : Values) → AllHaveCores es → AllRewritten f g active listed z lefts es → AreCores g active es before behind vs →
-      (m : Maker) → IsAhead g active (names_in_all es) m → Final (length m.labels) (all_next (codes_of es) m) z → length (all_next (codes_of es) m).constants ≡ taken_behind_values vs (length m.constants)
+      (m : Maker) → IsAhead g active (mentions_in_all es) m → Final (length m.labels) (all_next (codes_of es) m) z → length (all_next (codes_of es) m).constants ≡ taken_behind_values vs (length m.constants)
   next_all_taken no_expressions before behind vs has written are m ahead final = ap (λ vs. taken_behind_values vs (length m.constants)) (sym are.1)
   next_all_taken (syntax.expression e es) before behind vs has written (between, (v, rest, core, are, is)) m ahead final =
       let first = written.0 before between v core in
@@ -185,12 +185,12 @@ module _ (f : Function) (g : Fn) (active : List Active) (listed : List ℕ) (z :
 
   -- the last one gives several values, which are wanted
   pub multi_all : (op : Op) (want : Want) (es : Expressions) (before behind : ℕ) (vs : Values) → AllHaveCores es → AllRewritten f g active listed z lefts es → AreCores g active es before behind vs → ends_open es ≡ true →
-      (m : Maker) → IsAhead g active (names_in_all es) m → Final (length m.labels) (all_multi op want (codes_of es) m) z →
+      (m : Maker) → IsAhead g active (mentions_in_all es) m → Final (length m.labels) (all_multi op want (codes_of es) m) z →
       all_multi op want (values_coded (place f.of listed f.short) (length m.constants) (lefts before) vs true) m ≡ all_multi op want (codes_of es) m
   multi_all op want no_expressions before behind vs has written are ends m ahead final = not_so ends
   multi_all op want (syntax.expression e no_expressions) before behind vs has written (between, (v, rest, core, are, is)) ends m ahead final =
       ap (λ vs. all_multi op want (values_coded (place f.of listed f.short) (length m.constants) (lefts before) vs true) m) (is ∙ ap (and_value v) are.1)
-      ∙ (written.0 before between v core).multi ends op want m (ahead_front (names_in e) [] ahead) final
+      ∙ (written.0 before between v core).multi ends op want m (ahead_front (mentions_in e) [] ahead) final
   multi_all op want (syntax.expression e (syntax.expression d es)) before behind vs has written (between, (v, rest, core, are, is)) ends m ahead final =
       let at = place f.of listed f.short in
       let others = syntax.expression d es in
@@ -208,10 +208,10 @@ module _ (f : Function) (g : Fn) (active : List Active) (listed : List ℕ) (z :
       ∙ multi_all op want (syntax.expression d es) between behind rest has.1 written.1 are ends mid (others_ahead e others has m ahead) (others_final e others m final)
 
   pub multi_all_taken : (op : Op) (want : Want) (es : Expressions) (before behind : ℕ) (vs : Values) → AllHaveCores es → AllRewritten f g active listed z lefts es → AreCores g active es before behind vs → ends_open es ≡ true →
-      (m : Maker) → IsAhead g active (names_in_all es) m → Final (length m.labels) (all_multi op want (codes_of es) m) z → length (all_multi op want (codes_of es) m).constants ≡ taken_behind_values vs (length m.constants)
+      (m : Maker) → IsAhead g active (mentions_in_all es) m → Final (length m.labels) (all_multi op want (codes_of es) m) z → length (all_multi op want (codes_of es) m).constants ≡ taken_behind_values vs (length m.constants)
   multi_all_taken op want no_expressions before behind vs has written are ends m ahead final = not_so ends
   multi_all_taken op want (syntax.expression e no_expressions) before behind vs has written (between, (v, rest, core, are, is)) ends m ahead final =
-      (written.0 before between v core).multi_taken ends op want m (ahead_front (names_in e) [] ahead) final
+      (written.0 before between v core).multi_taken ends op want m (ahead_front (mentions_in e) [] ahead) final
       ∙ ap (λ vs. taken_behind_values vs (length m.constants)) (sym (is ∙ ap (and_value v) are.1))
   multi_all_taken op want (syntax.expression e (syntax.expression d es)) before behind vs has written (between, (v, rest, core, are, is)) ends m ahead final =
       let others = syntax.expression d es in

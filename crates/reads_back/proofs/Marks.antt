@@ -1,8 +1,8 @@
--- What is written of the value of an expression mentions the same names in the same order as the expression.
+-- What is written of the value of an expression mentions the same names in the same order as the expression, where each function that is left is the part of the source that has its number.
 use Rattle.std.proofs.Common.{◌≡◌, ℕ, Bool, true, false, ◌&&◌, List, [], ◌∷◌, ◌++◌, append-nil, append_assoc, Option, Some, None, is_some, refl, sym, ap, ap₂, ◌∙◌}
 use Rattle.std.specs.Prelude.{ℤ, pos, negsuc, ◌==◌, ◌-◌, ◌^◌, suc, not, if◌then◌else◌}
 use Rattle.lua_num.specs.Bytes.{Text}
-use Rattle.lua_tree.specs.Outline.{Mark, Part, Place as Where, Walk, both, dots, expression_part, expressions_part, arguments_part, fields_part, marked, mentions, nothing}
+use Rattle.lua_tree.specs.Outline.{Mark, Part, Place as Where, Walk, both, dots, expression_part, expressions_part, arguments_part, body_part, fields_part, marked, mentions, nothing}
 use Rattle.lua_tree.specs.declared.tree.BinaryOp.{BinaryOp}
 use Rattle.lua_tree.specs.declared.tree.Separator.{Separator}
 use Rattle.lua_tree.specs.declared.tree.UnaryOp.{UnaryOp}
@@ -10,9 +10,9 @@ use Rattle.proto.specs.declared.parts.Constant.{Constant}
 use Rattle.core_expr.specs.Counting.{left_by, left_by_operand, taken_behind, taken_behind_operand, with_constant}
 use Rattle.core_expr.specs.Places.{Place, constant_at, constant_name, field_name, local_name, upvalue_name}
 use Rattle.core_expr.specs.Values.{Inner, ItemList, OperandList, OperandValue, Value, Values, and_keyed, and_operand, and_positional, and_value, binary_value, bool_value, call_value, concat_value, constant_operand, constant_value, function_value, global_value, index_value, local_value, method_value, nil_value, no_items, no_operands, no_values, table_value, unary_value, upvalue_value, value_operand, vararg_value}
-use Rattle.core_expr.specs.Writing.{ArgumentWording, FieldWording, Wording, Wordings, and_keyed_item, as_arguments, as_prefix, can_write_items, word_items, can_write, can_write_operand, can_write_operands, can_write_values, chained, constant_word, ends_values, is_bare, literal, name_word, number_word, numeral, truth, unless, with_binary, with_key, with_unary, word, word_each, word_keys, word_operand, word_values}
+use Rattle.core_expr.specs.Writing.{ArgumentWording, FieldWording, Wording, Wordings, and_keyed_item, as_arguments, as_prefix, can_write_items, word_items, can_write, can_write_operand, can_write_operands, can_write_values, chained, constant_word, ends_values, function_left, function_word, is_bare, literal, name_word, number_word, numeral, truth, unless, with_binary, with_key, with_unary, word, word_each, word_keys, word_operand, word_values}
+use Rattle.reads_back.proofs.FunctionsLeft.{EachLeft, each_by, each_by_operand, left_there}
 use Rattle.reads_back.proofs.Tests.{first_of_both, not_so, second_of_both}
-use Rattle.reads_back.proofs.WrittenFormed.{none_by, none_by_operand, none_there}
 
 -- ---- parts of an outline
 
@@ -38,13 +38,20 @@ both_assoc a b c place = ap (λ (marks : List Mark). record { marks = marks; nex
 pub nothing_behind : (a : Part) → SamePart (both a nothing) a
 nothing_behind a place = ap (λ (marks : List Mark). record { marks = marks; next = (a place).next }) (append-nil (a place).marks)
 
--- ---- what a value mentions
+-- each function that is left is the part of the source that has its number
+abbrev pub IsPartLeft : (of : ℕ → Part) → ℕ → Inner → Type 0
+IsPartLeft of number found = SamePart (body_part false found.body) (of number)
+
+abbrev pub ArePartsLeft : (of : ℕ → Part) → List (Option Inner) → Type 0
+ArePartsLeft of left = EachLeft (IsPartLeft of) 0 left
+
+-- ---- what a value mentions, where each function has its part of the source
 
 abbrev pub name_mentioned : Option Text → Part
 name_mentioned None = nothing
 name_mentioned (Some text) = mentions 1 text
 
-module _ (at : Place) where
+module _ (at : Place) (of : ℕ → Part) where
   abbrev mutual
     pub part_of : Value → Part
     part_of vararg_value = marked (λ place. dots 1 place.vararg)
@@ -53,11 +60,12 @@ module _ (at : Place) where
     part_of (global_value k) = name_mentioned (constant_name at k)
     part_of (index_value on keys depth) = both (part_of on) (parts_of_operands keys)
     part_of (binary_value op left right depth) = both (part_of_operand left) (part_of_operand right)
-    part_of (unary_value op of depth) = part_of of
+    part_of (unary_value op operand depth) = part_of operand
     part_of (concat_value operands depth) = parts_of operands
     part_of (call_value on args all depth) = both (part_of on) (parts_of args)
     part_of (method_value on name args all depth) = both (part_of on) (parts_of args)
     part_of (table_value items all depth) = parts_of_items items
+    part_of (function_value number itself) = of number
     part_of v = nothing
 
     pub parts_of : Values → Part
@@ -109,96 +117,101 @@ name_part : (name : Option Text) → SamePart (expression_part (name_word name).
 name_part None place = refl
 name_part (Some text) place = refl
 
-keyed_part : (at : Place) (n : ℕ) (fs : List (Option Inner)) (key : OperandValue) (name : Option Text) → field_name at key ≡ name → (on : Wording) → SamePart (expression_part (word_operand at n fs key).words) (part_of_operand at key) →
-    SamePart (expression_part (with_key name on (word_operand at n fs key)).words) (both (expression_part on.words) (part_of_operand at key))
-keyed_part at n fs key None is on other = both_same (same_part (expression_part on.words)) other
-keyed_part at n fs (constant_operand k) (Some name) is on other = part_back (nothing_behind (expression_part on.words))
-keyed_part at n fs (value_operand (constant_value k)) (Some name) is on other = part_back (nothing_behind (expression_part on.words))
-keyed_part at n fs (value_operand v) (Some name) is on other = cc
+keyed_part : (at : Place) (of : ℕ → Part) (n : ℕ) (fs : List (Option Inner)) (key : OperandValue) (name : Option Text) → field_name at key ≡ name → (on : Wording) → SamePart (expression_part (word_operand at n fs key).words) (part_of_operand at of key) →
+    SamePart (expression_part (with_key name on (word_operand at n fs key)).words) (both (expression_part on.words) (part_of_operand at of key))
+keyed_part at of n fs key None is on other = both_same (same_part (expression_part on.words)) other
+keyed_part at of n fs (constant_operand k) (Some name) is on other = part_back (nothing_behind (expression_part on.words))
+keyed_part at of n fs (value_operand (constant_value k)) (Some name) is on other = part_back (nothing_behind (expression_part on.words))
+keyed_part at of n fs (value_operand v) (Some name) is on other = cc
 
-abbrev AllParts : (at : Place) → List Wording → Values → Type 0
-AllParts at [] no_values = Unit {0}
-AllParts at [] (and_value v rest) = ⊥
-AllParts at (w ∷ ws) no_values = ⊥
-AllParts at (w ∷ ws) (and_value v rest) = SamePart (expression_part w.words) (part_of at v) × AllParts at ws rest
+abbrev AllParts : (at : Place) (of : ℕ → Part) → List Wording → Values → Type 0
+AllParts at of [] no_values = Unit {0}
+AllParts at of [] (and_value v rest) = ⊥
+AllParts at of (w ∷ ws) no_values = ⊥
+AllParts at of (w ∷ ws) (and_value v rest) = SamePart (expression_part w.words) (part_of at of v) × AllParts at of ws rest
 
-chained_part : (at : Place) (w : Wording) (ws : List Wording) (v : Value) (rest : Values) → SamePart (expression_part w.words) (part_of at v) → AllParts at ws rest → SamePart (expression_part (chained w ws).words) (both (part_of at v) (parts_of at rest))
-chained_part at w [] v no_values first others = part_then (unless_part _ w) (part_then first (part_back (nothing_behind (part_of at v))))
-chained_part at w [] v (and_value next rest) first others = absurd others
-chained_part at w (next ∷ ws) v no_values first others = absurd others
-chained_part at w (next ∷ ws) v (and_value u rest) first others = both_same (part_then (unless_part _ w) first) (chained_part at next ws u rest others.0 others.1)
+chained_part : (at : Place) (of : ℕ → Part) (w : Wording) (ws : List Wording) (v : Value) (rest : Values) → SamePart (expression_part w.words) (part_of at of v) → AllParts at of ws rest → SamePart (expression_part (chained w ws).words) (both (part_of at of v) (parts_of at of rest))
+chained_part at of w [] v no_values first others = part_then (unless_part _ w) (part_then first (part_back (nothing_behind (part_of at of v))))
+chained_part at of w [] v (and_value next rest) first others = absurd others
+chained_part at of w (next ∷ ws) v no_values first others = absurd others
+chained_part at of w (next ∷ ws) v (and_value u rest) first others = both_same (part_then (unless_part _ w) first) (chained_part at of next ws u rest others.0 others.1)
 
 -- a list of arguments, not in a short form
 list_part : (short all : Bool) (only : Option ArgumentWording) (ws : Wordings) → short ≡ false → SamePart (arguments_part (as_arguments (short && all) only ws).words) (expressions_part ws.words)
 list_part true all only ws natural place = cc
 list_part false all only ws natural place = refl
 
-keyed_item_part : (at : Place) (n : ℕ) (fs : List (Option Inner)) (key : OperandValue) (name : Option Text) → field_name at key ≡ name → (item : Wording) (separator : Separator) (rest : FieldWording) (items : Part) (value : Part) →
-    SamePart (expression_part (word_operand at n fs key).words) (part_of_operand at key) → SamePart (expression_part item.words) value → SamePart (fields_part rest.words) items →
-    SamePart (fields_part (and_keyed_item name (word_operand at n fs key) item separator rest).words) (both (both (part_of_operand at key) value) items)
-keyed_item_part at n fs key None is item separator rest items value first second others = both_same (both_same first second) others
-keyed_item_part at n fs (constant_operand k) (Some name) is item separator rest items value first second others = both_same second others
-keyed_item_part at n fs (value_operand (constant_value k)) (Some name) is item separator rest items value first second others = both_same second others
-keyed_item_part at n fs (value_operand v) (Some name) is item separator rest items value first second others = cc
+keyed_item_part : (at : Place) (of : ℕ → Part) (n : ℕ) (fs : List (Option Inner)) (key : OperandValue) (name : Option Text) → field_name at key ≡ name → (item : Wording) (separator : Separator) (rest : FieldWording) (items : Part) (value : Part) →
+    SamePart (expression_part (word_operand at n fs key).words) (part_of_operand at of key) → SamePart (expression_part item.words) value → SamePart (fields_part rest.words) items →
+    SamePart (fields_part (and_keyed_item name (word_operand at n fs key) item separator rest).words) (both (both (part_of_operand at of key) value) items)
+keyed_item_part at of n fs key None is item separator rest items value first second others = both_same (both_same first second) others
+keyed_item_part at of n fs (constant_operand k) (Some name) is item separator rest items value first second others = both_same second others
+keyed_item_part at of n fs (value_operand (constant_value k)) (Some name) is item separator rest items value first second others = both_same second others
+keyed_item_part at of n fs (value_operand v) (Some name) is item separator rest items value first second others = cc
 
-module _ (at : Place) (natural : at.short ≡ false) where
+-- a function that is left
+function_part : (of : ℕ → Part) (number : ℕ) (fs : List (Option Inner)) (found : Option Inner) → ArePartsLeft of fs → function_left fs number ≡ found → is_some found ≡ true → SamePart (expression_part (function_word found).words) (of number)
+function_part of number fs None parts_left there some = not_so some
+function_part of number fs (Some found) parts_left there some = left_there (IsPartLeft of) number fs found parts_left there
+
+module _ (at : Place) (of : ℕ → Part) (natural : at.short ≡ false) where
   mutual
-    pub word_part : (v : Value) (n : ℕ) (fs : List (Option Inner)) → fs ≡ [] → can_write at fs v ≡ true → SamePart (expression_part (word at n fs v).words) (part_of at v)
-    word_part nil_value n fs none can = same_part nothing
-    word_part vararg_value n fs none can = same_part (expression_part (word at n fs vararg_value).words)
-    word_part (bool_value b) n fs none can = truth_part b
-    word_part (constant_value k) n fs none can = constant_part (constant_at at k)
-    word_part (local_value r) n fs none can = name_part (local_name at r)
-    word_part (upvalue_value u) n fs none can = name_part (upvalue_name at u)
-    word_part (global_value k) n fs none can = name_part (constant_name at k)
-    word_part (index_value on keys depth) n fs none can =
+    pub word_part : (v : Value) (n : ℕ) (fs : List (Option Inner)) → ArePartsLeft of fs → can_write at fs v ≡ true → SamePart (expression_part (word at n fs v).words) (part_of at of v)
+    word_part nil_value n fs parts_left can = same_part nothing
+    word_part vararg_value n fs parts_left can = same_part (expression_part (word at n fs vararg_value).words)
+    word_part (bool_value b) n fs parts_left can = truth_part b
+    word_part (constant_value k) n fs parts_left can = constant_part (constant_at at k)
+    word_part (local_value r) n fs parts_left can = name_part (local_name at r)
+    word_part (upvalue_value u) n fs parts_left can = name_part (upvalue_name at u)
+    word_part (global_value k) n fs parts_left can = name_part (constant_name at k)
+    word_part (index_value on keys depth) n fs parts_left can =
         let together = second_of_both _ _ can in
-        let first = part_then (unless_part _ (word at n fs on)) (word_part on n fs none (first_of_both _ _ together)) in
-        part_then (keys_part keys (taken_behind on n) (left_by on fs) (as_prefix (word at n fs on)) (ap (left_by on) none ∙ none_by on) (second_of_both _ _ together)) (both_same first (same_part (parts_of_operands at keys)))
-    word_part (binary_value op left right depth) n fs none can =
-        both_same (part_then (unless_part _ (word_operand at n fs left)) (operand_part left n fs none (first_of_both _ _ can)))
-        (part_then (unless_part _ (word_operand at (taken_behind_operand left n) (left_by_operand left fs) right)) (operand_part right (taken_behind_operand left n) (left_by_operand left fs) (ap (left_by_operand left) none ∙ none_by_operand left) (second_of_both _ _ can)))
-    word_part (unary_value op of depth) n fs none can = part_then (unless_part _ (word at n fs of)) (word_part of n fs none can)
-    word_part (concat_value no_values depth) n fs none can = not_so can
-    word_part (concat_value (and_value v rest) depth) n fs none can =
+        let first = part_then (unless_part _ (word at n fs on)) (word_part on n fs parts_left (first_of_both _ _ together)) in
+        part_then (keys_part keys (taken_behind on n) (left_by on fs) (as_prefix (word at n fs on)) (each_by (IsPartLeft of) on fs parts_left) (second_of_both _ _ together)) (both_same first (same_part (parts_of_operands at of keys)))
+    word_part (binary_value op left right depth) n fs parts_left can =
+        both_same (part_then (unless_part _ (word_operand at n fs left)) (operand_part left n fs parts_left (first_of_both _ _ can)))
+        (part_then (unless_part _ (word_operand at (taken_behind_operand left n) (left_by_operand left fs) right)) (operand_part right (taken_behind_operand left n) (left_by_operand left fs) (each_by_operand (IsPartLeft of) left fs parts_left) (second_of_both _ _ can)))
+    word_part (unary_value op operand depth) n fs parts_left can = part_then (unless_part _ (word at n fs operand)) (word_part operand n fs parts_left can)
+    word_part (concat_value no_values depth) n fs parts_left can = not_so can
+    word_part (concat_value (and_value v rest) depth) n fs parts_left can =
         let together = second_of_both (not (ends_values (and_value v rest))) _ can in
-        chained_part at (word at n fs v) (word_each at (taken_behind v n) (left_by v fs) rest) v rest (word_part v n fs none (first_of_both _ _ together)) (each_part rest (taken_behind v n) (left_by v fs) (ap (left_by v) none ∙ none_by v) (second_of_both _ _ together))
-    word_part (call_value on args all depth) n fs none can =
-        let behind = ap (left_by on) none ∙ none_by on in
-        both_same (part_then (unless_part _ (word at n fs on)) (word_part on n fs none (first_of_both _ _ can)))
+        chained_part at of (word at n fs v) (word_each at (taken_behind v n) (left_by v fs) rest) v rest (word_part v n fs parts_left (first_of_both _ _ together)) (each_part rest (taken_behind v n) (left_by v fs) (each_by (IsPartLeft of) v fs parts_left) (second_of_both _ _ together))
+    word_part (call_value on args all depth) n fs parts_left can =
+        let behind = each_by (IsPartLeft of) on fs parts_left in
+        both_same (part_then (unless_part _ (word at n fs on)) (word_part on n fs parts_left (first_of_both _ _ can)))
         (part_then (list_part at.short (not all) _ _ natural) (values_part args all (taken_behind on n) (left_by on fs) behind (second_of_both _ _ can)))
-    word_part (method_value on name args all depth) n fs none can =
-        let behind = ap (left_by on) none ∙ none_by on in
-        both_same (part_then (unless_part _ (word at n fs on)) (word_part on n fs none (first_of_both _ _ can)))
+    word_part (method_value on name args all depth) n fs parts_left can =
+        let behind = each_by (IsPartLeft of) on fs parts_left in
+        both_same (part_then (unless_part _ (word at n fs on)) (word_part on n fs parts_left (first_of_both _ _ can)))
         (part_then (list_part at.short (not all) _ _ natural) (values_part args all (with_constant (taken_behind on n) name) (left_by on fs) behind (second_of_both (is_some (constant_name at name)) _ (second_of_both _ _ can))))
-    word_part (table_value items all depth) n fs none can = items_part items all n fs none can
-    word_part (function_value number itself) n fs none can = absurd (none_there fs number none (second_of_both (not itself) _ can))
+    word_part (table_value items all depth) n fs parts_left can = items_part items all n fs parts_left can
+    word_part (function_value number itself) n fs parts_left can = function_part of number fs (function_left fs number) parts_left refl (second_of_both (not itself) _ can)
 
-    pub values_part : (vs : Values) (all : Bool) (n : ℕ) (fs : List (Option Inner)) → fs ≡ [] → can_write_values at fs vs ≡ true → SamePart (expressions_part (word_values at n fs vs all).words) (parts_of at vs)
-    values_part no_values all n fs none can = same_part nothing
-    values_part (and_value v rest) all n fs none can =
-        both_same (part_then (unless_part _ (word at n fs v)) (word_part v n fs none (first_of_both _ _ can))) (values_part rest all (taken_behind v n) (left_by v fs) (ap (left_by v) none ∙ none_by v) (second_of_both _ _ can))
+    pub values_part : (vs : Values) (all : Bool) (n : ℕ) (fs : List (Option Inner)) → ArePartsLeft of fs → can_write_values at fs vs ≡ true → SamePart (expressions_part (word_values at n fs vs all).words) (parts_of at of vs)
+    values_part no_values all n fs parts_left can = same_part nothing
+    values_part (and_value v rest) all n fs parts_left can =
+        both_same (part_then (unless_part _ (word at n fs v)) (word_part v n fs parts_left (first_of_both _ _ can))) (values_part rest all (taken_behind v n) (left_by v fs) (each_by (IsPartLeft of) v fs parts_left) (second_of_both _ _ can))
 
-    each_part : (vs : Values) (n : ℕ) (fs : List (Option Inner)) → fs ≡ [] → can_write_values at fs vs ≡ true → AllParts at (word_each at n fs vs) vs
-    each_part no_values n fs none can = tt
-    each_part (and_value v rest) n fs none can = (word_part v n fs none (first_of_both _ _ can), each_part rest (taken_behind v n) (left_by v fs) (ap (left_by v) none ∙ none_by v) (second_of_both _ _ can))
+    each_part : (vs : Values) (n : ℕ) (fs : List (Option Inner)) → ArePartsLeft of fs → can_write_values at fs vs ≡ true → AllParts at of (word_each at n fs vs) vs
+    each_part no_values n fs parts_left can = tt
+    each_part (and_value v rest) n fs parts_left can = (word_part v n fs parts_left (first_of_both _ _ can), each_part rest (taken_behind v n) (left_by v fs) (each_by (IsPartLeft of) v fs parts_left) (second_of_both _ _ can))
 
-    pub operand_part : (o : OperandValue) (n : ℕ) (fs : List (Option Inner)) → fs ≡ [] → can_write_operand at fs o ≡ true → SamePart (expression_part (word_operand at n fs o).words) (part_of_operand at o)
-    operand_part (constant_operand k) n fs none can = constant_part (constant_at at k)
-    operand_part (value_operand v) n fs none can = part_then (unless_part (is_bare at n v) (word at n fs v)) (word_part v n fs none can)
+    pub operand_part : (o : OperandValue) (n : ℕ) (fs : List (Option Inner)) → ArePartsLeft of fs → can_write_operand at fs o ≡ true → SamePart (expression_part (word_operand at n fs o).words) (part_of_operand at of o)
+    operand_part (constant_operand k) n fs parts_left can = constant_part (constant_at at k)
+    operand_part (value_operand v) n fs parts_left can = part_then (unless_part (is_bare at n v) (word at n fs v)) (word_part v n fs parts_left can)
 
-    keys_part : (keys : OperandList) (n : ℕ) (fs : List (Option Inner)) (on : Wording) → fs ≡ [] → can_write_operands at fs keys ≡ true → SamePart (expression_part (word_keys at n fs on keys).words) (both (expression_part on.words) (parts_of_operands at keys))
-    keys_part no_operands n fs on none can = part_back (nothing_behind (expression_part on.words))
-    keys_part (and_operand key rest) n fs on none can =
-        part_then (keys_part rest (taken_behind_operand key n) (left_by_operand key fs) (with_key (field_name at key) on (word_operand at n fs key)) (ap (left_by_operand key) none ∙ none_by_operand key) (second_of_both _ _ can))
-        (part_then (both_same (keyed_part at n fs key (field_name at key) refl on (operand_part key n fs none (first_of_both _ _ can))) (same_part (parts_of_operands at rest))) (both_assoc (expression_part on.words) (part_of_operand at key) (parts_of_operands at rest)))
+    keys_part : (keys : OperandList) (n : ℕ) (fs : List (Option Inner)) (on : Wording) → ArePartsLeft of fs → can_write_operands at fs keys ≡ true → SamePart (expression_part (word_keys at n fs on keys).words) (both (expression_part on.words) (parts_of_operands at of keys))
+    keys_part no_operands n fs on parts_left can = part_back (nothing_behind (expression_part on.words))
+    keys_part (and_operand key rest) n fs on parts_left can =
+        part_then (keys_part rest (taken_behind_operand key n) (left_by_operand key fs) (with_key (field_name at key) on (word_operand at n fs key)) (each_by_operand (IsPartLeft of) key fs parts_left) (second_of_both _ _ can))
+        (part_then (both_same (keyed_part at of n fs key (field_name at key) refl on (operand_part key n fs parts_left (first_of_both _ _ can))) (same_part (parts_of_operands at of rest))) (both_assoc (expression_part on.words) (part_of_operand at of key) (parts_of_operands at of rest)))
 
-    items_part : (items : ItemList) (all : Bool) (n : ℕ) (fs : List (Option Inner)) → fs ≡ [] → can_write_items at fs items ≡ true → SamePart (fields_part (word_items at n fs items all).words) (parts_of_items at items)
-    items_part no_items all n fs none can = same_part nothing
-    items_part (and_positional v rest) all n fs none can =
-        both_same (part_then (unless_part _ (word at n fs v)) (word_part v n fs none (first_of_both _ _ can))) (items_part rest all (taken_behind v n) (left_by v fs) (ap (left_by v) none ∙ none_by v) (second_of_both _ _ can))
-    items_part (and_keyed key item rest) all n fs none can =
-        let behind = ap (left_by_operand key) none ∙ none_by_operand key in
+    items_part : (items : ItemList) (all : Bool) (n : ℕ) (fs : List (Option Inner)) → ArePartsLeft of fs → can_write_items at fs items ≡ true → SamePart (fields_part (word_items at n fs items all).words) (parts_of_items at of items)
+    items_part no_items all n fs parts_left can = same_part nothing
+    items_part (and_positional v rest) all n fs parts_left can =
+        both_same (part_then (unless_part _ (word at n fs v)) (word_part v n fs parts_left (first_of_both _ _ can))) (items_part rest all (taken_behind v n) (left_by v fs) (each_by (IsPartLeft of) v fs parts_left) (second_of_both _ _ can))
+    items_part (and_keyed key item rest) all n fs parts_left can =
+        let behind = each_by_operand (IsPartLeft of) key fs parts_left in
         let together = second_of_both _ _ can in
-        keyed_item_part at n fs key (field_name at key) refl _ _ _ _ _ (operand_part key n fs none (first_of_both _ _ can)) (operand_part item (taken_behind_operand key n) (left_by_operand key fs) behind (first_of_both _ _ together))
-        (items_part rest all (taken_behind_operand item (taken_behind_operand key n)) (left_by_operand item (left_by_operand key fs)) (ap (left_by_operand item) behind ∙ none_by_operand item) (second_of_both _ _ together))
+        keyed_item_part at of n fs key (field_name at key) refl _ _ _ _ _ (operand_part key n fs parts_left (first_of_both _ _ can)) (operand_part item (taken_behind_operand key n) (left_by_operand key fs) behind (first_of_both _ _ together))
+        (items_part rest all (taken_behind_operand item (taken_behind_operand key n)) (left_by_operand item (left_by_operand key fs)) (each_by_operand (IsPartLeft of) item (left_by_operand key fs) behind) (second_of_both _ _ together))

@@ -1,16 +1,17 @@
 -- An act is one on one line too, as deep as before; and on one line it stays as it is.
-use Rattle.std.proofs.Common.{◌≡◌, true, refl, ap}
+use Rattle.std.proofs.Common.{◌≡◌, true, refl, ap, ◌∙◌}
 use Rattle.lua_tree.specs.OneLine.{one_line_arguments, one_line_expression, one_line_expressions, one_line_fields, one_line_statement}
 use Rattle.lua_tree.specs.Syntax as syntax
 use Rattle.lua_tree.specs.Syntax.{Arguments, Expression, Expressions, Statement, argument_list, assignment, binary_expression, call_expression, call_statement, constructor, Fields, no_fields, positional, named, keyed, table_argument, false_literal, field_expression, index_expression, local_statement, method_call, name_expression, nil_literal, no_expressions, number_literal, parenthesized, return_statement, text_argument, text_literal, true_literal, unary_expression, vararg_expression}
 use Rattle.lua_tree.specs.WellFormed.{depth_of_arguments, depth_of_expression, depth_of_expressions, depth_of_fields, depth_of_statement, has_expressions, is_call}
-use Rattle.reads_back.specs.Acted.{AreActTargets, IsAct, IsActTarget}
-use Rattle.reads_back.specs.Cores.{AllHaveCores, HasCore, HaveCores, HaveItems}
+use Rattle.reads_back.specs.Acted.{IsActBy, IsActTargetBy, AreActTargetsBy, is_function, stores_function}
+use Rattle.reads_back.specs.Cores.{HasCoreBy, AllHaveCoresBy, HaveCoresBy, HaveItemsBy}
+use Rattle.reads_back.specs.Straight.{NoFunction}
 
 -- ---- it is an act
 
 mutual
-  core_on_line : (e : Expression) → HasCore e → HasCore (one_line_expression e)
+  core_on_line : (e : Expression) → HasCoreBy NoFunction e → HasCoreBy NoFunction (one_line_expression e)
   core_on_line (nil_literal line) has = has
   core_on_line (true_literal line) has = has
   core_on_line (false_literal line) has = has
@@ -28,18 +29,18 @@ mutual
   core_on_line (parenthesized line e) has = core_on_line e has
   core_on_line e has = absurd has
 
-  arguments_on_line : (args : Arguments) → HaveCores args → HaveCores (one_line_arguments args)
+  arguments_on_line : (args : Arguments) → HaveCoresBy NoFunction args → HaveCoresBy NoFunction (one_line_arguments args)
   arguments_on_line (argument_list es) have = cores_on_line es have
   arguments_on_line (text_argument text) have = have
   arguments_on_line (table_argument fields) have = items_on_line fields have
 
-  items_on_line : (fields : Fields) → HaveItems fields → HaveItems (one_line_fields fields)
+  items_on_line : (fields : Fields) → HaveItemsBy NoFunction fields → HaveItemsBy NoFunction (one_line_fields fields)
   items_on_line no_fields have = have
   items_on_line (positional e separator rest) have = (core_on_line e have.0, items_on_line rest have.1)
   items_on_line (named text e separator rest) have = (core_on_line e have.0, items_on_line rest have.1)
   items_on_line (keyed key e separator rest) have = (core_on_line key have.0, core_on_line e have.1, items_on_line rest have.2)
 
-  cores_on_line : (es : Expressions) → AllHaveCores es → AllHaveCores (one_line_expressions es)
+  cores_on_line : (es : Expressions) → AllHaveCoresBy NoFunction es → AllHaveCoresBy NoFunction (one_line_expressions es)
   cores_on_line no_expressions have = have
   cores_on_line (syntax.expression e es) have = (core_on_line e have.0, cores_on_line es have.1)
 
@@ -48,13 +49,13 @@ call_on_line (call_expression line on args on_line) call = call
 call_on_line (method_call line on name args on_line) call = call
 call_on_line e call = cc
 
-target_on_line : (e : Expression) → IsActTarget e → IsActTarget (one_line_expression e)
+target_on_line : (e : Expression) → IsActTargetBy NoFunction e → IsActTargetBy NoFunction (one_line_expression e)
 target_on_line (name_expression line text) is = is
 target_on_line (index_expression line on key) is = (core_on_line on is.0, core_on_line key is.1)
 target_on_line (field_expression line on text) is = core_on_line on is
 target_on_line e is = absurd is
 
-targets_on_line : (targets : Expressions) → AreActTargets targets → AreActTargets (one_line_expressions targets)
+targets_on_line : (targets : Expressions) → AreActTargetsBy NoFunction targets → AreActTargetsBy NoFunction (one_line_expressions targets)
 targets_on_line no_expressions are = are
 targets_on_line (syntax.expression e targets) are = (target_on_line e are.0, targets_on_line targets are.1)
 
@@ -62,29 +63,41 @@ some_on_line : (es : Expressions) → has_expressions es ≡ true → has_expres
 some_on_line no_expressions some = some
 some_on_line (syntax.expression e es) some = refl
 
-pub act_on_line : (s : Statement) → IsAct s → IsAct (one_line_statement s)
+-- a function stays one
+function_on_line : (e : Expression) → is_function (one_line_expression e) ≡ is_function e
+function_on_line (parenthesized line e) = function_on_line e
+function_on_line e = refl
+
+stores_on_line : (targets es : Expressions) → stores_function (one_line_expressions targets) (one_line_expressions es) ≡ stores_function targets es
+stores_on_line (syntax.expression target no_expressions) (syntax.expression e no_expressions) = function_on_line e
+stores_on_line no_expressions es = refl
+stores_on_line (syntax.expression target (syntax.expression other targets)) es = refl
+stores_on_line (syntax.expression target no_expressions) no_expressions = refl
+stores_on_line (syntax.expression target no_expressions) (syntax.expression e (syntax.expression d es)) = refl
+
+pub act_on_line : (s : Statement) → IsActBy NoFunction s → IsActBy NoFunction (one_line_statement s)
 act_on_line (call_statement e) is = (call_on_line e is.0, core_on_line e is.1)
 act_on_line (assignment targets es) is =
-    record { some = some_on_line targets is.some; targets = targets_on_line targets is.targets; given = some_on_line es is.given; values = cores_on_line es is.values }
+    record { some = some_on_line targets is.some; targets = targets_on_line targets is.targets; given = some_on_line es is.given; values = cores_on_line es is.values; plain = stores_on_line targets es ∙ is.plain }
 act_on_line (local_statement names es) is = (is.0, cores_on_line es is.1)
 act_on_line (return_statement es) is = cores_on_line es is
 act_on_line s is = absurd is
 
 -- targets can be read as well
-target_has_core : (e : Expression) → IsActTarget e → HasCore e
+target_has_core : (e : Expression) → IsActTargetBy NoFunction e → HasCoreBy NoFunction e
 target_has_core (name_expression line text) is = is
 target_has_core (index_expression line on key) is = is
 target_has_core (field_expression line on text) is = is
 target_has_core e is = absurd is
 
-pub targets_have_cores : (targets : Expressions) → AreActTargets targets → AllHaveCores targets
+pub targets_have_cores : (targets : Expressions) → AreActTargetsBy NoFunction targets → AllHaveCoresBy NoFunction targets
 targets_have_cores no_expressions are = tt
 targets_have_cores (syntax.expression e targets) are = (target_has_core e are.0, targets_have_cores targets are.1)
 
 -- ---- it stays as it is
 
 mutual
-  again : (e : Expression) → HasCore e → one_line_expression (one_line_expression e) ≡ one_line_expression e
+  again : (e : Expression) → HasCoreBy NoFunction e → one_line_expression (one_line_expression e) ≡ one_line_expression e
   again (nil_literal line) has = refl
   again (true_literal line) has = refl
   again (false_literal line) has = refl
@@ -102,22 +115,22 @@ mutual
   again (parenthesized line e) has = cc (again e has)
   again e has = absurd has
 
-  arguments_again : (args : Arguments) → HaveCores args → one_line_arguments (one_line_arguments args) ≡ one_line_arguments args
+  arguments_again : (args : Arguments) → HaveCoresBy NoFunction args → one_line_arguments (one_line_arguments args) ≡ one_line_arguments args
   arguments_again (argument_list es) have = cc (all_again es have)
   arguments_again (text_argument text) have = refl
   arguments_again (table_argument fields) have = cc (items_again fields have)
 
-  items_again : (fields : Fields) → HaveItems fields → one_line_fields (one_line_fields fields) ≡ one_line_fields fields
+  items_again : (fields : Fields) → HaveItemsBy NoFunction fields → one_line_fields (one_line_fields fields) ≡ one_line_fields fields
   items_again no_fields have = refl
   items_again (positional e separator rest) have = cc (again e have.0, items_again rest have.1)
   items_again (named text e separator rest) have = cc (again e have.0, items_again rest have.1)
   items_again (keyed key e separator rest) have = cc (again key have.0, again e have.1, items_again rest have.2)
 
-  all_again : (es : Expressions) → AllHaveCores es → one_line_expressions (one_line_expressions es) ≡ one_line_expressions es
+  all_again : (es : Expressions) → AllHaveCoresBy NoFunction es → one_line_expressions (one_line_expressions es) ≡ one_line_expressions es
   all_again no_expressions have = refl
   all_again (syntax.expression e es) have = cc (again e have.0, all_again es have.1)
 
-pub again_on_line : (s : Statement) → IsAct s → one_line_statement (one_line_statement s) ≡ one_line_statement s
+pub again_on_line : (s : Statement) → IsActBy NoFunction s → one_line_statement (one_line_statement s) ≡ one_line_statement s
 again_on_line (call_statement e) is = ap call_statement (again e is.1)
 again_on_line (assignment targets es) is = cc (all_again targets (targets_have_cores targets is.targets), all_again es is.values)
 again_on_line (local_statement names es) is = ap (local_statement names) (all_again es is.1)
@@ -127,7 +140,7 @@ again_on_line s is = absurd is
 -- ---- it is as deep
 
 mutual
-  as_deep : (e : Expression) → HasCore e → depth_of_expression (one_line_expression e) ≡ depth_of_expression e
+  as_deep : (e : Expression) → HasCoreBy NoFunction e → depth_of_expression (one_line_expression e) ≡ depth_of_expression e
   as_deep (nil_literal line) has = refl
   as_deep (true_literal line) has = refl
   as_deep (false_literal line) has = refl
@@ -145,22 +158,22 @@ mutual
   as_deep (parenthesized line e) has = cc (as_deep e has)
   as_deep e has = absurd has
 
-  arguments_as_deep : (args : Arguments) → HaveCores args → depth_of_arguments (one_line_arguments args) ≡ depth_of_arguments args
+  arguments_as_deep : (args : Arguments) → HaveCoresBy NoFunction args → depth_of_arguments (one_line_arguments args) ≡ depth_of_arguments args
   arguments_as_deep (argument_list es) have = all_as_deep es have
   arguments_as_deep (text_argument text) have = refl
   arguments_as_deep (table_argument fields) have = items_as_deep fields have
 
-  items_as_deep : (fields : Fields) → HaveItems fields → depth_of_fields (one_line_fields fields) ≡ depth_of_fields fields
+  items_as_deep : (fields : Fields) → HaveItemsBy NoFunction fields → depth_of_fields (one_line_fields fields) ≡ depth_of_fields fields
   items_as_deep no_fields have = refl
   items_as_deep (positional e separator rest) have = cc (as_deep e have.0, items_as_deep rest have.1)
   items_as_deep (named text e separator rest) have = cc (as_deep e have.0, items_as_deep rest have.1)
   items_as_deep (keyed key e separator rest) have = cc (as_deep key have.0, as_deep e have.1, items_as_deep rest have.2)
 
-  all_as_deep : (es : Expressions) → AllHaveCores es → depth_of_expressions (one_line_expressions es) ≡ depth_of_expressions es
+  all_as_deep : (es : Expressions) → AllHaveCoresBy NoFunction es → depth_of_expressions (one_line_expressions es) ≡ depth_of_expressions es
   all_as_deep no_expressions have = refl
   all_as_deep (syntax.expression e es) have = cc (as_deep e have.0, all_as_deep es have.1)
 
-pub act_as_deep : (s : Statement) → IsAct s → depth_of_statement (one_line_statement s) ≡ depth_of_statement s
+pub act_as_deep : (s : Statement) → IsActBy NoFunction s → depth_of_statement (one_line_statement s) ≡ depth_of_statement s
 act_as_deep (call_statement e) is = as_deep e is.1
 act_as_deep (assignment targets es) is = cc (all_as_deep targets (targets_have_cores targets is.targets), all_as_deep es is.values)
 act_as_deep (local_statement names es) is = all_as_deep es is.1

@@ -25,7 +25,7 @@ use Rattle.reads_back.proofs.ConstantsSame.{before_load, constant_is, constant_t
 use Rattle.reads_back.proofs.Deeper.{some_depth}
 use Rattle.reads_back.proofs.LeavesSame.{text_rewritten}
 use Rattle.reads_back.proofs.PlainWords.{IsLoadable, IsShown, is_constant, is_nil, is_no_literal, is_truth, shown}
-use Rattle.reads_back.proofs.NamesAhead.{IsAhead, names_in}
+use Rattle.reads_back.proofs.Mentions.{IsAhead, mentions_in}
 use Rattle.reads_back.proofs.Rewriting.{IsMadeBy, Rewritten, RewrittenOperand, code, operand_wording, wording}
 use Rattle.reads_back.proofs.Tests.{first_of_both, second_of_both}
 use Rattle.reads_back.proofs.WholeNumbers.{IsWhole, folded_whole}
@@ -178,7 +178,7 @@ module _ {f : Function} {g : Fn} {active : List Active} {listed : List ℕ} {z :
   -- ---- a value in a register
 
   value_rewritten : (e : Expression) (v : Value) → Rewritten f g active listed z left behind e v → ((m : Maker) → Final (length m.labels) (rk (code e) m).after z → rk (code e) m ≡ operand (code e) m) →
-      ((m : Maker) (k : Constant) → IsAhead g active (names_in e) m → Final (length m.labels) (rk (code e) m).after z → Final (length m.labels) (operand (code e) m).after z → literal (operand_wording f listed z left (length m.constants) (value_operand v)).words ≡ Some k → is_small k m ≡ false) →
+      ((m : Maker) (k : Constant) → IsAhead g active (mentions_in e) m → Final (length m.labels) (rk (code e) m).after z → Final (length m.labels) (operand (code e) m).after z → literal (operand_wording f listed z left (length m.constants) (value_operand v)).words ≡ Some k → is_small k m ≡ false) →
       RewrittenOperand f g active listed z left behind e (value_operand v)
   value_rewritten e v rewritten own large = record {
     can = rewritten.can;
@@ -225,7 +225,7 @@ module _ {f : Function} {g : Fn} {active : List Active} {listed : List ℕ} {z :
   -- ---- what is no literal
 
   -- what takes a constant is no local
-  constant_no_local : (e : Expression) (number : ℕ) (m : Maker) → Rewritten f g active listed z left behind e (constant_value number) → IsAhead g active (names_in e) m → local_register (one_line_expression e) m ≡ None
+  constant_no_local : (e : Expression) (number : ℕ) (m : Maker) → Rewritten f g active listed z left behind e (constant_value number) → IsAhead g active (mentions_in e) m → local_register (one_line_expression e) m ≡ None
   constant_no_local e number m rewritten ahead = by (local_register (one_line_expression e) m) refl
     where
       by : (local : Option ℕ) → local_register (one_line_expression e) m ≡ local → local ≡ None
@@ -233,7 +233,7 @@ module _ {f : Function} {g : Fn} {active : List Active} {listed : List ℕ} {z :
       by None is = refl
 
   -- a string with a large number
-  text_large : (e : Expression) (text : Text) (number : ℕ) (m : Maker) → HasNumber g (Constant.Text text) number → Rewritten f g active listed z left behind e (constant_value number) → IsAhead g active (names_in e) m → Final (length m.labels) (operand (code e) m).after z →
+  text_large : (e : Expression) (text : Text) (number : ℕ) (m : Maker) → HasNumber g (Constant.Text text) number → Rewritten f g active listed z left behind e (constant_value number) → IsAhead g active (mentions_in e) m → Final (length m.labels) (operand (code e) m).after z →
       is_bare (place f.of listed f.short) (length m.constants) (constant_value number) ≡ true → is_small (Constant.Text text) m ≡ false
   text_large e text number m has rewritten ahead final bare =
       not_up_to (constant_number (Constant.Text text) m.constants) (omega (arith, more, number_is made (Constant.Text text) number m has (before_load m.free (Constant.Text text) m (subst (λ (n : Maker). Final (length m.labels) n z) loaded (operand_final (one_line_expression e) m (constant_no_local e number m rewritten ahead) final)))))
@@ -247,7 +247,7 @@ module _ {f : Function} {g : Fn} {active : List Active} {listed : List ℕ} {z :
       loaded : (code e).to_reg m.free m ≡ loads m.free (Constant.Text text) m
       loaded = sym (rewritten.to_reg m.free m ahead (operand_final (one_line_expression e) m (constant_no_local e number m rewritten ahead) final)) ∙ ap (λ k. (coded (constant_word k).words).to_reg m.free m) there
 
-  constant_large : (e : Expression) (own : Constant) (number : ℕ) (m : Maker) (k : Constant) → IsLoadable own → HasNumber g own number → fold e ≡ None → Rewritten f g active listed z left behind e (constant_value number) → IsAhead g active (names_in e) m → Final (length m.labels) (operand (code e) m).after z →
+  constant_large : (e : Expression) (own : Constant) (number : ℕ) (m : Maker) (k : Constant) → IsLoadable own → HasNumber g own number → fold e ≡ None → Rewritten f g active listed z left behind e (constant_value number) → IsAhead g active (mentions_in e) m → Final (length m.labels) (operand (code e) m).after z →
       is_bare (place f.of listed f.short) (length m.constants) (constant_value number) ≡ true → plain_literal (wording f listed z left (length m.constants) (constant_value number)).words ≡ Some k → is_small k m ≡ false
   constant_large e (Constant.Text text) number m k loadable has none rewritten ahead final bare plain =
       let there = constant_is made (Constant.Text text) number has in
@@ -259,7 +259,7 @@ module _ {f : Function} {g : Fn} {active : List Active} {listed : List ℕ} {z :
   constant_large e own number m k loadable has none rewritten ahead final bare plain = absurd loadable
 
   -- how a value is written that could be one
-  shown_large : (e : Expression) (v : Value) (m : Maker) (k : Constant) → fold e ≡ None → Rewritten f g active listed z left behind e v → IsShown g (place f.of listed f.short) left v → IsAhead g active (names_in e) m → Final (length m.labels) (operand (code e) m).after z →
+  shown_large : (e : Expression) (v : Value) (m : Maker) (k : Constant) → fold e ≡ None → Rewritten f g active listed z left behind e v → IsShown g (place f.of listed f.short) left v → IsAhead g active (mentions_in e) m → Final (length m.labels) (operand (code e) m).after z →
       is_bare (place f.of listed f.short) (length m.constants) v ≡ true → plain_literal (wording f listed z left (length m.constants) v).words ≡ Some k → is_small k m ≡ false
   shown_large e v m k none rewritten (is_nil is) ahead final =
       subst (λ (v : Value). is_bare (place f.of listed f.short) (length m.constants) v ≡ true → plain_literal (wording f listed z left (length m.constants) v).words ≡ Some k → is_small k m ≡ false) (sym is)
@@ -281,7 +281,7 @@ module _ {f : Function} {g : Fn} {active : List Active} {listed : List ℕ} {z :
       none : fold e ≡ None
       none = fold_by e ∙ ap number_in is
 
-      by : (m : Maker) (k : Constant) → IsAhead g active (names_in e) m → Final (length m.labels) (operand (code e) m).after z → (bare : Bool) → is_bare (place f.of listed f.short) (length m.constants) v ≡ bare → literal (unless bare (wording f listed z left (length m.constants) v)).words ≡ Some k → is_small k m ≡ false
+      by : (m : Maker) (k : Constant) → IsAhead g active (mentions_in e) m → Final (length m.labels) (operand (code e) m).after z → (bare : Bool) → is_bare (place f.of listed f.short) (length m.constants) v ≡ bare → literal (unless bare (wording f listed z left (length m.constants) v)).words ≡ Some k → is_small k m ≡ false
       by m k ahead final true bare words =
           let n = length m.constants in
           shown_large e v m k none rewritten (shown g active (place f.of listed f.short) left e before after v core rewritten.can) ahead final bare (plain_by (fold (wording f listed z left n v).words) (plain_literal (wording f listed z left n v).words) (Some k) (rewritten.folded n ∙ none) words)

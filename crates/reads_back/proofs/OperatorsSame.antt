@@ -27,8 +27,8 @@ use Rattle.scheme_stands.proofs.Growth.{calm, Final, before, before_free, before
 use Rattle.scheme_stands.proofs.Parts.{grows, grows_rk}
 use Rattle.scheme_stands.specs.Words.{Fn}
 use Rattle.reads_back.proofs.Deeper.{some_depth}
-use Rattle.reads_back.proofs.NamesAhead.{IsAhead, ahead_behind, ahead_front, names_in}
-use Rattle.reads_back.proofs.PassedNames.{PassesNames, rk_passes}
+use Rattle.reads_back.proofs.Mentions.{IsAhead, ahead_behind, ahead_front, mentions_in}
+use Rattle.reads_back.proofs.PassedMentions.{PassesMentions, rk_passes}
 use Rattle.reads_back.proofs.Tests.{given_is}
 use Rattle.reads_back.proofs.WordsSame.{fold_wrapped, levels_wrapped, operand_same, operand_taken, operand_wrapped, rk_on_left, rk_on_right, same_fold}
 use Rattle.reads_back.proofs.Rewriting.{Rewritten, RewrittenOperand, code, operand_wording, wording}
@@ -119,7 +119,7 @@ module _ {f : Function} {g : Fn} {active : List Active} {listed : List ℕ} {z :
       let all = few_more (max (on_left op w).levels (on_right op u).levels) in
       omega (arith, few_first n, few_second n', same, one, other, all)
 
-  module _ (kept : PassesNames (names_in l) (code l)) (word : Op) (is_word : binary_value 1 op ≡ arithmetic 1 word) (none : fold_binary (arith_op op) (fold l) (fold r) ≡ None) where
+  module _ (kept : PassesMentions (mentions_in l) (code l)) (word : Op) (is_word : binary_value 1 op ≡ arithmetic 1 word) (none : fold_binary (arith_op op) (fold l) (fold r) ≡ None) where
     code_to : (line to : ℕ) (m : Maker) → (code (binary_expression line op l r)).to_reg to m ≡ freeing (arithmetic 1 word (code l) (code r) to) m
     code_to line to m = arithmetic_to word op (one_line_expression l) (one_line_expression r) to m is_word (same_fold (binary_expression line op l r) ∙ none)
 
@@ -134,17 +134,17 @@ module _ {f : Function} {g : Fn} {active : List Active} {listed : List ℕ} {z :
     behind_of : (line to : ℕ) (m : Maker) → Final (length m.labels) ((code (binary_expression line op l r)).to_reg to m) z → Final (length (rk (code l) m).after.labels) (rk (code r) (rk (code l) m).after).after z
     behind_of line to m final = let grown = grows_rk {v = calm} (code l) (grows calm (one_line_expression l)) m in later grown.more (both_of line to m final)
 
-    behind_ahead : (m : Maker) → IsAhead g active (names_in l ++ names_in r) m → IsAhead g active (names_in r) (rk (code l) m).after
-    behind_ahead m ahead = ahead_behind (names_in l) (names_in r) (rk_passes (names_in l) (code l) kept m) ahead
+    behind_ahead : (m : Maker) → IsAhead g active (mentions_in l ++ mentions_in r) m → IsAhead g active (mentions_in r) (rk (code l) m).after
+    behind_ahead m ahead = ahead_behind (mentions_in l) (mentions_in r) (rk_passes (mentions_in l) (code l) kept m) ahead
 
-    binary_to : (line to : ℕ) (m : Maker) → IsAhead g active (names_in l ++ names_in r) m → Final (length m.labels) ((code (binary_expression line op l r)).to_reg to m) z →
+    binary_to : (line to : ℕ) (m : Maker) → IsAhead g active (mentions_in l ++ mentions_in r) m → Final (length m.labels) ((code (binary_expression line op l r)).to_reg to m) z →
         (coded (joined op (operand_wording f listed z left (length m.constants) x) (second_wording f listed left (length m.constants) x y)).words).to_reg to m ≡ (code (binary_expression line op l r)).to_reg to m
     binary_to line to m ahead final =
         let n = length m.constants in
         let w = operand_wording f listed z left n x in
         let u = second_wording f listed left n x y in
         let m1 = (rk (code l) m).after in
-        let ahead_first = ahead_front (names_in l) (names_in r) ahead in
+        let ahead_first = ahead_front (mentions_in l) (mentions_in r) ahead in
         let front = front_of line to m final in
         let one = rk_on_left op w m ∙ first.as_rk m ahead_first front in
         let other =
@@ -155,12 +155,12 @@ module _ {f : Function} {g : Fn} {active : List Active} {listed : List ℕ} {z :
         ∙ ap (free_from m.free) (arithmetic_same word (coded (on_left op w).words) (coded (on_right op u).words) (code l) (code r) to m one other)
         ∙ sym (code_to line to m)
 
-    binary_taken : (line to : ℕ) (m : Maker) → IsAhead g active (names_in l ++ names_in r) m → Final (length m.labels) ((code (binary_expression line op l r)).to_reg to m) z →
+    binary_taken : (line to : ℕ) (m : Maker) → IsAhead g active (mentions_in l ++ mentions_in r) m → Final (length m.labels) ((code (binary_expression line op l r)).to_reg to m) z →
         length ((code (binary_expression line op l r)).to_reg to m).constants ≡ taken_behind_operand y (taken_behind_operand x (length m.constants))
     binary_taken line to m ahead final =
         ap (λ n. length n.constants) (code_to line to m)
         ∙ second.taken (rk (code l) m).after (behind_ahead m ahead) (behind_of line to m final)
-        ∙ ap (taken_behind_operand y) (first.taken m (ahead_front (names_in l) (names_in r) ahead) (front_of line to m final))
+        ∙ ap (taken_behind_operand y) (first.taken m (ahead_front (mentions_in l) (mentions_in r) ahead) (front_of line to m final))
 
     binary_rewritten : (line depth : ℕ) → ((n : ℕ) → (operand_wording f listed z left n x).levels ≤ 3 * depth_of_expression l + 2) → ((n : ℕ) → (operand_wording f listed z mid n y).levels ≤ 3 * depth_of_expression r + 2) →
         Rewritten f g active listed z left behind (binary_expression line op l r) (values.binary_value op x y depth)
@@ -182,7 +182,7 @@ module _ {f : Function} {g : Fn} {active : List Active} {listed : List ℕ} {z :
 
 module _ {f : Function} {g : Fn} {active : List Active} {listed : List ℕ} {z : Maker} {left mid behind : List (Option Inner)} where
   -- operators of arithmetic that are not folded; an operand needs no more levels than a value, since what stands in parentheses as an operand has few of its own
-  pub arithmetic_rewritten : (line : ℕ) (op : BinaryOp) (kind : ArithOp) (l r : Expression) (x y : OperandValue) (v : Value) → arith_op op ≡ Some kind → fold (binary_expression line op l r) ≡ None → PassesNames (names_in l) (code l) →
+  pub arithmetic_rewritten : (line : ℕ) (op : BinaryOp) (kind : ArithOp) (l r : Expression) (x y : OperandValue) (v : Value) → arith_op op ≡ Some kind → fold (binary_expression line op l r) ≡ None → PassesMentions (mentions_in l) (code l) →
       RewrittenOperand f g active listed z left mid l x → RewrittenOperand f g active listed z mid behind r y →
       ((n : ℕ) → (operand_wording f listed z left n x).levels ≤ 3 * depth_of_expression l + 2) → ((n : ℕ) → (operand_wording f listed z mid n y).levels ≤ 3 * depth_of_expression r + 2) →
       made_binary op x y ≡ Some v → Rewritten f g active listed z left behind (binary_expression line op l r) v
@@ -214,7 +214,7 @@ module _ {f : Function} {g : Fn} {active : List Active} {listed : List ℕ} {z :
       let all = few_more (unless (left_binds 7 false w.words) w).levels in
       omega (arith, inside.few n, one, all)
 
-  module _ (none : fold_unary op (fold e) ≡ None) (line to : ℕ) (m : Maker) (ahead : IsAhead g active (names_in e) m) (final : Final (length m.labels) ((code (unary_expression line op e)).to_reg to m) z) where
+  module _ (none : fold_unary op (fold e) ≡ None) (line to : ℕ) (m : Maker) (ahead : IsAhead g active (mentions_in e) m) (final : Final (length m.labels) ((code (unary_expression line op e)).to_reg to m) z) where
     unary_code : (code (unary_expression line op e)).to_reg to m ≡ freeing (unary_value 1 op (code e) to) m
     unary_code = unary_to op (one_line_expression e) to m (same_fold (unary_expression line op e) ∙ none)
 

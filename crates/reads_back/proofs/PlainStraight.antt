@@ -8,9 +8,9 @@ use Rattle.lua_tree.specs.Syntax as syntax
 use Rattle.lua_tree.specs.Syntax.{Arguments, Expression, Expressions, Source, Statement, Statements, and_expression, argument_list, assignment, binary_expression, call_expression, call_statement, constructor, Fields, no_fields, positional, named, keyed, table_argument, false_literal, field_expression, index_expression, local_statement, method_call, name_expression, nil_literal, no_expressions, no_statements, number_literal, or_expression, parenthesized, repeat_loop, return_statement, text_argument, text_literal, true_literal, unary_expression, vararg_expression}
 use Rattle.lua_tree.specs.WellFormed.{WellFormed, are_targets, begins_with_paren, depth_of_statements, ends_block, ends_item, formed_arguments, formed_expression, formed_expressions, formed_fields, formed_statement, formed_statements, has_expressions, is_call, is_prefix, is_target, last_takes_arguments, may_follow, on_its_line, statement_begins_with_paren, statement_takes_arguments, takes_arguments}
 use Rattle.lua_tree.specs.declared.tree.Separator.{Separator}
-use Rattle.reads_back.specs.Acted.{IsAct}
-use Rattle.reads_back.specs.Cores.{AllHaveCores, HasCore, HaveCores, HaveItems}
-use Rattle.reads_back.specs.Straight.{AllBeginWithName, AreStraight, BeginsWithName, StatementBeginsWithName, Straight}
+use Rattle.reads_back.specs.Acted.{IsActBy}
+use Rattle.reads_back.specs.Cores.{HasCoreBy, AllHaveCoresBy, HaveCoresBy, HaveItemsBy}
+use Rattle.reads_back.specs.Straight.{AllBeginWithName, AreStraight, BeginsWithName, StatementBeginsWithName, Straight, NoFunction}
 use Rattle.reads_back.proofs.OneLineActs.{act_as_deep, act_on_line, again_on_line, targets_have_cores}
 use Rattle.reads_back.proofs.Tests.{both_hold, first_of_both, second_of_both}
 
@@ -145,7 +145,7 @@ same_item Separator.Missing (keyed key e separator rest) = refl
 same_item separator items = refl
 
 mutual
-  formed_on_line : (e : Expression) → HasCore e → formed_expression e ≡ true → formed_expression (one_line_expression e) ≡ true
+  formed_on_line : (e : Expression) → HasCoreBy NoFunction e → formed_expression e ≡ true → formed_expression (one_line_expression e) ≡ true
   formed_on_line (nil_literal line) has formed = refl
   formed_on_line (true_literal line) has formed = refl
   formed_on_line (false_literal line) has formed = refl
@@ -184,12 +184,12 @@ mutual
   formed_on_line (parenthesized line e) has formed = formed_on_line e has formed
   formed_on_line e has formed = absurd has
 
-  arguments_formed : (args : Arguments) → HaveCores args → formed_arguments args ≡ true → formed_arguments (one_line_arguments args) ≡ true
+  arguments_formed : (args : Arguments) → HaveCoresBy NoFunction args → formed_arguments args ≡ true → formed_arguments (one_line_arguments args) ≡ true
   arguments_formed (argument_list es) have formed = all_formed es have formed
   arguments_formed (text_argument text) have formed = formed
   arguments_formed (table_argument fields) have formed = items_formed fields have formed
 
-  items_formed : (fields : Fields) → HaveItems fields → formed_fields fields ≡ true → formed_fields (one_line_fields fields) ≡ true
+  items_formed : (fields : Fields) → HaveItemsBy NoFunction fields → formed_fields fields ≡ true → formed_fields (one_line_fields fields) ≡ true
   items_formed no_fields have formed = formed
   items_formed (positional e separator rest) have formed =
       let parts = second_of_both (ends_item separator rest) _ formed in
@@ -207,7 +207,7 @@ mutual
       (both_hold _ _ (formed_on_line key have.0 (first_of_both _ _ behind))
       (both_hold _ _ (formed_on_line e have.1 (first_of_both _ _ parts)) (items_formed rest have.2 (second_of_both (formed_expression e) _ parts))))
 
-  all_formed : (es : Expressions) → AllHaveCores es → formed_expressions es ≡ true → formed_expressions (one_line_expressions es) ≡ true
+  all_formed : (es : Expressions) → AllHaveCoresBy NoFunction es → formed_expressions es ≡ true → formed_expressions (one_line_expressions es) ≡ true
   all_formed no_expressions have formed = formed
   all_formed (syntax.expression e es) have formed =
       both_hold _ _ (formed_on_line e have.0 (first_of_both _ _ formed)) (all_formed es have.1 (second_of_both (formed_expression e) _ formed))
@@ -220,7 +220,7 @@ same_targets : (es : Expressions) → are_targets (one_line_expressions es) ≡ 
 same_targets no_expressions = refl
 same_targets (syntax.expression e es) = ap₂ (λ (first rest : Bool). first && rest) (same_target e) (same_targets es)
 
-act_formed : (s : Statement) → IsAct s → formed_statement s ≡ true → formed_statement (one_line_statement s) ≡ true
+act_formed : (s : Statement) → IsActBy NoFunction s → formed_statement s ≡ true → formed_statement (one_line_statement s) ≡ true
 act_formed (call_statement e) is formed = both_hold _ _ (act_on_line (call_statement e) is).0 (formed_on_line e is.1 (second_of_both (is_call e) _ formed))
 act_formed (assignment targets es) is formed =
     let targets_on = second_of_both (has_expressions targets) _ formed in

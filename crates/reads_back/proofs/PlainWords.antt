@@ -1,20 +1,20 @@
 -- What is written of the value of an expression is a string, nil, true or false only where the value is one.
 use Rattle.std.proofs.Common.{◌≡◌, ℕ, suc, max, Bool, true, false, ℤ, List, Option, Some, None, is_some, refl, sym, ap, ◌∙◌, subst}
 use Rattle.lua_num.specs.Bytes.{Text}
-use Rattle.lua_tree.specs.Syntax.{Expression, nil_literal, true_literal, false_literal, vararg_expression, number_literal, text_literal, name_expression, index_expression, field_expression, call_expression, method_call, binary_expression, unary_expression, parenthesized, constructor}
+use Rattle.lua_tree.specs.Syntax.{Expression, nil_literal, true_literal, false_literal, vararg_expression, number_literal, text_literal, name_expression, function_expression, index_expression, field_expression, call_expression, method_call, binary_expression, unary_expression, parenthesized, constructor}
 use Rattle.lua_tree.specs.WellFormed.{is_prefix}
 use Rattle.lua_tree.specs.declared.tree.BinaryOp.{BinaryOp}
 use Rattle.proto.specs.declared.parts.Constant.{Constant}
 use Rattle.core_expr.specs.Counting.{left_by, left_by_operand, taken_behind, taken_behind_operand}
 use Rattle.core_expr.specs.Making.{and_last, deepest, depth_of, depth_of_operand, made_index, deepest_item}
 use Rattle.core_expr.specs.Places.{Place, constant_name, field_name, local_name, upvalue_name}
-use Rattle.core_expr.specs.Values.{Value, nil_value, bool_value, vararg_value, constant_value, local_value, upvalue_value, global_value, index_value, binary_value, unary_value, concat_value, call_value, method_value, Values, no_values, and_value, OperandValue, OperandList, no_operands, and_operand, Inner, table_value}
-use Rattle.core_expr.specs.Writing.{Wording, as_prefix, can_write, name_word, unless, with_key, word, word_keys, word_operand}
+use Rattle.core_expr.specs.Values.{Value, nil_value, bool_value, vararg_value, constant_value, local_value, upvalue_value, global_value, index_value, binary_value, unary_value, concat_value, call_value, method_value, function_value, Values, no_values, and_value, OperandValue, OperandList, no_operands, and_operand, Inner, table_value}
+use Rattle.core_expr.specs.Writing.{Wording, as_prefix, can_write, function_left, function_word, name_word, unless, with_key, word, word_keys, word_operand}
 use Rattle.scheme.specs.Expressions.{fold, literal, plain_literal}
 use Rattle.scheme.specs.Making.{Where, in_globals, in_register, in_upvalue}
 use Rattle.scheme.specs.declared.making.Active.{Active}
 use Rattle.scheme_stands.specs.Words.{Fn}
-use Rattle.reads_back.specs.Cores.{HasNumber, IsArithmetic, IsConcat, IsConstant, IsCore, IsFoldedOr, IsIndexed, IsFirst, IsOperandBy, IsOperator, IsUnary, IsVariable, core, Counted, concat_by, first_and, indexed_by, unary_by}
+use Rattle.reads_back.specs.Cores.{HasNumber, IsArithmetic, IsConstant, IsCore, IsFoldedOr, IsIndexed, IsOperandBy, IsOperator, IsUnary, IsVariable, core, Counted, concat_by, first_and, unary_by}
 use Rattle.reads_back.proofs.MarksSame.{over_made}
 
 -- ---- what is made
@@ -58,6 +58,10 @@ keys_plain at n fs w (and_operand key rest) plain = keys_plain at (taken_behind_
 name_plain : (name : Option Text) → is_some name ≡ true → plain_literal (name_word name).words ≡ None
 name_plain None is = cc
 name_plain (Some name) is = refl
+
+function_plain : (found : Option Inner) → is_some found ≡ true → plain_literal (function_word found).words ≡ None
+function_plain None is = cc
+function_plain (Some found) is = refl
 
 -- ---- which values expressions have
 
@@ -129,6 +133,7 @@ module _ (g : Fn) (active : List Active) (at : Place) (left : List (Option Inner
   shown (number_literal line n) before behind v is can = shown_constant (Constant.Number n) v tt is.1
   shown (text_literal line text) before behind v is can = shown_constant (Constant.Text text) v tt is.1
   shown (name_expression line text) before behind v is can = let means = is.1 in shown_name text means.0 v can means.2
+  shown (function_expression line body) before behind v is can = shown_words v (function_value before false) is.1 (λ n. function_plain (function_left left before) (subst (λ (v : Value). can_write at left v ≡ true) is.1 can))
   shown (index_expression line on key) before behind v is can = shown_index _ _ v is.1
   shown (field_expression line on text) before behind v is can = shown_index _ _ v is.1
   shown (call_expression line on args on_line) before behind v (mid, (callee, values, all, is_callee, given, is)) can =

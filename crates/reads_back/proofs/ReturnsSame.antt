@@ -24,8 +24,8 @@ use Rattle.reads_back.specs.Cores.{AllHaveCores, AreCores, HasCore, IsCore, ends
 use Rattle.reads_back.proofs.ActsFormed.{called_is}
 use Rattle.reads_back.proofs.GivenSame.{AllRewritten, closed_unless, list_rewritten}
 use Rattle.reads_back.proofs.ListsSame.{cores_few}
-use Rattle.reads_back.proofs.NamesAhead.{Passed, ahead_front, names_in, names_in_all, passed_none, passed_then}
-use Rattle.reads_back.proofs.PassedNames.{given_passed, names_passed, operand_passes}
+use Rattle.reads_back.proofs.Mentions.{Passed, ahead_front, mentions_in, mentions_in_all, passed_none, passed_then}
+use Rattle.reads_back.proofs.PassedMentions.{given_passed, mentions_passed, operand_passes}
 use Rattle.reads_back.proofs.Rewriting.{IsMadeBy, Rewritten, RewrittenAct, RewrittenGiven, code, wording}
 use Rattle.reads_back.proofs.Tests.{both_hold}
 use Rattle.reads_back.proofs.WordsSame.{coded_is, levels_wrapped, operand_same, operand_taken, operand_wrapped, same_multiple}
@@ -60,29 +60,29 @@ operand_returned e m is = as_operand (code e) m (single_code e is)
 
 -- ---- the names that it passes
 
-call_passes : (e : Expression) → HasCore e → is_call e ≡ true → (m : Maker) → Passed (names_in e) m (return_part 1 (code e ∷ []) m)
+call_passes : (e : Expression) → HasCore e → is_call e ≡ true → (m : Maker) → Passed (mentions_in e) m (return_part 1 (code e ∷ []) m)
 call_passes e has is m =
     let several : is_multiple (code e).e ≡ true = ap is_multiple (coded_is (one_line_expression e)) ∙ same_multiple e ∙ ap (λ call. call || is_vararg e) is in
-    let passed = (names_passed e has).multi several Op.TailCall None m in
-    subst (λ (n : Maker). Passed (names_in e) m n) (sym (call_returned e m is)) (record { around = passed.around; names = passed.names })
+    let passed = (mentions_passed e has).multi several Op.TailCall None m in
+    subst (λ (n : Maker). Passed (mentions_in e) m n) (sym (call_returned e m is)) (record { around = passed.around; behind = passed.behind })
 
-single_passes : (e : Expression) → HasCore e → is_multiple e ≡ false → (m : Maker) → Passed (names_in e) m (return_part 1 (code e ∷ []) m)
+single_passes : (e : Expression) → HasCore e → is_multiple e ≡ false → (m : Maker) → Passed (mentions_in e) m (return_part 1 (code e ∷ []) m)
 single_passes e has is m =
-    let passed = operand_passes (names_in e) (code e) (names_passed e has) m in
-    subst (λ (n : Maker). Passed (names_in e) m n) (sym (operand_returned e m is)) (record { around = passed.around; names = passed.names })
+    let passed = operand_passes (mentions_in e) (code e) (mentions_passed e has) m in
+    subst (λ (n : Maker). Passed (mentions_in e) m n) (sym (operand_returned e m is)) (record { around = passed.around; behind = passed.behind })
 
-one_passes : (e : Expression) → HasCore e → (m : Maker) → Passed (names_in e) m (return_part 1 (code e ∷ []) m)
+one_passes : (e : Expression) → HasCore e → (m : Maker) → Passed (mentions_in e) m (return_part 1 (code e ∷ []) m)
 one_passes (call_expression line on args on_line) has m = call_passes (call_expression line on args on_line) has refl m
 one_passes (method_call line on name args on_line) has m = call_passes (method_call line on name args on_line) has refl m
-one_passes (vararg_expression line) has m = record { around = refl; names = refl }
+one_passes (vararg_expression line) has m = record { around = refl; behind = refl }
 one_passes e has m = single_passes e has refl m
 
-pub return_passes : (es : Expressions) → AllHaveCores es → (m : Maker) → Passed (names_in_all es) m (statement_made (one_line_statement (return_statement es)) 1 None m)
-return_passes no_expressions has m = record { around = refl; names = refl }
-return_passes (syntax.expression e no_expressions) has m = passed_then (names_in e) [] (one_passes e has.0 m) passed_none
+pub return_passes : (es : Expressions) → AllHaveCores es → (m : Maker) → Passed (mentions_in_all es) m (statement_made (one_line_statement (return_statement es)) 1 None m)
+return_passes no_expressions has m = record { around = refl; behind = refl }
+return_passes (syntax.expression e no_expressions) has m = passed_then (mentions_in e) [] (one_passes e has.0 m) passed_none
 return_passes (syntax.expression e (syntax.expression d es)) has m =
     let passed = given_passed (argument_list (syntax.expression e (syntax.expression d es))) has m in
-    record { around = passed.around; names = passed.names }
+    record { around = passed.around; behind = passed.behind }
 
 -- ---- what is written
 
@@ -99,9 +99,9 @@ module _ {f : Function} {g : Fn} {active : List Active} {listed : List ℕ} {z :
     made = λ m ahead final.
         let w = (wording f listed z left (length m.constants) v).words in
         as_call (coded w) m (ap is_call (coded_is w) ∙ written_call (length m.constants))
-        ∙ ap (put 1 (Piece.Abc Op.Return m.free 0 0)) (written.multi several Op.TailCall None m (ahead_front (names_in e) [] ahead) (inner m final))
+        ∙ ap (put 1 (Piece.Abc Op.Return m.free 0 0)) (written.multi several Op.TailCall None m (ahead_front (mentions_in e) [] ahead) (inner m final))
         ∙ sym (call_returned e m call);
-    taken = λ m ahead final. ap (λ (n : Maker). length n.constants) (call_returned e m call) ∙ written.multi_taken several Op.TailCall None m (ahead_front (names_in e) [] ahead) (inner m final);
+    taken = λ m ahead final. ap (λ (n : Maker). length n.constants) (call_returned e m call) ∙ written.multi_taken several Op.TailCall None m (ahead_front (mentions_in e) [] ahead) (inner m final);
   }
     where
       several : is_multiple e ≡ true
@@ -119,9 +119,9 @@ module _ {f : Function} {g : Fn} {active : List Active} {listed : List ℕ} {z :
         let w = wording f listed z left (length m.constants) v in
         let one = unless (not (true && can_be_several v)) w in
         as_operand (coded one.words) m (ap is_multiple (coded_is one.words) ∙ closed_unless (can_be_several v) w (written.several (length m.constants)))
-        ∙ ap (λ (x : Got ℕ). put 1 (Piece.Abc Op.Return x.value 2 0) x.after) (operand_wrapped (not (true && can_be_several v)) w m ∙ operand_same written m (ahead_front (names_in e) [] ahead) (inner m final))
+        ∙ ap (λ (x : Got ℕ). put 1 (Piece.Abc Op.Return x.value 2 0) x.after) (operand_wrapped (not (true && can_be_several v)) w m ∙ operand_same written m (ahead_front (mentions_in e) [] ahead) (inner m final))
         ∙ sym (operand_returned e m single);
-    taken = λ m ahead final. ap (λ (n : Maker). length n.constants) (operand_returned e m single) ∙ operand_taken written m (ahead_front (names_in e) [] ahead) (inner m final);
+    taken = λ m ahead final. ap (λ (n : Maker). length n.constants) (operand_returned e m single) ∙ operand_taken written m (ahead_front (mentions_in e) [] ahead) (inner m final);
   }
     where
       inner : (m : Maker) → Final (length m.labels) (return_part 1 (code e ∷ []) m) z → Final (length m.labels) (operand (code e) m).after z

@@ -1,8 +1,8 @@
 -- What is written of the value of an expression has the same code as the expression, where so many constants were taken before it, and its names come next: the records in which this is said.
-use Rattle.std.proofs.Common.{◌≡◌, ℕ, ◌*◌, ◌+◌, ◌≤◌, Bool, true, List, [], ◌++◌, length, None, Some, Option}
+use Rattle.std.proofs.Common.{◌∷◌, ◌≡◌, ℕ, ◌*◌, ◌+◌, ◌≤◌, Bool, true, List, [], ◌++◌, length, None, Some, Option, sym, ap, ◌∙◌}
 use Rattle.lua_num.specs.Bytes.{Text}
 use Rattle.lua_tree.specs.OneLine.{one_line_expression, one_line_arguments, one_line_statement}
-use Rattle.lua_tree.specs.Syntax.{Arguments, Expression, Statement, assignment, call_statement, local_statement, return_statement}
+use Rattle.lua_tree.specs.Syntax.{Arguments, Expression, Statement, assignment, call_statement, local_statement, return_statement, FunctionBody}
 use Rattle.lua_tree.specs.WellFormed.{depth_of_expression, depth_of_statement}
 use Rattle.opcode.specs.declared.op.Op.{Op}
 use Rattle.core_expr.specs.Counting.{taken_behind, taken_behind_operand, taken_behind_values, left_by, left_by_operand, left_by_values}
@@ -18,8 +18,11 @@ use Rattle.scheme_stands.proofs.Growth.{Final}
 use Rattle.scheme_stands.specs.Words.{Fn, Means}
 use Rattle.reads_back.specs.Acted.{Acted, act_levels, act_statement, can_act, left_by_act, taken_behind_act}
 use Rattle.reads_back.proofs.NameReads.{AreListed}
-use Rattle.reads_back.proofs.NamesAhead.{IsAhead, names_in, names_given, names_in_all}
+use Rattle.reads_back.proofs.Mentions.{IsAhead, mentions_in, mentions_given, mentions_in_all, Mention, locals_mention}
 use Rattle.reads_back.proofs.WordsRead.{IsFunction}
+use Rattle.std.proofs.lemmas.Option.{none-some}
+use Rattle.proto.specs.Chunk.{function_at, no_functions}
+use Rattle.reads_back.specs.Coming.{Coming, IsMadeNext}
 
 -- the function that is read is the one that is made in the end
 pub record IsMadeBy (f : Function) (g : Fn) (active : List Active) (listed : List ℕ) (z : Maker) : Type 0 where
@@ -29,18 +32,23 @@ pub record IsMadeBy (f : Function) (g : Fn) (active : List Active) (listed : Lis
   pub few : length z.constants ≤ 262144
   -- the scope finds one meaning by a name
   pub certain : (text : Text) (one other : Where) → Means g.law active text one → Means g.law active text other → one ≡ other
+  -- no functions are made in it
+  pub alone : g.functions ≡ no_functions
+
+pub none_next : {g : Fn} (active : List Active) (body : FunctionBody) (method : Bool) (c : Coming) → g.functions ≡ no_functions → IsMadeNext g active body method c → ⊥
+none_next active body method c alone next = none-some next.chunk (sym (ap (λ functions. function_at functions c.functions) alone) ∙ next.is)
 
 -- the code of an expression on one line
 abbrev pub code : Expression → Coded
 code e = coded (one_line_expression e)
 
--- the names that a statement mentions
-abbrev pub names_of_statement : Statement → List Text
-names_of_statement (call_statement e) = names_in e
-names_of_statement (assignment targets es) = names_in_all targets ++ names_in_all es
-names_of_statement (local_statement names es) = names_in_all es
-names_of_statement (return_statement es) = names_in_all es
-names_of_statement s = []
+-- what a statement mentions
+abbrev pub mentions_of_statement : Statement → List Mention
+mentions_of_statement (call_statement e) = mentions_in e
+mentions_of_statement (assignment targets es) = mentions_in_all targets ++ mentions_in_all es
+mentions_of_statement (local_statement names es) = locals_mention names ∷ mentions_in_all es
+mentions_of_statement (return_statement es) = mentions_in_all es
+mentions_of_statement s = []
 
 -- how many keys a value has
 abbrev pub keys_of : Value → ℕ
@@ -71,11 +79,11 @@ module _ (f : Function) (g : Fn) (active : List Active) (listed : List ℕ) (z :
     pub few : (n : ℕ) → (wording f listed z left n v).levels ≤ 3 * depth_of_expression e + 2
     pub keys : keys_of v ≤ depth_of_expression e
     -- a local takes no constant
-    pub as_local : (n r : ℕ) (m : Maker) → IsAhead g active (names_in e) m → local_register (one_line_expression e) m ≡ Some r → taken_behind v n ≡ n
-    pub to_reg : (r : ℕ) (m : Maker) → IsAhead g active (names_in e) m → Final (length m.labels) ((code e).to_reg r m) z → (coded (wording f listed z left (length m.constants) v).words).to_reg r m ≡ (code e).to_reg r m
-    pub taken : (r : ℕ) (m : Maker) → IsAhead g active (names_in e) m → Final (length m.labels) ((code e).to_reg r m) z → length ((code e).to_reg r m).constants ≡ taken_behind v (length m.constants)
-    pub multi : is_multiple e ≡ true → (op : Op) (want : Want) (m : Maker) → IsAhead g active (names_in e) m → Final (length m.labels) ((code e).multi op want m) z → (coded (wording f listed z left (length m.constants) v).words).multi op want m ≡ (code e).multi op want m
-    pub multi_taken : is_multiple e ≡ true → (op : Op) (want : Want) (m : Maker) → IsAhead g active (names_in e) m → Final (length m.labels) ((code e).multi op want m) z → length ((code e).multi op want m).constants ≡ taken_behind v (length m.constants)
+    pub as_local : (n r : ℕ) (m : Maker) → IsAhead g active (mentions_in e) m → local_register (one_line_expression e) m ≡ Some r → taken_behind v n ≡ n
+    pub to_reg : (r : ℕ) (m : Maker) → IsAhead g active (mentions_in e) m → Final (length m.labels) ((code e).to_reg r m) z → (coded (wording f listed z left (length m.constants) v).words).to_reg r m ≡ (code e).to_reg r m
+    pub taken : (r : ℕ) (m : Maker) → IsAhead g active (mentions_in e) m → Final (length m.labels) ((code e).to_reg r m) z → length ((code e).to_reg r m).constants ≡ taken_behind v (length m.constants)
+    pub multi : is_multiple e ≡ true → (op : Op) (want : Want) (m : Maker) → IsAhead g active (mentions_in e) m → Final (length m.labels) ((code e).multi op want m) z → (coded (wording f listed z left (length m.constants) v).words).multi op want m ≡ (code e).multi op want m
+    pub multi_taken : is_multiple e ≡ true → (op : Op) (want : Want) (m : Maker) → IsAhead g active (mentions_in e) m → Final (length m.labels) ((code e).multi op want m) z → length ((code e).multi op want m).constants ≡ taken_behind v (length m.constants)
 
   -- of a constant, or the value of an expression, as an operand
   pub record RewrittenOperand (e : Expression) (o : OperandValue) : Type 0 where
@@ -83,16 +91,16 @@ module _ (f : Function) (g : Fn) (active : List Active) (listed : List ℕ) (z :
     pub leaves : left_by_operand o left ≡ behind
     pub folded : (n : ℕ) → fold (operand_wording f listed z left n o).words ≡ fold e
     pub few : (n : ℕ) → (operand_wording f listed z left n o).levels ≤ 3 * depth_of_expression e + 3
-    pub as_rk : (m : Maker) → IsAhead g active (names_in e) m → Final (length m.labels) (rk (code e) m).after z → rk (coded (operand_wording f listed z left (length m.constants) o).words) m ≡ rk (code e) m
-    pub taken : (m : Maker) → IsAhead g active (names_in e) m → Final (length m.labels) (rk (code e) m).after z → length (rk (code e) m).after.constants ≡ taken_behind_operand o (length m.constants)
+    pub as_rk : (m : Maker) → IsAhead g active (mentions_in e) m → Final (length m.labels) (rk (code e) m).after z → rk (coded (operand_wording f listed z left (length m.constants) o).words) m ≡ rk (code e) m
+    pub taken : (m : Maker) → IsAhead g active (mentions_in e) m → Final (length m.labels) (rk (code e) m).after z → length (rk (code e) m).after.constants ≡ taken_behind_operand o (length m.constants)
 
   -- of the operands of a `..`, up to the last one
   pub record RewrittenSpine (e : Expression) (values : Values) : Type 0 where
     pub can : can_write_values (place f.of listed f.short) left values ≡ true
     pub leaves : left_by_values values left ≡ behind
     pub few : (n : ℕ) → (chain (word_each (place f.of listed f.short) n left values)).levels ≤ 3 * depth_of_expression e + 3
-    pub spine : (m : Maker) → IsAhead g active (names_in e) m → Final (length m.labels) ((code e).spine m) z → (coded (chain (word_each (place f.of listed f.short) (length m.constants) left values)).words).spine m ≡ (code e).spine m
-    pub taken : (m : Maker) → IsAhead g active (names_in e) m → Final (length m.labels) ((code e).spine m) z → length ((code e).spine m).constants ≡ taken_behind_values values (length m.constants)
+    pub spine : (m : Maker) → IsAhead g active (mentions_in e) m → Final (length m.labels) ((code e).spine m) z → (coded (chain (word_each (place f.of listed f.short) (length m.constants) left values)).words).spine m ≡ (code e).spine m
+    pub taken : (m : Maker) → IsAhead g active (mentions_in e) m → Final (length m.labels) ((code e).spine m) z → length ((code e).spine m).constants ≡ taken_behind_values values (length m.constants)
 
   -- of the arguments of a call
   pub record RewrittenGiven (args : Arguments) (deep : ℕ) (values : Values) (all : Bool) : Type 0 where
@@ -100,13 +108,13 @@ module _ (f : Function) (g : Fn) (active : List Active) (listed : List ℕ) (z :
     pub leaves : left_by_values values left ≡ behind
     pub few : (n : ℕ) → (arguments_wording f listed z left n values all).levels ≤ 3 * deep + 4
     pub counts : (n : ℕ) → (given (arguments_wording f listed z left n values all).words 1).count ≡ (given (one_line_arguments args) 1).count
-    pub part : (m : Maker) → IsAhead g active (names_given args) m → Final (length m.labels) ((given (one_line_arguments args) 1).part m) z → (given (arguments_wording f listed z left (length m.constants) values all).words 1).part m ≡ (given (one_line_arguments args) 1).part m
-    pub taken : (m : Maker) → IsAhead g active (names_given args) m → Final (length m.labels) ((given (one_line_arguments args) 1).part m) z → length ((given (one_line_arguments args) 1).part m).constants ≡ taken_behind_values values (length m.constants)
+    pub part : (m : Maker) → IsAhead g active (mentions_given args) m → Final (length m.labels) ((given (one_line_arguments args) 1).part m) z → (given (arguments_wording f listed z left (length m.constants) values all).words 1).part m ≡ (given (one_line_arguments args) 1).part m
+    pub taken : (m : Maker) → IsAhead g active (mentions_given args) m → Final (length m.labels) ((given (one_line_arguments args) 1).part m) z → length ((given (one_line_arguments args) 1).part m).constants ≡ taken_behind_values values (length m.constants)
 
   -- of an act: as a statement on one line it makes the same
   pub record RewrittenAct (s : Statement) (acted : Acted) : Type 0 where
     pub can : can_act (place f.of listed f.short) left acted ≡ true
     pub leaves : left_by_act acted left ≡ behind
     pub few : (n : ℕ) → act_levels (place f.of listed f.short) n left acted ≤ 3 * depth_of_statement s + 4
-    pub made : (m : Maker) → IsAhead g active (names_of_statement s) m → Final (length m.labels) (statement_made (one_line_statement s) 1 None m) z → statement_made (act_statement (place f.of listed f.short) (length m.constants) left acted) 1 None m ≡ statement_made (one_line_statement s) 1 None m
-    pub taken : (m : Maker) → IsAhead g active (names_of_statement s) m → Final (length m.labels) (statement_made (one_line_statement s) 1 None m) z → length (statement_made (one_line_statement s) 1 None m).constants ≡ taken_behind_act acted (length m.constants)
+    pub made : (m : Maker) → IsAhead g active (mentions_of_statement s) m → Final (length m.labels) (statement_made (one_line_statement s) 1 None m) z → statement_made (act_statement (place f.of listed f.short) (length m.constants) left acted) 1 None m ≡ statement_made (one_line_statement s) 1 None m
+    pub taken : (m : Maker) → IsAhead g active (mentions_of_statement s) m → Final (length m.labels) (statement_made (one_line_statement s) 1 None m) z → length (statement_made (one_line_statement s) 1 None m).constants ≡ taken_behind_act acted (length m.constants)

@@ -1,8 +1,7 @@
 -- The steps that are read of a block are placed as its statements: where all locals end at the last word, a declaration reaches up to the end.
-use Rattle.std.proofs.Common.{◌≡◌, ℕ, zero, suc, ◌+◌, ◌<◌, ◌≤◌, ◌&&◌, ◌||◌, Bool, true, false, nat_lt, List, [], ◌∷◌, ◌++◌, take, drop, length, length-drop, length-set, map, replicate, append-nil, append_assoc, Option, Some, None, refl, sym, ap, ap₂, ◌∙◌, subst, arith, eq-eqb, get_or-set_same, le-leb, lt-ltb, if◌then◌else◌}
+use Rattle.std.proofs.Common.{◌≡◌, ℕ, zero, suc, ◌+◌, ◌<◌, ◌≤◌, ◌&&◌, Bool, true, false, nat_lt, List, [], ◌∷◌, ◌++◌, drop, length, length-drop, length-set, map, replicate, append-nil, append_assoc, Option, Some, None, refl, sym, ap, ap₂, ◌∙◌, subst, arith, eq-eqb, get_or-set_same, le-leb, lt-ltb, if◌then◌else◌}
 use Rattle.std.proofs.lemmas.List.{drop-map, length-map, length-replicate}
 use Rattle.std.proofs.lemmas.Option.{slice_get-get_or}
-use Rattle.std.specs.List.{list_any}
 use Rattle.std.specs.Prelude.{option_and_then, option_map, slice_set}
 use Rattle.lua_num.specs.Bytes.{Text}
 use Rattle.lua_tree.specs.Syntax.{Statement, Statements, local_statement, no_statements, return_statement, statement}
@@ -12,7 +11,6 @@ use Rattle.recover_expr.specs.Locals.{Scope, all_end, end_of, highest_captured, 
 use Rattle.recover_expr.specs.Placing.{Numbers, Steps, and_step, declaration_placed, end_shared, kind_placed, number_all, number_at, numbers_of, placed, set_number, shared_end, step_of_kind, steps_placed, there}
 use Rattle.recover_expr.specs.Situation.{Function}
 use Rattle.recover_expr.specs.declared.draft.DraftKind.{DraftKind}
-use Rattle.recover_expr.specs.declared.locals.Declared.{Declared}
 use Rattle.recover_expr.specs.declared.steps.Step.{Step}
 use Rattle.recover_expr.specs.declared.steps.StepKind.{StepKind}
 use Rattle.reads_back.specs.ReadAs.{AreStepsOf, IsKindOf, part_of, parts_of}

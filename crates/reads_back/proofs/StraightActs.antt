@@ -1,7 +1,7 @@
 -- What is known of each statement of a straight block where it is made: it is read as what it is, and what is written of it is well formed, has the same names and makes the same code.
 use Rattle.std.proofs.Common.{◌≡◌, ℕ, suc, ◌≤◌, false, true, List, [], length, None, arith, Option}
 use Rattle.lua_tree.specs.OneLine.{one_line_statement}
-use Rattle.lua_tree.specs.Outline.{statement_part}
+use Rattle.lua_tree.specs.Outline.{Part, statement_part}
 use Rattle.lua_tree.specs.Syntax as syntax
 use Rattle.lua_tree.specs.Syntax.{Expression, Expressions, Statement, assignment, call_statement, field_expression, index_expression, name_expression, local_statement, no_expressions, return_statement}
 use Rattle.lua_tree.specs.WellFormed.{depth_of_expression, depth_of_expressions, depth_of_statement, ends_block, formed_statement, statement_begins_with_paren}
@@ -22,6 +22,7 @@ use Rattle.reads_back.proofs.ActsRewritten.{AllWritten, act_rewritten}
 use Rattle.reads_back.proofs.BehindWords.{HasLocals}
 use Rattle.reads_back.proofs.DeclarationsRead.{StartHere, local_forward, local_read}
 use Rattle.reads_back.proofs.Marks.{SamePart}
+use Rattle.reads_back.proofs.MarksSame.{ArePartsMade}
 use Rattle.reads_back.proofs.AssignmentStands.{assignment_forward, assignment_read}
 use Rattle.reads_back.proofs.PartsRead.{IsNoTable}
 use Rattle.reads_back.proofs.ReturnsRead.{return_forward, return_read}
@@ -57,29 +58,29 @@ module _ {f : Function} {g : Fn} {active : List Active} {listed : List ℕ} {z :
     pub written : (before behind : ℕ) (acted : Acted) → IsActed g active s before behind acted → RewrittenAct f g active listed z [] [] s acted
     written before behind acted acts = act_rewritten none_left made 65 s before behind acted (all_written 65 (omega arith)) few is acts
 
-    can : CanAct f g active listed s
-    can = record { can = λ before behind acted acts left. (act_rewritten (λ made. left) made 65 s before behind acted (λ e has low. (rewritten_all (λ made. left) made e has (omega (arith, low))).value) few is acts).can }
+    can : CanAct f g active listed none_left s
+    can = record { can = λ before behind acted acts. (written before behind acted acts).can }
 
     pub few_levels : (before behind : ℕ) (acted : Acted) (n : ℕ) → IsActed g active s before behind acted → act_levels at n [] acted ≤ 200
     few_levels before behind acted n acts = let levels = (written before behind acted acts).few n in omega (arith, few, levels)
 
     pub written_formed : (before behind : ℕ) (acted : Acted) (n : ℕ) → IsActed g active s before behind acted → formed_statement (act_statement at n [] acted) ≡ true
-    written_formed before behind acted n acts = act_formed at g active s before behind acted n is acts (written before behind acted acts).can
+    written_formed before behind acted n acts = act_formed at g active s before behind acted n [] tt is acts (written before behind acted acts).can
 
     pub written_shallow : (before behind : ℕ) (acted : Acted) (n : ℕ) → IsActed g active s before behind acted → suc (depth_of_statement (act_statement at n [] acted)) ≤ 200
     written_shallow before behind acted n acts =
         let levels = few_levels before behind acted n acts in
-        let low = act_shallow at g active s before behind acted n is acts (written before behind acted acts).can (omega (arith, levels)) in
+        let low = act_shallow at g active s before behind acted n [] tt is acts (written before behind acted acts).can (omega (arith, levels)) in
         omega (arith, levels, low)
 
-    pub written_marks : (before behind : ℕ) (acted : Acted) (n : ℕ) → IsActed g active s before behind acted → SamePart (statement_part 1 (act_statement at n [] acted)) (statement_part 1 (one_line_statement s))
-    written_marks before behind acted n acts = act_marks made.is_function made.all s before behind acted n 1 is acts (written before behind acted acts).can
+    pub written_marks : (of : ℕ → Part) → ArePartsMade g active of → (before behind : ℕ) (acted : Acted) (n : ℕ) → IsActed g active s before behind acted → SamePart (statement_part 1 (act_statement at n [] acted)) (statement_part 1 (one_line_statement s))
+    written_marks of parts_made before behind acted n acts = act_marks made.is_function made.all of parts_made s before behind acted n 1 [] tt is acts (written before behind acted acts).can
 
     pub written_closed : StatementBeginsWithName s → (before behind : ℕ) (acted : Acted) (n : ℕ) → IsActed g active s before behind acted → statement_begins_with_paren (act_statement at n [] acted) ≡ false
-    written_closed begins before behind acted n acts = act_closed at g active s before behind acted n begins is acts (written before behind acted acts).can
+    written_closed begins before behind acted n acts = act_closed at g active s before behind acted n [] begins is acts (written before behind acted acts).can
 
     pub written_ends : (before behind : ℕ) (acted : Acted) (n : ℕ) → IsActed g active s before behind acted → ends_block (act_statement at n [] acted) ≡ ends_block s
-    written_ends before behind acted n acts = act_ends at g active s before behind acted n acts
+    written_ends before behind acted n acts = act_ends at g active s before behind acted n [] acts
 
   -- ---- what is read
 
@@ -105,15 +106,15 @@ module _ {f : Function} {g : Fn} {active : List Active} {listed : List ℕ} {z :
   act_forward (return_statement es) is begins few after p q stands = return_forward made.is_function made.all es is (omega (arith, few)) p q stands.part_at
   act_forward s is begins few after p q stands = absurd is
 
-  pub act_read : (s : Statement) → IsAct s → StatementBeginsWithName s → depth_of_statement s ≤ 65 → (after : List Active) (p q : Spot) → StatementAt g None s active after p q → (now : Situation) → HasLocals active listed now → now.entries ≡ [] → now.taken ≡ now.seen →
+  pub act_read : (s : Statement) → IsAct s → StatementBeginsWithName s → depth_of_statement s ≤ 65 → (after : List Active) (p q : Spot) → StatementAt g None s active after p q → (now : Situation) → HasLocals active listed now → now.left ≡ [] → now.entries ≡ [] → now.taken ≡ now.seen →
       IsQuiet f now.scope p.pc q.pc → StartsWith f s now q.pc → ActRead f g active s p.functions q.functions now p.pc q.pc
-  act_read (call_statement e) is begins few after p q stands now locals empty taken quiet starts =
+  act_read (call_statement e) is begins few after p q stands now locals left_is empty taken quiet starts =
       let call = call_read made.is_function made.all e is.0 is.1 (omega (arith, few)) in
-      call_statement_read made.is_function e call.0 call.1 (can (call_statement e) is few) p q now locals empty taken quiet stands.part_at
-  act_read (assignment targets es) is begins few after p q stands now locals empty taken quiet starts =
-      assignment_read made.is_function made.all targets es is (targets_read targets is.targets begins (omega (arith, few))) (omega (arith, few)) (can (assignment targets es) is few) p q now locals empty taken quiet stands.part_at
-  act_read (local_statement names es) is begins few after p q stands now locals empty taken quiet starts =
-      local_read made.is_function made.all names es is.1 (omega (arith, few)) (can (local_statement names es) is few) after p q now locals empty taken quiet starts stands
-  act_read (return_statement es) is begins few after p q stands now locals empty taken quiet starts =
-      return_read made.is_function made.all es is (omega (arith, few)) (can (return_statement es) is few) p q now locals empty taken quiet stands.part_at
-  act_read s is begins few after p q stands now locals empty taken quiet starts = absurd is
+      call_statement_read made.is_function e call.0 call.1 (can (call_statement e) is few) p q now locals left_is empty taken quiet stands.part_at
+  act_read (assignment targets es) is begins few after p q stands now locals left_is empty taken quiet starts =
+      assignment_read made.is_function made.all targets es is (targets_read targets is.targets begins (omega (arith, few))) (omega (arith, few)) (can (assignment targets es) is few) p q now locals left_is empty taken quiet stands.part_at
+  act_read (local_statement names es) is begins few after p q stands now locals left_is empty taken quiet starts =
+      local_read made.is_function made.all names es is.1 (omega (arith, few)) (can (local_statement names es) is few) after p q now locals left_is empty taken quiet starts stands
+  act_read (return_statement es) is begins few after p q stands now locals left_is empty taken quiet starts =
+      return_read made.is_function made.all es is (omega (arith, few)) (can (return_statement es) is few) p q now locals left_is empty taken quiet stands.part_at
+  act_read s is begins few after p q stands now locals left_is empty taken quiet starts = absurd is

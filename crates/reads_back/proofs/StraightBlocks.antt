@@ -2,7 +2,7 @@
 use Rattle.std.proofs.Common.{◌≡◌, ℕ, ◌≤◌, true, false, not, ◌&&◌, List, [], ◌++◌, length, map, append_assoc, None, Some, refl, sym, ap, ◌∙◌, subst, arith}
 use Rattle.std.specs.Prelude.{Bool}
 use Rattle.lua_tree.specs.OneLine.{one_line_statement}
-use Rattle.lua_tree.specs.Outline.{statement_part, statements_part}
+use Rattle.lua_tree.specs.Outline.{Part, statement_part, statements_part}
 use Rattle.lua_tree.specs.Syntax as syntax
 use Rattle.lua_tree.specs.Syntax.{Statement, Statements, no_statements}
 use Rattle.lua_tree.specs.WellFormed.{depth_of_statement, depth_of_statements, ends_block, formed_statement, formed_statements, may_follow, statement_begins_with_paren, statement_takes_arguments}
@@ -19,21 +19,24 @@ use Rattle.scheme_stands.proofs.Statements.{grow_statement}
 use Rattle.scheme_stands.specs.Words.{Fn}
 use Rattle.reads_back.specs.Acted.{Acted, IsActed, act_statement, taken_behind_act}
 use Rattle.reads_back.specs.ReadAs.{ArePlain}
-use Rattle.reads_back.specs.Straight.{AreStraight}
+use Rattle.reads_back.specs.Straight.{AreStraightBy}
 use Rattle.reads_back.proofs.ActsRead.{numbers_from}
 use Rattle.reads_back.proofs.BlockMakers.{AllStand, AreAllActs, all_made, entries_by, entries_from, made_by, statement_listed, statement_moves}
 use Rattle.reads_back.proofs.ListedLocals.{ended}
 use Rattle.reads_back.proofs.Marks.{SamePart, both_same, part_then}
-use Rattle.reads_back.proofs.NamesAhead.{IsAhead}
+use Rattle.reads_back.proofs.MarksSame.{ArePartsMade}
+use Rattle.reads_back.proofs.Mentions.{IsAhead}
 use Rattle.reads_back.proofs.StatementsMeant.{statement_meant}
 use Rattle.reads_back.proofs.PlainStraight.{AreOnLine}
-use Rattle.reads_back.proofs.Rewriting.{IsMadeBy, names_of_statement}
+use Rattle.reads_back.proofs.Rewriting.{IsMadeBy, mentions_of_statement}
 use Rattle.reads_back.proofs.StraightActs.{written, written_closed, written_ends, written_formed, written_marks, written_shallow}
 use Rattle.reads_back.proofs.StraightScopes.{IsListing, are_listed, is_certain}
 use Rattle.reads_back.proofs.Tests.{and_not, both_hold, first_of_both, second_of_both}
 use Rattle.reads_back.proofs.WordsRead.{IsFunction}
+use Rattle.reads_back.specs.Cores.{IsOnOneLine}
+use Rattle.proto.specs.Chunk.{no_functions}
 
-pub all_acts : (block : Statements) → AreStraight block → AreAllActs block
+pub all_acts : (block : Statements) → AreStraightBy IsOnOneLine block → AreAllActs block
 all_acts no_statements are = tt
 all_acts (syntax.statement line semi s rest) are = (are.0.0, all_acts rest are.1)
 
@@ -44,6 +47,8 @@ pub record IsWhole (f : Function) (g : Fn) (z : Maker) : Type 0 where
   pub is_function : IsFunction f g
   pub law : g.law ≡ Some no_names
   pub constants : g.constants ≡ z.constants
+  pub upvalues : g.upvalue_names ≡ z.upvalue_names
+  pub alone : g.functions ≡ no_functions
   pub few : length z.constants ≤ 262144
 
 -- these statements are made behind the others
@@ -53,7 +58,7 @@ pub record ComesNext (f : Function) (g : Fn) (z : Maker) (block : Statements) (m
   pub room : length m.active ≤ g.size
   pub final : Final (length m.labels) (all_made block m) z
   pub stand : AllStand g block m
-  pub straight : AreStraight block
+  pub straight : AreStraightBy IsOnOneLine block
   pub shallow : depth_of_statements block ≤ 66
   pub on_line : AreOnLine block
 
@@ -73,6 +78,7 @@ module _ {f : Function} {g : Fn} {z : Maker} (whole : IsWhole f g z) where
     constants = whole.constants;
     few = whole.few;
     certain = is_certain g m.active whole.law;
+    alone = whole.alone;
   }
 
   module _ {line : ℕ} {semi : Bool} {s : Statement} {rest : Statements} {m : Maker} (next : ComesNext f g z (syntax.statement line semi s rest) m) where
@@ -83,8 +89,8 @@ module _ {f : Function} {g : Fn} {z : Maker} (whole : IsWhole f g z) where
     pub here_final : Final (length m.labels) n z
     here_final = before_free (active_count n) n (before (all_grow rest (settle n) refl) next.final)
 
-    pub names_next : IsAhead g m.active (names_of_statement s) m
-    names_next = record { active_are = refl; names = statement_meant g s next.straight.0.0 m.active n.active (spot m) (spot n) next.stand.0 }
+    pub names_next : IsAhead g m.active (mentions_of_statement s) m
+    names_next = record { active_are = refl; upvalues_are = sym (statement_moves s next.straight.0.0 m).upvalues ∙ sym here_final.upvalues ∙ sym whole.upvalues; meant = (statement_meant g s next.straight.0.0 m.active n.active (spot m) (spot n) next.stand.0).meant }
 
     listing_behind : IsListing f n.active n.locals (entries_from rest (settle n))
     listing_behind =
@@ -178,12 +184,13 @@ module _ {f : Function} {g : Fn} {z : Maker} (whole : IsWhole f g z) where
 
   -- ---- the names
 
-  pub block_marks : (block tree : Statements) (taken : ℕ) (m : Maker) → ComesNext f g z block m → AreWritten f g taken block tree m → SamePart (statements_part tree) (statements_part block)
-  block_marks no_statements tree taken m next are = λ here. ap (λ block. statements_part block here) are
-  block_marks (syntax.statement line semi s rest) tree taken m next are =
+  -- where each function that is made is the part of the source that has its number
+  pub block_marks : (of : ℕ → Part) → ((rest : Statements) (m : Maker) → ComesNext f g z rest m → ArePartsMade g m.active of) → (block tree : Statements) (taken : ℕ) (m : Maker) → ComesNext f g z block m → AreWritten f g taken block tree m → SamePart (statements_part tree) (statements_part block)
+  block_marks of parts_made no_statements tree taken m next are = λ here. ap (λ block. statements_part block here) are
+  block_marks of parts_made (syntax.statement line semi s rest) tree taken m next are =
       let on : SamePart (statement_part 1 (one_line_statement s)) (statement_part line s) = λ here. ap (λ s. statement_part 1 s here) next.on_line.1 ∙ ap (λ line. statement_part line s here) (sym next.on_line.0) in
-      let one = part_then (written_marks (made_there whole next) s next.straight.0.0 (low whole next) (length m.functions) (length (made_by s m).functions) are.0 taken are.2) on in
-      let others = block_marks rest are.1 (taken_behind_act are.0 taken) (settle (made_by s m)) (comes_behind whole next) are.3 in
+      let one = part_then (written_marks (made_there whole next) s next.straight.0.0 (low whole next) of (parts_made (syntax.statement line semi s rest) m next) (length m.functions) (length (made_by s m).functions) are.0 taken are.2) on in
+      let others = block_marks of parts_made rest are.1 (taken_behind_act are.0 taken) (settle (made_by s m)) (comes_behind whole next) are.3 in
       part_then (λ here. ap (λ block. statements_part block here) are.4) (both_same one others)
 
   -- ---- lines and semicolons

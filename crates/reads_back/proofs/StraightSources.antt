@@ -1,17 +1,17 @@
 -- The chunk of a straight source is read as what is written of its statements.
-use Rattle.std.proofs.Common.{◌≡◌, ℕ, suc, ◌-◌, ◌^◌, ◌<◌, true, false, Bool, List, [], ◌∷◌, length, map, Option, Some, None, refl, sym, ap, ◌∙◌, subst, true≢false, arith, le-leb, if◌then◌else◌}
+use Rattle.std.proofs.Common.{◌≡◌, ℕ, zero, suc, ◌-◌, ◌^◌, ◌<◌, true, false, Bool, List, [], ◌∷◌, length, map, Option, Some, None, refl, sym, ap, ◌∙◌, subst, true≢false, arith, le-leb, if◌then◌else◌}
 use Rattle.std.proofs.lemmas.List.{length-map}
 use Rattle.std.specs.Prelude.{IsSome, ◌==◌, option_and_then, option_map, slice_get}
 use Rattle.lua_num.specs.Bytes.{Text}
 use Rattle.lua_tree.specs.OneLine.{on_one_line}
-use Rattle.lua_tree.specs.Outline.{beginning, outline}
+use Rattle.lua_tree.specs.Outline.{beginning, outline, nothing}
 use Rattle.lua_tree.specs.Resolved.{resolved, resolved_by}
 use Rattle.lua_tree.specs.Scoping.{Scoped, first_breach}
 use Rattle.lua_tree.specs.Syntax.{Source}
 use Rattle.lua_tree.specs.WellFormed.{WellFormed}
 use Rattle.opcode.specs.Reading.{instr_of}
 use Rattle.opcode.specs.declared.op.Op.{Op}
-use Rattle.proto.specs.Chunk.{Own, Chunk, function, Functions, functions, functions_of, no_functions, and_function, each, SameButLines, no_lines, own}
+use Rattle.proto.specs.Chunk.{Own, Chunk, function, Functions, functions, functions_of, no_functions, and_function, each, SameButLines, no_lines, own, each_of, function_at}
 use Rattle.recover_expr.specs.Items.{is_so}
 use Rattle.recover_expr.specs.Locals.{all_end, declare, starting, names_from}
 use Rattle.recover_expr.specs.Placing.{Steps, placed}
@@ -39,6 +39,8 @@ use Rattle.reads_back.proofs.StartingLocals.{none_start}
 use Rattle.reads_back.proofs.StepsPlaced.{AreEnding, steps_are_placed}
 use Rattle.reads_back.proofs.StraightBlocks.{ComesNext, IsWhole, all_acts, block_formed, block_marks, block_plain, block_same, block_shallow}
 use Rattle.reads_back.proofs.WordsRead.{IsFunction, abc_is_read}
+use Rattle.reads_back.proofs.NoneMade.{straight_all_the_same}
+use Rattle.reads_back.proofs.Rewriting.{none_next}
 
 -- ---- chunks that are the same but for lines
 
@@ -62,6 +64,29 @@ no_functions_same (function f (and_function c rest)) (function g others) same no
         has_one : Functions → Bool
         has_one no_functions = false
         has_one (and_function c rest) = true
+
+-- how many upvalues a function of these has
+abbrev upvalues_of : Functions → (number : ℕ) → Option ℕ
+upvalues_of inner number = option_map (λ c. (own c).upvalues) (function_at inner number)
+
+without_lines : (inner : Functions) (number : ℕ) → upvalues_of (each_of no_lines inner) number ≡ upvalues_of inner number
+without_lines no_functions number = refl
+without_lines (and_function (function f inner) rest) zero = refl
+without_lines (and_function (function f inner) rest) (suc number) = without_lines rest number
+
+inner_same : (c d : Chunk) → SameButLines c d → each_of no_lines (functions c) ≡ each_of no_lines (functions d)
+inner_same (function f inner) (function g others) same = ap functions same
+
+as_many_upvalues : (c d : Chunk) → SameButLines c d → (number : ℕ) (inner : Chunk) → function_at (functions d) number ≡ Some inner → upvalues_of (functions c) number ≡ Some (own inner).upvalues
+as_many_upvalues c d same number inner is =
+    sym (without_lines (functions c) number)
+    ∙ ap (λ functions. upvalues_of functions number) (inner_same c d same)
+    ∙ without_lines (functions d) number
+    ∙ ap (option_map (λ c. (own c).upvalues)) is
+
+is_empty : {A : Type 0} (xs : List A) → length xs ≡ 0 → xs ≡ []
+is_empty [] none = refl
+is_empty (x ∷ xs) none = cc
 
 as_many_words : (labels : List ℕ) (pc : ℕ) (items : List Item) → length (words_from labels pc items) ≡ length items
 as_many_words labels pc [] = refl
@@ -96,7 +121,7 @@ module _ (stand : NamesStand) (semicolons : SemicolonsDoNotMatter) (chunk : Chun
   on_line = plain_on_line of.source.body of.straight.acts
 
   acts : AreAllActs plain.body
-  acts = all_acts plain.body straight_plain.acts
+  acts = all_acts plain.body (straight_all_the_same plain.body straight_plain.acts)
 
   -- ---- what is made of it
 
@@ -114,6 +139,10 @@ module _ (stand : NamesStand) (semicolons : SemicolonsDoNotMatter) (chunk : Chun
 
   ends_block : behind_block plain ≡ block_end
   ends_block = block_is plain.body on_line (begun plain)
+
+  -- no function is made
+  none_there : g.functions ≡ no_functions
+  none_there = ap functions_of (ap (λ (m : Maker). m.functions) ends_block ∙ is_empty block_end.functions (block_functions plain.body acts straight_plain.acts (begun plain)))
 
   same_own : no_lines (own chunk) ≡ no_lines (own (scheme plain of.name))
   same_own = own_of_same chunk (scheme plain of.name) (of.same ∙ alike.same of.name)
@@ -137,7 +166,7 @@ module _ (stand : NamesStand) (semicolons : SemicolonsDoNotMatter) (chunk : Chun
 
   pub is_alone : IsAlone chunk
   is_alone = record {
-    none = no_functions_same chunk (scheme plain of.name) (of.same ∙ alike.same of.name) (ap functions_of (ap (λ (m : Maker). m.functions) ends_block ∙ block_functions plain.body acts (begun plain)));
+    none = no_functions_same chunk (scheme plain of.name) (of.same ∙ alike.same of.name) none_there;
     named = subst IsSome (sym (ap (λ (own : Own). own.source) same_own)) refl;
     lines = sym (length-map (own chunk).lines (λ line. 0)) ∙ ap (λ (own : Own). length own.lines) same_own ∙ length-map (own (scheme plain of.name)).lines (λ line. 0) ∙ as_many_lines z.labels 0 z.items ∙ sym (ap (λ (own : Own). length own.code) same_own);
     names = ap (λ (own : Own). length own.upvalue_names) same_own ∙ sym (ap (λ (own : Own). own.upvalues) same_own);
@@ -160,13 +189,14 @@ module _ (stand : NamesStand) (semicolons : SemicolonsDoNotMatter) (chunk : Chun
       law = refl;
       code = ap (λ (own : Own). own.code) same_own;
       constants = ap (λ (own : Own). own.constants) same_own;
+      upvalues = as_many_upvalues chunk (scheme plain of.name) (of.same ∙ alike.same of.name);
       natural = refl;
       short = omega (arith, short);
       few = at.limits.registers;
     }
 
     whole : IsWhole f g z
-    whole = record { is_function = is_function; law = refl; constants = refl; few = at.limits.constants }
+    whole = record { is_function = is_function; law = refl; constants = refl; upvalues = refl; alone = none_there; few = at.limits.constants }
 
     listed : f.of.locals ≡ map (ended f.last) (entries_from plain.body (begun plain))
     unfolding f
@@ -179,7 +209,7 @@ module _ (stand : NamesStand) (semicolons : SemicolonsDoNotMatter) (chunk : Chun
       room = omega arith;
       final = subst (λ (m : Maker). Final 0 m z) ends_block (block_final plain fits_plain);
       stand = all_stand g plain.body on_line (begun plain) (statements_stand plain formed_plain scoped_plain fits_plain);
-      straight = straight_plain.acts;
+      straight = straight_all_the_same plain.body straight_plain.acts;
       shallow = straight_plain.shallow;
       on_line = on_line;
     }
@@ -206,7 +236,7 @@ module _ (stand : NamesStand) (semicolons : SemicolonsDoNotMatter) (chunk : Chun
     formed = record { formed = block_formed whole plain.body read.written 0 (begun plain) first_next formed_plain.formed read.are; shallow = block_shallow whole plain.body read.written 0 (begun plain) first_next read.are }
 
     outline_same : outline tree ≡ outline plain
-    outline_same = ap (λ walk. walk.marks) (block_marks whole plain.body read.written 0 (begun plain) first_next read.are beginning)
+    outline_same = ap (λ walk. walk.marks) (block_marks whole (λ number. nothing) (λ rest m next body c made. absurd (none_next m.active body false c none_there made)) plain.body read.written 0 (begun plain) first_next read.are beginning)
 
     made_same : statements_made read.written None (begun plain) ≡ behind_block plain
     made_same = block_same whole plain.body read.written 0 (begun plain) first_next read.are refl ∙ sym ends_block

@@ -24,8 +24,8 @@ use Rattle.scheme_stands.specs.Lists.{is_last_item}
 use Rattle.scheme_stands.specs.Words.{Fn}
 use Rattle.reads_back.specs.Cores.{HasCore}
 use Rattle.reads_back.proofs.IndexSame.{KeySame, key_asks, key_asks_same}
-use Rattle.reads_back.proofs.NamesAhead.{IsAhead, Passed, ahead_behind, ahead_front, names_in, names_of_fields}
-use Rattle.reads_back.proofs.PassedNames.{PassesNames, names_passed, item_passes, next_passes, set_list_passes, when_passes}
+use Rattle.reads_back.proofs.Mentions.{IsAhead, Passed, ahead_behind, ahead_front, mentions_in, mentions_of_fields, Mention}
+use Rattle.reads_back.proofs.PassedMentions.{PassesMentions, mentions_passed, item_passes, next_passes, set_list_passes, when_passes}
 use Rattle.reads_back.proofs.Rewriting.{Rewritten, RewrittenGiven, RewrittenOperand, code, operand_wording, wording}
 use Rattle.reads_back.proofs.Tests.{both_hold}
 use Rattle.reads_back.proofs.WordsSame.{coded_is, same_multiple, levels_wrapped, next_same, next_taken, next_wrapped}
@@ -74,9 +74,9 @@ module _ (f : Function) (g : Fn) (active : List Active) (listed : List ℕ) (z :
     pub last : (n : ℕ) → is_last (entries (items_wording f listed z left n items all).words) ≡ is_last (entries (one_line_fields fields))
     pub positions : (n : ℕ) → positional_count (entries (items_wording f listed z left n items all).words) ≡ positional_count (entries (one_line_fields fields))
     pub others : (n : ℕ) → other_count (entries (items_wording f listed z left n items all).words) ≡ other_count (entries (one_line_fields fields))
-    pub part : (t done pending : ℕ) (m : Maker) → IsAhead g active (names_of_fields fields) m → Final (length m.labels) (entries_from 1 t done pending (entries (one_line_fields fields)) m) z →
+    pub part : (t done pending : ℕ) (m : Maker) → IsAhead g active (mentions_of_fields fields) m → Final (length m.labels) (entries_from 1 t done pending (entries (one_line_fields fields)) m) z →
         entries_from 1 t done pending (entries (items_wording f listed z left (length m.constants) items all).words) m ≡ entries_from 1 t done pending (entries (one_line_fields fields)) m
-    pub taken : (t done pending : ℕ) (m : Maker) → IsAhead g active (names_of_fields fields) m → Final (length m.labels) (entries_from 1 t done pending (entries (one_line_fields fields)) m) z →
+    pub taken : (t done pending : ℕ) (m : Maker) → IsAhead g active (mentions_of_fields fields) m → Final (length m.labels) (entries_from 1 t done pending (entries (one_line_fields fields)) m) z →
         length (entries_from 1 t done pending (entries (one_line_fields fields)) m).constants ≡ taken_behind_items items (length m.constants)
 
 module _ {f : Function} {g : Fn} {active : List Active} {listed : List ℕ} {z : Maker} {left behind : List (Option Inner)} where
@@ -107,12 +107,12 @@ module _ {f : Function} {g : Fn} {active : List Active} {listed : List ℕ} {z :
     others = λ n. refl;
     part = λ t done pending m ahead final.
         as_open t done pending (coded (wording f listed z left (length m.constants) v).words) m (several (length m.constants))
-        ∙ ap (set_list 1 t 0 (suc done)) (written.multi is Op.Call None m (ahead_front (names_in e) [] ahead) (inner t done pending m final))
+        ∙ ap (set_list 1 t 0 (suc done)) (written.multi is Op.Call None m (ahead_front (mentions_in e) [] ahead) (inner t done pending m final))
         ∙ sym (as_open t done pending (code e) m of_code);
     taken = λ t done pending m ahead final.
         ap (λ (n : Maker). length n.constants) (as_open t done pending (code e) m of_code)
         ∙ ap (λ ks. length ks) (set_list_constants t 0 (suc done) ((code e).multi Op.Call None m))
-        ∙ written.multi_taken is Op.Call None m (ahead_front (names_in e) [] ahead) (inner t done pending m final);
+        ∙ written.multi_taken is Op.Call None m (ahead_front (mentions_in e) [] ahead) (inner t done pending m final);
   }
     where
       several : (n : ℕ) → is_multiple (coded (wording f listed z left n v).words).e ≡ true
@@ -154,10 +154,10 @@ module _ {f : Function} {g : Fn} {active : List Active} {listed : List ℕ} {z :
         let at_rest = here t done pending m final in
         let on_first = first_final t done pending m final in
         let on = between t done pending m in
-        let same : length on.constants ≡ taken_behind v n = ap (λ ks. length ks) (between_constants t done pending m) ∙ next_taken first m (ahead_front (names_in e) (names_of_fields rest) ahead) on_first in
+        let same : length on.constants ≡ taken_behind v n = ap (λ ks. length ks) (between_constants t done pending m) ∙ next_taken first m (ahead_front (mentions_in e) (mentions_of_fields rest) ahead) on_first in
         ap (λ (w : FieldWording). entries_from 1 t done pending (positional_entry c ∷ entries w.words) m) (behind_is n)
         ∙ closed_by t done pending c (entries (behind_words n).words) m (item_closed n)
-        ∙ ap (λ mid. entries_from 1 t (suc done) (pending_after (suc pending)) (entries (behind_words n).words) (full_end 1 t (suc done) (suc pending) mid)) (next_wrapped (not ((ends_items items && not all) && can_be_several v)) (wording f listed z left n v) m ∙ next_same first m (ahead_front (names_in e) (names_of_fields rest) ahead) on_first)
+        ∙ ap (λ mid. entries_from 1 t (suc done) (pending_after (suc pending)) (entries (behind_words n).words) (full_end 1 t (suc done) (suc pending) mid)) (next_wrapped (not ((ends_items items && not all) && can_be_several v)) (wording f listed z left n v) m ∙ next_same first m (ahead_front (mentions_in e) (mentions_of_fields rest) ahead) on_first)
         ∙ ap (λ n. entries_from 1 t (suc done) (pending_after (suc pending)) (entries (items_wording f listed z mid n items all).words) on) (sym same)
         ∙ others.part t (suc done) (pending_after (suc pending)) on (rest_ahead t done pending m ahead) at_rest
         ∙ sym (closed_by t done pending (code e) (entries (one_line_fields rest)) m code_closed);
@@ -165,7 +165,7 @@ module _ {f : Function} {g : Fn} {active : List Active} {listed : List ℕ} {z :
         let on = between t done pending m in
         ap (λ (n : Maker). length n.constants) (closed_by t done pending (code e) (entries (one_line_fields rest)) m code_closed)
         ∙ others.taken t (suc done) (pending_after (suc pending)) on (rest_ahead t done pending m ahead) (here t done pending m final)
-        ∙ ap (taken_behind_items items) (ap (λ ks. length ks) (between_constants t done pending m) ∙ next_taken first m (ahead_front (names_in e) (names_of_fields rest) ahead) (first_final t done pending m final));
+        ∙ ap (taken_behind_items items) (ap (λ ks. length ks) (between_constants t done pending m) ∙ next_taken first m (ahead_front (mentions_in e) (mentions_of_fields rest) ahead) (first_final t done pending m final));
   }
     where
       item : (n : ℕ) → Wording
@@ -190,10 +190,10 @@ module _ {f : Function} {g : Fn} {active : List Active} {listed : List ℕ} {z :
       between_constants : (t done pending : ℕ) (m : Maker) → (between t done pending m).constants ≡ (next_reg (code e) m).constants
       between_constants t done pending m = when_constants (suc pending == 50) (set_list 1 t 50 (suc done)) (next_reg (code e) m) (set_list_constants t 50 (suc done) (next_reg (code e) m))
 
-      rest_ahead : (t done pending : ℕ) (m : Maker) → IsAhead g active (names_in e ++ names_of_fields rest) m → IsAhead g active (names_of_fields rest) (between t done pending m)
+      rest_ahead : (t done pending : ℕ) (m : Maker) → IsAhead g active (mentions_in e ++ mentions_of_fields rest) m → IsAhead g active (mentions_of_fields rest) (between t done pending m)
       rest_ahead t done pending m ahead =
-          ahead_behind [] (names_of_fields rest) (when_passes (suc pending == 50) (set_list 1 t 50 (suc done)) (set_list_passes t 50 (suc done)) (next_reg (code e) m))
-          (ahead_behind (names_in e) (names_of_fields rest) (next_passes (names_in e) (code e) (names_passed e has) m) ahead)
+          ahead_behind [] (mentions_of_fields rest) (when_passes (suc pending == 50) (set_list 1 t 50 (suc done)) (set_list_passes t 50 (suc done)) (next_reg (code e) m))
+          (ahead_behind (mentions_in e) (mentions_of_fields rest) (next_passes (mentions_in e) (code e) (mentions_passed e has) m) ahead)
 
       between_grown : (t done pending : ℕ) (m : Maker) → Grown calm (next_reg (code e) m) (between t done pending m)
       between_grown t done pending m = grows_when (suc pending == 50) (set_list 1 t 50 (suc done)) (next_reg (code e) m) (grows_set_list 1 t 50 (suc done) (next_reg (code e) m))
@@ -240,8 +240,8 @@ keyed_few None key item separator rest n first second others = omega (arith, fir
 keyed_few (Some name) key item separator rest n first second others = omega (arith, second, others)
 
 -- the fields begin with an item that asks so for its key, by these names
-pub record IsKeyed (fields : Fields) (asked : Asks ℕ) (texts : List Text) (e : Expression) (rest : Fields) : Type 0 where
-  names : names_of_fields fields ≡ (texts ++ names_in e) ++ names_of_fields rest
+pub record IsKeyed (fields : Fields) (asked : Asks ℕ) (mentions : List Mention) (e : Expression) (rest : Fields) : Type 0 where
+  names : mentions_of_fields fields ≡ (mentions ++ mentions_in e) ++ mentions_of_fields rest
   from : (t done pending : ℕ) (m : Maker) → entries_from 1 t done pending (entries (one_line_fields fields)) m ≡ keyed_from t done pending asked (code e) (entries (one_line_fields rest)) m
   last : is_last (entries (one_line_fields fields)) ≡ false
   positions : positional_count (entries (one_line_fields fields)) ≡ positional_count (entries (one_line_fields rest))
@@ -250,11 +250,11 @@ pub record IsKeyed (fields : Fields) (asked : Asks ℕ) (texts : List Text) (e :
 pub named_keyed : (text : Text) (e : Expression) (separator : Separator) (rest : Fields) → IsKeyed (named text e separator rest) (rk_text 1 text) [] e rest
 named_keyed text e separator rest = record { names = refl; from = λ t done pending m. refl; last = refl; positions = refl; others = refl }
 
-pub keyed_keyed : (key e : Expression) (separator : Separator) (rest : Fields) → IsKeyed (keyed key e separator rest) (rk (code key)) (names_in key) e rest
+pub keyed_keyed : (key e : Expression) (separator : Separator) (rest : Fields) → IsKeyed (keyed key e separator rest) (rk (code key)) (mentions_in key) e rest
 keyed_keyed key e separator rest = record { names = refl; from = λ t done pending m. refl; last = refl; positions = refl; others = refl }
 
-module _ {f : Function} {g : Fn} {active : List Active} {listed : List ℕ} {z : Maker} {left mid last behind : List (Option Inner)} (fields : Fields) (asked : Asks ℕ) (texts : List Text) (e : Expression) (rest : Fields) (k o : OperandValue) (items : ItemList) (all : Bool) (deep : ℕ)
-    (is : IsKeyed fields asked texts e rest) (e_passes : PassesNames (names_in e) (code e)) (key_same : KeySame f g active listed z left mid asked texts k deep) (e_same : RewrittenOperand f g active listed z mid last e o) (deeper : depth_of_expression e ≤ deep)
+module _ {f : Function} {g : Fn} {active : List Active} {listed : List ℕ} {z : Maker} {left mid last behind : List (Option Inner)} (fields : Fields) (asked : Asks ℕ) (mentions : List Mention) (e : Expression) (rest : Fields) (k o : OperandValue) (items : ItemList) (all : Bool) (deep : ℕ)
+    (is : IsKeyed fields asked mentions e rest) (e_passes : PassesMentions (mentions_in e) (code e)) (key_same : KeySame f g active listed z left mid asked mentions k deep) (e_same : RewrittenOperand f g active listed z mid last e o) (deeper : depth_of_expression e ≤ deep)
     (rest_same : RewrittenItems f g active listed z last behind rest deep items all) where
   abbrev at : Place
   at = place f.of listed f.short
@@ -276,7 +276,7 @@ module _ {f : Function} {g : Fn} {active : List Active} {listed : List ℕ} {z :
       ap (λ fs. and_keyed_item (field_name at k) (key_words n) (word_operand at n1 fs o) (separator_before items) (word_items at n2 (left_by_operand o fs) items all)) key_same.leaves
       ∙ ap (λ fs. and_keyed_item (field_name at k) (key_words n) (e_words n1) (separator_before items) (word_items at n2 fs items all)) e_same.leaves
 
-  module _ (t done pending : ℕ) (m : Maker) (ahead : IsAhead g active (names_of_fields fields) m) (final : Final (length m.labels) (entries_from 1 t done pending (entries (one_line_fields fields)) m) z) where
+  module _ (t done pending : ℕ) (m : Maker) (ahead : IsAhead g active (mentions_of_fields fields) m) (final : Final (length m.labels) (entries_from 1 t done pending (entries (one_line_fields fields)) m) z) where
     -- behind the key, the item, and its word
     abbrev key_got : Got ℕ
     key_got = asked m
@@ -287,20 +287,20 @@ module _ {f : Function} {g : Fn} {active : List Active} {listed : List ℕ} {z :
     abbrev behind_it : Maker
     behind_it = freeing (keyed_item 1 t asked (code e)) m
 
-    item_ahead : IsAhead g active ((texts ++ names_in e) ++ names_of_fields rest) m
-    item_ahead = subst (λ texts. IsAhead g active texts m) is.names ahead
+    item_ahead : IsAhead g active ((mentions ++ mentions_in e) ++ mentions_of_fields rest) m
+    item_ahead = subst (λ mentions. IsAhead g active mentions m) is.names ahead
 
-    both_ahead : IsAhead g active (texts ++ names_in e) m
-    both_ahead = ahead_front (texts ++ names_in e) (names_of_fields rest) item_ahead
+    both_ahead : IsAhead g active (mentions ++ mentions_in e) m
+    both_ahead = ahead_front (mentions ++ mentions_in e) (mentions_of_fields rest) item_ahead
 
-    key_ahead : IsAhead g active texts m
-    key_ahead = ahead_front texts (names_in e) both_ahead
+    key_ahead : IsAhead g active mentions m
+    key_ahead = ahead_front mentions (mentions_in e) both_ahead
 
-    e_ahead : IsAhead g active (names_in e) key_got.after
-    e_ahead = ahead_behind texts (names_in e) (key_same.passes m) both_ahead
+    e_ahead : IsAhead g active (mentions_in e) key_got.after
+    e_ahead = ahead_behind mentions (mentions_in e) (key_same.passes m) both_ahead
 
-    rest_ahead : IsAhead g active (names_of_fields rest) behind_it
-    rest_ahead = ahead_behind (texts ++ names_in e) (names_of_fields rest) (item_passes t texts (names_in e) asked (code e) key_same.passes e_passes m) item_ahead
+    rest_ahead : IsAhead g active (mentions_of_fields rest) behind_it
+    rest_ahead = ahead_behind (mentions ++ mentions_in e) (mentions_of_fields rest) (item_passes t mentions (mentions_in e) asked (code e) key_same.passes e_passes m) item_ahead
 
     whole : Final (length m.labels) (keyed_from t done pending asked (code e) (entries (one_line_fields rest)) m) z
     whole = subst (λ n. Final (length m.labels) n z) (is.from t done pending m) final
@@ -385,17 +385,17 @@ module _ {f : Function} {g : Fn} {active : List Active} {listed : List ℕ} {z :
   items_final m final = before_free (m.free + 1) _ final
 
   begun_passes : (others : List Entry) (m : Maker) → Passed [] m (begun others m)
-  begun_passes others m = record { around = refl; names = refl }
+  begun_passes others m = record { around = refl; behind = refl }
 
-  begun_ahead : (m : Maker) → IsAhead g active (names_of_fields fields) m → IsAhead g active (names_of_fields fields) (begun (entries (one_line_fields fields)) m)
-  begun_ahead m ahead = ahead_behind [] (names_of_fields fields) (begun_passes (entries (one_line_fields fields)) m) ahead
+  begun_ahead : (m : Maker) → IsAhead g active (mentions_of_fields fields) m → IsAhead g active (mentions_of_fields fields) (begun (entries (one_line_fields fields)) m)
+  begun_ahead m ahead = ahead_behind [] (mentions_of_fields fields) (begun_passes (entries (one_line_fields fields)) m) ahead
 
-  table_same : (m : Maker) → IsAhead g active (names_of_fields fields) m → Final (length m.labels) (table_at 1 (entries (one_line_fields fields)) m) z → table_at 1 (written (length m.constants)) m ≡ table_at 1 (entries (one_line_fields fields)) m
+  table_same : (m : Maker) → IsAhead g active (mentions_of_fields fields) m → Final (length m.labels) (table_at 1 (entries (one_line_fields fields)) m) z → table_at 1 (written (length m.constants)) m ≡ table_at 1 (entries (one_line_fields fields)) m
   table_same m ahead final =
       ap (λ n. free_from (m.free + 1) (entries_from 1 m.free 0 0 (written (length m.constants)) n)) (begun_same (length m.constants) m)
       ∙ ap (free_from (m.free + 1)) (same.part m.free 0 0 (begun (entries (one_line_fields fields)) m) (begun_ahead m ahead) (items_final m final))
 
-  table_taken : (m : Maker) → IsAhead g active (names_of_fields fields) m → Final (length m.labels) (table_at 1 (entries (one_line_fields fields)) m) z → length (table_at 1 (entries (one_line_fields fields)) m).constants ≡ taken_behind_items items (length m.constants)
+  table_taken : (m : Maker) → IsAhead g active (mentions_of_fields fields) m → Final (length m.labels) (table_at 1 (entries (one_line_fields fields)) m) z → length (table_at 1 (entries (one_line_fields fields)) m).constants ≡ taken_behind_items items (length m.constants)
   table_taken m ahead final = same.taken m.free 0 0 (begun (entries (one_line_fields fields)) m) (begun_ahead m ahead) (items_final m final)
 
   abbrev table_code : ℕ → Maker → Maker

@@ -28,9 +28,9 @@ use Rattle.reads_back.proofs.Deeper.{some_depth}
 use Rattle.reads_back.proofs.IndexSame.{KeySame, expression_key, key_asks, key_asks_same, key_few, named_key, text_key}
 use Rattle.reads_back.proofs.LeavesSame.{next_means, text_rewritten, variable_written}
 use Rattle.reads_back.proofs.ListsSame.{codes_of}
-use Rattle.reads_back.proofs.NamesAhead.{AskingPasses, IsAhead, Passed, ahead_behind, ahead_front, names_in, names_in_all, passed_none, passed_then}
+use Rattle.reads_back.proofs.Mentions.{AskingPasses, IsAhead, Passed, ahead_behind, ahead_front, mentions_in, mentions_in_all, passed_none, passed_then, Mention}
 use Rattle.reads_back.proofs.OperandsSame.{key_rewritten, operand_rewritten}
-use Rattle.reads_back.proofs.PassedNames.{PassesNames, names_passed, operand_passes, pass_passes}
+use Rattle.reads_back.proofs.PassedMentions.{PassesMentions, mentions_passed, operand_passes, pass_passes}
 use Rattle.reads_back.proofs.Rewriting.{IsMadeBy, Rewritten, code, operand_wording, wording}
 use Rattle.reads_back.proofs.Tests.{both_hold}
 use Rattle.reads_back.proofs.WordsSame.{coded_is, levels_wrapped, name_wrapped, operand_same, operand_taken, operand_wrapped, same_name}
@@ -159,10 +159,10 @@ module _ (f : Function) (g : Fn) (active : List Active) (listed : List ℕ) (z :
     pub can : can_write_target (place f.of listed f.short) left t ≡ true
     pub leaves : left_by_target t left ≡ behind
     pub few : (n : ℕ) → (word_target (place f.of listed f.short) n left t).levels ≤ 3 * depth_of_expression target + 3
-    pub passes : AskingPasses (names_in target) (code target).target
-    pub same : (m : Maker) → IsAhead g active (names_in target) m → Final (length m.labels) ((code target).target m).after z → (coded (word_target (place f.of listed f.short) (length m.constants) left t).words).target m ≡ (code target).target m
-    pub taken : (m : Maker) → IsAhead g active (names_in target) m → Final (length m.labels) ((code target).target m).after z → length ((code target).target m).after.constants ≡ taken_behind_target t (length m.constants)
-    pub is_place : (m : Maker) → IsAhead g active (names_in target) m → IsPlace g t ((code target).target m).value
+    pub passes : AskingPasses (mentions_in target) (code target).target
+    pub same : (m : Maker) → IsAhead g active (mentions_in target) m → Final (length m.labels) ((code target).target m).after z → (coded (word_target (place f.of listed f.short) (length m.constants) left t).words).target m ≡ (code target).target m
+    pub taken : (m : Maker) → IsAhead g active (mentions_in target) m → Final (length m.labels) ((code target).target m).after z → length ((code target).target m).after.constants ≡ taken_behind_target t (length m.constants)
+    pub is_place : (m : Maker) → IsAhead g active (mentions_in target) m → IsPlace g t ((code target).target m).value
 
 -- a name is written as itself, and takes nothing
 record NameWritten (at : Place) (text : Text) (t : TargetValue) : Type 0 where
@@ -198,9 +198,9 @@ module _ {f : Function} {g : Fn} {active : List Active} {listed : List ℕ} {z :
         is_place = λ m ahead. subst (λ w. IsVariableTarget g text w t) (sym (next_means made text w [] m means ahead)) is;
       }
 
-module _ {f : Function} {g : Fn} {active : List Active} {listed : List ℕ} {z : Maker} {left mid behind : List (Option Inner)} (target on : Expression) (x : Value) (k : OperandValue) (asked : Asks ℕ) (key_named : Bool) (texts : List Text) (deep : ℕ)
-    (first : Rewritten f g active listed z left mid on x) (second : KeySame f g active listed z mid behind asked texts k deep) (named : (n : ℕ) → is_name (operand_wording f listed z mid n k).words ≡ key_named)
-    (on_passes : PassesNames (names_in on) (code on)) (mentioned : names_in target ≡ names_in on ++ texts) (deeper : suc (max (depth_of_expression on) deep) ≤ depth_of_expression target)
+module _ {f : Function} {g : Fn} {active : List Active} {listed : List ℕ} {z : Maker} {left mid behind : List (Option Inner)} (target on : Expression) (x : Value) (k : OperandValue) (asked : Asks ℕ) (key_named : Bool) (mentions : List Mention) (deep : ℕ)
+    (first : Rewritten f g active listed z left mid on x) (second : KeySame f g active listed z mid behind asked mentions k deep) (named : (n : ℕ) → is_name (operand_wording f listed z mid n k).words ≡ key_named)
+    (on_passes : PassesMentions (mentions_in on) (code on)) (mentioned : mentions_in target ≡ mentions_in on ++ mentions) (deeper : suc (max (depth_of_expression on) deep) ≤ depth_of_expression target)
     (target_is : (m : Maker) → (code target).target m ≡ part_at (code on) asked (is_name (code on).e) key_named m) where
   abbrev words_at : ℕ → Wording
   words_at n = with_key (field_name (place f.of listed f.short) k) (as_prefix (wording f listed z left n x)) (operand_wording f listed z mid (taken_behind x n) k)
@@ -216,11 +216,11 @@ module _ {f : Function} {g : Fn} {active : List Active} {listed : List ℕ} {z :
       let all = key_few (field_name (place f.of listed f.short) k) (as_prefix w) u (3 * depth_of_expression on + 3) (3 * deep + 3) (omega (arith, first.few n, one)) (second.few (taken_behind x n)) in
       omega (arith, all, ap (λ (w : Wording). w.levels) (words_are n), deeper)
 
-  part_passes : AskingPasses (names_in target) (code target).target
+  part_passes : AskingPasses (mentions_in target) (code target).target
   part_passes m =
       let t = operand (code on) m in
-      subst (λ (to : Got Target). Passed (names_in target) m to.after) (sym (target_is m))
-      (subst (λ (texts : List Text). Passed texts m (asked t.after).after) (sym mentioned) (passed_then (names_in on) texts (operand_passes (names_in on) (code on) on_passes m) (second.passes t.after)))
+      subst (λ (to : Got Target). Passed (mentions_in target) m to.after) (sym (target_is m))
+      (subst (λ (mentions : List Mention). Passed mentions m (asked t.after).after) (sym mentioned) (passed_then (mentions_in on) mentions (operand_passes (mentions_in on) (code on) on_passes m) (second.passes t.after)))
 
   -- both are names on both sides
   on_named : (n : ℕ) → is_name (coded (as_prefix (wording f listed z left n x)).words).e ≡ is_name (code on).e
@@ -233,18 +233,18 @@ module _ {f : Function} {g : Fn} {active : List Active} {listed : List ℕ} {z :
       let at = place f.of listed f.short in
       key_named_by (field_name at k) (operand_wording f listed z mid n k) (named_key at n mid k) ∙ named n
 
-  module _ (m : Maker) (ahead : IsAhead g active (names_in target) m) (final : Final (length m.labels) ((code target).target m).after z) where
+  module _ (m : Maker) (ahead : IsAhead g active (mentions_in target) m) (final : Final (length m.labels) ((code target).target m).after z) where
     abbrev on_at : Got ℕ
     on_at = operand (code on) m
 
-    both_ahead : IsAhead g active (names_in on ++ texts) m
-    both_ahead = subst (λ (texts : List Text). IsAhead g active texts m) mentioned ahead
+    both_ahead : IsAhead g active (mentions_in on ++ mentions) m
+    both_ahead = subst (λ (mentions : List Mention). IsAhead g active mentions m) mentioned ahead
 
-    on_ahead : IsAhead g active (names_in on) m
-    on_ahead = ahead_front (names_in on) texts both_ahead
+    on_ahead : IsAhead g active (mentions_in on) m
+    on_ahead = ahead_front (mentions_in on) mentions both_ahead
 
-    key_ahead : IsAhead g active texts on_at.after
-    key_ahead = ahead_behind (names_in on) texts (operand_passes (names_in on) (code on) on_passes m) both_ahead
+    key_ahead : IsAhead g active mentions on_at.after
+    key_ahead = ahead_behind (mentions_in on) mentions (operand_passes (mentions_in on) (code on) on_passes m) both_ahead
 
     key_final : Final (length m.labels) (asked on_at.after).after z
     key_final = subst (λ (to : Got Target). Final (length m.labels) to.after z) (target_is m) final
@@ -296,15 +296,15 @@ module _ {f : Function} {g : Fn} {active : List Active} {listed : List ℕ} {z :
       ((v : Value) → IsCore g active key mid behind v → Rewritten f g active listed z (lefts mid) (lefts behind) key v) → IsOperand g active key mid behind k →
       TargetSame f g active listed z (lefts before) (lefts behind) (index_expression line on key) (index_target x k)
   index_same line on key before mid behind x k on_has key_has first written is =
-      part_target_same (index_expression line on key) on x k (rk (code key)) (is_name (code key).e) (names_in key) (depth_of_expression key) first
-      (expression_key key k (names_passed key key_has) (operand_rewritten lefts made key mid behind k key_has is written))
-      (λ n. operand_named key mid behind k is written n ∙ sym (same_name key) ∙ sym (ap is_name (coded_is (one_line_expression key)))) (names_passed on on_has) refl (omega arith) (λ m. refl)
+      part_target_same (index_expression line on key) on x k (rk (code key)) (is_name (code key).e) (mentions_in key) (depth_of_expression key) first
+      (expression_key key k (mentions_passed key key_has) (operand_rewritten lefts made key mid behind k key_has is written))
+      (λ n. operand_named key mid behind k is written n ∙ sym (same_name key) ∙ sym (ap is_name (coded_is (one_line_expression key)))) (mentions_passed on on_has) refl (omega arith) (λ m. refl)
 
   pub field_same : (line : ℕ) (on : Expression) (text : Text) (before mid behind : ℕ) (x : Value) (k : OperandValue) → HasCore on → Rewritten f g active listed z (lefts before) (lefts mid) on x → IsKey g text mid behind k →
       TargetSame f g active listed z (lefts before) (lefts behind) (field_expression line on text) (index_target x k)
   field_same line on text before mid behind x k has first is =
       part_target_same (field_expression line on text) on x k (rk_text 1 text) false [] 1 first (text_key 1 text k (key_rewritten lefts made 1 text mid behind k is))
-      (operand_named {active = active} {left = lefts mid} {behind = lefts mid} (text_literal 1 text) mid behind k is (λ v core. text_rewritten made 1 text v core.1)) (names_passed on has) (sym (append-nil (names_in on))) (omega (arith, some_depth on)) (λ m. refl)
+      (operand_named {active = active} {left = lefts mid} {behind = lefts mid} (text_literal 1 text) mid behind k is (λ v core. text_rewritten made 1 text v core.1)) (mentions_passed on has) (sym (append-nil (mentions_in on))) (omega (arith, some_depth on)) (λ m. refl)
 
 -- ---- all targets
 
@@ -314,11 +314,11 @@ module _ (f : Function) (g : Fn) (active : List Active) (listed : List ℕ) (z :
     pub leaves : left_by_targets ts left ≡ behind
     pub few : (n : ℕ) → (words_targets (place f.of listed f.short) n left ts).levels ≤ 3 * depth_of_expressions targets + 3
     pub count : length (codes_of targets) ≡ length ts
-    pub passes : AskingPasses (names_in_all targets) (all_targets (codes_of targets))
-    pub same : (m : Maker) → IsAhead g active (names_in_all targets) m → Final (length m.labels) (all_targets (codes_of targets) m).after z →
+    pub passes : AskingPasses (mentions_in_all targets) (all_targets (codes_of targets))
+    pub same : (m : Maker) → IsAhead g active (mentions_in_all targets) m → Final (length m.labels) (all_targets (codes_of targets) m).after z →
         all_targets (all_coded (words_targets (place f.of listed f.short) (length m.constants) left ts).words) m ≡ all_targets (codes_of targets) m
-    pub taken : (m : Maker) → IsAhead g active (names_in_all targets) m → Final (length m.labels) (all_targets (codes_of targets) m).after z → length (all_targets (codes_of targets) m).after.constants ≡ taken_behind_targets ts (length m.constants)
-    pub are_places : (m : Maker) → IsAhead g active (names_in_all targets) m → ArePlaces g ts (all_targets (codes_of targets) m).value
+    pub taken : (m : Maker) → IsAhead g active (mentions_in_all targets) m → Final (length m.labels) (all_targets (codes_of targets) m).after z → length (all_targets (codes_of targets) m).after.constants ≡ taken_behind_targets ts (length m.constants)
+    pub are_places : (m : Maker) → IsAhead g active (mentions_in_all targets) m → ArePlaces g ts (all_targets (codes_of targets) m).value
 
 -- as many are written
 pub written_count : (at : Place) (n : ℕ) (fs : List (Option Inner)) (ts : List TargetValue) → length (all_coded (words_targets at n fs ts).words) ≡ length ts
@@ -345,7 +345,7 @@ module _ {f : Function} {g : Fn} {active : List Active} {listed : List ℕ} {z :
     leaves = ap (left_by_targets ts) first.leaves ∙ others.leaves;
     few = λ n. omega (arith, first.few n, ap (λ fs. (words_targets at (taken_behind_target t n) fs ts).levels) first.leaves, others.few (taken_behind_target t n));
     count = ap suc others.count;
-    passes = λ m. passed_then (names_in target) (names_in_all targets) (first.passes m) (others.passes (one m).after);
+    passes = λ m. passed_then (mentions_in target) (mentions_in_all targets) (first.passes m) (others.passes (one m).after);
     same = λ m ahead final.
         ap (λ one. and_targets one (all_targets (written (taken_behind_target t (length m.constants)) (left_by_target t left)) one.after)) (first.same m (first_ahead m ahead) (first_final m final))
         ∙ ap (λ n. and_targets (one m) (all_targets (written n (left_by_target t left)) (one m).after)) (sym (first.taken m (first_ahead m ahead) (first_final m final)))
@@ -364,11 +364,11 @@ module _ {f : Function} {g : Fn} {active : List Active} {listed : List ℕ} {z :
       one : (m : Maker) → Got Target
       one m = (code target).target m
 
-      first_ahead : (m : Maker) → IsAhead g active (names_in target ++ names_in_all targets) m → IsAhead g active (names_in target) m
-      first_ahead m ahead = ahead_front (names_in target) (names_in_all targets) ahead
+      first_ahead : (m : Maker) → IsAhead g active (mentions_in target ++ mentions_in_all targets) m → IsAhead g active (mentions_in target) m
+      first_ahead m ahead = ahead_front (mentions_in target) (mentions_in_all targets) ahead
 
-      others_ahead : (m : Maker) → IsAhead g active (names_in target ++ names_in_all targets) m → IsAhead g active (names_in_all targets) (one m).after
-      others_ahead m ahead = ahead_behind (names_in target) (names_in_all targets) (first.passes m) ahead
+      others_ahead : (m : Maker) → IsAhead g active (mentions_in target ++ mentions_in_all targets) m → IsAhead g active (mentions_in_all targets) (one m).after
+      others_ahead m ahead = ahead_behind (mentions_in target) (mentions_in_all targets) (first.passes m) ahead
 
       first_final : (m : Maker) → Final (length m.labels) (all_targets (codes_of targets) (one m).after).after z → Final (length m.labels) (one m).after z
       first_final m final = before (targets_grow (codes_of targets) (grow_all calm (one_line_expressions targets)) (one m).after) final

@@ -3,7 +3,7 @@ use Rattle.std.proofs.Common.{◌≡◌, ℕ, suc, ◌≤◌, max, true, false, 
 use Rattle.std.specs.Prelude.{ℤ}
 use Rattle.lua_num.specs.Bytes.{Text}
 use Rattle.lua_tree.specs.Syntax as syntax
-use Rattle.lua_tree.specs.Syntax.{Expressions, no_expressions, Arguments, argument_list, text_argument, table_argument, constructor, Fields, no_fields, positional, named, keyed, Expression, nil_literal, true_literal, false_literal, vararg_expression, number_literal, text_literal, name_expression, index_expression, field_expression, call_expression, method_call, binary_expression, unary_expression, parenthesized}
+use Rattle.lua_tree.specs.Syntax.{Expressions, no_expressions, Arguments, argument_list, text_argument, table_argument, constructor, Fields, no_fields, positional, named, keyed, Expression, nil_literal, true_literal, false_literal, vararg_expression, number_literal, text_literal, name_expression, function_expression, index_expression, field_expression, call_expression, method_call, binary_expression, unary_expression, parenthesized}
 use Rattle.lua_tree.specs.WellFormed.{is_call, depth_of_arguments, depth_of_expression, depth_of_expressions, depth_of_fields}
 use Rattle.lua_tree.specs.declared.tree.BinaryOp.{BinaryOp}
 use Rattle.proto.specs.declared.parts.Constant.{Constant}
@@ -17,9 +17,10 @@ use Rattle.scheme_stands.specs.Expressions.{BinaryAt, LoadOr, OperandAt, TwoAt, 
 use Rattle.scheme_stands.specs.Lists.{CallAt, MethodAt}
 use Rattle.scheme_stands.specs.Relation.{given_rel, related}
 use Rattle.scheme_stands.specs.Words.{Fn, Stretch, WordAt}
-use Rattle.reads_back.specs.Cores.{AllHaveCores, AreGiven, HasCore, HaveCores, HaveItems, IsCalled, IsCore, IsFirst, IsFoldedOr, IsIndexed, IsMethodCalled, IsOperand, IsOperator, core, Counted, called_by, method_called_by, indexed_by, first_and}
+use Rattle.reads_back.specs.Cores.{AllHaveCores, AreGiven, HasCore, HaveCores, HaveItems, IsCore, IsFoldedOr, IsOperand, IsOperator, core, Counted, called_by, method_called_by, indexed_by, first_and}
 use Rattle.reads_back.proofs.CallResults.{call_open_reads, call_value_reads, vararg_open_reads, vararg_reads}
 use Rattle.reads_back.proofs.CallWords.{call_reads}
+use Rattle.reads_back.proofs.ClosureReads.{function_reads}
 use Rattle.reads_back.proofs.Comes.{Reads, ReadsCall, ReadsCore, ReadsGiven, ReadsOpen, ReadsOperand, ReadsSpine}
 use Rattle.reads_back.proofs.Concats.{concat_reads, spine_alone, spine_first}
 use Rattle.reads_back.proofs.Deeper.{given_deeper, open_deeper, operand_deeper, reads_deeper, some_depth, spine_deeper}
@@ -86,6 +87,7 @@ module _ {f : Function} {g : Fn} {active : List Active} {listed : List ℕ} (is_
     reads_all (number_literal line n) has few = let one : ReadsCore f g active listed (number_literal line n) = constant_reads is_function (Constant.Number n) in record { one = one; spine = spine_alone one; several = λ many. not_so many }
     reads_all (text_literal line text) has few = let one : ReadsCore f g active listed (text_literal line text) = constant_reads is_function (Constant.Text text) in record { one = one; spine = spine_alone one; several = λ many. not_so many }
     reads_all (name_expression line text) has few = let one : ReadsCore f g active listed (name_expression line text) = name_reads is_function all text has in record { one = one; spine = spine_alone one; several = λ many. not_so many }
+    reads_all (function_expression line body) has few = let one : ReadsCore f g active listed (function_expression line body) = reads_deeper (omega arith) (function_reads is_function all body) in record { one = one; spine = spine_alone one; several = λ many. not_so many }
     reads_all (index_expression line on key) has few =
         let first = reads_all on has.0 (omega (arith, few)) in
         let second = reads_all key has.1 (omega (arith, few)) in

@@ -1,5 +1,5 @@
 -- Which words begin a value, and which want one.
-use Rattle.std.proofs.Common.{◌≡◌, ℕ, suc, ◌+◌, ◌<◌, ◌≤◌, true, ◌&&◌, length, Option, None, Some, ap, ◌∙◌, arith, inl, inr, lt-ltb, nat_lt}
+use Rattle.std.proofs.Common.{◌≡◌, ℕ, ◌+◌, ◌<◌, ◌≤◌, true, ◌&&◌, length, Option, None, Some, ap, ◌∙◌, arith, inl, inr, lt-ltb, nat_lt, sym}
 use Rattle.std.specs.Prelude.{option_and_then, slice_get}
 use Rattle.opcode.specs.Reading.{instr_of}
 use Rattle.opcode.specs.declared.word.Instr.{Instr}
@@ -39,11 +39,10 @@ begins_wants {f} {pc = pc} s begins higher =
     ∙ or_second (reads_from i s.base) _ (or_first _ stores (both_hold _ _ begins.makes (lt-ltb s.base i.a (omega (arith, begins.above, higher)))))))
 
 -- and a store that reads no register of the statement, where the word behind it reads one
-pub store_wants : (f : Function) (pc next : ℕ) (i : Instr) (s : Situation) → instr_at f pc ≡ Some i → stores_alone i s.base ≡ true → further_words f i.op i ≡ 0 → next ≡ suc pc → next < f.last →
+pub store_wants : (f : Function) (pc next : ℕ) (i : Instr) (s : Situation) → instr_at f pc ≡ Some i → stores_alone i s.base ≡ true → next ≡ pc + 1 + further_words f i.op i → next < f.last →
     is_so (λ i. reads_from i s.base) (instr_at f next) ≡ true → IsWanted f s pc
-store_wants f pc next i s there alone none is_next before reads =
-    let same : pc + 1 + further_words f i.op i ≡ next = omega (arith, none, is_next) in
-    let behind = ap (λ (behind : ℕ). nat_lt behind f.last && is_so (λ i. reads_from i s.base) (instr_at f behind)) same ∙ both_hold _ _ (lt-ltb next f.last before) reads in
+store_wants f pc next i s there alone is_next before reads =
+    let behind = ap (λ (behind : ℕ). nat_lt behind f.last && is_so (λ i. reads_from i s.base) (instr_at f behind)) (sym is_next) ∙ both_hold _ _ (lt-ltb next f.last before) reads in
     inr (inr (ap (is_so (wants_lowest f s.base pc)) there ∙ or_second (reads_from i s.base) _ (or_second (makes_value i.op && nat_lt s.base i.a) _ (both_hold _ _ alone behind))))
 
 pub wanted_above : (f : Function) (s : Situation) (last : ℕ) → 0 < length s.entries → IsWanted f s last

@@ -2,7 +2,7 @@
 use Rattle.std.proofs.Common.{◌≡◌, ℕ, suc, ◌+◌, ◌-◌, ◌/◌, ◌<◌, ◌≤◌, nat_lt, nat_le, Bool, true, false, ◌&&◌, List, Option, Some, None, refl, sym, arith, inl, inr}
 use Rattle.std.specs.Prelude.{◌==◌, ℤ}
 use Rattle.lua_num.specs.Bytes.{Text}
-use Rattle.lua_tree.specs.Syntax.{Arguments, Expression, nil_literal, true_literal, false_literal, vararg_expression, number_literal, text_literal, name_expression, index_expression, field_expression, call_expression, method_call, binary_expression, unary_expression, constructor, parenthesized, Fields, no_fields, positional, named, keyed}
+use Rattle.lua_tree.specs.Syntax.{Arguments, Expression, nil_literal, true_literal, false_literal, vararg_expression, number_literal, text_literal, name_expression, function_expression, index_expression, field_expression, call_expression, method_call, binary_expression, unary_expression, constructor, parenthesized, Fields, no_fields, positional, named, keyed}
 use Rattle.lua_tree.specs.WellFormed.{depth_of_arguments, depth_of_expression, depth_of_fields}
 use Rattle.lua_tree.specs.declared.tree.BinaryOp.{BinaryOp}
 use Rattle.opcode.specs.declared.op.Op.{Op}
@@ -16,6 +16,7 @@ use Rattle.scheme_stands.specs.Lists.{CallAt, ItemBy, KeyedAt, MethodAt, MovedFr
 use Rattle.scheme_stands.specs.Relation.{ItemsAt, given_rel, related}
 use Rattle.scheme_stands.specs.Words.{Fn, Spot, Stretch, meaning}
 use Rattle.reads_back.specs.Cores.{HasCore, HaveCores, HaveItems}
+use Rattle.reads_back.proofs.ClosureReads.{closure_later}
 use Rattle.reads_back.proofs.NameReads.{AreListed}
 use Rattle.reads_back.proofs.OperandReads.{operand_reads, rk_reads, text_forward}
 use Rattle.reads_back.proofs.TableWords.{list_later, list_if_forward}
@@ -124,6 +125,7 @@ module _ {f : Function} {g : Fn} {active : List Active} {listed : List ℕ} (is_
   value_later (number_literal line n) has few free r p q at = omega (arith, at.word.next)
   value_later (text_literal line text) has few free r p q at = omega (arith, at.word.next)
   value_later (name_expression line text) has few free r p q at = let words = at.1 in omega (arith, words.first_at.pc, name_later g text (meaning active p) r words.mid q words.second_at)
+  value_later (function_expression line body) has few free r p q at = closure_later p q at
   value_later (index_expression line on key) has few free r p q at =
       let word = at.words_at in
       let tables = operand_reads is_function all on (reads_all is_function all on has.0 (omega (arith, few))).one in

@@ -3,12 +3,14 @@ use Rattle.std.proofs.Common.{◌≡◌, ℕ, suc, ◌^◌, ◌<◌, ◌≤◌, 
 use Rattle.std.specs.Prelude.{option_and_then, option_map, slice_get, if◌then◌else◌}
 use Rattle.opcode.specs.Reading.{instr_of}
 use Rattle.opcode.specs.declared.op.Op.{Op}
+use Rattle.proto.specs.Chunk.{Chunk, function_at, own}
 use Rattle.scheme.specs.declared.making.Piece.{Piece}
+use Rattle.scheme_stands.specs.Functions.{FurtherWordAt}
 use Rattle.scheme_stands.specs.Words.{Law, Lawful, Names, Fn, Spot, WordAt, IsRead, instr_by, number_at}
 use Rattle.recover_expr.specs.Declaring.{declaration}
 use Rattle.recover_expr.specs.Locals.{Scope, starting}
 use Rattle.recover_expr.specs.Reading.{as_over, turn_at, turn_of}
-use Rattle.recover_expr.specs.Situation.{Function, Situation, next_pc, word_at}
+use Rattle.recover_expr.specs.Situation.{Function, Situation, instr_at, next_pc, upvalues_in, word_at}
 use Rattle.recover_expr.specs.declared.function.Word.{Word}
 use Rattle.reads_back.proofs.Tests.{not_below}
 
@@ -18,6 +20,8 @@ pub record IsFunction (f : Function) (g : Fn) : Type 0 where
   pub law : g.law ≡ Some names
   pub code : f.of.code ≡ g.code
   pub constants : f.of.constants ≡ g.constants
+  -- a function in it has as many upvalues
+  pub upvalues : (number : ℕ) (chunk : Chunk) → function_at g.functions number ≡ Some chunk → upvalues_in f number ≡ Some (own chunk).upvalues
   pub natural : f.short ≡ false
   pub short : f.last < 2 ^ 32
   pub few : g.size ≤ 250
@@ -49,6 +53,11 @@ abx_is_read {g = g} is_function at = (lawful g.law is_function.names _ is_functi
 
 pub instr_there : (code : List ℕ) (pc : ℕ) (w : Piece) → slice_get code pc ≡ Some (number_at pc w) → IsRead pc w → option_and_then instr_of (slice_get code pc) ≡ Some (instr_by pc w)
 instr_there code pc w has read = ap (option_and_then instr_of) has ∙ read
+
+-- a further word of a CLOSURE
+pub further_is_there : {f : Function} {g : Fn} {w : Piece} {p q : Spot} → IsFunction f g → FurtherWordAt g w p q → instr_at f p.pc ≡ Some (instr_by p.pc w)
+further_is_there {g = g} {w} {p} is_function at =
+    ap (λ code. option_and_then instr_of (slice_get code p.pc)) is_function.code ∙ instr_there g.code p.pc w at.has (lawful g.law is_function.names (IsRead p.pc w) is_function.law at.reads)
 
 pub word_there : {f : Function} {g : Fn} {w : Piece} {p q : Spot} → IsFunction f g → WordAt g w p q → IsRead p.pc w → p.pc < f.last → word_at f p.pc ≡ Some (word_of p.pc w)
 word_there {f} {g} {w} {p} is_function at read before =

@@ -1,5 +1,5 @@
--- What is written of a value is well formed, and no deeper than its levels tell; no function is in it.
-use Rattle.std.proofs.Common.{◌≡◌, ℕ, ◌≤◌, Bool, true, false, not, ◌&&◌, ◌||◌, List, [], ◌∷◌, Option, Some, None, is_some, refl, ap, ◌∙◌, subst, arith, le-leb}
+-- What is written of a value is well formed, and no deeper than its levels tell, where the functions that are left are so.
+use Rattle.std.proofs.Common.{◌≡◌, ℕ, ◌≤◌, Bool, true, false, not, ◌&&◌, ◌||◌, List, [], ◌∷◌, Option, Some, None, is_some, refl, ap, subst, arith, le-leb}
 use Rattle.std.specs.Prelude.{ℤ, pos, negsuc, ◌==◌, ◌-◌, ◌^◌, suc, slice_get, if◌then◌else◌}
 use Rattle.std.proofs.lemmas.Bool.{leb-true}
 use Rattle.std.proofs.lemmas.Option.{same_Some}
@@ -7,49 +7,29 @@ use Rattle.lua_num.specs.Bytes.{Text}
 use Rattle.lua_tree.specs.Names.{is_name}
 use Rattle.lua_tree.specs.Precedence.{is_right_associative, is_unary, left_binds, level_of, level_of_op, right_binds}
 use Rattle.lua_tree.specs.Syntax.{Expression, Fields, no_fields, true_literal, false_literal}
-use Rattle.lua_tree.specs.WellFormed.{depth_of_arguments, depth_of_expression, depth_of_expressions, depth_of_fields, ends_item, formed_arguments, formed_expression, formed_expressions, formed_fields, is_prefix, on_its_line}
+use Rattle.lua_tree.specs.WellFormed.{depth_of_arguments, depth_of_body, depth_of_expression, depth_of_expressions, depth_of_fields, ends_item, formed_arguments, formed_body, formed_expression, formed_expressions, formed_fields, is_prefix, on_its_line}
 use Rattle.lua_tree.specs.declared.tree.BinaryOp.{BinaryOp}
 use Rattle.lua_tree.specs.declared.tree.Separator.{Separator}
 use Rattle.lua_tree.specs.declared.tree.UnaryOp.{UnaryOp}
 use Rattle.proto.specs.declared.parts.Constant.{Constant}
-use Rattle.core_expr.specs.Counting.{left_by, left_by_items, left_by_operand, left_by_operands, left_by_values, taken_behind, taken_behind_operand, with_constant}
+use Rattle.core_expr.specs.Counting.{left_by, left_by_operand, taken_behind, taken_behind_operand, with_constant}
 use Rattle.proto.specs.declared.parts.LocVar.{LocVar}
 use Rattle.core_expr.specs.Places.{Place, as_name, constant_at, constant_name, field_name, field_number, local_name, name_of_entry, name_of_local, name_of_number, text_at, upvalue_name}
 use Rattle.core_expr.specs.Values.{Inner, ItemList, OperandList, OperandValue, Value, Values, and_keyed, and_operand, and_positional, and_value, binary_value, bool_value, call_value, concat_value, constant_operand, constant_value, function_value, global_value, index_value, local_value, method_value, nil_value, no_items, no_operands, no_values, table_value, unary_value, upvalue_value, value_operand, vararg_value}
-use Rattle.core_expr.specs.Writing.{function_left, ArgumentWording, FieldWording, Wording, Wordings, and_item, and_keyed_item, and_wording, applied, as_arguments, as_list, as_prefix, as_text_argument, can_write, can_write_items, can_write_operand, can_write_operands, can_write_values, chained, constant_word, ends_items, ends_values, in_parentheses, is_bare, is_multiple, is_power, joined, literal, name_word, number_word, numeral, on_left, on_right, separator_before, single, text_or_empty, truth, unless, with_arguments, with_binary, with_field, with_index, with_items, with_key, with_method, with_unary, word, word_each, word_items, word_keys, word_only, word_operand, word_short, word_values}
+use Rattle.core_expr.specs.Writing.{function_left, function_word, ArgumentWording, FieldWording, Wording, Wordings, and_item, and_keyed_item, and_wording, applied, as_arguments, as_list, as_prefix, as_text_argument, can_write, can_write_items, can_write_operand, can_write_operands, can_write_values, chained, constant_word, ends_items, ends_values, in_parentheses, is_bare, is_multiple, is_power, joined, literal, name_word, number_word, numeral, on_left, on_right, separator_before, single, text_or_empty, truth, unless, with_arguments, with_binary, with_field, with_index, with_items, with_key, with_method, with_unary, word, word_each, word_items, word_keys, word_only, word_operand, word_short, word_values}
+use Rattle.reads_back.proofs.FunctionsLeft.{EachLeft, each_by, each_by_operand, left_there}
 use Rattle.reads_back.proofs.Tests.{both_hold, first_of_both, not_so, second_of_both}
 
--- ---- no functions are left
+-- ---- functions that are left
 
-mutual
-  pub none_by : (v : Value) → left_by v [] ≡ []
-  none_by (index_value on keys depth) = ap (left_by_operands keys) (none_by on) ∙ none_by_operands keys
-  none_by (binary_value op left right depth) = ap (left_by_operand right) (none_by_operand left) ∙ none_by_operand right
-  none_by (unary_value op of depth) = none_by of
-  none_by (concat_value operands depth) = none_by_values operands
-  none_by (call_value on args all depth) = ap (left_by_values args) (none_by on) ∙ none_by_values args
-  none_by (method_value on name args all depth) = ap (left_by_values args) (none_by on) ∙ none_by_values args
-  none_by (table_value items all depth) = none_by_items items
-  none_by (function_value number true) = refl
-  none_by (function_value number false) = refl
-  none_by v = refl
+-- a function that is left is well formed, and no deeper than its levels tell
+pub record IsFineFunction (found : Inner) : Type 0 where
+  pub formed : formed_body found.body ≡ true
+  pub shallow : found.levels ≤ 400 → depth_of_body found.body ≤ found.levels
 
-  pub none_by_values : (vs : Values) → left_by_values vs [] ≡ []
-  none_by_values no_values = refl
-  none_by_values (and_value v rest) = ap (left_by_values rest) (none_by v) ∙ none_by_values rest
-
-  pub none_by_operand : (o : OperandValue) → left_by_operand o [] ≡ []
-  none_by_operand (constant_operand k) = refl
-  none_by_operand (value_operand v) = none_by v
-
-  none_by_operands : (os : OperandList) → left_by_operands os [] ≡ []
-  none_by_operands no_operands = refl
-  none_by_operands (and_operand o rest) = ap (left_by_operands rest) (none_by_operand o) ∙ none_by_operands rest
-
-  none_by_items : (is : ItemList) → left_by_items is [] ≡ []
-  none_by_items no_items = refl
-  none_by_items (and_positional v rest) = ap (left_by_items rest) (none_by v) ∙ none_by_items rest
-  none_by_items (and_keyed key item rest) = ap (λ fs. left_by_items rest (left_by_operand item fs)) (none_by_operand key) ∙ ap (left_by_items rest) (none_by_operand item) ∙ none_by_items rest
+-- each is
+abbrev pub AreFineLeft : List (Option Inner) → Type 0
+AreFineLeft left = EachLeft (λ number found. IsFineFunction found) 0 left
 
 -- ---- expressions from their parts
 
@@ -248,10 +228,13 @@ name_fine : (name : Option Text) → (known : (text : Text) → name ≡ Some te
 name_fine None known = single_fine _ refl refl
 name_fine (Some text) known = single_fine _ (known text refl) refl
 
--- ---- values
+function_fine : (found : Option Inner) → ((f : Inner) → found ≡ Some f → IsFineFunction f) → is_some found ≡ true → IsFine (function_word found)
+function_fine None known some = not_so some
+function_fine (Some f) known some =
+    let fine = known f refl in
+    record { formed = fine.formed; shallow = λ few. let low = fine.shallow (omega (arith, few)) in omega (arith, low, few) }
 
-pub none_there : (fs : List (Option Inner)) (number : ℕ) → fs ≡ [] → is_some (function_left fs number) ≡ true → ⊥
-none_there fs number none some = let same : is_some (function_left fs number) ≡ false = ap (λ fs. is_some (function_left fs number)) none in cc
+-- ---- values
 
 some_text : (name : Option Text) → is_some name ≡ true → name ≡ Some (text_or_empty name)
 some_text None some = cc
@@ -321,78 +304,78 @@ no_words at n fs (and_keyed key item rest) all ends = cc
 
 module _ (at : Place) where
   mutual
-    pub word_fine : (v : Value) (n : ℕ) (fs : List (Option Inner)) → fs ≡ [] → can_write at fs v ≡ true → IsFine (word at n fs v)
-    word_fine nil_value n fs none can = single_fine _ refl refl
-    word_fine vararg_value n fs none can = single_fine _ refl refl
-    word_fine (bool_value b) n fs none can = truth_fine b
-    word_fine (constant_value k) n fs none can = constant_fine (constant_at at k)
-    word_fine (local_value r) n fs none can = name_fine (local_name at r) (λ text is. entry_as_name at (slice_get at.entries r) text is)
-    word_fine (upvalue_value u) n fs none can = name_fine (upvalue_name at u) (λ text is. as_named (slice_get at.of.upvalue_names u) text is)
-    word_fine (global_value k) n fs none can = name_fine (constant_name at k) (λ text is. as_named (text_at at k) text is)
-    word_fine (index_value on keys depth) n fs none can =
+    pub word_fine : (v : Value) (n : ℕ) (fs : List (Option Inner)) → AreFineLeft fs → can_write at fs v ≡ true → IsFine (word at n fs v)
+    word_fine nil_value n fs fine_left can = single_fine _ refl refl
+    word_fine vararg_value n fs fine_left can = single_fine _ refl refl
+    word_fine (bool_value b) n fs fine_left can = truth_fine b
+    word_fine (constant_value k) n fs fine_left can = constant_fine (constant_at at k)
+    word_fine (local_value r) n fs fine_left can = name_fine (local_name at r) (λ text is. entry_as_name at (slice_get at.entries r) text is)
+    word_fine (upvalue_value u) n fs fine_left can = name_fine (upvalue_name at u) (λ text is. as_named (slice_get at.of.upvalue_names u) text is)
+    word_fine (global_value k) n fs fine_left can = name_fine (constant_name at k) (λ text is. as_named (text_at at k) text is)
+    word_fine (index_value on keys depth) n fs fine_left can =
         let both = second_of_both _ _ can in
-        let first = word_fine on n fs none (first_of_both _ _ both) in
-        (keys_fine keys (taken_behind on n) (left_by on fs) (as_prefix (word at n fs on)) (ap (left_by on) none ∙ none_by on) (second_of_both _ _ both) (prefix_is (word at n fs on)) (prefix_fine (word at n fs on) first))
-    word_fine (binary_value op left right depth) n fs none can =
-        joined_fine op _ _ (operand_fine left n fs none (first_of_both _ _ can)) (operand_fine right (taken_behind_operand left n) (left_by_operand left fs) (ap (left_by_operand left) none ∙ none_by_operand left) (second_of_both _ _ can))
-    word_fine (unary_value op of depth) n fs none can = applied_fine op _ (word_fine of n fs none can)
-    word_fine (concat_value no_values depth) n fs none can = not_so can
-    word_fine (concat_value (and_value v rest) depth) n fs none can =
+        let first = word_fine on n fs fine_left (first_of_both _ _ both) in
+        (keys_fine keys (taken_behind on n) (left_by on fs) (as_prefix (word at n fs on)) (each_by _ on fs fine_left) (second_of_both _ _ both) (prefix_is (word at n fs on)) (prefix_fine (word at n fs on) first))
+    word_fine (binary_value op left right depth) n fs fine_left can =
+        joined_fine op _ _ (operand_fine left n fs fine_left (first_of_both _ _ can)) (operand_fine right (taken_behind_operand left n) (left_by_operand left fs) (each_by_operand _ left fs fine_left) (second_of_both _ _ can))
+    word_fine (unary_value op of depth) n fs fine_left can = applied_fine op _ (word_fine of n fs fine_left can)
+    word_fine (concat_value no_values depth) n fs fine_left can = not_so can
+    word_fine (concat_value (and_value v rest) depth) n fs fine_left can =
         let both = second_of_both (not (ends_values (and_value v rest))) _ can in
-        chained_fine (word at n fs v) (word_each at (taken_behind v n) (left_by v fs) rest) (word_fine v n fs none (first_of_both _ _ both)) (each_fine rest (taken_behind v n) (left_by v fs) (ap (left_by v) none ∙ none_by v) (second_of_both _ _ both))
-    word_fine (call_value on args all depth) n fs none can =
-        let behind = ap (left_by on) none ∙ none_by on in
-        let first = word_fine on n fs none (first_of_both _ _ can) in
+        chained_fine (word at n fs v) (word_each at (taken_behind v n) (left_by v fs) rest) (word_fine v n fs fine_left (first_of_both _ _ both)) (each_fine rest (taken_behind v n) (left_by v fs) (each_by _ v fs fine_left) (second_of_both _ _ both))
+    word_fine (call_value on args all depth) n fs fine_left can =
+        let behind = each_by _ on fs fine_left in
+        let first = word_fine on n fs fine_left (first_of_both _ _ can) in
         let given = second_of_both _ _ can in
         call_fine _ _ (prefix_is (word at n fs on)) (prefix_fine (word at n fs on) first)
         (given_fine at.short (not all) _ _ (short_fine args (taken_behind on n) (left_by on fs) behind given) (values_fine args all (taken_behind on n) (left_by on fs) behind given))
-    word_fine (method_value on name args all depth) n fs none can =
-        let behind = ap (left_by on) none ∙ none_by on in
-        let first = word_fine on n fs none (first_of_both _ _ can) in
+    word_fine (method_value on name args all depth) n fs fine_left can =
+        let behind = each_by _ on fs fine_left in
+        let first = word_fine on n fs fine_left (first_of_both _ _ can) in
         let named = first_of_both _ _ (second_of_both _ _ can) in
         let given = second_of_both (is_some (constant_name at name)) _ (second_of_both _ _ can) in
         let m = with_constant (taken_behind on n) name in
         method_fine _ _ _ (prefix_is (word at n fs on)) (as_named (text_at at name) _ (some_text (constant_name at name) named)) (prefix_fine (word at n fs on) first)
         (given_fine at.short (not all) _ _ (short_fine args m (left_by on fs) behind given) (values_fine args all m (left_by on fs) behind given))
-    word_fine (table_value items all depth) n fs none can = table_fine _ (items_fine items all n fs none can)
-    word_fine (function_value number itself) n fs none can = absurd (none_there fs number none (second_of_both (not itself) _ can))
+    word_fine (table_value items all depth) n fs fine_left can = table_fine _ (items_fine items all n fs fine_left can)
+    word_fine (function_value number itself) n fs fine_left can = function_fine (function_left fs number) (λ found there. left_there _ number fs found fine_left there) (second_of_both (not itself) _ can)
 
-    pub values_fine : (vs : Values) (all : Bool) (n : ℕ) (fs : List (Option Inner)) → fs ≡ [] → can_write_values at fs vs ≡ true → AreFine (word_values at n fs vs all)
-    values_fine no_values all n fs none can = record { formed = refl; shallow = λ few. omega arith }
-    values_fine (and_value v rest) all n fs none can =
-        and_wording_fine _ _ (unless_fine (not ((ends_values rest && not all) && is_multiple v)) _ (word_fine v n fs none (first_of_both _ _ can))) (values_fine rest all (taken_behind v n) (left_by v fs) (ap (left_by v) none ∙ none_by v) (second_of_both _ _ can))
+    pub values_fine : (vs : Values) (all : Bool) (n : ℕ) (fs : List (Option Inner)) → AreFineLeft fs → can_write_values at fs vs ≡ true → AreFine (word_values at n fs vs all)
+    values_fine no_values all n fs fine_left can = record { formed = refl; shallow = λ few. omega arith }
+    values_fine (and_value v rest) all n fs fine_left can =
+        and_wording_fine _ _ (unless_fine (not ((ends_values rest && not all) && is_multiple v)) _ (word_fine v n fs fine_left (first_of_both _ _ can))) (values_fine rest all (taken_behind v n) (left_by v fs) (each_by _ v fs fine_left) (second_of_both _ _ can))
 
-    each_fine : (vs : Values) (n : ℕ) (fs : List (Option Inner)) → fs ≡ [] → can_write_values at fs vs ≡ true → AllFine (word_each at n fs vs)
-    each_fine no_values n fs none can = tt
-    each_fine (and_value v rest) n fs none can = (word_fine v n fs none (first_of_both _ _ can), each_fine rest (taken_behind v n) (left_by v fs) (ap (left_by v) none ∙ none_by v) (second_of_both _ _ can))
+    each_fine : (vs : Values) (n : ℕ) (fs : List (Option Inner)) → AreFineLeft fs → can_write_values at fs vs ≡ true → AllFine (word_each at n fs vs)
+    each_fine no_values n fs fine_left can = tt
+    each_fine (and_value v rest) n fs fine_left can = (word_fine v n fs fine_left (first_of_both _ _ can), each_fine rest (taken_behind v n) (left_by v fs) (each_by _ v fs fine_left) (second_of_both _ _ can))
 
-    pub operand_fine : (o : OperandValue) (n : ℕ) (fs : List (Option Inner)) → fs ≡ [] → can_write_operand at fs o ≡ true → IsFine (word_operand at n fs o)
-    operand_fine (constant_operand k) n fs none can = constant_fine (constant_at at k)
-    operand_fine (value_operand v) n fs none can = unless_fine (is_bare at n v) _ (word_fine v n fs none can)
+    pub operand_fine : (o : OperandValue) (n : ℕ) (fs : List (Option Inner)) → AreFineLeft fs → can_write_operand at fs o ≡ true → IsFine (word_operand at n fs o)
+    operand_fine (constant_operand k) n fs fine_left can = constant_fine (constant_at at k)
+    operand_fine (value_operand v) n fs fine_left can = unless_fine (is_bare at n v) _ (word_fine v n fs fine_left can)
 
-    keys_fine : (keys : OperandList) (n : ℕ) (fs : List (Option Inner)) (on : Wording) → fs ≡ [] → can_write_operands at fs keys ≡ true → is_prefix on.words ≡ true → IsFine on → IsFine (word_keys at n fs on keys)
-    keys_fine no_operands n fs on none can prefix fine = fine
-    keys_fine (and_operand key rest) n fs on none can prefix fine =
-        let other = operand_fine key n fs none (first_of_both _ _ can) in
-        keys_fine rest (taken_behind_operand key n) (left_by_operand key fs) _ (ap (left_by_operand key) none ∙ none_by_operand key) (second_of_both _ _ can) (keyed_prefix (field_name at key) on _) (keyed_fine at key on _ (field_name at key) refl prefix fine other)
+    keys_fine : (keys : OperandList) (n : ℕ) (fs : List (Option Inner)) (on : Wording) → AreFineLeft fs → can_write_operands at fs keys ≡ true → is_prefix on.words ≡ true → IsFine on → IsFine (word_keys at n fs on keys)
+    keys_fine no_operands n fs on fine_left can prefix fine = fine
+    keys_fine (and_operand key rest) n fs on fine_left can prefix fine =
+        let other = operand_fine key n fs fine_left (first_of_both _ _ can) in
+        keys_fine rest (taken_behind_operand key n) (left_by_operand key fs) _ (each_by_operand _ key fs fine_left) (second_of_both _ _ can) (keyed_prefix (field_name at key) on _) (keyed_fine at key on _ (field_name at key) refl prefix fine other)
 
-    items_fine : (items : ItemList) (all : Bool) (n : ℕ) (fs : List (Option Inner)) → fs ≡ [] → can_write_items at fs items ≡ true → AreFields (word_items at n fs items all)
-    items_fine no_items all n fs none can = record { formed = refl; shallow = λ few. omega arith }
-    items_fine (and_positional v rest) all n fs none can =
-        and_item_fine _ rest _ (no_words at _ _ rest all) (unless_fine (not ((ends_items rest && not all) && is_multiple v)) _ (word_fine v n fs none (first_of_both _ _ can))) (items_fine rest all (taken_behind v n) (left_by v fs) (ap (left_by v) none ∙ none_by v) (second_of_both _ _ can))
-    items_fine (and_keyed key item rest) all n fs none can =
-        let behind = ap (left_by_operand key) none ∙ none_by_operand key in
+    items_fine : (items : ItemList) (all : Bool) (n : ℕ) (fs : List (Option Inner)) → AreFineLeft fs → can_write_items at fs items ≡ true → AreFields (word_items at n fs items all)
+    items_fine no_items all n fs fine_left can = record { formed = refl; shallow = λ few. omega arith }
+    items_fine (and_positional v rest) all n fs fine_left can =
+        and_item_fine _ rest _ (no_words at _ _ rest all) (unless_fine (not ((ends_items rest && not all) && is_multiple v)) _ (word_fine v n fs fine_left (first_of_both _ _ can))) (items_fine rest all (taken_behind v n) (left_by v fs) (each_by _ v fs fine_left) (second_of_both _ _ can))
+    items_fine (and_keyed key item rest) all n fs fine_left can =
+        let behind = each_by_operand _ key fs fine_left in
         let both = second_of_both _ _ can in
-        and_keyed_fine at key (field_name at key) refl _ _ rest _ (no_words at _ _ rest all) (operand_fine key n fs none (first_of_both _ _ can)) (operand_fine item (taken_behind_operand key n) (left_by_operand key fs) behind (first_of_both _ _ both))
-        (items_fine rest all (taken_behind_operand item (taken_behind_operand key n)) (left_by_operand item (left_by_operand key fs)) (ap (left_by_operand item) behind ∙ none_by_operand item) (second_of_both _ _ both))
+        and_keyed_fine at key (field_name at key) refl _ _ rest _ (no_words at _ _ rest all) (operand_fine key n fs fine_left (first_of_both _ _ can)) (operand_fine item (taken_behind_operand key n) (left_by_operand key fs) behind (first_of_both _ _ both))
+        (items_fine rest all (taken_behind_operand item (taken_behind_operand key n)) (left_by_operand item (left_by_operand key fs)) (each_by_operand _ item (left_by_operand key fs) behind) (second_of_both _ _ both))
 
-    short_fine : (vs : Values) (n : ℕ) (fs : List (Option Inner)) → fs ≡ [] → can_write_values at fs vs ≡ true → (args : ArgumentWording) → word_short at n fs vs ≡ Some args → AreGiven args
-    short_fine (and_value v no_values) n fs none can args is = only_fine v n fs none (first_of_both _ _ can) args is
-    short_fine vs n fs none can args is = cc
+    short_fine : (vs : Values) (n : ℕ) (fs : List (Option Inner)) → AreFineLeft fs → can_write_values at fs vs ≡ true → (args : ArgumentWording) → word_short at n fs vs ≡ Some args → AreGiven args
+    short_fine (and_value v no_values) n fs fine_left can args is = only_fine v n fs fine_left (first_of_both _ _ can) args is
+    short_fine vs n fs fine_left can args is = cc
 
-    only_fine : (v : Value) (n : ℕ) (fs : List (Option Inner)) → fs ≡ [] → can_write at fs v ≡ true → (args : ArgumentWording) → word_only at n fs v ≡ Some args → AreGiven args
-    only_fine (constant_value k) n fs none can args is = text_given (text_at at k) args is
-    only_fine (table_value items all depth) n fs none can args is =
-        let fields = items_fine items all n fs none can in
+    only_fine : (v : Value) (n : ℕ) (fs : List (Option Inner)) → AreFineLeft fs → can_write at fs v ≡ true → (args : ArgumentWording) → word_only at n fs v ≡ Some args → AreGiven args
+    only_fine (constant_value k) n fs fine_left can args is = text_given (text_at at k) args is
+    only_fine (table_value items all depth) n fs fine_left can args is =
+        let fields = items_fine items all n fs fine_left can in
         subst AreGiven (same_Some _ args is) (record { formed = fields.formed; on_line = refl; shallow = fields.shallow })
-    only_fine v n fs none can args is = cc
+    only_fine v n fs fine_left can args is = cc

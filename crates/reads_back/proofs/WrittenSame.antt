@@ -4,13 +4,13 @@ use Rattle.std.specs.Prelude.{ℤ}
 use Rattle.lua_num.specs.declared.arith.ArithOp.{ArithOp}
 use Rattle.lua_num.specs.Bytes.{Text}
 use Rattle.lua_tree.specs.Syntax as syntax
-use Rattle.lua_tree.specs.Syntax.{Expression, Expressions, argument_list, binary_expression, call_expression, false_literal, field_expression, index_expression, method_call, name_expression, nil_literal, no_expressions, number_literal, parenthesized, text_argument, text_literal, true_literal, unary_expression, vararg_expression, constructor, table_argument, Fields, no_fields, positional, named, keyed}
+use Rattle.lua_tree.specs.Syntax.{Expression, Expressions, argument_list, binary_expression, call_expression, false_literal, field_expression, index_expression, method_call, name_expression, nil_literal, no_expressions, number_literal, parenthesized, text_argument, text_literal, true_literal, unary_expression, vararg_expression, constructor, table_argument, Fields, no_fields, positional, named, keyed, function_expression}
 use Rattle.lua_tree.specs.WellFormed.{depth_of_expression, depth_of_expressions, depth_of_fields}
 use Rattle.lua_tree.specs.declared.tree.BinaryOp.{BinaryOp}
 use Rattle.lua_tree.specs.declared.tree.Separator.{Separator}
 use Rattle.lua_tree.specs.declared.tree.UnaryOp.{UnaryOp}
 use Rattle.proto.specs.declared.parts.Constant.{Constant}
-use Rattle.core_expr.specs.Making.{deepest_item, made_binary, made_concat}
+use Rattle.core_expr.specs.Making.{deepest_item, made_concat}
 use Rattle.core_expr.specs.Values.{Inner, OperandValue, Value, Values, ItemList, and_positional, and_value, no_items, no_values, table_value}
 use Rattle.core_expr.specs.Writing.{as_value, ends_items, ends_values, is_multiple as can_be_several}
 use Rattle.recover_expr.specs.Situation.{Function}
@@ -19,19 +19,19 @@ use Rattle.scheme.specs.Making.{Maker}
 use Rattle.scheme.specs.declared.making.Active.{Active}
 use Rattle.scheme_stands.specs.Lists.{is_last_item}
 use Rattle.scheme_stands.specs.Words.{Fn}
-use Rattle.reads_back.specs.Cores.{AllHaveCores, HasCore, IsCore, IsFirst, IsFoldedOr, IsOnly, IsOperand, IsOperandBy, IsOperator, IsSpineBy, IsUnary, core, HaveItems, AreItems, IsItem, IsTable, IsTableGiven, Counted, arithmetic_by, first_and, unary_by, only, still, table_by, AreGiven}
+use Rattle.reads_back.specs.Cores.{AllHaveCores, HasCore, IsCore, IsFirst, IsFoldedOr, IsOnly, IsOperand, IsOperandBy, IsOperator, IsSpineBy, core, HaveItems, AreItems, IsItem, IsTableGiven, Counted, arithmetic_by, first_and, unary_by, only, still, table_by, AreGiven}
 use Rattle.reads_back.proofs.CallsSame.{call_rewritten, list_within, method_rewritten, table_within, text_within}
 use Rattle.reads_back.proofs.ConcatsSame.{is_joined, code_alone, concat_rewritten, spine_of_first, spine_of_one}
 use Rattle.reads_back.proofs.Deeper.{some_depth}
 use Rattle.reads_back.proofs.GivenSame.{AllRewritten, closed_unless, list_rewritten, text_rewritten_given}
-use Rattle.reads_back.proofs.PassedNames.{names_passed}
+use Rattle.reads_back.proofs.PassedMentions.{mentions_passed}
 use Rattle.reads_back.proofs.IndexSame.{expression_key, field_rewritten, index_rewritten, key_deeper, text_key}
 use Rattle.reads_back.proofs.LeavesSame.{false_rewritten, name_rewritten, nil_rewritten, number_rewritten, parenthesized_rewritten, text_rewritten, true_rewritten, vararg_rewritten}
 use Rattle.reads_back.proofs.MarksSame.{over_made}
 use Rattle.reads_back.proofs.OperandsSame.{key_rewritten, operand_rewritten}
 use Rattle.reads_back.proofs.OperatorsSame.{arithmetic_rewritten, constant_operand_few, unary_rewritten, value_operand_few}
-use Rattle.reads_back.proofs.NamesAhead.{names_in}
-use Rattle.reads_back.proofs.Rewriting.{code, IsMadeBy, Rewritten, RewrittenGiven, RewrittenSpine, operand_wording, wording}
+use Rattle.reads_back.proofs.Mentions.{mentions_in}
+use Rattle.reads_back.proofs.Rewriting.{code, IsMadeBy, Rewritten, RewrittenGiven, RewrittenSpine, operand_wording, wording, none_next}
 use Rattle.reads_back.proofs.TablesSame.{RewrittenItems, keyed_keyed, keyed_rewritten, last_is, named_keyed, none_rewritten, open_rewritten, positional_rewritten, table_rewritten, table_rewritten_given}
 use Rattle.reads_back.proofs.Tests.{not_so}
 use Rattle.reads_back.proofs.WholeNumbers.{folded_whole}
@@ -71,7 +71,7 @@ module _ (lefts : ℕ → List (Option Inner)) {f : Function} {g : Fn} {active :
   arithmetic_made : (line : ℕ) (op : BinaryOp) (kind : ArithOp) (l r : Expression) (before behind : ℕ) (v : Value) → arith_op op ≡ Some kind → fold (binary_expression line op l r) ≡ None → HasCore l → HasCore r → RewrittenAll l → RewrittenAll r →
       arithmetic_by op (IsOperand g active l) (IsOperand g active r) before behind v → Rewritten f g active listed z (lefts before) (lefts behind) (binary_expression line op l r) v
   arithmetic_made line op kind l r before behind v is none has has_right first second (mid, (plain, x, y, is_x, is_y, built)) =
-      arithmetic_rewritten line op kind l r x y v is none (names_passed l has) (operand_rewritten lefts made l before mid x has is_x (first.value before mid)) (operand_rewritten lefts made r mid behind y has_right is_y (second.value mid behind))
+      arithmetic_rewritten line op kind l r x y v is none (mentions_passed l has) (operand_rewritten lefts made l before mid x has is_x (first.value before mid)) (operand_rewritten lefts made r mid behind y has_right is_y (second.value mid behind))
       (operand_few l before mid x (literal l) (first.value before mid) is_x) (operand_few r mid behind y (literal r) (second.value mid behind) is_y) built
 
   operator_of : (line : ℕ) (op : BinaryOp) (l r : Expression) (before behind : ℕ) (v : Value) → is_comparison op ≡ false → fold (binary_expression line op l r) ≡ None → HasCore l → HasCore r → RewrittenAll l → RewrittenAll r →
@@ -83,7 +83,7 @@ module _ (lefts : ℕ → List (Option Inner)) {f : Function} {g : Fn} {active :
   operator_of line BinaryOp.Rem l r before behind v plain none has has_right first second is = arithmetic_made line BinaryOp.Rem ArithOp.Rem l r before behind v refl none has has_right first second is
   operator_of line BinaryOp.Pow l r before behind v plain none has has_right first second is = arithmetic_made line BinaryOp.Pow ArithOp.Pow l r before behind v refl none has has_right first second is
   operator_of line BinaryOp.Concat l r before behind v plain none has has_right first second (values, (mid, (one, rest, core, are, is)), built) =
-      concat_rewritten line l r one rest v (first.value before mid one core) (second.spine mid behind rest are) (spine_some g active r mid behind rest are) (names_passed l has) (subst (λ (vs : Values). made_concat vs ≡ Some v) is built)
+      concat_rewritten line l r one rest v (first.value before mid one core) (second.spine mid behind rest are) (spine_some g active r mid behind rest are) (mentions_passed l has) (subst (λ (vs : Values). made_concat vs ≡ Some v) is built)
   operator_of line op l r before behind v plain none has has_right first second is = not_so (sym plain)
 
   binary_of : (folded : Option ℤ) (line : ℕ) (op : BinaryOp) (l r : Expression) (before behind : ℕ) (v : Value) → is_comparison op ≡ false → fold (binary_expression line op l r) ≡ folded → HasCore l → HasCore r → RewrittenAll l → RewrittenAll r →
@@ -107,7 +107,7 @@ module _ (lefts : ℕ → List (Option Inner)) {f : Function} {g : Fn} {active :
       (before behind : ℕ) (vs : Values) → (core g active (binary_expression line op l r)).spine before behind vs → RewrittenSpine f g active listed z (lefts before) (lefts behind) (binary_expression line op l r) vs
   spine_by BinaryOp.Concat line l r has first second value before behind vs (mid, (one, rest, core, are, is)) =
       subst (RewrittenSpine f g active listed z (lefts before) (lefts behind) (binary_expression line BinaryOp.Concat l r)) (sym is)
-      (spine_of_first line l r one rest (first.value before mid one core) (second.spine mid behind rest are) (spine_some g active r mid behind rest are) (names_passed l has))
+      (spine_of_first line l r one rest (first.value before mid one core) (second.spine mid behind rest are) (spine_some g active r mid behind rest are) (mentions_passed l has))
   spine_by BinaryOp.Add line l r has first second value before behind vs is = only_of (binary_expression line BinaryOp.Add l r) value (code_alone (binary_expression line BinaryOp.Add l r) refl) before behind vs is
   spine_by BinaryOp.Sub line l r has first second value before behind vs is = only_of (binary_expression line BinaryOp.Sub l r) value (code_alone (binary_expression line BinaryOp.Sub l r) refl) before behind vs is
   spine_by BinaryOp.Mul line l r has first second value before behind vs is = only_of (binary_expression line BinaryOp.Mul l r) value (code_alone (binary_expression line BinaryOp.Mul l r) refl) before behind vs is
@@ -182,12 +182,12 @@ module _ (lefts : ℕ → List (Option Inner)) {f : Function} {g : Fn} {active :
         let second = rewritten_all key has.1 (omega (arith, few)) in
         alone_all (index_expression line on key) refl (λ before behind v is.
         let parts = is.1 in
-        index_rewritten line on key parts.0 parts.1 v few (names_passed on has.0) (first.value before is.0 parts.0 parts.2) (operand_rewritten lefts made key is.0 behind parts.1 has.1 parts.3 (second.value is.0 behind)) parts.4) (λ before behind vs is. is)
+        index_rewritten line on key parts.0 parts.1 v few (mentions_passed on has.0) (first.value before is.0 parts.0 parts.2) (operand_rewritten lefts made key is.0 behind parts.1 has.1 parts.3 (second.value is.0 behind)) parts.4) (λ before behind vs is. is)
     rewritten_all (field_expression line on text) has few =
         let first = rewritten_all on has (omega (arith, few)) in
         alone_all (field_expression line on text) refl (λ before behind v is.
         let parts = is.1 in
-        field_rewritten line on text parts.0 parts.1 v few (names_passed on has) (first.value before is.0 parts.0 parts.2) (text_key 1 text parts.1 (key_rewritten lefts made 1 text is.0 behind parts.1 parts.3)) parts.4) (λ before behind vs is. is)
+        field_rewritten line on text parts.0 parts.1 v few (mentions_passed on has) (first.value before is.0 parts.0 parts.2) (text_key 1 text parts.1 (key_rewritten lefts made 1 text is.0 behind parts.1 parts.3)) parts.4) (λ before behind vs is. is)
     rewritten_all (call_expression line on (argument_list es) on_line) has few =
         let first = rewritten_all on has.0 (omega (arith, few)) in
         let each = each_rewritten es has.1 (omega (arith, few)) in
@@ -242,6 +242,7 @@ module _ (lefts : ℕ → List (Option Inner)) {f : Function} {g : Fn} {active :
     rewritten_all (parenthesized line e) has few =
         let of = rewritten_all e has (omega (arith, few)) in
         alone_all (parenthesized line e) refl (λ before behind v is. parenthesized_rewritten line e v (of.value before behind v is)) (λ before behind vs is. is)
+    rewritten_all (function_expression line body) has few = alone_all (function_expression line body) refl (λ before behind v is. absurd (none_next active body false is.2 made.alone is.4)) (λ before behind vs is. is)
     rewritten_all e has few = absurd has
 
     items_rewritten : (fields : Fields) → HaveItems fields → depth_of_fields fields ≤ 200 → (deep : ℕ) → depth_of_fields fields ≤ deep →
@@ -262,7 +263,7 @@ module _ (lefts : ℕ → List (Option Inner)) {f : Function} {g : Fn} {active :
         let item = rewritten_all e has.0 (omega (arith, few)) in
         let others = items_rewritten rest has.1 (omega (arith, few)) deep (omega (arith, low)) last behind more all are in
         subst (λ (items : ItemList). RewrittenItems f g active listed z (lefts before) (lefts behind) (named text e separator rest) deep items all) (sym is)
-        (keyed_rewritten (named text e separator rest) (rk_text 1 text) [] e rest key of more all deep (named_keyed text e separator rest) (names_passed e has.0)
+        (keyed_rewritten (named text e separator rest) (rk_text 1 text) [] e rest key of more all deep (named_keyed text e separator rest) (mentions_passed e has.0)
         (key_deeper (omega (arith, low, some_depth e)) (text_key 1 text key (key_rewritten lefts made 1 text before mid key is_key)))
         (operand_rewritten lefts made e mid last of has.0 is_item (item.value mid last)) (omega (arith, low)) others)
     items_rewritten (keyed key e separator rest) has few deep low before behind items all (mid, last, (by, of, more, is_key, is_item, are, is)) =
@@ -270,8 +271,8 @@ module _ (lefts : ℕ → List (Option Inner)) {f : Function} {g : Fn} {active :
         let item = rewritten_all e has.1 (omega (arith, few)) in
         let others = items_rewritten rest has.2 (omega (arith, few)) deep (omega (arith, low)) last behind more all are in
         subst (λ (items : ItemList). RewrittenItems f g active listed z (lefts before) (lefts behind) (keyed key e separator rest) deep items all) (sym is)
-        (keyed_rewritten (keyed key e separator rest) (rk (code key)) (names_in key) e rest by of more all deep (keyed_keyed key e separator rest) (names_passed e has.1)
-        (key_deeper (omega (arith, low)) (expression_key key by (names_passed key has.0) (operand_rewritten lefts made key before mid by has.0 is_key (first.value before mid))))
+        (keyed_rewritten (keyed key e separator rest) (rk (code key)) (mentions_in key) e rest by of more all deep (keyed_keyed key e separator rest) (mentions_passed e has.1)
+        (key_deeper (omega (arith, low)) (expression_key key by (mentions_passed key has.0) (operand_rewritten lefts made key before mid by has.0 is_key (first.value before mid))))
         (operand_rewritten lefts made e mid last of has.1 is_item (item.value mid last)) (omega (arith, low)) others)
 
     each_rewritten : (es : Expressions) → AllHaveCores es → depth_of_expressions es ≤ 200 → AllRewritten f g active listed z lefts es

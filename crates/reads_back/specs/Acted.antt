@@ -3,7 +3,7 @@ use Rattle.std.specs.Prelude.{◌≡◌, ◌⊎◌, ◌&&◌, ◌==◌, nat_lt, 
 use Rattle.lua_num.specs.Bytes.{Text}
 use Rattle.lua_tree.specs.Names.{are_some_names, is_name}
 use Rattle.lua_tree.specs.Syntax as syntax
-use Rattle.lua_tree.specs.Syntax.{Expressions, no_expressions, Expression, name_expression, index_expression, field_expression, Statement, assignment, call_statement, local_statement, return_statement}
+use Rattle.lua_tree.specs.Syntax.{FunctionBody, Expressions, no_expressions, Expression, function_expression, parenthesized, name_expression, index_expression, field_expression, Statement, assignment, call_statement, local_statement, return_statement}
 use Rattle.lua_tree.specs.WellFormed.{has_expressions, is_call}
 use Rattle.proto.specs.declared.parts.Constant.{Constant}
 use Rattle.core_expr.specs.Counting.{one_more, taken_behind, taken_behind_operand, taken_behind_values, left_by, left_by_operand, left_by_values, with_constant}
@@ -17,7 +17,7 @@ use Rattle.recover_expr.specs.Lists.{before_last, is_nil, split_last, value_coun
 use Rattle.scheme.specs.Making.{Where, in_register, in_upvalue, in_globals}
 use Rattle.scheme.specs.declared.making.Active.{Active}
 use Rattle.scheme_stands.specs.Words.{Fn, Means}
-use Rattle.reads_back.specs.Cores.{Counted, HasNumber, core, IsCore, first_and, AreCores, IsOperand, IsKey, HasCore, AllHaveCores, ends_open}
+use Rattle.reads_back.specs.Cores.{Counted, HasNumber, core, IsCore, first_and, AreCores, IsOperand, IsKey, ends_open, HasCoreBy, AllHaveCoresBy, IsOnOneLine}
 
 -- a call as a statement; values that go to targets, locals that are declared with values, or a return of values, where the last one gives all its values or one; behind the values that go to targets an operand may stand that goes to the last target, a part of a table
 pub data Acted : Type 0 where
@@ -203,26 +203,50 @@ taken_behind_act (returned vs all) n = taken_behind_values vs n
 
 -- ---- statements that are such
 
-abbrev pub IsActTarget : Expression → Type 0
-IsActTarget (name_expression line text) = is_name text ≡ true
-IsActTarget (index_expression line on key) = HasCore on × HasCore key
-IsActTarget (field_expression line on text) = HasCore on
-IsActTarget e = ⊥
+abbrev pub IsActTargetBy : (FunctionBody → Type 0) → Expression → Type 0
+IsActTargetBy P (name_expression line text) = is_name text ≡ true
+IsActTargetBy P (index_expression line on key) = HasCoreBy P on × HasCoreBy P key
+IsActTargetBy P (field_expression line on text) = HasCoreBy P on
+IsActTargetBy P e = ⊥
 
-abbrev pub AreActTargets : Expressions → Type 0
-AreActTargets no_expressions = Unit {0}
-AreActTargets (syntax.expression e es) = IsActTarget e × AreActTargets es
+abbrev pub AreActTargetsBy : (FunctionBody → Type 0) → Expressions → Type 0
+AreActTargetsBy P no_expressions = Unit {0}
+AreActTargetsBy P (syntax.expression e es) = IsActTargetBy P e × AreActTargetsBy P es
+
+-- a function, in parentheses or not
+abbrev pub is_function : Expression → Bool
+is_function (function_expression line body) = true
+is_function (parenthesized line e) = is_function e
+is_function e = false
+
+-- it goes alone to one target, as a function statement can say it
+abbrev pub stores_function : (to from : Expressions) → Bool
+stores_function (syntax.expression target no_expressions) (syntax.expression e no_expressions) = is_function e
+stores_function to from = false
 
 -- any values go to any targets
-pub record Assigns (to from : Expressions) : Type 0 where
+pub record AssignsBy (P : FunctionBody → Type 0) (to from : Expressions) : Type 0 where
   pub some : has_expressions to ≡ true
-  pub targets : AreActTargets to
+  pub targets : AreActTargetsBy P to
   pub given : has_expressions from ≡ true
-  pub values : AllHaveCores from
+  pub values : AllHaveCoresBy P from
+  pub plain : stores_function to from ≡ false
+
+abbrev pub IsActBy : (FunctionBody → Type 0) → Statement → Type 0
+IsActBy P (call_statement e) = (is_call e ≡ true) × HasCoreBy P e
+IsActBy P (assignment targets es) = AssignsBy P targets es
+IsActBy P (local_statement names es) = (are_some_names names ≡ true) × AllHaveCoresBy P es
+IsActBy P (return_statement es) = AllHaveCoresBy P es
+IsActBy P statement = ⊥
+
+abbrev pub IsActTarget : Expression → Type 0
+IsActTarget e = IsActTargetBy IsOnOneLine e
+
+abbrev pub AreActTargets : Expressions → Type 0
+AreActTargets es = AreActTargetsBy IsOnOneLine es
+
+abbrev pub Assigns : (to from : Expressions) → Type 0
+Assigns to from = AssignsBy IsOnOneLine to from
 
 abbrev pub IsAct : Statement → Type 0
-IsAct (call_statement e) = (is_call e ≡ true) × HasCore e
-IsAct (assignment targets es) = Assigns targets es
-IsAct (local_statement names es) = (are_some_names names ≡ true) × AllHaveCores es
-IsAct (return_statement es) = AllHaveCores es
-IsAct statement = ⊥
+IsAct s = IsActBy IsOnOneLine s

@@ -1,22 +1,24 @@
--- Serves the laws; which expressions have one (`HasCore`, at the end) is to be believed. Which value the words of an expression make, where they stand in a function: locals by their registers, and constants and upvalues by their numbers; and how many functions were made before them, and behind them. Functions, `and`, `or` and comparisons have none here.
-use Rattle.std.specs.Prelude.{◌≡◌, ◌≤◌, ◌⊎◌, ◌&&◌, ℕ, ℤ, Bool, true, false, List, slice_get, Option, Some, None}
+-- Serves the laws; which expressions have one (`HasCore`, at the end) is to be believed. Which value the words of an expression make, where they stand in a function: locals by their registers, and constants and upvalues by their numbers; and how many functions were made before them, and behind them. `and`, `or` and comparisons have none here.
+use Rattle.std.specs.Prelude.{◌≡◌, ◌≤◌, ◌⊎◌, ◌&&◌, ℕ, suc, ℤ, Bool, true, false, List, slice_get, Option, Some, None}
 use Rattle.lua_num.specs.Bytes.{Text}
 use Rattle.lua_tree.specs.Names.{is_name}
 use Rattle.lua_tree.specs.Syntax as syntax
-use Rattle.lua_tree.specs.Syntax.{Expressions, no_expressions, Arguments, argument_list, text_argument, table_argument, Expression, nil_literal, true_literal, false_literal, vararg_expression, number_literal, text_literal, name_expression, function_expression, index_expression, field_expression, call_expression, method_call, and_expression, or_expression, binary_expression, unary_expression, constructor, parenthesized, Fields, no_fields, positional, named, keyed}
+use Rattle.lua_tree.specs.OneLine.{one_line_body}
+use Rattle.lua_tree.specs.Syntax.{FunctionBody, Expressions, no_expressions, Arguments, argument_list, text_argument, table_argument, Expression, nil_literal, true_literal, false_literal, vararg_expression, number_literal, text_literal, name_expression, function_expression, index_expression, field_expression, call_expression, method_call, and_expression, or_expression, binary_expression, unary_expression, constructor, parenthesized, Fields, no_fields, positional, named, keyed}
 use Rattle.lua_tree.specs.WellFormed.{is_numeral_value}
 use Rattle.lua_tree.specs.declared.tree.BinaryOp.{BinaryOp}
 use Rattle.lua_tree.specs.declared.tree.UnaryOp.{UnaryOp}
 use Rattle.proto.specs.Constants.{constant_number}
 use Rattle.proto.specs.declared.parts.Constant.{Constant}
 use Rattle.core_expr.specs.Making.{made_index, made_binary, made_unary, made_concat, made_call, made_method, made_table}
-use Rattle.core_expr.specs.Values.{Value, nil_value, bool_value, vararg_value, constant_value, local_value, upvalue_value, global_value, Values, no_values, and_value, OperandValue, constant_operand, value_operand, ItemList, no_items, and_positional, and_keyed}
+use Rattle.core_expr.specs.Values.{Value, nil_value, bool_value, vararg_value, constant_value, function_value, local_value, upvalue_value, global_value, Values, no_values, and_value, OperandValue, constant_operand, value_operand, ItemList, no_items, and_positional, and_keyed}
 use Rattle.scheme.specs.Expressions.{fold, literal, is_comparison, is_multiple}
 use Rattle.scheme.specs.Making.{Where, in_register, in_upvalue, in_globals}
 use Rattle.scheme.specs.declared.making.Active.{Active}
 use Rattle.scheme_stands.specs.Expressions.{IsLarge}
 use Rattle.scheme_stands.specs.Lists.{is_last_item}
 use Rattle.scheme_stands.specs.Words.{Fn, Means}
+use Rattle.reads_back.specs.Coming.{Coming, IsMadeNext}
 
 -- ---- functions that are made
 
@@ -193,6 +195,10 @@ pub record Made : Type 1 where
 abbrev pub alone : Counted Value → Made
 alone Is = record { value = Is; spine = only Is }
 
+-- the next function that is made
+abbrev pub IsClosure : Fn → List Active → FunctionBody → (method : Bool) → Counted Value
+IsClosure g active body method before behind v = (behind ≡ suc before) × (v ≡ function_value before false) × (c : Coming) × (c.functions ≡ before) × IsMadeNext g active body method c
+
 -- what is indexed, and its key
 abbrev pub indexed_by : (On : Counted Value) → (Key : Counted OperandValue) → Counted Value
 indexed_by On Key before behind v = (mid : ℕ) × IsIndexed (On before mid) (Key mid behind) v
@@ -222,7 +228,7 @@ abbrev mutual
   core g active (number_literal line n) = alone (still (IsConstant g (Constant.Number n)))
   core g active (text_literal line text) = alone (still (IsConstant g (Constant.Text text)))
   core g active (name_expression line text) = alone (still (IsNamed g active text))
-  core g active (function_expression line body) = none
+  core g active (function_expression line body) = alone (IsClosure g active body false)
   core g active (index_expression line on key) = alone (indexed_by (core g active on).value (IsOperandBy (literal key) g (core g active key).value))
   core g active (field_expression line on text) = alone (indexed_by (core g active on).value (IsKey g text))
   core g active (call_expression line on args on_line) = alone (called_by (core g active on).value (AreGiven g active args))
@@ -259,36 +265,54 @@ IsOperand g active e = IsOperandBy (literal e) g (IsCore g active e)
 
 -- ---- expressions that have one
 
+-- where the functions in it are such
 abbrev mutual
-  pub HasCore : Expression → Type 0
-  HasCore (nil_literal line) = Unit {0}
-  HasCore (true_literal line) = Unit {0}
-  HasCore (false_literal line) = Unit {0}
-  HasCore (vararg_expression line) = Unit {0}
-  HasCore (number_literal line n) = is_numeral_value n ≡ true
-  HasCore (text_literal line text) = Unit {0}
-  HasCore (name_expression line text) = is_name text ≡ true
-  HasCore (index_expression line on key) = HasCore on × HasCore key
-  HasCore (field_expression line on text) = HasCore on
-  HasCore (call_expression line on args on_line) = HasCore on × HaveCores args
-  HasCore (method_call line on name args on_line) = (is_name name ≡ true) × HasCore on × HaveCores args
-  HasCore (binary_expression line op left right) = (is_comparison op ≡ false) × HasCore left × HasCore right
-  HasCore (unary_expression line op e) = HasCore e
-  HasCore (constructor line fields) = HaveItems fields
-  HasCore (parenthesized line e) = HasCore e
-  HasCore e = ⊥
+  pub HasCoreBy : (FunctionBody → Type 0) → Expression → Type 0
+  HasCoreBy P (nil_literal line) = Unit {0}
+  HasCoreBy P (true_literal line) = Unit {0}
+  HasCoreBy P (false_literal line) = Unit {0}
+  HasCoreBy P (vararg_expression line) = Unit {0}
+  HasCoreBy P (number_literal line n) = is_numeral_value n ≡ true
+  HasCoreBy P (text_literal line text) = Unit {0}
+  HasCoreBy P (name_expression line text) = is_name text ≡ true
+  HasCoreBy P (function_expression line body) = P body
+  HasCoreBy P (index_expression line on key) = HasCoreBy P on × HasCoreBy P key
+  HasCoreBy P (field_expression line on text) = HasCoreBy P on
+  HasCoreBy P (call_expression line on args on_line) = HasCoreBy P on × HaveCoresBy P args
+  HasCoreBy P (method_call line on name args on_line) = (is_name name ≡ true) × HasCoreBy P on × HaveCoresBy P args
+  HasCoreBy P (binary_expression line op left right) = (is_comparison op ≡ false) × HasCoreBy P left × HasCoreBy P right
+  HasCoreBy P (unary_expression line op e) = HasCoreBy P e
+  HasCoreBy P (constructor line fields) = HaveItemsBy P fields
+  HasCoreBy P (parenthesized line e) = HasCoreBy P e
+  HasCoreBy P e = ⊥
 
-  pub HaveCores : Arguments → Type 0
-  HaveCores (argument_list es) = AllHaveCores es
-  HaveCores (text_argument text) = Unit {0}
-  HaveCores (table_argument fields) = HaveItems fields
+  pub HaveCoresBy : (FunctionBody → Type 0) → Arguments → Type 0
+  HaveCoresBy P (argument_list es) = AllHaveCoresBy P es
+  HaveCoresBy P (text_argument text) = Unit {0}
+  HaveCoresBy P (table_argument fields) = HaveItemsBy P fields
 
-  pub AllHaveCores : Expressions → Type 0
-  AllHaveCores no_expressions = Unit {0}
-  AllHaveCores (syntax.expression e es) = HasCore e × AllHaveCores es
+  pub AllHaveCoresBy : (FunctionBody → Type 0) → Expressions → Type 0
+  AllHaveCoresBy P no_expressions = Unit {0}
+  AllHaveCoresBy P (syntax.expression e es) = HasCoreBy P e × AllHaveCoresBy P es
 
-  pub HaveItems : Fields → Type 0
-  HaveItems no_fields = Unit {0}
-  HaveItems (positional e separator rest) = HasCore e × HaveItems rest
-  HaveItems (named text e separator rest) = HasCore e × HaveItems rest
-  HaveItems (keyed key e separator rest) = HasCore key × HasCore e × HaveItems rest
+  pub HaveItemsBy : (FunctionBody → Type 0) → Fields → Type 0
+  HaveItemsBy P no_fields = Unit {0}
+  HaveItemsBy P (positional e separator rest) = HasCoreBy P e × HaveItemsBy P rest
+  HaveItemsBy P (named text e separator rest) = HasCoreBy P e × HaveItemsBy P rest
+  HaveItemsBy P (keyed key e separator rest) = HasCoreBy P key × HasCoreBy P e × HaveItemsBy P rest
+
+-- on one line all of it
+abbrev pub IsOnOneLine : FunctionBody → Type 0
+IsOnOneLine body = one_line_body body ≡ body
+
+abbrev pub HasCore : Expression → Type 0
+HasCore e = HasCoreBy IsOnOneLine e
+
+abbrev pub HaveCores : Arguments → Type 0
+HaveCores args = HaveCoresBy IsOnOneLine args
+
+abbrev pub AllHaveCores : Expressions → Type 0
+AllHaveCores es = AllHaveCoresBy IsOnOneLine es
+
+abbrev pub HaveItems : Fields → Type 0
+HaveItems fields = HaveItemsBy IsOnOneLine fields

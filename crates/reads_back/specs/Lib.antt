@@ -1,3 +1,4 @@
+pub mod Coming
 pub mod Cores
 pub mod Acted
 pub mod Straight

@@ -1,9 +1,9 @@
 -- To be believed. Straight sources: calls, assignments and declarations of locals, one after the other, and maybe a return at the end.
 use Rattle.std.specs.Prelude.{◌≤◌}
 use Rattle.lua_tree.specs.Syntax as syntax
-use Rattle.lua_tree.specs.Syntax.{Expression, Expressions, no_expressions, Source, Statement, Statements, assignment, call_expression, call_statement, field_expression, index_expression, local_statement, method_call, name_expression, no_statements, parenthesized, return_statement}
+use Rattle.lua_tree.specs.Syntax.{FunctionBody, Expression, Expressions, no_expressions, Source, Statement, Statements, assignment, call_expression, call_statement, field_expression, index_expression, local_statement, method_call, name_expression, no_statements, parenthesized, return_statement}
 use Rattle.lua_tree.specs.WellFormed.{depth_of_statements}
-use Rattle.reads_back.specs.Acted.{IsAct}
+use Rattle.reads_back.specs.Acted.{IsActBy}
 
 -- what is called, indexed or assigned to begins with a name, in parentheses or not
 abbrev pub BeginsWithName : Expression → Type 0
@@ -26,9 +26,17 @@ StatementBeginsWithName (local_statement names es) = Unit {0}
 StatementBeginsWithName (return_statement es) = Unit {0}
 StatementBeginsWithName statement = ⊥
 
+-- no function stands in it
+abbrev pub NoFunction : FunctionBody → Type 0
+NoFunction body = ⊥
+
+-- such statements, where the functions in them are such
+abbrev pub AreStraightBy : (FunctionBody → Type 0) → Statements → Type 0
+AreStraightBy P no_statements = Unit {0}
+AreStraightBy P (syntax.statement line semi s rest) = (IsActBy P s × StatementBeginsWithName s) × AreStraightBy P rest
+
 abbrev pub AreStraight : Statements → Type 0
-AreStraight no_statements = Unit {0}
-AreStraight (syntax.statement line semi s rest) = (IsAct s × StatementBeginsWithName s) × AreStraight rest
+AreStraight block = AreStraightBy NoFunction block
 
 -- with fewer than a third of the levels that a tree may have
 pub record Straight (source : Source) : Type 0 where
