@@ -42,7 +42,7 @@ each_written deep (syntax.expression e es) all have shallow = (all e have.0 (ome
 module _ {f : Function} {g : Fn} {active : List Active} {listed : List ℕ} {z : Maker} (lefts : ℕ → List (Option Inner)) (made : IsMadeBy f g active listed z) where
   -- every act
   pub act_rewritten : (deep : ℕ) (s : Statement) (before behind : ℕ) (acted : Acted) → AllWritten f g active listed z lefts deep → depth_of_statement s ≤ deep → IsAct s → IsActed g active s before behind acted →
-      RewrittenAct f g active listed z (lefts before) (lefts behind) s acted
+      RewrittenAct f g active listed z lefts before behind s acted
   act_rewritten deep (call_statement e) before behind (called v) all shallow is acts = call_rewritten_act e v is.0 is.1 (all e is.1 shallow before behind v acts)
   act_rewritten deep (assignment targets es) before behind (assigned ts vs several last) all shallow is acts =
       assignment_rewritten_act lefts made targets es before behind ts (record { values = vs; all = several; last = last }) is (targets_written deep targets all is.targets (omega (arith, shallow))) (each_written deep es all is.values (omega (arith, shallow))) acts

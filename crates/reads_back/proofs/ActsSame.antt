@@ -54,13 +54,14 @@ act_passes s is nothing m = absurd is
 
 -- ---- calls
 
-module _ {f : Function} {g : Fn} {active : List Active} {listed : List ℕ} {z : Maker} {left behind : List (Option Inner)} where
-  pub call_rewritten_act : (e : Expression) (v : Value) → is_call e ≡ true → HasCore e → Rewritten f g active listed z left behind e v → RewrittenAct f g active listed z left behind (call_statement e) (called v)
+module _ {f : Function} {g : Fn} {active : List Active} {listed : List ℕ} {z : Maker} {lefts : ℕ → List (Option Inner)} {before behind : ℕ} where
+  pub call_rewritten_act : (e : Expression) (v : Value) → is_call e ≡ true → HasCore e → Rewritten f g active listed z lefts before behind e v → RewrittenAct f g active listed z lefts before behind (call_statement e) (called v)
   call_rewritten_act e v is has written =
       let several = ap (λ call. call || is_vararg e) is in
       record {
         can = written.can;
         leaves = written.leaves;
+        makes = written.makes;
         few = λ n. omega (arith, written.few n);
         made = λ m ahead final. written.multi several Op.Call (Some 0) m ahead final;
         taken = λ m ahead final. written.multi_taken several Op.Call (Some 0) m ahead final;

@@ -20,7 +20,7 @@ use Rattle.scheme.specs.Making.{Got, Maker, active_count}
 use Rattle.scheme.specs.Scheme.{all_coded}
 use Rattle.scheme.specs.Statements.{all_targets, assign_adjusted, assign_part, copies, each_stored, stored_from}
 use Rattle.scheme.specs.declared.making.Active.{Active}
-use Rattle.scheme_stands.proofs.Growth.{Final, before, calm, later}
+use Rattle.scheme_stands.proofs.Growth.{Final, before as before_part, calm, later}
 use Rattle.scheme_stands.proofs.Lines.{grows_adjust}
 use Rattle.scheme_stands.proofs.Parts.{AllGrow, grow_all}
 use Rattle.scheme_stands.specs.Words.{Fn}
@@ -32,7 +32,7 @@ use Rattle.reads_back.proofs.DeclaredSame.{Adjusts, adjust_closed, closed_writte
 use Rattle.reads_back.proofs.EachStoredSame.{EachSame, LastNoLocal, Placed, and_nil, as_many_places, before_each, before_stored, each_values, each_with_operand, nil_all_rewritten, nil_cores, nil_count, nil_from, nil_have, nil_names, nil_operand, operand_written, placed_of, places, places_are, stored_taken, targets_are, targets_of, with_operand_coded}
 use Rattle.reads_back.proofs.GivenSame.{AllRewritten}
 use Rattle.reads_back.proofs.ListsSame.{coded_count, codes_of, cores_count, list_few, opens_is, values_coded}
-use Rattle.reads_back.proofs.Mentions.{IsAhead, ahead_behind, ahead_front, mentions_in_all}
+use Rattle.reads_back.proofs.Mentions.{IsAhead, ahead_behind, ahead_front, mentions_in_all, made_behind, made_both}
 use Rattle.reads_back.proofs.Rewriting.{IsMadeBy, Rewritten, RewrittenAct}
 use Rattle.reads_back.proofs.TargetsSame.{ArePlaces, TargetSame, TargetsSame, copies_constants, copies_grow, copies_places, field_same, index_same, more_same, name_same, none_same, targets_grow, written_count}
 use Rattle.reads_back.proofs.Tests.{both_hold}
@@ -41,7 +41,7 @@ use Rattle.reads_back.proofs.WordsSame.{levels_wrapped}
 module _ (f : Function) (g : Fn) (active : List Active) (listed : List ℕ) (z : Maker) (lefts : ℕ → List (Option Inner)) where
   -- each value of an expression is written with the same code
   abbrev pub AreWritten : Expression → Type 0
-  AreWritten e = (before behind : ℕ) (v : Value) → IsCore g active e before behind v → Rewritten f g active listed z (lefts before) (lefts behind) e v
+  AreWritten e = (before behind : ℕ) (v : Value) → IsCore g active e before behind v → Rewritten f g active listed z lefts before behind e v
 
   -- those of the parts of a target
   abbrev pub TargetWritten : Expression → Type 0
@@ -67,7 +67,7 @@ goes_adjusted placed cs m other = ap (λ same. cond same (each_stored 1 (places 
 
 before_goes : {k : ℕ} {z : Maker} (each : Bool) (to : List Target) (cs : List Coded) → AllGrow calm cs → (m : Maker) → Final k (cond each (each_stored 1 to cs) (assign_adjusted 1 to cs) m) z → Final k m z
 before_goes true to cs grow m final = before_each to cs grow m final
-before_goes false to cs grow m final = before (grows_adjust calm 1 cs grow (length to) m) (before_stored m.free to (adjust 1 cs (length to) m) final)
+before_goes false to cs grow m final = before_part (grows_adjust calm 1 cs grow (length to) m) (before_stored m.free to (adjust 1 cs (length to) m) final)
 
 -- what is written of the values
 abbrev assigned_coded : Place → ℕ → List (Option Inner) → Assigned → List Coded
@@ -76,25 +76,26 @@ assigned_coded at n fs to = all_coded (words_assigned at n fs to.values to.all t
 abbrev taken_by : Assigned → ℕ → ℕ
 taken_by to n = taken_behind_last to.last (taken_behind_values to.values n)
 
-module _ (f : Function) (g : Fn) (active : List Active) (listed : List ℕ) (z : Maker) where
+module _ (f : Function) (g : Fn) (active : List Active) (listed : List ℕ) (z : Maker) (before : ℕ) where
   -- what is written of the values, where so many constants are taken, goes to these places as the expressions do
   record Goes (placed : List (Placed g)) (es : Expressions) (written : ℕ → List Coded) (taken : ℕ → ℕ) : Type 0 where
-    same : (m : Maker) → IsAhead g active (mentions_in_all es) m → Final (length m.labels) (goes_to placed (codes_of es) m) z → goes_to placed (written (length m.constants)) m ≡ goes_to placed (codes_of es) m
-    takes : (m : Maker) → IsAhead g active (mentions_in_all es) m → Final (length m.labels) (goes_to placed (codes_of es) m) z → length (goes_to placed (codes_of es) m).constants ≡ all_named_behind (targets_of placed) (taken (length m.constants))
+    same : (m : Maker) → IsAhead g active before (mentions_in_all es) m → Final (length m.labels) (goes_to placed (codes_of es) m) z → goes_to placed (written (length m.constants)) m ≡ goes_to placed (codes_of es) m
+    takes : (m : Maker) → IsAhead g active before (mentions_in_all es) m → Final (length m.labels) (goes_to placed (codes_of es) m) z → length (goes_to placed (codes_of es) m).constants ≡ all_named_behind (targets_of placed) (taken (length m.constants))
 
-module _ (f : Function) (g : Fn) (active : List Active) (listed : List ℕ) (z : Maker) (left behind : List (Option Inner)) (ts : List TargetValue) (es : Expressions) where
+module _ (f : Function) (g : Fn) (active : List Active) (listed : List ℕ) (z : Maker) (lefts : ℕ → List (Option Inner)) (before behind : ℕ) (ts : List TargetValue) (es : Expressions) where
   -- what is asked of the values that are written, whichever places the targets have
   record Stores (to : Assigned) : Type 0 where
-    can : (can_write_values (place f.of listed f.short) left to.values && can_write_last (place f.of listed f.short) (left_by_values to.values left) to.last) ≡ true
-    leaves : left_by_last to.last (left_by_values to.values left) ≡ behind
-    few : (n : ℕ) → (words_assigned (place f.of listed f.short) n left to.values to.all to.last).levels ≤ 3 * depth_of_expressions es + 3
-    goes : (placed : List (Placed g)) → targets_of placed ≡ ts → Goes f g active listed z placed es (λ n. assigned_coded (place f.of listed f.short) n left to) (taken_by to)
+    can : (can_write_values (place f.of listed f.short) (lefts before) to.values && can_write_last (place f.of listed f.short) (left_by_values to.values (lefts before)) to.last) ≡ true
+    leaves : left_by_last to.last (left_by_values to.values (lefts before)) ≡ lefts behind
+    makes : behind ≡ made_behind (mentions_in_all es) before
+    few : (n : ℕ) → (words_assigned (place f.of listed f.short) n (lefts before) to.values to.all to.last).levels ≤ 3 * depth_of_expressions es + 3
+    goes : (placed : List (Placed g)) → targets_of placed ≡ ts → Goes f g active listed z before placed es (λ n. assigned_coded (place f.of listed f.short) n (lefts before) to) (taken_by to)
 
 -- ---- as many values as targets, and others
 
-module _ {f : Function} {g : Fn} {active : List Active} {listed : List ℕ} {z : Maker} (placed : List (Placed g)) (es : Expressions) where
-  each_goes : (written : ℕ → List Coded) (taken : ℕ → ℕ) → length (codes_of es) ≡ length (places placed) → ((n : ℕ) → length (written n) ≡ length (places placed)) → EachSame f g active listed z placed es written taken →
-      Goes f g active listed z placed es written taken
+module _ {f : Function} {g : Fn} {active : List Active} {listed : List ℕ} {z : Maker} {before : ℕ} (placed : List (Placed g)) (es : Expressions) where
+  each_goes : (written : ℕ → List Coded) (taken : ℕ → ℕ) → length (codes_of es) ≡ length (places placed) → ((n : ℕ) → length (written n) ≡ length (places placed)) → EachSame f g active listed z before placed es written taken →
+      Goes f g active listed z before placed es written taken
   each_goes written taken exact counts each = record {
     same = λ m ahead final. goes_each placed (written (length m.constants)) m (counts (length m.constants)) ∙ each.same m ahead (inner m final) ∙ sym (goes_each placed (codes_of es) m exact);
     takes = λ m ahead final. ap (λ (n : Maker). length n.constants) (goes_each placed (codes_of es) m exact) ∙ each.takes m ahead (inner m final);
@@ -103,11 +104,11 @@ module _ {f : Function} {g : Fn} {active : List Active} {listed : List ℕ} {z :
       inner : (m : Maker) → Final (length m.labels) (goes_to placed (codes_of es) m) z → Final (length m.labels) (each_stored 1 (places placed) (codes_of es) m) z
       inner m final = subst (λ (n : Maker). Final (length m.labels) n z) (goes_each placed (codes_of es) m exact) final
 
-  adjusted_goes : (left behind : List (Option Inner)) (made : IsMadeBy f g active listed z) (vs : Values) (all : Bool) → (length (codes_of es) ≡ length (places placed) → ⊥) → (value_count vs ≡ length (places placed) → ⊥) → Adjusts f g active listed z left behind (length (places placed)) es vs all →
-      Goes f g active listed z placed es (λ n. values_coded (place f.of listed f.short) n left vs all) (taken_behind_values vs)
-  adjusted_goes left behind made vs all other written_other adjusts = record {
+  adjusted_goes : (lefts : ℕ → List (Option Inner)) (behind : ℕ) (made : IsMadeBy f g active listed z) (vs : Values) (all : Bool) → (length (codes_of es) ≡ length (places placed) → ⊥) → (value_count vs ≡ length (places placed) → ⊥) → Adjusts f g active listed z lefts before behind (length (places placed)) es vs all →
+      Goes f g active listed z before placed es (λ n. values_coded (place f.of listed f.short) n (lefts before) vs all) (taken_behind_values vs)
+  adjusted_goes lefts behind made vs all other written_other adjusts = record {
     same = λ m ahead final.
-        goes_adjusted placed (written (length m.constants)) m (λ same. written_other (sym (coded_count (place f.of listed f.short) (length m.constants) left vs all) ∙ same))
+        goes_adjusted placed (written (length m.constants)) m (λ same. written_other (sym (coded_count (place f.of listed f.short) (length m.constants) (lefts before) vs all) ∙ same))
         ∙ ap (stored_from 1 m.free (places placed)) (adjusts.same m ahead (adjusted_final m final))
         ∙ sym (goes_adjusted placed (codes_of es) m other);
     takes = λ m ahead final.
@@ -117,7 +118,7 @@ module _ {f : Function} {g : Fn} {active : List Active} {listed : List ℕ} {z :
   }
     where
       written : ℕ → List Coded
-      written n = values_coded (place f.of listed f.short) n left vs all
+      written n = values_coded (place f.of listed f.short) n (lefts before) vs all
 
       inner : (m : Maker) → Final (length m.labels) (goes_to placed (codes_of es) m) z → Final (length m.labels) (assign_adjusted 1 (places placed) (codes_of es) m) z
       inner m final = subst (λ (n : Maker). Final (length m.labels) n z) (goes_adjusted placed (codes_of es) m other) final
@@ -127,7 +128,7 @@ module _ {f : Function} {g : Fn} {active : List Active} {listed : List ℕ} {z :
 
   -- one value is missing: it is a nil, as if one stood there in parentheses
   nil_goes : (written : ℕ → List Coded) (taken : ℕ → ℕ) → suc (length (codes_of es)) ≡ length (places placed) → ends_open es ≡ false → LastNoLocal (last_target (targets_of placed)) → ((n : ℕ) → length (written n) ≡ length (places placed)) →
-      EachSame f g active listed z placed (and_nil es) written taken → Goes f g active listed z placed es written taken
+      EachSame f g active listed z before placed (and_nil es) written taken → Goes f g active listed z before placed es written taken
   nil_goes written taken exact closed no_local counts each = record {
     same = λ m ahead final. goes_each placed (written (length m.constants)) m (counts (length m.constants)) ∙ each.same m (nil_ahead m ahead) (inner m final) ∙ sym (nil_is m);
     takes = λ m ahead final. ap (λ (n : Maker). length n.constants) (nil_is m) ∙ each.takes m (nil_ahead m ahead) (inner m final);
@@ -143,8 +144,8 @@ module _ {f : Function} {g : Fn} {active : List Active} {listed : List ℕ} {z :
           (adjust_closed (codes_of es) (length (places placed)) m (omega (arith, exact)) (opens_is es ∙ closed) ∙ ap (λ k. nils 1 k (all_next (codes_of es) m)) one ∙ nils_one (all_next (codes_of es) m))
           ∙ sym (nil_from placed es m (sym exact) no_local)
 
-      nil_ahead : (m : Maker) → IsAhead g active (mentions_in_all es) m → IsAhead g active (mentions_in_all (and_nil es)) m
-      nil_ahead m ahead = subst (λ texts. IsAhead g active texts m) (sym (nil_names es)) ahead
+      nil_ahead : (m : Maker) → IsAhead g active before (mentions_in_all es) m → IsAhead g active before (mentions_in_all (and_nil es)) m
+      nil_ahead m ahead = subst (λ texts. IsAhead g active before texts m) (sym (nil_names es)) ahead
 
       inner : (m : Maker) → Final (length m.labels) (goes_to placed (codes_of es) m) z → Final (length m.labels) (each_stored 1 (places placed) (codes_of (and_nil es)) m) z
       inner m final = subst (λ (n : Maker). Final (length m.labels) n z) (nil_is m) final
@@ -180,7 +181,7 @@ module _ {f : Function} {g : Fn} {active : List Active} {listed : List ℕ} {z :
   left = lefts before
 
   abbrev IsStored : Assigned → Type 0
-  IsStored to = Stores f g active listed z (lefts before) (lefts behind) ts es to
+  IsStored to = Stores f g active listed z lefts before behind ts es to
 
   -- how many places there are
   place_count : (placed : List (Placed g)) → targets_of placed ≡ ts → length (places placed) ≡ length ts
@@ -197,6 +198,7 @@ module _ {f : Function} {g : Fn} {active : List Active} {listed : List ℕ} {z :
       record {
         can = both_hold _ _ all.can (ap (λ fs. can_write_operand at fs o) all.leaves ∙ all.last_can);
         leaves = ap (left_by_operand o) all.leaves ∙ all.last_leaves;
+        makes = all.makes;
         few = λ n. omega (arith, all.few n, ap (λ fs. (word_operand at (taken_behind_values vs n) fs o).levels) all.leaves, all.last_few (taken_behind_values vs n));
         goes = λ placed is.
             let count = place_count placed is in
@@ -210,11 +212,12 @@ module _ {f : Function} {g : Fn} {active : List Active} {listed : List ℕ} {z :
     as_many = cores_count g active es before behind from are
 
     -- only values
-    values_store : (vs : Values) (all : Bool) → Adjusts f g active listed z (lefts before) (lefts behind) (length ts) es vs all →
-        ((placed : List (Placed g)) → targets_of placed ≡ ts → Goes f g active listed z placed es (λ n. values_coded (place f.of listed f.short) n left vs all) (taken_behind_values vs)) → IsStored (record { values = vs; all = all; last = None })
+    values_store : (vs : Values) (all : Bool) → Adjusts f g active listed z lefts before behind (length ts) es vs all →
+        ((placed : List (Placed g)) → targets_of placed ≡ ts → Goes f g active listed z before placed es (λ n. values_coded (place f.of listed f.short) n left vs all) (taken_behind_values vs)) → IsStored (record { values = vs; all = all; last = None })
     values_store vs all adjusts goes = record {
       can = both_hold _ _ adjusts.can refl;
       leaves = adjusts.leaves;
+      makes = adjusts.makes;
       few = λ n. omega (arith, list_few (place f.of listed f.short) (3 * depth_of_expressions es + 2) n left vs all (adjusts.fine n));
       goes = goes;
     }
@@ -229,12 +232,12 @@ module _ {f : Function} {g : Fn} {active : List Active} {listed : List ℕ} {z :
         (each_values lefts made placed es before behind from (as_many ∙ counts) (ap is_part (last_is placed is) ∙ no_part) has written are))
 
     -- fewer values or more: they are adjusted
-    from_stores : (value_count from ≡ length ts → ⊥) → (all : Bool) → Adjusts f g active listed z (lefts before) (lefts behind) (length ts) es from all → IsStored (record { values = from; all = all; last = None })
+    from_stores : (value_count from ≡ length ts → ⊥) → (all : Bool) → Adjusts f g active listed z lefts before behind (length ts) es from all → IsStored (record { values = from; all = all; last = None })
     from_stores other all adjusts =
         values_store from all adjusts (λ placed is.
         let count = place_count placed is in
-        adjusted_goes placed es (lefts before) (lefts behind) made from all (λ same. other (sym as_many ∙ same ∙ count)) (λ same. other (same ∙ count))
-        (subst (λ count. Adjusts f g active listed z (lefts before) (lefts behind) count es from all) (sym count) adjusts))
+        adjusted_goes placed es lefts behind made from all (λ same. other (sym as_many ∙ same ∙ count)) (λ same. other (same ∙ count))
+        (subst (λ count. Adjusts f g active listed z lefts before behind count es from all) (sym count) adjusts))
 
     -- one is missing
     module _ (exact : suc (value_count from) ≡ length ts) (closed : ends_open es ≡ false) where
@@ -259,6 +262,7 @@ module _ {f : Function} {g : Fn} {active : List Active} {listed : List ℕ} {z :
           record {
             can = both_hold _ _ closed_values.can refl;
             leaves = closed_values.leaves;
+            makes = closed_values.makes;
             few = λ n. omega (arith, list_few at (3 * depth_of_expressions es + 2) n left from true (closed_values.fine n), nil_few at (taken_behind_values from n) (left_by_values from left));
             goes = λ placed is.
                 let count = exact ∙ sym (place_count placed is) in
@@ -304,13 +308,13 @@ stored_at count cs to = cond (length cs == count) (each_stored 1 to.value cs) (a
 abbrev with_copies : Got (List Target) → Got (List Target)
 with_copies to = copies 1 (active_count to.after) to.value to.after
 
-module _ {f : Function} {g : Fn} {active : List Active} {listed : List ℕ} {z : Maker} {left mid behind : List (Option Inner)} (targets es : Expressions) (ts : List TargetValue) (to : Assigned)
-    (first : TargetsSame f g active listed z left mid targets ts) (stores : Stores f g active listed z mid behind ts es to) where
+module _ {f : Function} {g : Fn} {active : List Active} {listed : List ℕ} {z : Maker} {lefts : ℕ → List (Option Inner)} {before mid behind : ℕ} (targets es : Expressions) (ts : List TargetValue) (to : Assigned)
+    (first : TargetsSame f g active listed z lefts before mid targets ts) (stores : Stores f g active listed z lefts mid behind ts es to) where
   abbrev places_of : Maker → Got (List Target)
   places_of m = with_copies (all_targets (codes_of targets) m)
 
-  module _ (m : Maker) (ahead : IsAhead g active (mentions_in_all targets ++ mentions_in_all es) m) where
-    targets_ahead : IsAhead g active (mentions_in_all targets) m
+  module _ (m : Maker) (ahead : IsAhead g active before (mentions_in_all targets ++ mentions_in_all es) m) where
+    targets_ahead : IsAhead g active before (mentions_in_all targets) m
     targets_ahead = ahead_front (mentions_in_all targets) (mentions_in_all es) ahead
 
     are_there : ArePlaces g ts (places_of m).value
@@ -319,8 +323,8 @@ module _ {f : Function} {g : Fn} {active : List Active} {listed : List ℕ} {z :
     abbrev placed_there : List (Placed g)
     placed_there = placed_of g ts (places_of m).value are_there
 
-    es_ahead : IsAhead g active (mentions_in_all es) (places_of m).after
-    es_ahead = let parts = all_targets (codes_of targets) m in ahead_behind (mentions_in_all targets) (mentions_in_all es) (copies_pass (active_count parts.after) parts.value parts.after (first.passes m)) ahead
+    es_ahead : IsAhead g active mid (mentions_in_all es) (places_of m).after
+    es_ahead = let parts = all_targets (codes_of targets) m in ahead_behind (mentions_in_all targets) (mentions_in_all es) first.makes (copies_pass (active_count parts.after) parts.value parts.after (first.passes m)) ahead
 
     count_there : length ts ≡ length (places placed_there)
     count_there = sym (as_many_places placed_there ∙ ap length (targets_are g ts (places_of m).value are_there))
@@ -332,7 +336,7 @@ module _ {f : Function} {g : Fn} {active : List Active} {listed : List ℕ} {z :
     es_go : assign_part 1 (codes_of targets) (codes_of es) m ≡ goes_to placed_there (codes_of es) (places_of m).after
     es_go = goes_there (codes_of es) (length (codes_of targets)) first.count
 
-    goes : Goes f g active listed z placed_there es (λ n. assigned_coded (place f.of listed f.short) n mid to) (taken_by to)
+    goes : Goes f g active listed z mid placed_there es (λ n. assigned_coded (place f.of listed f.short) n (lefts mid) to) (taken_by to)
     goes = stores.goes placed_there (targets_are g ts (places_of m).value are_there)
 
     module _ (final : Final (length m.labels) (assign_part 1 (codes_of targets) (codes_of es) m) z) where
@@ -343,7 +347,7 @@ module _ {f : Function} {g : Fn} {active : List Active} {listed : List ℕ} {z :
       places_final = before_goes (length (codes_of es) == length (places placed_there)) (places placed_there) (codes_of es) (grow_all calm (one_line_expressions es)) (places_of m).after goes_final
 
       targets_final : Final (length m.labels) (all_targets (codes_of targets) m).after z
-      targets_final = let parts = all_targets (codes_of targets) m in before (copies_grow (active_count parts.after) parts.value parts.after) places_final
+      targets_final = let parts = all_targets (codes_of targets) m in before_part (copies_grow (active_count parts.after) parts.value parts.after) places_final
 
       goes_later : Final (length (places_of m).after.labels) (goes_to placed_there (codes_of es) (places_of m).after) z
       goes_later =
@@ -355,16 +359,16 @@ module _ {f : Function} {g : Fn} {active : List Active} {listed : List ℕ} {z :
       taken_there : taken_behind_targets ts (length m.constants) ≡ length (places_of m).after.constants
       taken_there = let parts = all_targets (codes_of targets) m in sym (ap length (copies_constants (active_count parts.after) parts.value parts.after) ∙ first.taken m targets_ahead targets_final)
 
-      act_made : assign_part 1 (all_coded (words_targets (place f.of listed f.short) (length m.constants) left ts).words) (assigned_coded (place f.of listed f.short) (taken_behind_targets ts (length m.constants)) (left_by_targets ts left) to) m
+      act_made : assign_part 1 (all_coded (words_targets (place f.of listed f.short) (length m.constants) (lefts before) ts).words) (assigned_coded (place f.of listed f.short) (taken_behind_targets ts (length m.constants)) (left_by_targets ts (lefts before)) to) m
           ≡ assign_part 1 (codes_of targets) (codes_of es) m
       act_made =
           let at = place f.of listed f.short in
           let n = length m.constants in
-          let targets_coded = all_coded (words_targets at n left ts).words in
+          let targets_coded = all_coded (words_targets at n (lefts before) ts).words in
           let there = places_of m in
-          ap (λ parts. stored_at (length targets_coded) (assigned_coded at (taken_behind_targets ts n) (left_by_targets ts left) to) (with_copies parts)) (first.same m targets_ahead targets_final)
+          ap (λ parts. stored_at (length targets_coded) (assigned_coded at (taken_behind_targets ts n) (left_by_targets ts (lefts before)) to) (with_copies parts)) (first.same m targets_ahead targets_final)
           ∙ ap₂ (λ n fs. stored_at (length targets_coded) (assigned_coded at n fs to) there) taken_there first.leaves
-          ∙ goes_there (assigned_coded at (length there.after.constants) mid to) (length targets_coded) (written_count at n left ts)
+          ∙ goes_there (assigned_coded at (length there.after.constants) (lefts mid) to) (length targets_coded) (written_count at n (lefts before) ts)
           ∙ goes.same there.after es_ahead goes_later
           ∙ sym es_go
 
@@ -374,12 +378,13 @@ module _ {f : Function} {g : Fn} {active : List Active} {listed : List ℕ} {z :
           ∙ goes.takes (places_of m).after es_ahead goes_later
           ∙ ap₂ (λ ts n. all_named_behind ts (taken_by to n)) (targets_are g ts (places_of m).value are_there) (sym taken_there)
 
-  stores_act : RewrittenAct f g active listed z left behind (assignment targets es) (assigned ts to.values to.all to.last)
+  stores_act : RewrittenAct f g active listed z lefts before behind (assignment targets es) (assigned ts to.values to.all to.last)
   stores_act =
       let at = place f.of listed f.short in
       record {
         can = both_hold _ _ first.can (ap (λ fs. can_write_values at fs to.values && can_write_last at (left_by_values to.values fs) to.last) first.leaves ∙ stores.can);
         leaves = ap (λ fs. left_by_last to.last (left_by_values to.values fs)) first.leaves ∙ stores.leaves;
+        makes = stores.makes ∙ ap (made_behind (mentions_in_all es)) first.makes ∙ sym (made_both (mentions_in_all targets) (mentions_in_all es) before);
         few = λ n.
             let next = taken_behind_targets ts n in
             omega (arith, first.few n, ap (λ fs. (words_assigned at next fs to.values to.all to.last).levels) first.leaves, stores.few next);
@@ -388,21 +393,21 @@ module _ {f : Function} {g : Fn} {active : List Active} {listed : List ℕ} {z :
       }
 
 module _ {f : Function} {g : Fn} {active : List Active} {listed : List ℕ} {z : Maker} (lefts : ℕ → List (Option Inner)) (made : IsMadeBy f g active listed z) where
-  target_same : (target : Expression) (before behind : ℕ) (t : TargetValue) → IsActTarget target → TargetWritten f g active listed z lefts target → IsTarget g active target before behind t → TargetSame f g active listed z (lefts before) (lefts behind) target t
+  target_same : (target : Expression) (before behind : ℕ) (t : TargetValue) → IsActTarget target → TargetWritten f g active listed z lefts target → IsTarget g active target before behind t → TargetSame f g active listed z lefts before behind target t
   target_same (name_expression line text) before behind t good written (as_many, w, means, is) =
-      subst (λ (behind : ℕ). TargetSame f g active listed z (lefts before) (lefts behind) (name_expression line text) t) (sym as_many) (name_same made (lefts before) line text w t good means is)
+      subst (λ (behind : ℕ). TargetSame f g active listed z lefts before behind (name_expression line text) t) (sym as_many) (name_same made lefts before line text w t good means is)
   target_same (index_expression line on key) before behind (index_target x k) has written (mid, is, is_key) = index_same lefts made line on key before mid behind x k has.0 has.1 (written.0 before mid x is) (written.1 mid behind) is_key
   target_same (field_expression line on text) before behind (index_target x k) has written (mid, is, is_key) = field_same lefts made line on text before mid behind x k has (written before mid x is) is_key
   target_same target before behind t has written is = absurd is
 
   targets_same : (targets : Expressions) (before behind : ℕ) (ts : List TargetValue) → AreActTargets targets → TargetsWritten f g active listed z lefts targets → AreTargets g active targets before behind ts →
-      TargetsSame f g active listed z (lefts before) (lefts behind) targets ts
-  targets_same no_expressions before behind [] has written are = none_same (ap lefts (sym are))
+      TargetsSame f g active listed z lefts before behind targets ts
+  targets_same no_expressions before behind [] has written are = none_same are
   targets_same (syntax.expression target targets) before behind (t ∷ ts) has written (mid, is, are) =
       more_same target targets t ts (target_same target before mid t has.0 written.0 is) (targets_same targets mid behind ts has.1 written.1 are)
   targets_same targets before behind ts has written are = absurd are
 
   pub assignment_rewritten_act : (targets es : Expressions) (before behind : ℕ) (ts : List TargetValue) (to : Assigned) → Assigns targets es → TargetsWritten f g active listed z lefts targets → AllRewritten f g active listed z lefts es →
-      AreAssigned g active targets es ts before behind to → RewrittenAct f g active listed z (lefts before) (lefts behind) (assignment targets es) (assigned ts to.values to.all to.last)
+      AreAssigned g active targets es ts before behind to → RewrittenAct f g active listed z lefts before behind (assignment targets es) (assigned ts to.values to.all to.last)
   assignment_rewritten_act targets es before behind ts to assigns to_written written (mid, are, are_values) =
       stores_act targets es ts to (targets_same targets before mid ts assigns.targets to_written are) (all_stores lefts made ts es mid behind assigns.values written to are_values)

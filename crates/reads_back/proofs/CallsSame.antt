@@ -20,14 +20,14 @@ use Rattle.scheme.specs.Making.{Asks, Got, Maker, Part, freeing, free_from, put,
 use Rattle.scheme.specs.Scheme.{coded, given}
 use Rattle.scheme.specs.declared.making.Piece.{Piece}
 use Rattle.scheme.specs.declared.making.Active.{Active}
-use Rattle.scheme_stands.proofs.Growth.{Final, before, before_free, before_put, before_take, calm, later, on_put, start}
+use Rattle.scheme_stands.proofs.Growth.{Final, before as before_part, before_free, before_put, before_take, calm, later, on_put, start}
 use Rattle.scheme_stands.proofs.Parts.{grows, grows_given, grows_next, grows_operand, grows_results, grows_rk_text, grows_when}
 use Rattle.scheme_stands.specs.Words.{Fn}
 use Rattle.reads_back.specs.Cores.{HasCore, HasNumber}
 use Rattle.reads_back.proofs.ConstantsSame.{constant_taken}
 use Rattle.reads_back.proofs.Deeper.{some_depth}
 use Rattle.reads_back.proofs.LiteralReads.{constant_there}
-use Rattle.reads_back.proofs.Mentions.{IsAhead, Passed, ahead_behind, ahead_front, mentions_given, mentions_in}
+use Rattle.reads_back.proofs.Mentions.{IsAhead, Passed, ahead_behind, ahead_front, mentions_given, mentions_in, made_behind, made_both}
 use Rattle.reads_back.proofs.PassedMentions.{mentions_passed, next_passes, operand_passes, rk_text_passes}
 use Rattle.reads_back.proofs.Rewriting.{IsMadeBy, Rewritten, RewrittenGiven, arguments_wording, code, wording}
 use Rattle.reads_back.proofs.Tests.{both_hold, given_is}
@@ -41,7 +41,7 @@ by_base_same one other r m same = ap (λ (n : Maker). free_from m.free (moved 1 
 before_base : {k : ℕ} {z : Maker} (one : Part) (r : ℕ) (m : Maker) → Final k (freeing (by_base 1 one r) m) z → Final k (one m) z
 before_base one r m final =
     let move = put 1 (Piece.Abc Op.Move r m.free 0) in
-    before (grows_when {v = calm} (not (m.free == r)) move (one m) (on_put _ _ (start (one m)))) (before_free m.free _ final)
+    before_part (grows_when {v = calm} (not (m.free == r)) move (one m) (on_put _ _ (start (one m)))) (before_free m.free _ final)
 
 base_keeps : (one : Part) (r : ℕ) (m : Maker) → length (freeing (by_base 1 one r) m).constants ≡ length (one m).constants
 base_keeps one r m = by (not (m.free == r))
@@ -63,69 +63,70 @@ call_at_same on off one other op want m next part count =
     ∙ ap (λ (n : Maker). results_at m.free want (put 1 (Piece.Abc op m.free (count_field 1 one.count) (count_field 1 want)) n)) part
     ∙ ap (λ (c : Want). results_at m.free want (put 1 (Piece.Abc op m.free (count_field 1 c) (count_field 1 want)) (other.part (next_reg off m)))) count
 
-module _ {f : Function} {g : Fn} {active : List Active} {listed : List ℕ} {z : Maker} {left mid behind : List (Option Inner)} (on : Expression) (args : Arguments) (o : Value) (values : Values) (all : Bool) (line on_line deep depth : ℕ)
-    (short : f.short ≡ false) (has : HasCore on) (on_written : Rewritten f g active listed z left mid on o) (args_written : RewrittenGiven f g active listed z mid behind args deep values all)
+module _ {f : Function} {g : Fn} {active : List Active} {listed : List ℕ} {z : Maker} {lefts : ℕ → List (Option Inner)} {before mid behind : ℕ} (on : Expression) (args : Arguments) (o : Value) (values : Values) (all : Bool) (line on_line deep depth : ℕ)
+    (short : f.short ≡ false) (has : HasCore on) (on_written : Rewritten f g active listed z lefts before mid on o) (args_written : RewrittenGiven f g active listed z lefts mid behind args deep values all)
     (within : deep ≤ max (depth_of_expression on) (depth_of_arguments args)) where
   abbrev prefix_words : (n : ℕ) → Wording
-  prefix_words n = as_prefix (wording f listed z left n o)
+  prefix_words n = as_prefix (wording f listed z lefts before n o)
 
   abbrev call_words : (n : ℕ) → Wording
-  call_words n = with_arguments (prefix_words n) (arguments_wording f listed z mid (taken_behind o n) values all)
+  call_words n = with_arguments (prefix_words n) (arguments_wording f listed z lefts mid (taken_behind o n) values all)
 
-  call_words_are : (n : ℕ) → wording f listed z left n (call_value o values all depth) ≡ call_words n
+  call_words_are : (n : ℕ) → wording f listed z lefts before n (call_value o values all depth) ≡ call_words n
   call_words_are n =
       let at = place f.of listed f.short in
-      ap (λ short. with_arguments (prefix_words n) (as_arguments (short && not all) (word_short at (taken_behind o n) (left_by o left) values) (word_values at (taken_behind o n) (left_by o left) values all))) short
+      ap (λ short. with_arguments (prefix_words n) (as_arguments (short && not all) (word_short at (taken_behind o n) (left_by o (lefts before)) values) (word_values at (taken_behind o n) (left_by o (lefts before)) values all))) short
       ∙ ap (λ fs. with_arguments (prefix_words n) (as_list (word_values at (taken_behind o n) fs values all))) on_written.leaves
 
   abbrev of_call : Op → Want → Part
   of_call = call_at 1 (code on) (given (one_line_arguments args) 1)
 
   abbrev written_call : (n : ℕ) → Op → Want → Part
-  written_call n = call_at 1 (coded (prefix_words n).words) (given (arguments_wording f listed z mid (taken_behind o n) values all).words 1)
+  written_call n = call_at 1 (coded (prefix_words n).words) (given (arguments_wording f listed z lefts mid (taken_behind o n) values all).words 1)
 
   before_word : (op : Op) (want : Want) (m : Maker) → Final (length m.labels) (of_call op want m) z → Final (length m.labels) ((given (one_line_arguments args) 1).part (next_reg (code on) m)) z
-  before_word op want m final = before_put 1 _ _ (before (grows_results {v = calm} m.free want _) final)
+  before_word op want m final = before_put 1 _ _ (before_part (grows_results {v = calm} m.free want _) final)
 
   before_args : (op : Op) (want : Want) (m : Maker) → Final (length m.labels) (of_call op want m) z → Final (length m.labels) (next_reg (code on) m) z
-  before_args op want m final = before (grows_given calm (one_line_arguments args) 1 (next_reg (code on) m)) (before_word op want m final)
+  before_args op want m final = before_part (grows_given calm (one_line_arguments args) 1 (next_reg (code on) m)) (before_word op want m final)
 
   behind_on : (op : Op) (want : Want) (m : Maker) → Final (length m.labels) (of_call op want m) z → Final (length (next_reg (code on) m).labels) ((given (one_line_arguments args) 1).part (next_reg (code on) m)) z
   behind_on op want m final = let grown = grows_next {v = calm} (code on) (grows calm (one_line_expression on)) m in later grown.more (before_word op want m final)
 
-  on_ahead : (m : Maker) → IsAhead g active (mentions_in on ++ mentions_given args) m → IsAhead g active (mentions_in on) m
+  on_ahead : (m : Maker) → IsAhead g active before (mentions_in on ++ mentions_given args) m → IsAhead g active before (mentions_in on) m
   on_ahead m ahead = ahead_front (mentions_in on) (mentions_given args) ahead
 
-  behind_ahead : (m : Maker) → IsAhead g active (mentions_in on ++ mentions_given args) m → IsAhead g active (mentions_given args) (next_reg (code on) m)
-  behind_ahead m ahead = ahead_behind (mentions_in on) (mentions_given args) (next_passes (mentions_in on) (code on) (mentions_passed on has) m) ahead
+  behind_ahead : (m : Maker) → IsAhead g active before (mentions_in on ++ mentions_given args) m → IsAhead g active mid (mentions_given args) (next_reg (code on) m)
+  behind_ahead m ahead = ahead_behind (mentions_in on) (mentions_given args) on_written.makes (next_passes (mentions_in on) (code on) (mentions_passed on has) m) ahead
 
-  call_same : (op : Op) (want : Want) (m : Maker) → IsAhead g active (mentions_in on ++ mentions_given args) m → Final (length m.labels) (of_call op want m) z → written_call (length m.constants) op want m ≡ of_call op want m
+  call_same : (op : Op) (want : Want) (m : Maker) → IsAhead g active before (mentions_in on ++ mentions_given args) m → Final (length m.labels) (of_call op want m) z → written_call (length m.constants) op want m ≡ of_call op want m
   call_same op want m ahead final =
       let n = length m.constants in
       let on_made = next_reg (code on) m in
-      call_at_same (coded (prefix_words n).words) (code on) (given (arguments_wording f listed z mid (taken_behind o n) values all).words 1) (given (one_line_arguments args) 1) op want m
-      (next_wrapped (is_prefix (wording f listed z left n o).words) (wording f listed z left n o) m ∙ next_same on_written m (on_ahead m ahead) (before_args op want m final))
-      (ap (λ n. (given (arguments_wording f listed z mid n values all).words 1).part on_made) (sym (next_taken on_written m (on_ahead m ahead) (before_args op want m final))) ∙ args_written.part on_made (behind_ahead m ahead) (behind_on op want m final))
+      call_at_same (coded (prefix_words n).words) (code on) (given (arguments_wording f listed z lefts mid (taken_behind o n) values all).words 1) (given (one_line_arguments args) 1) op want m
+      (next_wrapped (is_prefix (wording f listed z lefts before n o).words) (wording f listed z lefts before n o) m ∙ next_same on_written m (on_ahead m ahead) (before_args op want m final))
+      (ap (λ n. (given (arguments_wording f listed z lefts mid n values all).words 1).part on_made) (sym (next_taken on_written m (on_ahead m ahead) (before_args op want m final))) ∙ args_written.part on_made (behind_ahead m ahead) (behind_on op want m final))
       (args_written.counts (taken_behind o n))
 
-  call_taken : (op : Op) (want : Want) (m : Maker) → IsAhead g active (mentions_in on ++ mentions_given args) m → Final (length m.labels) (of_call op want m) z →
+  call_taken : (op : Op) (want : Want) (m : Maker) → IsAhead g active before (mentions_in on ++ mentions_given args) m → Final (length m.labels) (of_call op want m) z →
       length (of_call op want m).constants ≡ taken_behind_values values (taken_behind o (length m.constants))
   call_taken op want m ahead final =
       results_keep m.free want _
       ∙ args_written.taken (next_reg (code on) m) (behind_ahead m ahead) (behind_on op want m final)
       ∙ ap (taken_behind_values values) (next_taken on_written m (on_ahead m ahead) (before_args op want m final))
 
-  call_written : Rewritten f g active listed z left behind (call_expression line on args on_line) (call_value o values all depth)
+  call_written : Rewritten f g active listed z lefts before behind (call_expression line on args on_line) (call_value o values all depth)
   call_written = record {
     can = both_hold _ _ on_written.can (ap (λ fs. can_write_values (place f.of listed f.short) fs values) on_written.leaves ∙ args_written.can);
     leaves = ap (left_by_values values) on_written.leaves ∙ args_written.leaves;
+    makes = args_written.makes ∙ ap (made_behind (mentions_given args)) on_written.makes ∙ sym (made_both (mentions_in on) (mentions_given args) before);
     named = λ n. ap (λ (w : Wording). is_name w.words) (call_words_are n);
     folded = λ n. ap (λ (w : Wording). fold w.words) (call_words_are n);
     several = λ n. ap (λ (w : Wording). is_multiple w.words) (call_words_are n);
     gives = λ is. refl;
     few = λ n.
         let same = ap (λ (w : Wording). w.levels) (call_words_are n) in
-        let prefix_few = levels_wrapped (is_prefix (wording f listed z left n o).words) (wording f listed z left n o) in
+        let prefix_few = levels_wrapped (is_prefix (wording f listed z lefts before n o).words) (wording f listed z lefts before n o) in
         omega (arith, same, prefix_few, on_written.few n, args_written.few (taken_behind o n), within);
     keys = omega arith;
     as_local = λ n r m ahead is. cc;
@@ -164,47 +165,47 @@ name_taken {z = z} {j = j} made name number m has final = by (is_small (Constant
     by true final = constant_taken made (Constant.Text name) number m has final
     by false final = constant_taken made (Constant.Text name) number m has (before_put 1 _ _ (before_take 1 _ final))
 
-module _ {f : Function} {g : Fn} {active : List Active} {listed : List ℕ} {z : Maker} {left mid behind : List (Option Inner)} (made : IsMadeBy f g active listed z)
+module _ {f : Function} {g : Fn} {active : List Active} {listed : List ℕ} {z : Maker} {lefts : ℕ → List (Option Inner)} {before mid behind : ℕ} (made : IsMadeBy f g active listed z)
     (on : Expression) (args : Arguments) (o : Value) (values : Values) (all : Bool) (line on_line deep depth number : ℕ) (name : Text)
-    (has : HasCore on) (on_written : Rewritten f g active listed z left mid on o) (args_written : RewrittenGiven f g active listed z mid behind args deep values all) (within : deep ≤ max (depth_of_expression on) (depth_of_arguments args))
+    (has : HasCore on) (on_written : Rewritten f g active listed z lefts before mid on o) (args_written : RewrittenGiven f g active listed z lefts mid behind args deep values all) (within : deep ≤ max (depth_of_expression on) (depth_of_arguments args))
     (numbered : HasNumber g (Constant.Text name) number) (named : is_name_text name ≡ true) where
   abbrev on_words : (n : ℕ) → Wording
-  on_words n = as_prefix (wording f listed z left n o)
+  on_words n = as_prefix (wording f listed z lefts before n o)
 
   abbrev behind_name : (n : ℕ) → ℕ
   behind_name n = with_constant (taken_behind o n) number
 
   abbrev method_words : (n : ℕ) → Wording
-  method_words n = with_method (on_words n) name (arguments_wording f listed z mid (behind_name n) values all)
+  method_words n = with_method (on_words n) name (arguments_wording f listed z lefts mid (behind_name n) values all)
 
   name_there : constant_name (place f.of listed f.short) number ≡ Some name
   name_there = ap (λ k. as_name (as_text k)) (constant_there number (Constant.Text name) made.is_function numbered.is) ∙ ap (λ good. if good then Some name else None) named
 
-  method_words_are : (n : ℕ) → wording f listed z left n (method_value o number values all depth) ≡ method_words n
+  method_words_are : (n : ℕ) → wording f listed z lefts before n (method_value o number values all depth) ≡ method_words n
   method_words_are n =
       let at = place f.of listed f.short in
       let method_name = text_or_empty (constant_name at number) in
-      ap (λ short. with_method (on_words n) method_name (as_arguments (short && not all) (word_short at (behind_name n) (left_by o left) values) (word_values at (behind_name n) (left_by o left) values all))) made.is_function.natural
+      ap (λ short. with_method (on_words n) method_name (as_arguments (short && not all) (word_short at (behind_name n) (left_by o (lefts before)) values) (word_values at (behind_name n) (left_by o (lefts before)) values all))) made.is_function.natural
       ∙ ap (λ fs. with_method (on_words n) method_name (as_list (word_values at (behind_name n) fs values all))) on_written.leaves
-      ∙ ap (λ (k : Option Text). with_method (on_words n) (text_or_empty k) (arguments_wording f listed z mid (behind_name n) values all)) name_there
+      ∙ ap (λ (k : Option Text). with_method (on_words n) (text_or_empty k) (arguments_wording f listed z lefts mid (behind_name n) values all)) name_there
 
   abbrev of_method : Op → Want → Part
   of_method = method_at 1 (code on) name (given (one_line_arguments args) 1)
 
   abbrev written_method : (n : ℕ) → Op → Want → Part
-  written_method n = method_at 1 (coded (on_words n).words) name (given (arguments_wording f listed z mid (behind_name n) values all).words 1)
+  written_method n = method_at 1 (coded (on_words n).words) name (given (arguments_wording f listed z lefts mid (behind_name n) values all).words 1)
 
   abbrev before_given : Maker → Maker
   before_given m = self_behind m.free name (operand (code on) m)
 
   behind_given : (op : Op) (want : Want) (m : Maker) → Final (length m.labels) (of_method op want m) z → Final (length m.labels) ((given (one_line_arguments args) 1).part (before_given m)) z
-  behind_given op want m final = before_put 1 _ _ (before (grows_results {v = calm} m.free want _) final)
+  behind_given op want m final = before_put 1 _ _ (before_part (grows_results {v = calm} m.free want _) final)
 
   behind_rk : (op : Op) (want : Want) (m : Maker) → Final (length m.labels) (of_method op want m) z → Final (length m.labels) (rk_text 1 name (take_registers 2 (free_from m.free (operand (code on) m).after))).after z
-  behind_rk op want m final = before_put 1 _ _ (before_free (m.free + 2) _ (before (grows_given calm (one_line_arguments args) 1 (before_given m)) (behind_given op want m final)))
+  behind_rk op want m final = before_put 1 _ _ (before_free (m.free + 2) _ (before_part (grows_given calm (one_line_arguments args) 1 (before_given m)) (behind_given op want m final)))
 
   behind_operand : (op : Op) (want : Want) (m : Maker) → Final (length m.labels) (of_method op want m) z → Final (length m.labels) (operand (code on) m).after z
-  behind_operand op want m final = before_free m.free _ (before_take 2 _ (before (grows_rk_text {v = calm} 1 name (take_registers 2 (free_from m.free (operand (code on) m).after))) (behind_rk op want m final)))
+  behind_operand op want m final = before_free m.free _ (before_take 2 _ (before_part (grows_rk_text {v = calm} 1 name (take_registers 2 (free_from m.free (operand (code on) m).after))) (behind_rk op want m final)))
 
   given_final : (op : Op) (want : Want) (m : Maker) → Final (length m.labels) (of_method op want m) z → Final (length (before_given m).labels) ((given (one_line_arguments args) 1).part (before_given m)) z
   given_final op want m final =
@@ -212,7 +213,7 @@ module _ {f : Function} {g : Fn} {active : List Active} {listed : List ℕ} {z :
       let two = grows_rk_text {v = calm} 1 name (take_registers 2 (free_from m.free (operand (code on) m).after)) in
       later (omega (arith, one.more, two.more)) (behind_given op want m final)
 
-  self_ahead : (m : Maker) → IsAhead g active (mentions_in on ++ mentions_given args) m → IsAhead g active (mentions_in on) m
+  self_ahead : (m : Maker) → IsAhead g active before (mentions_in on ++ mentions_given args) m → IsAhead g active before (mentions_in on) m
   self_ahead m ahead = ahead_front (mentions_in on) (mentions_given args) ahead
 
   -- the name of a method is a constant, and so no name of the scope
@@ -222,39 +223,40 @@ module _ {f : Function} {g : Fn} {active : List Active} {listed : List ℕ} {z :
   self_passed : (m : Maker) → Passed (mentions_in on) m (take_registers 2 (free_from m.free (operand (code on) m).after))
   self_passed m = let passed = operand_passes (mentions_in on) (code on) (mentions_passed on has) m in record { around = passed.around; behind = passed.behind }
 
-  given_ahead : (m : Maker) → IsAhead g active (mentions_in on ++ mentions_given args) m → IsAhead g active (mentions_given args) (before_given m)
-  given_ahead m ahead = ahead_behind [] (mentions_given args) (name_is_passed m) (ahead_behind (mentions_in on) (mentions_given args) (self_passed m) ahead)
+  given_ahead : (m : Maker) → IsAhead g active before (mentions_in on ++ mentions_given args) m → IsAhead g active mid (mentions_given args) (before_given m)
+  given_ahead m ahead = ahead_behind [] (mentions_given args) refl (name_is_passed m) (ahead_behind (mentions_in on) (mentions_given args) on_written.makes (self_passed m) ahead)
 
-  given_taken : (op : Op) (want : Want) (m : Maker) → IsAhead g active (mentions_in on ++ mentions_given args) m → Final (length m.labels) (of_method op want m) z → length (before_given m).constants ≡ behind_name (length m.constants)
+  given_taken : (op : Op) (want : Want) (m : Maker) → IsAhead g active before (mentions_in on ++ mentions_given args) m → Final (length m.labels) (of_method op want m) z → length (before_given m).constants ≡ behind_name (length m.constants)
   given_taken op want m ahead final =
       name_taken made name number (take_registers 2 (free_from m.free (operand (code on) m).after)) numbered (behind_rk op want m final)
       ∙ ap (λ n. with_constant n number) (operand_taken on_written m (self_ahead m ahead) (behind_operand op want m final))
 
-  method_same : (op : Op) (want : Want) (m : Maker) → IsAhead g active (mentions_in on ++ mentions_given args) m → Final (length m.labels) (of_method op want m) z → written_method (length m.constants) op want m ≡ of_method op want m
+  method_same : (op : Op) (want : Want) (m : Maker) → IsAhead g active before (mentions_in on ++ mentions_given args) m → Final (length m.labels) (of_method op want m) z → written_method (length m.constants) op want m ≡ of_method op want m
   method_same op want m ahead final =
       let n = length m.constants in
-      method_at_same (coded (on_words n).words) (code on) name (given (arguments_wording f listed z mid (behind_name n) values all).words 1) (given (one_line_arguments args) 1) op want m
-      (operand_wrapped (is_prefix (wording f listed z left n o).words) (wording f listed z left n o) m ∙ operand_same on_written m (self_ahead m ahead) (behind_operand op want m final))
-      (ap (λ n. (given (arguments_wording f listed z mid n values all).words 1).part (before_given m)) (sym (given_taken op want m ahead final)) ∙ args_written.part (before_given m) (given_ahead m ahead) (given_final op want m final))
+      method_at_same (coded (on_words n).words) (code on) name (given (arguments_wording f listed z lefts mid (behind_name n) values all).words 1) (given (one_line_arguments args) 1) op want m
+      (operand_wrapped (is_prefix (wording f listed z lefts before n o).words) (wording f listed z lefts before n o) m ∙ operand_same on_written m (self_ahead m ahead) (behind_operand op want m final))
+      (ap (λ n. (given (arguments_wording f listed z lefts mid n values all).words 1).part (before_given m)) (sym (given_taken op want m ahead final)) ∙ args_written.part (before_given m) (given_ahead m ahead) (given_final op want m final))
       (args_written.counts (behind_name n))
 
-  method_taken : (op : Op) (want : Want) (m : Maker) → IsAhead g active (mentions_in on ++ mentions_given args) m → Final (length m.labels) (of_method op want m) z →
+  method_taken : (op : Op) (want : Want) (m : Maker) → IsAhead g active before (mentions_in on ++ mentions_given args) m → Final (length m.labels) (of_method op want m) z →
       length (of_method op want m).constants ≡ taken_behind_values values (behind_name (length m.constants))
   method_taken op want m ahead final = results_keep m.free want _ ∙ args_written.taken (before_given m) (given_ahead m ahead) (given_final op want m final) ∙ ap (taken_behind_values values) (given_taken op want m ahead final)
 
-  method_written : Rewritten f g active listed z left behind (method_call line on name args on_line) (method_value o number values all depth)
+  method_written : Rewritten f g active listed z lefts before behind (method_call line on name args on_line) (method_value o number values all depth)
   method_written = record {
     can =
         both_hold _ _ on_written.can
         (both_hold _ _ (ap is_some name_there) (ap (λ fs. can_write_values (place f.of listed f.short) fs values) on_written.leaves ∙ args_written.can));
     leaves = ap (left_by_values values) on_written.leaves ∙ args_written.leaves;
+    makes = args_written.makes ∙ ap (made_behind (mentions_given args)) on_written.makes ∙ sym (made_both (mentions_in on) (mentions_given args) before);
     named = λ n. ap (λ (w : Wording). is_name w.words) (method_words_are n);
     folded = λ n. ap (λ (w : Wording). fold w.words) (method_words_are n);
     several = λ n. ap (λ (w : Wording). is_multiple w.words) (method_words_are n);
     gives = λ is. refl;
     few = λ n.
         let same = ap (λ (w : Wording). w.levels) (method_words_are n) in
-        let prefix_few = levels_wrapped (is_prefix (wording f listed z left n o).words) (wording f listed z left n o) in
+        let prefix_few = levels_wrapped (is_prefix (wording f listed z lefts before n o).words) (wording f listed z lefts before n o) in
         omega (arith, same, prefix_few, on_written.few n, args_written.few (behind_name n), within);
     keys = omega arith;
     as_local = λ n r m ahead is. cc;
@@ -268,20 +270,20 @@ module _ {f : Function} {g : Fn} {active : List Active} {listed : List ℕ} {z :
 
 -- ---- what a call is made of
 
-module _ {f : Function} {g : Fn} {active : List Active} {listed : List ℕ} {z : Maker} {left mid behind : List (Option Inner)} (made : IsMadeBy f g active listed z) where
-  pub call_rewritten : (on : Expression) (args : Arguments) (line on_line deep : ℕ) (o : Value) (values : Values) (all : Bool) (v : Value) → HasCore on → Rewritten f g active listed z left mid on o →
-      RewrittenGiven f g active listed z mid behind args deep values all → deep ≤ max (depth_of_expression on) (depth_of_arguments args) → made_call o values all ≡ Some v → Rewritten f g active listed z left behind (call_expression line on args on_line) v
+module _ {f : Function} {g : Fn} {active : List Active} {listed : List ℕ} {z : Maker} {lefts : ℕ → List (Option Inner)} {before mid behind : ℕ} (made : IsMadeBy f g active listed z) where
+  pub call_rewritten : (on : Expression) (args : Arguments) (line on_line deep : ℕ) (o : Value) (values : Values) (all : Bool) (v : Value) → HasCore on → Rewritten f g active listed z lefts before mid on o →
+      RewrittenGiven f g active listed z lefts mid behind args deep values all → deep ≤ max (depth_of_expression on) (depth_of_arguments args) → made_call o values all ≡ Some v → Rewritten f g active listed z lefts before behind (call_expression line on args on_line) v
   call_rewritten on args line on_line deep o values all v has on_written args_written within is =
       let depth = suc (max (depth_of o) (deepest values)) in
-      subst (λ v. Rewritten f g active listed z left behind (call_expression line on args on_line) v) (given_is _ (call_value o values all depth) v is)
+      subst (λ v. Rewritten f g active listed z lefts before behind (call_expression line on args on_line) v) (given_is _ (call_value o values all depth) v is)
       (call_written on args o values all line on_line deep depth made.is_function.natural has on_written args_written within)
 
-  pub method_rewritten : (on : Expression) (args : Arguments) (line on_line deep number : ℕ) (name : Text) (o : Value) (values : Values) (all : Bool) (v : Value) → HasCore on → Rewritten f g active listed z left mid on o →
-      RewrittenGiven f g active listed z mid behind args deep values all → deep ≤ max (depth_of_expression on) (depth_of_arguments args) → HasNumber g (Constant.Text name) number → is_name_text name ≡ true → made_method o number values all ≡ Some v →
-      Rewritten f g active listed z left behind (method_call line on name args on_line) v
+  pub method_rewritten : (on : Expression) (args : Arguments) (line on_line deep number : ℕ) (name : Text) (o : Value) (values : Values) (all : Bool) (v : Value) → HasCore on → Rewritten f g active listed z lefts before mid on o →
+      RewrittenGiven f g active listed z lefts mid behind args deep values all → deep ≤ max (depth_of_expression on) (depth_of_arguments args) → HasNumber g (Constant.Text name) number → is_name_text name ≡ true → made_method o number values all ≡ Some v →
+      Rewritten f g active listed z lefts before behind (method_call line on name args on_line) v
   method_rewritten on args line on_line deep number name o values all v has on_written args_written within numbered named is =
       let depth = suc (max (depth_of o) (deepest values)) in
-      subst (λ v. Rewritten f g active listed z left behind (method_call line on name args on_line) v) (given_is _ (method_value o number values all depth) v is)
+      subst (λ v. Rewritten f g active listed z lefts before behind (method_call line on name args on_line) v) (given_is _ (method_value o number values all depth) v is)
       (method_written made on args o values all line on_line deep depth number name has on_written args_written within numbered named)
 
 -- ---- arguments are no deeper than a call needs

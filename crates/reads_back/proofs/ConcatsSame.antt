@@ -19,10 +19,10 @@ use Rattle.scheme.specs.Expressions.{fold, is_multiple, is_name, next_reg}
 use Rattle.scheme.specs.Scheme.{coded}
 use Rattle.scheme.specs.declared.making.Active.{Active}
 use Rattle.scheme.specs.declared.making.Piece.{Piece}
-use Rattle.scheme_stands.proofs.Growth.{calm, Final, before, before_free, before_put, before_take, later}
+use Rattle.scheme_stands.proofs.Growth.{calm, Final, before as before_part, before_free, before_put, before_take, later}
 use Rattle.scheme_stands.proofs.Parts.{grows, grows_next}
 use Rattle.scheme_stands.specs.Words.{Fn}
-use Rattle.reads_back.proofs.Mentions.{IsAhead, ahead_behind, ahead_front, mentions_in}
+use Rattle.reads_back.proofs.Mentions.{IsAhead, ahead_behind, ahead_front, mentions_in, made_behind, made_both}
 use Rattle.reads_back.proofs.PassedMentions.{PassesMentions, next_passes}
 use Rattle.reads_back.proofs.OperatorsSame.{few_more}
 use Rattle.reads_back.proofs.Tests.{given_is}
@@ -67,31 +67,32 @@ last_alone false w other m = refl
 
 -- ---- the last operand
 
-module _ {f : Function} {g : Fn} {active : List Active} {listed : List ℕ} {z : Maker} {left behind : List (Option Inner)} {e : Expression} {v : Value}
-    (value : Rewritten f g active listed z left behind e v) (alone : (m : Maker) → (code e).spine m ≡ next_reg (code e) m) where
-  alone_few : (n : ℕ) → (on_right BinaryOp.Concat (wording f listed z left n v)).levels ≤ 3 * depth_of_expression e + 3
+module _ {f : Function} {g : Fn} {active : List Active} {listed : List ℕ} {z : Maker} {lefts : ℕ → List (Option Inner)} {before behind : ℕ} {e : Expression} {v : Value}
+    (value : Rewritten f g active listed z lefts before behind e v) (alone : (m : Maker) → (code e).spine m ≡ next_reg (code e) m) where
+  alone_few : (n : ℕ) → (on_right BinaryOp.Concat (wording f listed z lefts before n v)).levels ≤ 3 * depth_of_expression e + 3
   alone_few n =
-      let w = wording f listed z left n v in
+      let w = wording f listed z lefts before n v in
       let one = levels_wrapped (right_binds 4 false w.words) w in
       omega (arith, value.few n, one)
 
-  module _ (m : Maker) (ahead : IsAhead g active (mentions_in e) m) (final : Final (length m.labels) ((code e).spine m) z) where
+  module _ (m : Maker) (ahead : IsAhead g active before (mentions_in e) m) (final : Final (length m.labels) ((code e).spine m) z) where
     alone_final : Final (length m.labels) ((code e).to_reg m.free m) z
     alone_final = before_take 1 ((code e).to_reg m.free m) (subst (λ n. Final (length m.labels) n z) (alone m) final)
 
-    alone_spine : (coded (on_right BinaryOp.Concat (wording f listed z left (length m.constants) v)).words).spine m ≡ (code e).spine m
+    alone_spine : (coded (on_right BinaryOp.Concat (wording f listed z lefts before (length m.constants) v)).words).spine m ≡ (code e).spine m
     alone_spine =
-        let w = wording f listed z left (length m.constants) v in
+        let w = wording f listed z lefts before (length m.constants) v in
         last_alone (right_binds 4 false w.words) w (bare_alone w.words) m ∙ ap (take_registers 1) (value.to_reg m.free m ahead alone_final) ∙ sym (alone m)
 
     alone_taken : length ((code e).spine m).constants ≡ taken_behind v (length m.constants)
     alone_taken = ap (λ n. length n.constants) (alone m) ∙ value.taken m.free m ahead alone_final
 
-module _ {f : Function} {g : Fn} {active : List Active} {listed : List ℕ} {z : Maker} {left behind : List (Option Inner)} where
-  pub spine_of_one : (e : Expression) (v : Value) → Rewritten f g active listed z left behind e v → ((m : Maker) → (code e).spine m ≡ next_reg (code e) m) → RewrittenSpine f g active listed z left behind e (and_value v no_values)
+module _ {f : Function} {g : Fn} {active : List Active} {listed : List ℕ} {z : Maker} {lefts : ℕ → List (Option Inner)} {before behind : ℕ} where
+  pub spine_of_one : (e : Expression) (v : Value) → Rewritten f g active listed z lefts before behind e v → ((m : Maker) → (code e).spine m ≡ next_reg (code e) m) → RewrittenSpine f g active listed z lefts before behind e (and_value v no_values)
   spine_of_one e v value alone = record {
     can = and_from _ _ value.can refl;
     leaves = value.leaves;
+    makes = value.makes;
     few = alone_few value alone;
     spine = alone_spine value alone;
     taken = alone_taken value alone;
@@ -104,59 +105,59 @@ chain_is : (at : Place) (n : ℕ) (fs : List (Option Inner)) (w : Wording) (rest
 chain_is at n fs w no_values some = absurd cc
 chain_is at n fs w (and_value v rest) some = refl
 
-module _ {f : Function} {g : Fn} {active : List Active} {listed : List ℕ} {z : Maker} {left mid behind : List (Option Inner)} {l r : Expression} {v : Value} {rest : Values}
-    (first : Rewritten f g active listed z left mid l v) (others : RewrittenSpine f g active listed z mid behind r rest) (some : ends_values rest ≡ false) where
+module _ {f : Function} {g : Fn} {active : List Active} {listed : List ℕ} {z : Maker} {lefts : ℕ → List (Option Inner)} {before mid behind : ℕ} {l r : Expression} {v : Value} {rest : Values}
+    (first : Rewritten f g active listed z lefts before mid l v) (others : RewrittenSpine f g active listed z lefts mid behind r rest) (some : ends_values rest ≡ false) where
   -- what is written, where so many constants are taken behind the first
   joined_is : (n m : ℕ) → taken_behind v n ≡ m →
-      chain (word_each (place f.of listed f.short) n left (and_value v rest)) ≡ with_binary BinaryOp.Concat (on_left BinaryOp.Concat (wording f listed z left n v)) (chain (word_each (place f.of listed f.short) m mid rest))
+      chain (word_each (place f.of listed f.short) n (lefts before) (and_value v rest)) ≡ with_binary BinaryOp.Concat (on_left BinaryOp.Concat (wording f listed z lefts before n v)) (chain (word_each (place f.of listed f.short) m (lefts mid) rest))
   joined_is n m taken =
       let at = place f.of listed f.short in
-      let w = wording f listed z left n v in
-      chain_is at (taken_behind v n) (left_by v left) w rest some
+      let w = wording f listed z lefts before n v in
+      chain_is at (taken_behind v n) (left_by v (lefts before)) w rest some
       ∙ ap (λ fs. with_binary BinaryOp.Concat (on_left BinaryOp.Concat w) (chain (word_each at (taken_behind v n) fs rest))) first.leaves
-      ∙ ap (λ n. with_binary BinaryOp.Concat (on_left BinaryOp.Concat w) (chain (word_each at n mid rest))) taken
+      ∙ ap (λ n. with_binary BinaryOp.Concat (on_left BinaryOp.Concat w) (chain (word_each at n (lefts mid) rest))) taken
 
-  joined_few : (n : ℕ) → (chain (word_each (place f.of listed f.short) n left (and_value v rest))).levels ≤ 3 * (1 + max (depth_of_expression l) (depth_of_expression r)) + 2
+  joined_few : (n : ℕ) → (chain (word_each (place f.of listed f.short) n (lefts before) (and_value v rest))).levels ≤ 3 * (1 + max (depth_of_expression l) (depth_of_expression r)) + 2
   joined_few n =
-      let w = wording f listed z left n v in
+      let w = wording f listed z lefts before n v in
       let n' = taken_behind v n in
-      let u = chain (word_each (place f.of listed f.short) n' mid rest) in
-      let same : (chain (word_each (place f.of listed f.short) n left (and_value v rest))).levels ≡ (with_binary BinaryOp.Concat (on_left BinaryOp.Concat w) u).levels = ap (λ w. w.levels) (joined_is n n' refl) in
+      let u = chain (word_each (place f.of listed f.short) n' (lefts mid) rest) in
+      let same : (chain (word_each (place f.of listed f.short) n (lefts before) (and_value v rest))).levels ≡ (with_binary BinaryOp.Concat (on_left BinaryOp.Concat w) u).levels = ap (λ w. w.levels) (joined_is n n' refl) in
       let one = levels_wrapped (left_binds 4 true w.words) w in
       let all = few_more (max (on_left BinaryOp.Concat w).levels u.levels) in
       omega (arith, first.few n, others.few n', same, one, all)
 
-  module _ (kept : PassesMentions (mentions_in l) (code l)) (m : Maker) (ahead : IsAhead g active (mentions_in l ++ mentions_in r) m) (final : Final (length m.labels) ((code r).spine (next_reg (code l) m)) z) where
-    first_ahead : IsAhead g active (mentions_in l) m
+  module _ (kept : PassesMentions (mentions_in l) (code l)) (m : Maker) (ahead : IsAhead g active before (mentions_in l ++ mentions_in r) m) (final : Final (length m.labels) ((code r).spine (next_reg (code l) m)) z) where
+    first_ahead : IsAhead g active before (mentions_in l) m
     first_ahead = ahead_front (mentions_in l) (mentions_in r) ahead
 
-    others_ahead : IsAhead g active (mentions_in r) (next_reg (code l) m)
-    others_ahead = ahead_behind (mentions_in l) (mentions_in r) (next_passes (mentions_in l) (code l) kept m) ahead
+    others_ahead : IsAhead g active mid (mentions_in r) (next_reg (code l) m)
+    others_ahead = ahead_behind (mentions_in l) (mentions_in r) first.makes (next_passes (mentions_in l) (code l) kept m) ahead
 
     first_final : Final (length m.labels) ((code l).to_reg m.free m) z
     first_final =
         let grown = grows calm (one_line_expression r) in
-        before_take 1 ((code l).to_reg m.free m) (before (grown.spine (next_reg (code l) m)) final)
+        before_take 1 ((code l).to_reg m.free m) (before_part (grown.spine (next_reg (code l) m)) final)
 
     others_final : Final (length (next_reg (code l) m).labels) ((code r).spine (next_reg (code l) m)) z
     others_final = let grown = grows_next {v = calm} (code l) (grows calm (one_line_expression l)) m in later grown.more final
 
-    joined_here : chain (word_each (place f.of listed f.short) (length m.constants) left (and_value v rest)) ≡
-        with_binary BinaryOp.Concat (on_left BinaryOp.Concat (wording f listed z left (length m.constants) v)) (chain (word_each (place f.of listed f.short) (length (next_reg (code l) m).constants) mid rest))
+    joined_here : chain (word_each (place f.of listed f.short) (length m.constants) (lefts before) (and_value v rest)) ≡
+        with_binary BinaryOp.Concat (on_left BinaryOp.Concat (wording f listed z lefts before (length m.constants) v)) (chain (word_each (place f.of listed f.short) (length (next_reg (code l) m).constants) (lefts mid) rest))
     joined_here = joined_is (length m.constants) (length (next_reg (code l) m).constants) (sym (first.taken m.free m first_ahead first_final))
 
-    parts_same : (coded (chain (word_each (place f.of listed f.short) (length (next_reg (code l) m).constants) mid rest)).words).spine
-        (next_reg (coded (on_left BinaryOp.Concat (wording f listed z left (length m.constants) v)).words) m) ≡ (code r).spine (next_reg (code l) m)
+    parts_same : (coded (chain (word_each (place f.of listed f.short) (length (next_reg (code l) m).constants) (lefts mid) rest)).words).spine
+        (next_reg (coded (on_left BinaryOp.Concat (wording f listed z lefts before (length m.constants) v)).words) m) ≡ (code r).spine (next_reg (code l) m)
     parts_same =
-        let w = wording f listed z left (length m.constants) v in
-        let u = chain (word_each (place f.of listed f.short) (length (next_reg (code l) m).constants) mid rest) in
+        let w = wording f listed z lefts before (length m.constants) v in
+        let u = chain (word_each (place f.of listed f.short) (length (next_reg (code l) m).constants) (lefts mid) rest) in
         ap (coded u.words).spine (next_wrapped (left_binds 4 true w.words) w m ∙ ap (take_registers 1) (first.to_reg m.free m first_ahead first_final))
         ∙ others.spine (next_reg (code l) m) others_ahead others_final
 
     joined_taken : length ((code r).spine (next_reg (code l) m)).constants ≡ taken_behind_values rest (taken_behind v (length m.constants))
     joined_taken = others.taken (next_reg (code l) m) others_ahead others_final ∙ ap (taken_behind_values rest) (first.taken m.free m first_ahead first_final)
 
-  joined_can : can_write_values (place f.of listed f.short) left (and_value v rest) ≡ true
+  joined_can : can_write_values (place f.of listed f.short) (lefts before) (and_value v rest) ≡ true
   joined_can = and_from _ _ first.can (ap (λ fs. can_write_values (place f.of listed f.short) fs rest) first.leaves ∙ others.can)
 
 -- ---- the CONCAT
@@ -165,22 +166,24 @@ module _ {f : Function} {g : Fn} {active : List Active} {listed : List ℕ} {z :
 abbrev behind_operands : (to : ℕ) → Maker → Maker → Maker
 behind_operands to m n = free_from m.free (put 1 (Piece.Abc Op.Concat to m.free (n.free - 1)) n)
 
-module _ {f : Function} {g : Fn} {active : List Active} {listed : List ℕ} {z : Maker} {left mid behind : List (Option Inner)} where
-  pub spine_of_first : (line : ℕ) (l r : Expression) (v : Value) (rest : Values) → Rewritten f g active listed z left mid l v → RewrittenSpine f g active listed z mid behind r rest → ends_values rest ≡ false → PassesMentions (mentions_in l) (code l) →
-      RewrittenSpine f g active listed z left behind (binary_expression line BinaryOp.Concat l r) (and_value v rest)
+module _ {f : Function} {g : Fn} {active : List Active} {listed : List ℕ} {z : Maker} {lefts : ℕ → List (Option Inner)} {before mid behind : ℕ} where
+  pub spine_of_first : (line : ℕ) (l r : Expression) (v : Value) (rest : Values) → Rewritten f g active listed z lefts before mid l v → RewrittenSpine f g active listed z lefts mid behind r rest → ends_values rest ≡ false → PassesMentions (mentions_in l) (code l) →
+      RewrittenSpine f g active listed z lefts before behind (binary_expression line BinaryOp.Concat l r) (and_value v rest)
   spine_of_first line l r v rest first others some kept = record {
     can = joined_can first others some;
     leaves = ap (left_by_values rest) first.leaves ∙ others.leaves;
+    makes = others.makes ∙ ap (made_behind (mentions_in r)) first.makes ∙ sym (made_both (mentions_in l) (mentions_in r) before);
     few = λ n. let few = joined_few first others some n in omega (arith, few);
     spine = λ m ahead final. ap (λ w. (coded w.words).spine m) (joined_here first others some kept m ahead final) ∙ parts_same first others some kept m ahead final;
     taken = λ m ahead final. joined_taken first others some kept m ahead final;
   }
 
-  pub concat_rewritten : (line : ℕ) (l r : Expression) (first : Value) (rest : Values) (v : Value) → Rewritten f g active listed z left mid l first → RewrittenSpine f g active listed z mid behind r rest → ends_values rest ≡ false → PassesMentions (mentions_in l) (code l) →
-      made_concat (and_value first rest) ≡ Some v → Rewritten f g active listed z left behind (binary_expression line BinaryOp.Concat l r) v
-  concat_rewritten line l r of rest v first others some kept made = subst (Rewritten f g active listed z left behind (binary_expression line BinaryOp.Concat l r)) (given_is (nat_lt (deepest (and_value of rest)) 400) _ v made) (record {
+  pub concat_rewritten : (line : ℕ) (l r : Expression) (first : Value) (rest : Values) (v : Value) → Rewritten f g active listed z lefts before mid l first → RewrittenSpine f g active listed z lefts mid behind r rest → ends_values rest ≡ false → PassesMentions (mentions_in l) (code l) →
+      made_concat (and_value first rest) ≡ Some v → Rewritten f g active listed z lefts before behind (binary_expression line BinaryOp.Concat l r) v
+  concat_rewritten line l r of rest v first others some kept made = subst (Rewritten f g active listed z lefts before behind (binary_expression line BinaryOp.Concat l r)) (given_is (nat_lt (deepest (and_value of rest)) 400) _ v made) (record {
     can = joined_can first others some;
     leaves = ap (left_by_values rest) first.leaves ∙ others.leaves;
+    makes = others.makes ∙ ap (made_behind (mentions_in r)) first.makes ∙ sym (made_both (mentions_in l) (mentions_in r) before);
     named = λ n. ap (λ w. is_name w.words) (joined_is first others some n (taken_behind of n) refl);
     folded = λ n. ap (λ w. fold w.words) (joined_is first others some n (taken_behind of n) refl);
     several = λ n. ap (λ w. is_multiple w.words) (joined_is first others some n (taken_behind of n) refl);

@@ -23,7 +23,7 @@ use Rattle.scheme.specs.Statements.{local_part}
 use Rattle.scheme.specs.declared.making.Active.{Active}
 use Rattle.scheme.specs.declared.making.Local.{Local}
 use Rattle.scheme.specs.declared.making.Piece.{Piece}
-use Rattle.scheme_stands.proofs.Growth.{Final, before, before_free, before_put, before_take, calm, later, loose}
+use Rattle.scheme_stands.proofs.Growth.{Final, before as before_part, before_free, before_put, before_take, calm, later, loose}
 use Rattle.scheme_stands.proofs.Lines.{all_next_free, grows_activate, grows_declare}
 use Rattle.scheme_stands.proofs.Parts.{grow_all}
 use Rattle.scheme_stands.specs.Words.{Fn}
@@ -34,7 +34,7 @@ use Rattle.reads_back.proofs.GivenSame.{AllRewritten, list_rewritten}
 use Rattle.reads_back.proofs.AdjustedEntries.{count_last, last_split, taken_end}
 use Rattle.reads_back.proofs.ListsSame.{EachFine, can_last, codes_of, coded_count, cores_count, cores_fine, fine_front, fine_last, left_last, list_closed, list_few, multi_all, multi_all_taken, next_all, next_all_taken, nil_next, opens_is, values_coded}
 use Rattle.reads_back.proofs.DeclaredLocals.{declare_passes}
-use Rattle.reads_back.proofs.Mentions.{IsAhead, ahead_behind, locals_mention, mentions_in_all}
+use Rattle.reads_back.proofs.Mentions.{IsAhead, ahead_behind, locals_mention, mentions_in_all, made_behind}
 use Rattle.reads_back.proofs.Rewriting.{IsMadeBy, RewrittenAct, RewrittenGiven}
 use Rattle.reads_back.proofs.Tests.{and_not, first_of_both, not_so, second_of_both}
 
@@ -99,26 +99,28 @@ module _ (f : Function) (g : Fn) (active : List Active) (listed : List ℕ) (z :
       let two = second.4 ∙ ap (and_value second.0) third.4 in
       ap ends_with_nil (is ∙ ap (and_value v) two) ∙ ap ends_with_nil (sym two) ∙ open_no_nil (syntax.expression d (syntax.expression x es)) mid behind rest written.1 are ends
 
-module _ (f : Function) (g : Fn) (active : List Active) (listed : List ℕ) (z : Maker) (left behind : List (Option Inner)) where
+module _ (f : Function) (g : Fn) (active : List Active) (listed : List ℕ) (z : Maker) (lefts : ℕ → List (Option Inner)) (before behind : ℕ) where
   -- ---- what is asked of the values that are written
 
   pub record Adjusts (count : ℕ) (es : Expressions) (vs : Values) (all : Bool) : Type 0 where
-    pub can : can_write_values (place f.of listed f.short) left vs ≡ true
-    pub leaves : left_by_values vs left ≡ behind
-    pub fine : (n : ℕ) → EachFine (place f.of listed f.short) (3 * depth_of_expressions es + 2) n left vs
-    pub same : (m : Maker) → IsAhead g active (mentions_in_all es) m → Final (length m.labels) (adjust 1 (codes_of es) count m) z →
-        adjust 1 (values_coded (place f.of listed f.short) (length m.constants) left vs all) count m ≡ adjust 1 (codes_of es) count m
-    pub taken : (m : Maker) → IsAhead g active (mentions_in_all es) m → Final (length m.labels) (adjust 1 (codes_of es) count m) z → length (adjust 1 (codes_of es) count m).constants ≡ taken_behind_values vs (length m.constants)
+    pub can : can_write_values (place f.of listed f.short) (lefts before) vs ≡ true
+    pub leaves : left_by_values vs (lefts before) ≡ lefts behind
+    pub makes : behind ≡ made_behind (mentions_in_all es) before
+    pub fine : (n : ℕ) → EachFine (place f.of listed f.short) (3 * depth_of_expressions es + 2) n (lefts before) vs
+    pub same : (m : Maker) → IsAhead g active before (mentions_in_all es) m → Final (length m.labels) (adjust 1 (codes_of es) count m) z →
+        adjust 1 (values_coded (place f.of listed f.short) (length m.constants) (lefts before) vs all) count m ≡ adjust 1 (codes_of es) count m
+    pub taken : (m : Maker) → IsAhead g active before (mentions_in_all es) m → Final (length m.labels) (adjust 1 (codes_of es) count m) z → length (adjust 1 (codes_of es) count m).constants ≡ taken_behind_values vs (length m.constants)
 
   -- the names are declared before the values, and active behind them
-  adjusts_act : (names : List Text) (es : Expressions) (vs : Values) (all : Bool) → Adjusts (length names) es vs all → RewrittenAct f g active listed z left behind (local_statement names es) (declared names vs all)
+  adjusts_act : (names : List Text) (es : Expressions) (vs : Values) (all : Bool) → Adjusts (length names) es vs all → RewrittenAct f g active listed z lefts before behind (local_statement names es) (declared names vs all)
   adjusts_act names es vs all adjusts = record {
     can = adjusts.can;
     leaves = adjusts.leaves;
-    few = λ n. omega (arith, list_few (place f.of listed f.short) (3 * depth_of_expressions es + 2) n left vs all (adjusts.fine n));
+    makes = adjusts.makes;
+    few = λ n. omega (arith, list_few (place f.of listed f.short) (3 * depth_of_expressions es + 2) n (lefts before) vs all (adjusts.fine n));
     made = λ m ahead final.
         let named = declare names m in
-        ap (λ constants. activate named.value (adjust 1 (values_coded (place f.of listed f.short) (length constants) left vs all) (length names) named.after)) (sym (declare_constants names m))
+        ap (λ constants. activate named.value (adjust 1 (values_coded (place f.of listed f.short) (length constants) (lefts before) vs all) (length names) named.after)) (sym (declare_constants names m))
         ∙ ap (activate named.value) (adjusts.same named.after (names_ahead m ahead) (inner m final));
     taken = λ m ahead final.
         let named = declare names m in
@@ -127,14 +129,14 @@ module _ (f : Function) (g : Fn) (active : List Active) (listed : List ℕ) (z :
         ∙ ap (λ constants. taken_behind_values vs (length constants)) (declare_constants names m);
   }
     where
-      names_ahead : (m : Maker) → IsAhead g active (locals_mention names ∷ mentions_in_all es) m → IsAhead g active (mentions_in_all es) (declare names m).after
-      names_ahead m ahead = ahead_behind (locals_mention names ∷ []) (mentions_in_all es) (declare_passes names m) ahead
+      names_ahead : (m : Maker) → IsAhead g active before (locals_mention names ∷ mentions_in_all es) m → IsAhead g active before (mentions_in_all es) (declare names m).after
+      names_ahead m ahead = ahead_behind (locals_mention names ∷ []) (mentions_in_all es) refl (declare_passes names m) ahead
 
       inner : (m : Maker) → Final (length m.labels) (local_part 1 names (codes_of es) m) z → Final (length (declare names m).after.labels) (adjust 1 (codes_of es) (length names) (declare names m).after) z
       inner m final =
           let named = declare names m in
           let grown = grows_declare calm names m in
-          later grown.more (before {v = loose} (grows_activate named.value (adjust 1 (codes_of es) (length names) named.after)) final)
+          later grown.more (before_part {v = loose} (grows_activate named.value (adjust 1 (codes_of es) (length names) named.after)) final)
 
 -- ---- which values are written
 
@@ -144,7 +146,7 @@ module _ {f : Function} {g : Fn} {active : List Active} {listed : List ℕ} {z :
   left = lefts before
 
   abbrev IsWritten : Values → (all : Bool) → Type 0
-  IsWritten vs all = Adjusts f g active listed z (lefts before) (lefts behind) count es vs all
+  IsWritten vs all = Adjusts f g active listed z lefts before behind count es vs all
 
   abbrev written_as : ℕ → Values → (all : Bool) → List Coded
   written_as n vs all = values_coded (place f.of listed f.short) n left vs all
@@ -155,7 +157,7 @@ module _ {f : Function} {g : Fn} {active : List Active} {listed : List ℕ} {z :
   abbrev deep : ℕ
   deep = 3 * depth_of_expressions es + 2
 
-  given : RewrittenGiven f g active listed z (lefts before) (lefts behind) (argument_list es) (depth_of_expressions es) from (ends_open es)
+  given : RewrittenGiven f g active listed z lefts before behind (argument_list es) (depth_of_expressions es) from (ends_open es)
   given = list_rewritten lefts made es before behind from (ends_open es) has written are refl
 
   fine : (n : ℕ) → EachFine (place f.of listed f.short) deep n left from
@@ -181,13 +183,14 @@ module _ {f : Function} {g : Fn} {active : List Active} {listed : List ℕ} {z :
     more_final : (m : Maker) → Final (length m.labels) (adjust 1 cs count m) z → Final (length m.labels) (all_next cs m) z
     more_final m final = before_free (m.free + count) (all_next cs m) (subst (λ (n : Maker). Final (length m.labels) n z) (more_is m) final)
 
-    more_taken : (m : Maker) → IsAhead g active (mentions_in_all es) m → Final (length m.labels) (adjust 1 cs count m) z → length (adjust 1 cs count m).constants ≡ taken_behind_values from (length m.constants)
+    more_taken : (m : Maker) → IsAhead g active before (mentions_in_all es) m → Final (length m.labels) (adjust 1 cs count m) z → length (adjust 1 cs count m).constants ≡ taken_behind_values from (length m.constants)
     more_taken m ahead final = ap (λ (n : Maker). length n.constants) (more_is m) ∙ next_all_taken f g active listed z lefts es before behind from has written are m ahead (more_final m final)
 
     pub more_written : IsWritten from true
     more_written = record {
       can = given.can;
       leaves = given.leaves;
+      makes = given.makes;
       fine = fine;
       same = λ m ahead final.
           let ds = written_as (length m.constants) from true in
@@ -215,6 +218,7 @@ module _ {f : Function} {g : Fn} {active : List Active} {listed : List ℕ} {z :
     open_written = record {
       can = given.can;
       leaves = given.leaves;
+      makes = given.makes;
       fine = fine;
       same = λ m ahead final.
           let ds = written_as (length m.constants) from true in
@@ -234,13 +238,14 @@ module _ {f : Function} {g : Fn} {active : List Active} {listed : List ℕ} {z :
     closed_final : (m : Maker) → Final (length m.labels) (adjust 1 cs count m) z → Final (length m.labels) (all_next cs m) z
     closed_final m final = before_nils (count - length cs) (all_next cs m) (subst (λ (n : Maker). Final (length m.labels) n z) (closed_is m) final)
 
-    closed_taken : (m : Maker) → IsAhead g active (mentions_in_all es) m → Final (length m.labels) (adjust 1 cs count m) z → length (adjust 1 cs count m).constants ≡ taken_behind_values from (length m.constants)
+    closed_taken : (m : Maker) → IsAhead g active before (mentions_in_all es) m → Final (length m.labels) (adjust 1 cs count m) z → length (adjust 1 cs count m).constants ≡ taken_behind_values from (length m.constants)
     closed_taken m ahead final = ap (λ (n : Maker). length n.constants) (closed_is m) ∙ next_all_taken f g active listed z lefts es before behind from has written are m ahead (closed_final m final)
 
     pub closed_written : IsWritten from false
     closed_written = record {
       can = given.can;
       leaves = given.leaves;
+      makes = given.makes;
       fine = fine;
       same = λ m ahead final.
           let ds = written_as (length m.constants) from false in
@@ -257,6 +262,7 @@ module _ {f : Function} {g : Fn} {active : List Active} {listed : List ℕ} {z :
     nil_written exact = record {
       can = can_last (place f.of listed f.short) left from ∙ given.can;
       leaves = left_last from left ∙ given.leaves;
+      makes = given.makes;
       fine = λ n. fine_last (place f.of listed f.short) deep n left from (omega arith) (fine n);
       same = λ m ahead final.
           let ds = written_as (length m.constants) (and_last_value from nil_value) true in
@@ -296,6 +302,7 @@ module _ {f : Function} {g : Fn} {active : List Active} {listed : List ℕ} {z :
         record {
           can = sym (can_last at left front) ∙ ap (can_write_values at left) (sym split) ∙ given.can;
           leaves = sym (left_last front left) ∙ ap (λ vs. left_by_values vs left) (sym split) ∙ given.leaves;
+          makes = given.makes;
           fine = front_fine;
           same = λ m ahead final.
               let n = length m.constants in
@@ -350,8 +357,8 @@ module _ {f : Function} {g : Fn} {active : List Active} {listed : List ℕ} {z :
 module _ {f : Function} {g : Fn} {active : List Active} {listed : List ℕ} {z : Maker} (lefts : ℕ → List (Option Inner)) (made : IsMadeBy f g active listed z) (names : List Text) (es : Expressions) (before behind : ℕ) (from : Values)
     (has : AllHaveCores es) (written : AllRewritten f g active listed z lefts es) (are : AreCores g active es before behind from) where
   pub local_rewritten_act : (others : List Text) (vs : Values) (all : Bool) → others ≡ names → declared_values (length names) (ends_open es) from ≡ record { values = vs; all = all } →
-      RewrittenAct f g active listed z (lefts before) (lefts behind) (local_statement names es) (declared others vs all)
+      RewrittenAct f g active listed z lefts before behind (local_statement names es) (declared others vs all)
   local_rewritten_act others vs all same is =
-      let adjusts : Adjusts f g active listed z (lefts before) (lefts behind) (length names) es vs all =
-      subst (λ (list : Listed). Adjusts f g active listed z (lefts before) (lefts behind) (length names) es list.values list.all) is (all_listed lefts made (length names) es before behind from has written are (ends_open es) refl) in
-      subst (λ others. RewrittenAct f g active listed z (lefts before) (lefts behind) (local_statement names es) (declared others vs all)) (sym same) (adjusts_act f g active listed z (lefts before) (lefts behind) names es vs all adjusts)
+      let adjusts : Adjusts f g active listed z lefts before behind (length names) es vs all =
+      subst (λ (list : Listed). Adjusts f g active listed z lefts before behind (length names) es list.values list.all) is (all_listed lefts made (length names) es before behind from has written are (ends_open es) refl) in
+      subst (λ others. RewrittenAct f g active listed z lefts before behind (local_statement names es) (declared others vs all)) (sym same) (adjusts_act f g active listed z lefts before behind names es vs all adjusts)

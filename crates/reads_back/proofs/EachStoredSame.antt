@@ -23,7 +23,7 @@ use Rattle.scheme.specs.Scheme.{all_coded, coded}
 use Rattle.scheme.specs.Statements.{each_stored, set_where, store, store_operand, store_register, stored_from}
 use Rattle.scheme.specs.declared.making.Active.{Active}
 use Rattle.scheme.specs.declared.making.Piece.{Piece}
-use Rattle.scheme_stands.proofs.Growth.{Final, before, before_put, calm, on_constant, start}
+use Rattle.scheme_stands.proofs.Growth.{Final, before as before_part, before_put, calm, on_constant, start}
 use Rattle.scheme_stands.proofs.Parts.{AllGrow, Grows, grow_all, grows, grows_next, grows_operand, grows_rk}
 use Rattle.scheme_stands.specs.Words.{Fn}
 use Rattle.reads_back.specs.Acted.{EndWithOperand, IsVariableTarget, all_named_behind, is_part, last_target, named_behind, words_assigned}
@@ -32,7 +32,7 @@ use Rattle.reads_back.proofs.ConstantsSame.{constant_taken}
 use Rattle.reads_back.proofs.GivenSame.{AllRewritten}
 use Rattle.reads_back.proofs.LeavesSame.{nil_rewritten, parenthesized_rewritten}
 use Rattle.reads_back.proofs.ListsSame.{codes_of, first_ahead, others_ahead, others_final, values_coded}
-use Rattle.reads_back.proofs.Mentions.{IsAhead, mentions_in, mentions_in_all}
+use Rattle.reads_back.proofs.Mentions.{IsAhead, mentions_in, mentions_in_all, made_behind, made_both}
 use Rattle.reads_back.proofs.OperandsSame.{operand_rewritten}
 use Rattle.reads_back.proofs.Rewriting.{IsMadeBy, Rewritten, RewrittenOperand, code, operand_wording, wording}
 use Rattle.reads_back.proofs.TargetsSame.{ArePlaces, IsPlace}
@@ -89,7 +89,7 @@ module _ {k : ℕ} {z : Maker} where
   before_set : (r : ℕ) (text : Text) (w : Where) (m : Maker) → Final k (set_where 1 r text w m) z → Final k m z
   before_set r text (in_register x) m final = before_put 1 (Piece.Abc Op.Move x r 0) m final
   before_set r text (in_upvalue slot) m final = before_put 1 (Piece.Abc Op.SetUpval r slot 0) m final
-  before_set r text in_globals m final = before (on_constant {v = calm} (Constant.Text text) (start m)) (name_final r text m final)
+  before_set r text in_globals m final = before_part (on_constant {v = calm} (Constant.Text text) (start m)) (name_final r text m final)
 
   before_register : (r : ℕ) (to : Target) (m : Maker) → Final k (store_register 1 to r m) z → Final k m z
   before_register r (name_target text w) m final = before_set r text w m final
@@ -106,10 +106,10 @@ module _ {k : ℕ} {z : Maker} where
   part_final on key on_local key_local c m final = let x = rk c m in before_put 1 (Piece.Abc Op.SetTable on key x.value) x.after final
 
   before_store : (to : Target) (c : Coded) → Grows calm c → (m : Maker) → Final k (store 1 to c m) z → Final k m z
-  before_store (name_target text (in_register x)) c grow m final = before (grow.to_reg x m) final
-  before_store (name_target text (in_upvalue slot)) c grow m final = before (grows_operand c grow m) (value_final text (in_upvalue slot) c m final)
-  before_store (name_target text in_globals) c grow m final = before (grows_operand c grow m) (value_final text in_globals c m final)
-  before_store (part_target on key on_local key_local) c grow m final = before (grows_rk c grow m) (part_final on key on_local key_local c m final)
+  before_store (name_target text (in_register x)) c grow m final = before_part (grow.to_reg x m) final
+  before_store (name_target text (in_upvalue slot)) c grow m final = before_part (grows_operand c grow m) (value_final text (in_upvalue slot) c m final)
+  before_store (name_target text in_globals) c grow m final = before_part (grows_operand c grow m) (value_final text in_globals c m final)
+  before_store (part_target on key on_local key_local) c grow m final = before_part (grows_rk c grow m) (part_final on key on_local key_local c m final)
 
   pub before_each : (to : List Target) (cs : List Coded) → AllGrow calm cs → (m : Maker) → Final k (each_stored 1 to cs m) z → Final k m z
   before_each [] cs grow m final = final
@@ -118,7 +118,7 @@ module _ {k : ℕ} {z : Maker} where
   before_each (one ∷ other ∷ others) [] grow m final = final
   before_each (one ∷ other ∷ others) (c ∷ cs) grow m final =
       let behind = each_stored 1 (other ∷ others) cs (next_reg c m) in
-      before (grows_next c grow.0 m) (before_each (other ∷ others) cs grow.1 (next_reg c m) (before_register m.free one behind final))
+      before_part (grows_next c grow.0 m) (before_each (other ∷ others) cs grow.1 (next_reg c m) (before_register m.free one behind final))
 
 -- ---- which constants they take
 
@@ -145,28 +145,28 @@ module _ {f : Function} {g : Fn} {active : List Active} {listed : List ℕ} {z :
 
 -- ---- one value
 
-module _ {f : Function} {g : Fn} {active : List Active} {listed : List ℕ} {z : Maker} {left behind : List (Option Inner)} {e : Expression} {v : Value} (written : Rewritten f g active listed z left behind e v) where
+module _ {f : Function} {g : Fn} {active : List Active} {listed : List ℕ} {z : Maker} {lefts : ℕ → List (Option Inner)} {before behind : ℕ} {e : Expression} {v : Value} (written : Rewritten f g active listed z lefts before behind e v) where
   -- that goes as an operand to a name that is no local
-  operand_stored : (bare : Bool) (text : Text) (w : Where) (m : Maker) → IsAhead g active (mentions_in e) m → Final (length m.labels) (store_operand 1 text w (code e) m) z →
-      store_operand 1 text w (coded (unless bare (wording f listed z left (length m.constants) v)).words) m ≡ store_operand 1 text w (code e) m
+  operand_stored : (bare : Bool) (text : Text) (w : Where) (m : Maker) → IsAhead g active before (mentions_in e) m → Final (length m.labels) (store_operand 1 text w (code e) m) z →
+      store_operand 1 text w (coded (unless bare (wording f listed z lefts before (length m.constants) v)).words) m ≡ store_operand 1 text w (code e) m
   operand_stored bare text w m ahead final =
       ap (λ (x : Got ℕ). set_where 1 x.value text w x.after)
-      (operand_wrapped bare (wording f listed z left (length m.constants) v) m ∙ operand_same written m ahead (value_final text w (code e) m final))
+      (operand_wrapped bare (wording f listed z lefts before (length m.constants) v) m ∙ operand_same written m ahead (value_final text w (code e) m final))
 
-  store_same : (bare : Bool) (text : Text) (w : Where) (m : Maker) → IsAhead g active (mentions_in e) m → Final (length m.labels) (store 1 (name_target text w) (code e) m) z →
-      store 1 (name_target text w) (coded (unless bare (wording f listed z left (length m.constants) v)).words) m ≡ store 1 (name_target text w) (code e) m
-  store_same bare text (in_register x) m ahead final = to_reg_wrapped bare (wording f listed z left (length m.constants) v) x m ∙ written.to_reg x m ahead final
+  store_same : (bare : Bool) (text : Text) (w : Where) (m : Maker) → IsAhead g active before (mentions_in e) m → Final (length m.labels) (store 1 (name_target text w) (code e) m) z →
+      store 1 (name_target text w) (coded (unless bare (wording f listed z lefts before (length m.constants) v)).words) m ≡ store 1 (name_target text w) (code e) m
+  store_same bare text (in_register x) m ahead final = to_reg_wrapped bare (wording f listed z lefts before (length m.constants) v) x m ∙ written.to_reg x m ahead final
   store_same bare text (in_upvalue slot) m ahead final = operand_stored bare text (in_upvalue slot) m ahead final
   store_same bare text in_globals m ahead final = operand_stored bare text in_globals m ahead final
 
   module _ (made : IsMadeBy f g active listed z) where
-    operand_takes : (text : Text) (w : Where) (t : TargetValue) (m : Maker) → IsVariableTarget g text w t → IsAhead g active (mentions_in e) m → Final (length m.labels) (store_operand 1 text w (code e) m) z →
+    operand_takes : (text : Text) (w : Where) (t : TargetValue) (m : Maker) → IsVariableTarget g text w t → IsAhead g active before (mentions_in e) m → Final (length m.labels) (store_operand 1 text w (code e) m) z →
         length (store_operand 1 text w (code e) m).constants ≡ named_behind t (taken_behind v (length m.constants))
     operand_takes text w t m is ahead final =
         let x = operand (code e) m in
         set_taken made x.value text w t x.after is final ∙ ap (named_behind t) (operand_taken written m ahead (value_final text w (code e) m final))
 
-    store_taken : (text : Text) (w : Where) (t : TargetValue) (m : Maker) → IsVariableTarget g text w t → IsAhead g active (mentions_in e) m → Final (length m.labels) (store 1 (name_target text w) (code e) m) z →
+    store_taken : (text : Text) (w : Where) (t : TargetValue) (m : Maker) → IsVariableTarget g text w t → IsAhead g active before (mentions_in e) m → Final (length m.labels) (store 1 (name_target text w) (code e) m) z →
         length (store 1 (name_target text w) (code e) m).constants ≡ named_behind t (taken_behind v (length m.constants))
     store_taken text (in_register x) t m is ahead final = written.taken x m ahead final ∙ ap (λ t. named_behind t (taken_behind v (length m.constants))) (sym is)
     store_taken text (in_upvalue slot) t m is ahead final = operand_takes text (in_upvalue slot) t m is ahead final
@@ -174,17 +174,17 @@ module _ {f : Function} {g : Fn} {active : List Active} {listed : List ℕ} {z :
 
 -- ---- as many values as targets
 
-module _ (f : Function) (g : Fn) (active : List Active) (listed : List ℕ) (z : Maker) where
+module _ (f : Function) (g : Fn) (active : List Active) (listed : List ℕ) (z : Maker) (before : ℕ) where
   -- what is written of the values, where so many constants are taken, is stored as the expressions are
   pub record EachSame (placed : List (Placed g)) (es : Expressions) (written : ℕ → List Coded) (taken : ℕ → ℕ) : Type 0 where
-    pub same : (m : Maker) → IsAhead g active (mentions_in_all es) m → Final (length m.labels) (each_stored 1 (places placed) (codes_of es) m) z → each_stored 1 (places placed) (written (length m.constants)) m ≡ each_stored 1 (places placed) (codes_of es) m
-    pub takes : (m : Maker) → IsAhead g active (mentions_in_all es) m → Final (length m.labels) (each_stored 1 (places placed) (codes_of es) m) z →
+    pub same : (m : Maker) → IsAhead g active before (mentions_in_all es) m → Final (length m.labels) (each_stored 1 (places placed) (codes_of es) m) z → each_stored 1 (places placed) (written (length m.constants)) m ≡ each_stored 1 (places placed) (codes_of es) m
+    pub takes : (m : Maker) → IsAhead g active before (mentions_in_all es) m → Final (length m.labels) (each_stored 1 (places placed) (codes_of es) m) z →
         length (each_stored 1 (places placed) (codes_of es) m).constants ≡ all_named_behind (targets_of placed) (taken (length m.constants))
 
-module _ {f : Function} {g : Fn} {active : List Active} {listed : List ℕ} {z : Maker} {left behind : List (Option Inner)} (made : IsMadeBy f g active listed z) where
+module _ {f : Function} {g : Fn} {active : List Active} {listed : List ℕ} {z : Maker} {lefts : ℕ → List (Option Inner)} {before behind : ℕ} (made : IsMadeBy f g active listed z) where
   -- the last value goes to a name
-  value_only : (t : TargetValue) (to : Target) (is : IsPlace g t to) (e : Expression) (v : Value) (bare : Bool) → is_part (Some t) ≡ false → HasCore e → Rewritten f g active listed z left behind e v →
-      EachSame f g active listed z (record { to = t; there = to; is = is } ∷ []) (syntax.expression e no_expressions) (λ n. coded (unless bare (wording f listed z left n v)).words ∷ []) (taken_behind v)
+  value_only : (t : TargetValue) (to : Target) (is : IsPlace g t to) (e : Expression) (v : Value) (bare : Bool) → is_part (Some t) ≡ false → HasCore e → Rewritten f g active listed z lefts before behind e v →
+      EachSame f g active listed z before (record { to = t; there = to; is = is } ∷ []) (syntax.expression e no_expressions) (λ n. coded (unless bare (wording f listed z lefts before n v)).words ∷ []) (taken_behind v)
   value_only t (name_target text w) is e v bare no_part has written = record {
     same = λ m ahead final. store_same written bare text w m (first_ahead e no_expressions (has, tt) m ahead) final;
     takes = λ m ahead final. store_taken written made text w t m is (first_ahead e no_expressions (has, tt) m ahead) final;
@@ -192,8 +192,8 @@ module _ {f : Function} {g : Fn} {active : List Active} {listed : List ℕ} {z :
   value_only t (part_target on key on_local key_local) is e v bare no_part has written = absurd (true≢false (sym is ∙ no_part))
 
   -- or as an operand to a part of a table
-  operand_only : (t : TargetValue) (to : Target) (is : IsPlace g t to) (e : Expression) (o : OperandValue) → is_part (Some t) ≡ true → HasCore e → RewrittenOperand f g active listed z left behind e o →
-      EachSame f g active listed z (record { to = t; there = to; is = is } ∷ []) (syntax.expression e no_expressions) (λ n. coded (operand_wording f listed z left n o).words ∷ []) (taken_behind_operand o)
+  operand_only : (t : TargetValue) (to : Target) (is : IsPlace g t to) (e : Expression) (o : OperandValue) → is_part (Some t) ≡ true → HasCore e → RewrittenOperand f g active listed z lefts before behind e o →
+      EachSame f g active listed z before (record { to = t; there = to; is = is } ∷ []) (syntax.expression e no_expressions) (λ n. coded (operand_wording f listed z lefts before n o).words ∷ []) (taken_behind_operand o)
   operand_only t (name_target text w) is e o part has written = name_no_part g text w t is part
   operand_only t (part_target on key on_local key_local) is e o part has written = record {
     same = λ m ahead final. ap (λ (x : Got ℕ). put 1 (Piece.Abc Op.SetTable on key x.value) x.after) (written.as_rk m (first_ahead e no_expressions (has, tt) m ahead) (part_final on key on_local key_local (code e) m final));
@@ -203,19 +203,19 @@ module _ {f : Function} {g : Fn} {active : List Active} {listed : List ℕ} {z :
 
   -- a value goes to the next register, the others come behind it, and then it is stored
   more_each : (one other : Placed g) (others : List (Placed g)) (e : Expression) (es : Expressions) (v : Value) (bare : Bool) (written : ℕ → List (Option Inner) → List Coded) (taken : ℕ → ℕ) → AllHaveCores (syntax.expression e es) →
-      Rewritten f g active listed z left behind e v → EachSame f g active listed z (other ∷ others) es (λ n. written n behind) taken →
-      EachSame f g active listed z (one ∷ other ∷ others) (syntax.expression e es) (λ n. coded (unless bare (wording f listed z left n v)).words ∷ written (taken_behind v n) (left_by v left)) (λ n. taken (taken_behind v n))
+      Rewritten f g active listed z lefts before behind e v → EachSame f g active listed z behind (other ∷ others) es (λ n. written n (lefts behind)) taken →
+      EachSame f g active listed z before (one ∷ other ∷ others) (syntax.expression e es) (λ n. coded (unless bare (wording f listed z lefts before n v)).words ∷ written (taken_behind v n) (left_by v (lefts before))) (λ n. taken (taken_behind v n))
   more_each one other others e es v bare written taken has first rest = record {
     same = λ m ahead final.
         let n = length m.constants in
-        ap (λ mid. stores m (written (taken_behind v n) (left_by v left)) mid) (next_wrapped bare (wording f listed z left n v) m ∙ next_same first m (first_ahead e es has m ahead) (first_final m final))
-        ∙ ap (λ n. stores m (written n (left_by v left)) (next_reg (code e) m)) (sym (next_taken first m (first_ahead e es has m ahead) (first_final m final)))
+        ap (λ mid. stores m (written (taken_behind v n) (left_by v (lefts before))) mid) (next_wrapped bare (wording f listed z lefts before n v) m ∙ next_same first m (first_ahead e es has m ahead) (first_final m final))
+        ∙ ap (λ n. stores m (written n (left_by v (lefts before))) (next_reg (code e) m)) (sym (next_taken first m (first_ahead e es has m ahead) (first_final m final)))
         ∙ ap (λ fs. stores m (written (length (next_reg (code e) m).constants) fs) (next_reg (code e) m)) first.leaves
-        ∙ ap (store_register 1 one.there m.free) (rest.same (next_reg (code e) m) (others_ahead e es has m ahead) (others_final e es m (behind_final m final)));
+        ∙ ap (store_register 1 one.there m.free) (rest.same (next_reg (code e) m) (others_ahead e es has m ahead first.makes) (others_final e es m (behind_final m final)));
     takes = λ m ahead final.
         register_taken made m.free one.to one.there (each_stored 1 (places (other ∷ others)) (codes_of es) (next_reg (code e) m)) one.is final
         ∙ ap (named_behind one.to)
-        (rest.takes (next_reg (code e) m) (others_ahead e es has m ahead) (others_final e es m (behind_final m final))
+        (rest.takes (next_reg (code e) m) (others_ahead e es has m ahead first.makes) (others_final e es m (behind_final m final))
         ∙ ap (λ n. all_named_behind (targets_of (other ∷ others)) (taken n)) (next_taken first m (first_ahead e es has m ahead) (first_final m final)));
   }
     where
@@ -237,63 +237,65 @@ module _ {f : Function} {g : Fn} {active : List Active} {listed : List ℕ} {z :
   at = place f.of listed f.short
 
   pub each_values : (placed : List (Placed g)) (es : Expressions) (before behind : ℕ) (vs : Values) → length (codes_of es) ≡ length (places placed) → is_part (last_target (targets_of placed)) ≡ false → AllHaveCores es → AllRewritten f g active listed z lefts es → AreCores g active es before behind vs →
-      EachSame f g active listed z placed es (λ n. values_coded (place f.of listed f.short) n (lefts before) vs true) (taken_behind_values vs)
+      EachSame f g active listed z before placed es (λ n. values_coded (place f.of listed f.short) n (lefts before) vs true) (taken_behind_values vs)
   each_values [] no_expressions before behind vs same no_part has written are = record { same = λ m ahead final. refl; takes = λ m ahead final. ap (λ vs. taken_behind_values vs (length m.constants)) (sym are.1) }
   each_values (one ∷ []) (syntax.expression e no_expressions) before behind vs same no_part has written (mid, (v, rest, core, (as_many, none), is)) =
-      subst (λ vs. EachSame f g active listed z (one ∷ []) (syntax.expression e no_expressions) (λ n. values_coded at n (lefts before) vs true) (taken_behind_values vs)) (sym (is ∙ ap (and_value v) none))
+      subst (λ vs. EachSame f g active listed z before (one ∷ []) (syntax.expression e no_expressions) (λ n. values_coded at n (lefts before) vs true) (taken_behind_values vs)) (sym (is ∙ ap (and_value v) none))
       (value_only made one.to one.there one.is e v true no_part has.0 (written.0 before mid v core))
   each_values (one ∷ other ∷ others) (syntax.expression e es) before behind vs same no_part has written (mid, (v, rest, core, are, is)) =
-      subst (λ vs. EachSame f g active listed z (one ∷ other ∷ others) (syntax.expression e es) (λ n. values_coded at n (lefts before) vs true) (taken_behind_values vs)) (sym is)
+      subst (λ vs. EachSame f g active listed z before (one ∷ other ∷ others) (syntax.expression e es) (λ n. values_coded at n (lefts before) vs true) (taken_behind_values vs)) (sym is)
       (more_each made one other others e es v (not ((ends_values rest && false) && can_be_several v)) (λ n fs. values_coded at n fs rest true) (taken_behind_values rest) has (written.0 before mid v core)
       (each_values (other ∷ others) es mid behind rest (omega (arith, same)) no_part has.1 written.1 are))
   each_values placed es before behind vs same no_part has written are = absurd (omega (arith, same))
 
   pub each_with_operand : (placed : List (Placed g)) (es : Expressions) (before behind : ℕ) (vs : Values) (o : OperandValue) → length (codes_of es) ≡ length (places placed) → is_part (last_target (targets_of placed)) ≡ true → AllHaveCores es → AllRewritten f g active listed z lefts es → EndWithOperand g active es o before behind vs →
-      EachSame f g active listed z placed es (λ n. with_operand_coded (place f.of listed f.short) n (lefts before) vs o) (λ n. taken_behind_operand o (taken_behind_values vs n))
+      EachSame f g active listed z before placed es (λ n. with_operand_coded (place f.of listed f.short) n (lefts before) vs o) (λ n. taken_behind_operand o (taken_behind_values vs n))
   each_with_operand [] es before behind vs o same part has written are = absurd (true≢false (sym part))
   each_with_operand placed no_expressions before behind vs o same part has written are = absurd are
   each_with_operand (one ∷ []) (syntax.expression e no_expressions) before behind vs o same part has written are =
-      subst (λ vs. EachSame f g active listed z (one ∷ []) (syntax.expression e no_expressions) (λ n. with_operand_coded at n (lefts before) vs o) (λ n. taken_behind_operand o (taken_behind_values vs n))) (sym are.0)
+      subst (λ vs. EachSame f g active listed z before (one ∷ []) (syntax.expression e no_expressions) (λ n. with_operand_coded at n (lefts before) vs o) (λ n. taken_behind_operand o (taken_behind_values vs n))) (sym are.0)
       (operand_only made one.to one.there one.is e o part has.0 (operand_rewritten lefts made e before behind o has.0 are.1 (written.0 before behind)))
   each_with_operand (one ∷ other ∷ others) (syntax.expression e (syntax.expression d es)) before behind vs o same part has written (mid, (v, rest, core, are, is)) =
       let more = syntax.expression d es in
-      subst (λ vs. EachSame f g active listed z (one ∷ other ∷ others) (syntax.expression e more) (λ n. with_operand_coded at n (lefts before) vs o) (λ n. taken_behind_operand o (taken_behind_values vs n))) (sym is)
+      subst (λ vs. EachSame f g active listed z before (one ∷ other ∷ others) (syntax.expression e more) (λ n. with_operand_coded at n (lefts before) vs o) (λ n. taken_behind_operand o (taken_behind_values vs n))) (sym is)
       (more_each made one other others e more v (not ((ends_values rest && false) && can_be_several v)) (λ n fs. with_operand_coded at n fs rest o) (λ n. taken_behind_operand o (taken_behind_values rest n)) has (written.0 before mid v core)
       (each_with_operand (other ∷ others) more mid behind rest o (omega (arith, same)) part has.1 written.1 are))
   each_with_operand placed es before behind vs o same part has written are = absurd (omega (arith, same))
 
 -- ---- how they are written
 
-module _ (f : Function) (listed : List ℕ) (z : Maker) (left behind : List (Option Inner)) (es : Expressions) where
+module _ (f : Function) (listed : List ℕ) (z : Maker) (lefts : ℕ → List (Option Inner)) (before behind : ℕ) (es : Expressions) where
   -- values, and an operand behind them
   pub record Written (vs : Values) (o : OperandValue) : Type 0 where
-    pub can : can_write_values (place f.of listed f.short) left vs ≡ true
-    -- the functions that are left between
-    pub mid : List (Option Inner)
-    pub leaves : left_by_values vs left ≡ mid
-    pub few : (n : ℕ) → (word_values (place f.of listed f.short) n left vs true).levels ≤ 3 * depth_of_expressions es + 3
-    pub last_can : can_write_operand (place f.of listed f.short) mid o ≡ true
-    pub last_leaves : left_by_operand o mid ≡ behind
-    pub last_few : (n : ℕ) → (operand_wording f listed z mid n o).levels ≤ 3 * depth_of_expressions es + 3
+    pub can : can_write_values (place f.of listed f.short) (lefts before) vs ≡ true
+    -- so many functions were made between
+    pub mid : ℕ
+    pub leaves : left_by_values vs (lefts before) ≡ lefts mid
+    pub makes : behind ≡ made_behind (mentions_in_all es) before
+    pub few : (n : ℕ) → (word_values (place f.of listed f.short) n (lefts before) vs true).levels ≤ 3 * depth_of_expressions es + 3
+    pub last_can : can_write_operand (place f.of listed f.short) (lefts mid) o ≡ true
+    pub last_leaves : left_by_operand o (lefts mid) ≡ lefts behind
+    pub last_few : (n : ℕ) → (operand_wording f listed z lefts mid n o).levels ≤ 3 * depth_of_expressions es + 3
 
 module _ {f : Function} {g : Fn} {active : List Active} {listed : List ℕ} {z : Maker} (lefts : ℕ → List (Option Inner)) (made : IsMadeBy f g active listed z) where
   pub operand_written : (es : Expressions) (before behind : ℕ) (vs : Values) (o : OperandValue) → AllHaveCores es → AllRewritten f g active listed z lefts es → EndWithOperand g active es o before behind vs →
-      Written f listed z (lefts before) (lefts behind) es vs o
+      Written f listed z lefts before behind es vs o
   operand_written no_expressions before behind vs o has written are = absurd are
   operand_written (syntax.expression e no_expressions) before behind vs o has written are =
       let last = operand_rewritten lefts made e before behind o has.0 are.1 (written.0 before behind) in
-      subst (λ vs. Written f listed z (lefts before) (lefts behind) (syntax.expression e no_expressions) vs o) (sym are.0)
-      (record { can = refl; mid = lefts before; leaves = refl; few = λ n. omega arith; last_can = last.can; last_leaves = last.leaves; last_few = λ n. omega (arith, last.few n) })
+      subst (λ vs. Written f listed z lefts before behind (syntax.expression e no_expressions) vs o) (sym are.0)
+      (record { can = refl; mid = before; leaves = refl; makes = last.makes ∙ sym (made_both (mentions_in e) [] before); few = λ n. omega arith; last_can = last.can; last_leaves = last.leaves; last_few = λ n. omega (arith, last.few n) })
   operand_written (syntax.expression e (syntax.expression d es)) before behind vs o has written (mid, (v, others, core, are, is)) =
       let at = place f.of listed f.short in
       let first = written.0 before mid v core in
       let bare = not ((ends_values others && false) && can_be_several v) in
       let rest = operand_written (syntax.expression d es) mid behind others o has.1 written.1 are in
-      subst (λ vs. Written f listed z (lefts before) (lefts behind) (syntax.expression e (syntax.expression d es)) vs o) (sym is) (record {
+      subst (λ vs. Written f listed z lefts before behind (syntax.expression e (syntax.expression d es)) vs o) (sym is) (record {
         can = both_hold _ _ first.can (ap (λ fs. can_write_values at fs others) first.leaves ∙ rest.can);
         mid = rest.mid;
         leaves = ap (left_by_values others) first.leaves ∙ rest.leaves;
-        few = λ n. omega (arith, first.few n, levels_wrapped bare (wording f listed z (lefts before) n v), ap (λ fs. (word_values at (taken_behind v n) fs others true).levels) first.leaves, rest.few (taken_behind v n));
+        makes = rest.makes ∙ ap (made_behind (mentions_in_all (syntax.expression d es))) first.makes ∙ sym (made_both (mentions_in e) (mentions_in_all (syntax.expression d es)) before);
+        few = λ n. omega (arith, first.few n, levels_wrapped bare (wording f listed z lefts before n v), ap (λ fs. (word_values at (taken_behind v n) fs others true).levels) first.leaves, rest.few (taken_behind v n));
         last_can = rest.last_can;
         last_leaves = rest.last_leaves;
         last_few = λ n. omega (arith, rest.last_few n);
@@ -319,7 +321,7 @@ nil_count (syntax.expression e es) = ap suc (nil_count es)
 module _ {f : Function} {g : Fn} {active : List Active} {listed : List ℕ} {z : Maker} (lefts : ℕ → List (Option Inner)) (made : IsMadeBy f g active listed z) where
   pub nil_all_rewritten : (es : Expressions) → AllRewritten f g active listed z lefts es → AllRewritten f g active listed z lefts (and_nil es)
   nil_all_rewritten no_expressions written = (
-    λ before behind v is. subst (λ (behind : ℕ). Rewritten f g active listed z (lefts before) (lefts behind) (parenthesized 1 (nil_literal 1)) v) (sym is.0) (parenthesized_rewritten 1 (nil_literal 1) v (nil_rewritten made 1 v is.1)),
+    λ before behind v is. subst (λ (behind : ℕ). Rewritten f g active listed z lefts before behind (parenthesized 1 (nil_literal 1)) v) (sym is.0) (parenthesized_rewritten 1 (nil_literal 1) v (nil_rewritten made 1 v is.1)),
     tt,
   )
   nil_all_rewritten (syntax.expression e es) written = (written.0, nil_all_rewritten es written.1)

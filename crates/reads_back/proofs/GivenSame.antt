@@ -18,13 +18,13 @@ use Rattle.scheme.specs.Lists.{all_multi, all_next, ends_open as opens, list_cou
 use Rattle.scheme.specs.Making.{Maker, constant}
 use Rattle.scheme.specs.Scheme.{all_coded, coded}
 use Rattle.scheme.specs.declared.making.Active.{Active}
-use Rattle.scheme_stands.proofs.Growth.{Final, before, before_put, before_take, calm, later}
+use Rattle.scheme_stands.proofs.Growth.{Final, before as before_part, before_put, before_take, calm, later}
 use Rattle.scheme_stands.proofs.Parts.{grow_all, grows, grows_next, grows_open}
 use Rattle.scheme_stands.specs.Words.{Fn}
 use Rattle.reads_back.specs.Cores.{AllHaveCores, AreCores, HasCore, HasNumber, IsCore, IsTextGiven, ends_open}
 use Rattle.reads_back.proofs.ConstantsSame.{constant_taken}
 use Rattle.reads_back.proofs.LiteralReads.{constant_there}
-use Rattle.reads_back.proofs.Mentions.{IsAhead, ahead_behind, ahead_front, mentions_in, mentions_in_all, Mention}
+use Rattle.reads_back.proofs.Mentions.{IsAhead, ahead_behind, ahead_front, mentions_in, mentions_in_all, Mention, made_behind, made_both}
 use Rattle.reads_back.proofs.PassedMentions.{mentions_passed, next_passes}
 use Rattle.reads_back.proofs.Rewriting.{IsMadeBy, Rewritten, RewrittenGiven, code, wording}
 use Rattle.reads_back.proofs.Tests.{both_hold}
@@ -69,16 +69,17 @@ opens_last e b is = ap is_multiple (coded_is (one_line_expression e)) ∙ same_m
 abbrev pub AllRewritten : Function → Fn → List Active → (listed : List ℕ) → Maker → (lefts : ℕ → List (Option Inner)) → Expressions → Type 0
 AllRewritten f g active listed z lefts no_expressions = Unit {0}
 AllRewritten f g active listed z lefts (syntax.expression e es) =
-    ((before behind : ℕ) (v : Value) → IsCore g active e before behind v → Rewritten f g active listed z (lefts before) (lefts behind) e v) × AllRewritten f g active listed z lefts es
+    ((before behind : ℕ) (v : Value) → IsCore g active e before behind v → Rewritten f g active listed z lefts before behind e v) × AllRewritten f g active listed z lefts es
 
-abbrev ListGiven : Function → Fn → List Active → (listed : List ℕ) → Maker → (left behind : List (Option Inner)) → Expressions → (all : Bool) → Values → Type 0
-ListGiven f g active listed z left behind es all values = RewrittenGiven f g active listed z left behind (argument_list es) (depth_of_expressions es) values all
+abbrev ListGiven : Function → Fn → List Active → (listed : List ℕ) → Maker → (lefts : ℕ → List (Option Inner)) (before behind : ℕ) → Expressions → (all : Bool) → Values → Type 0
+ListGiven f g active listed z lefts before behind es all values = RewrittenGiven f g active listed z lefts before behind (argument_list es) (depth_of_expressions es) values all
 
-module _ {f : Function} {g : Fn} {active : List Active} {listed : List ℕ} {z : Maker} {left behind : List (Option Inner)} where
-  none_given : (all : Bool) → left ≡ behind → ListGiven f g active listed z left behind no_expressions all no_values
+module _ {f : Function} {g : Fn} {active : List Active} {listed : List ℕ} {z : Maker} {lefts : ℕ → List (Option Inner)} {before behind : ℕ} where
+  none_given : (all : Bool) → behind ≡ before → ListGiven f g active listed z lefts before behind no_expressions all no_values
   none_given all same = record {
     can = refl;
-    leaves = same;
+    leaves = ap lefts (sym same);
+    makes = same;
     few = λ n. omega arith;
     counts = λ n. refl;
     part = λ m ahead final. refl;
@@ -87,75 +88,78 @@ module _ {f : Function} {g : Fn} {active : List Active} {listed : List ℕ} {z :
 
   -- ---- the last one
 
-  last_open : (e : Expression) (v : Value) → Rewritten f g active listed z left behind e v → true ≡ is_multiple e → ListGiven f g active listed z left behind (syntax.expression e no_expressions) true (and_value v no_values)
+  last_open : (e : Expression) (v : Value) → Rewritten f g active listed z lefts before behind e v → true ≡ is_multiple e → ListGiven f g active listed z lefts before behind (syntax.expression e no_expressions) true (and_value v no_values)
   last_open e v written is = record {
     can = both_hold _ true written.can refl;
     leaves = written.leaves;
+    makes = written.makes ∙ sym (made_both (mentions_in e) [] before);
     few = λ n. omega (arith, written.few n);
-    counts = λ n. count_by (coded (wording f listed z left n v).words ∷ []) true (written_opens n) ∙ sym (count_by (code e ∷ []) true (opens_last e true is));
+    counts = λ n. count_by (coded (wording f listed z lefts before n v).words ∷ []) true (written_opens n) ∙ sym (count_by (code e ∷ []) true (opens_last e true is));
     part = λ m ahead final.
-        open_by (coded (wording f listed z left (length m.constants) v).words ∷ []) true m (written_opens (length m.constants))
+        open_by (coded (wording f listed z lefts before (length m.constants) v).words ∷ []) true m (written_opens (length m.constants))
         ∙ written.multi (sym is) Op.Call None m (ahead_front (mentions_in e) [] ahead) (inner m final)
         ∙ sym (open_by (code e ∷ []) true m (opens_last e true is));
     taken = λ m ahead final. ap (λ (m : Maker). length m.constants) (open_by (code e ∷ []) true m (opens_last e true is)) ∙ written.multi_taken (sym is) Op.Call None m (ahead_front (mentions_in e) [] ahead) (inner m final);
   }
     where
-      written_opens : (n : ℕ) → opens (coded (wording f listed z left n v).words ∷ []) ≡ true
-      written_opens n = opens_one (wording f listed z left n v) true (written.several n ∙ written.gives (sym is))
+      written_opens : (n : ℕ) → opens (coded (wording f listed z lefts before n v).words ∷ []) ≡ true
+      written_opens n = opens_one (wording f listed z lefts before n v) true (written.several n ∙ written.gives (sym is))
 
       inner : (m : Maker) → Final (length m.labels) (open_list (code e ∷ []) m) z → Final (length m.labels) ((code e).multi Op.Call None m) z
       inner m final = subst (λ n. Final (length m.labels) n z) (open_by (code e ∷ []) true m (opens_last e true is)) final
 
-  last_closed : (e : Expression) (v : Value) → Rewritten f g active listed z left behind e v → false ≡ is_multiple e → ListGiven f g active listed z left behind (syntax.expression e no_expressions) false (and_value v no_values)
+  last_closed : (e : Expression) (v : Value) → Rewritten f g active listed z lefts before behind e v → false ≡ is_multiple e → ListGiven f g active listed z lefts before behind (syntax.expression e no_expressions) false (and_value v no_values)
   last_closed e v written is = record {
     can = both_hold _ true written.can refl;
     leaves = written.leaves;
-    few = λ n. omega (arith, written.few n, levels_wrapped (not (true && can_be_several v)) (wording f listed z left n v));
+    makes = written.makes ∙ sym (made_both (mentions_in e) [] before);
+    few = λ n. omega (arith, written.few n, levels_wrapped (not (true && can_be_several v)) (wording f listed z lefts before n v));
     counts = λ n. count_by (coded (last n).words ∷ []) false (written_closed n) ∙ sym (count_by (code e ∷ []) false (opens_last e false is));
     part = λ m ahead final.
         open_by (coded (last (length m.constants)).words ∷ []) false m (written_closed (length m.constants))
-        ∙ next_wrapped (not (true && can_be_several v)) (wording f listed z left (length m.constants) v) m
+        ∙ next_wrapped (not (true && can_be_several v)) (wording f listed z lefts before (length m.constants) v) m
         ∙ next_same written m (ahead_front (mentions_in e) [] ahead) (inner m final)
         ∙ sym (open_by (code e ∷ []) false m (opens_last e false is));
     taken = λ m ahead final. ap (λ (m : Maker). length m.constants) (open_by (code e ∷ []) false m (opens_last e false is)) ∙ next_taken written m (ahead_front (mentions_in e) [] ahead) (inner m final);
   }
     where
       last : (n : ℕ) → Wording
-      last n = unless (not (true && can_be_several v)) (wording f listed z left n v)
+      last n = unless (not (true && can_be_several v)) (wording f listed z lefts before n v)
 
       written_closed : (n : ℕ) → opens (coded (last n).words ∷ []) ≡ false
-      written_closed n = opens_one (last n) false (closed_unless (can_be_several v) (wording f listed z left n v) (written.several n))
+      written_closed n = opens_one (last n) false (closed_unless (can_be_several v) (wording f listed z lefts before n v) (written.several n))
 
       inner : (m : Maker) → Final (length m.labels) (open_list (code e ∷ []) m) z → Final (length m.labels) (next_reg (code e) m) z
       inner m final = subst (λ n. Final (length m.labels) n z) (open_by (code e ∷ []) false m (opens_last e false is)) final
 
-  last_given : (e : Expression) (v : Value) (all : Bool) → Rewritten f g active listed z left behind e v → all ≡ is_multiple e → ListGiven f g active listed z left behind (syntax.expression e no_expressions) all (and_value v no_values)
+  last_given : (e : Expression) (v : Value) (all : Bool) → Rewritten f g active listed z lefts before behind e v → all ≡ is_multiple e → ListGiven f g active listed z lefts before behind (syntax.expression e no_expressions) all (and_value v no_values)
   last_given e v true written is = last_open e v written is
   last_given e v false written is = last_closed e v written is
 
-module _ {f : Function} {g : Fn} {active : List Active} {listed : List ℕ} {z : Maker} {left mid behind : List (Option Inner)} where
+module _ {f : Function} {g : Fn} {active : List Active} {listed : List ℕ} {z : Maker} {lefts : ℕ → List (Option Inner)} {before mid behind : ℕ} where
   -- ---- one, and others behind it
 
-  more_given : (e d : Expression) (es : Expressions) (v w : Value) (rest : Values) (all : Bool) → HasCore e → Rewritten f g active listed z left mid e v → ListGiven f g active listed z mid behind (syntax.expression d es) all (and_value w rest) →
-      ListGiven f g active listed z left behind (syntax.expression e (syntax.expression d es)) all (and_value v (and_value w rest))
+  more_given : (e d : Expression) (es : Expressions) (v w : Value) (rest : Values) (all : Bool) → HasCore e → Rewritten f g active listed z lefts before mid e v → ListGiven f g active listed z lefts mid behind (syntax.expression d es) all (and_value w rest) →
+      ListGiven f g active listed z lefts before behind (syntax.expression e (syntax.expression d es)) all (and_value v (and_value w rest))
   more_given e d es v w rest all has first others = record {
     can = both_hold _ _ first.can (ap (λ fs. can_write_values (place f.of listed f.short) fs (and_value w rest)) first.leaves ∙ others.can);
     leaves = ap (left_by_values (and_value w rest)) first.leaves ∙ others.leaves;
+    makes = others.makes ∙ ap (made_behind rest_mentions) first.makes ∙ sym (made_both (mentions_in e) rest_mentions before);
     few = λ n.
         let same = ap (λ fs. (word_values (place f.of listed f.short) (taken_behind v n) fs (and_value w rest) all).levels) first.leaves in
         omega (arith, same, first.few n, others.few (taken_behind v n));
     counts = λ n.
-        count_more (coded (wording f listed z left n v).words) (second (taken_behind v n) (left_by v left)) (others_behind (taken_behind v n) (left_by v left))
+        count_more (coded (wording f listed z lefts before n v).words) (second (taken_behind v n) (left_by v (lefts before))) (others_behind (taken_behind v n) (left_by v (lefts before)))
         ∙ ap (λ fs. option_map suc (list_count (written (taken_behind v n) fs))) first.leaves
         ∙ ap (option_map suc) (others.counts (taken_behind v n))
         ∙ sym (count_more (code e) (code d) (all_coded (one_line_expressions es)));
     part = λ m ahead final.
-        let c = coded (wording f listed z left (length m.constants) v).words in
+        let c = coded (wording f listed z lefts before (length m.constants) v).words in
         let on = next_reg (code e) m in
         let before_rest = here m final in
-        open_more c (second (taken_behind v (length m.constants)) (left_by v left)) (others_behind (taken_behind v (length m.constants)) (left_by v left)) m
-        ∙ ap (open_list (written (taken_behind v (length m.constants)) (left_by v left))) (next_same first m (first_ahead m ahead) before_rest)
-        ∙ ap (λ n. open_list (written n (left_by v left)) on) (sym (next_taken first m (first_ahead m ahead) before_rest))
+        open_more c (second (taken_behind v (length m.constants)) (left_by v (lefts before))) (others_behind (taken_behind v (length m.constants)) (left_by v (lefts before))) m
+        ∙ ap (open_list (written (taken_behind v (length m.constants)) (left_by v (lefts before)))) (next_same first m (first_ahead m ahead) before_rest)
+        ∙ ap (λ n. open_list (written n (left_by v (lefts before))) on) (sym (next_taken first m (first_ahead m ahead) before_rest))
         ∙ ap (λ fs. open_list (written (length on.constants) fs) on) first.leaves
         ∙ others.part on (others_ahead m ahead) (final_behind m final)
         ∙ sym (open_more (code e) (code d) (all_coded (one_line_expressions es)) m);
@@ -182,16 +186,16 @@ module _ {f : Function} {g : Fn} {active : List Active} {listed : List ℕ} {z :
       inner m final = subst (λ n. Final (length m.labels) n z) (open_more (code e) (code d) (all_coded (one_line_expressions es)) m) final
 
       here : (m : Maker) → Final (length m.labels) (open_list (code e ∷ behind_first) m) z → Final (length m.labels) (next_reg (code e) m) z
-      here m final = before (grows_open {v = calm} behind_first (grow_all calm (one_line_expressions (syntax.expression d es))) (next_reg (code e) m)) (inner m final)
+      here m final = before_part (grows_open {v = calm} behind_first (grow_all calm (one_line_expressions (syntax.expression d es))) (next_reg (code e) m)) (inner m final)
 
       rest_mentions : List Mention
       rest_mentions = mentions_in_all (syntax.expression d es)
 
-      first_ahead : (m : Maker) → IsAhead g active (mentions_in e ++ rest_mentions) m → IsAhead g active (mentions_in e) m
+      first_ahead : (m : Maker) → IsAhead g active before (mentions_in e ++ rest_mentions) m → IsAhead g active before (mentions_in e) m
       first_ahead m ahead = ahead_front (mentions_in e) rest_mentions ahead
 
-      others_ahead : (m : Maker) → IsAhead g active (mentions_in e ++ rest_mentions) m → IsAhead g active rest_mentions (next_reg (code e) m)
-      others_ahead m ahead = ahead_behind (mentions_in e) rest_mentions (next_passes (mentions_in e) (code e) (mentions_passed e has) m) ahead
+      others_ahead : (m : Maker) → IsAhead g active before (mentions_in e ++ rest_mentions) m → IsAhead g active mid rest_mentions (next_reg (code e) m)
+      others_ahead m ahead = ahead_behind (mentions_in e) rest_mentions first.makes (next_passes (mentions_in e) (code e) (mentions_passed e has) m) ahead
 
       final_behind : (m : Maker) → Final (length m.labels) (open_list (code e ∷ behind_first) m) z → Final (length (next_reg (code e) m).labels) (open_list behind_first (next_reg (code e) m)) z
       final_behind m final = let grown = grows_next {v = calm} (code e) (grows calm (one_line_expression e)) m in later grown.more (inner m final)
@@ -199,23 +203,24 @@ module _ {f : Function} {g : Fn} {active : List Active} {listed : List ℕ} {z :
 module _ {f : Function} {g : Fn} {active : List Active} {listed : List ℕ} {z : Maker} (lefts : ℕ → List (Option Inner)) (made : IsMadeBy f g active listed z) where
   -- a list, of which the last one gives all its values or one
   pub list_rewritten : (es : Expressions) (before behind : ℕ) (values : Values) (all : Bool) → AllHaveCores es → AllRewritten f g active listed z lefts es → AreCores g active es before behind values → all ≡ ends_open es →
-      RewrittenGiven f g active listed z (lefts before) (lefts behind) (argument_list es) (depth_of_expressions es) values all
-  list_rewritten no_expressions before behind vs all have written are is = subst (ListGiven f g active listed z (lefts before) (lefts behind) no_expressions all) (sym are.1) (none_given all (ap lefts (sym are.0)))
+      RewrittenGiven f g active listed z lefts before behind (argument_list es) (depth_of_expressions es) values all
+  list_rewritten no_expressions before behind vs all have written are is = subst (ListGiven f g active listed z lefts before behind no_expressions all) (sym are.1) (none_given all are.0)
   list_rewritten (syntax.expression e no_expressions) before behind vs all have written (mid, (v, rest, core, (as_many, none), is_first)) is =
-      subst (ListGiven f g active listed z (lefts before) (lefts behind) (syntax.expression e no_expressions) all) (sym (is_first ∙ ap (and_value v) none))
-      (last_given e v all (subst (λ (made : ℕ). Rewritten f g active listed z (lefts before) (lefts made) e v) (sym as_many) (written.0 before mid v core)) is)
+      subst (ListGiven f g active listed z lefts before behind (syntax.expression e no_expressions) all) (sym (is_first ∙ ap (and_value v) none))
+      (last_given e v all (subst (λ (made : ℕ). Rewritten f g active listed z lefts before made e v) (sym as_many) (written.0 before mid v core)) is)
   list_rewritten (syntax.expression e (syntax.expression d es)) before behind vs all have written (mid, (v, rest, core, are, is_first)) is =
       let others = list_rewritten (syntax.expression d es) mid behind rest all have.1 written.1 are is in
       let more = are.1 in
-      subst (ListGiven f g active listed z (lefts before) (lefts behind) (syntax.expression e (syntax.expression d es)) all) (sym (is_first ∙ ap (and_value v) more.4))
-      (more_given e d es v more.0 more.1 all have.0 (written.0 before mid v core) (subst (ListGiven f g active listed z (lefts mid) (lefts behind) (syntax.expression d es) all) more.4 others))
+      subst (ListGiven f g active listed z lefts before behind (syntax.expression e (syntax.expression d es)) all) (sym (is_first ∙ ap (and_value v) more.4))
+      (more_given e d es v more.0 more.1 all have.0 (written.0 before mid v core) (subst (ListGiven f g active listed z lefts mid behind (syntax.expression d es) all) more.4 others))
 
-module _ {f : Function} {g : Fn} {active : List Active} {listed : List ℕ} {z : Maker} {left : List (Option Inner)} (made : IsMadeBy f g active listed z) where
+module _ {f : Function} {g : Fn} {active : List Active} {listed : List ℕ} {z : Maker} {lefts : ℕ → List (Option Inner)} {before : ℕ} (made : IsMadeBy f g active listed z) where
   -- the number of a string is the only value
-  text_given : (text : Text) (number : ℕ) → HasNumber g (Constant.Text text) number → RewrittenGiven f g active listed z left left (text_argument text) 1 (and_value (constant_value number) no_values) false
+  text_given : (text : Text) (number : ℕ) → HasNumber g (Constant.Text text) number → RewrittenGiven f g active listed z lefts before before (text_argument text) 1 (and_value (constant_value number) no_values) false
   text_given text number has = record {
     can = both_hold _ true (ap is_some there) refl;
     leaves = refl;
+    makes = refl;
     few = λ n. let same = ap (λ k. (constant_word k).levels) there in omega (arith, same);
     counts = λ n. ap (λ k. list_count (coded (constant_word k).words ∷ [])) there;
     part = λ m ahead final. ap (λ k. open_list (coded (constant_word k).words ∷ []) m) there;
@@ -227,9 +232,9 @@ module _ {f : Function} {g : Fn} {active : List Active} {listed : List ℕ} {z :
       there = constant_there number (Constant.Text text) made.is_function has.is
 
   -- a string alone, which is written as a list
-  pub text_rewritten_given : (text : Text) (values : Values) (all : Bool) → IsTextGiven g text values all → RewrittenGiven f g active listed z left left (text_argument text) 1 values all
+  pub text_rewritten_given : (text : Text) (values : Values) (all : Bool) → IsTextGiven g text values all → RewrittenGiven f g active listed z lefts before before (text_argument text) 1 values all
   text_rewritten_given text values all are =
       let known = are.0.1 in
-      subst (λ (all : Bool). RewrittenGiven f g active listed z left left (text_argument text) 1 values all) (sym are.1)
-      (subst (λ (vs : Values). RewrittenGiven f g active listed z left left (text_argument text) 1 vs false) (sym (are.0.2 ∙ ap (λ v. and_value v no_values) known.2))
+      subst (λ (all : Bool). RewrittenGiven f g active listed z lefts before before (text_argument text) 1 values all) (sym are.1)
+      (subst (λ (vs : Values). RewrittenGiven f g active listed z lefts before before (text_argument text) 1 vs false) (sym (are.0.2 ∙ ap (λ v. and_value v no_values) known.2))
       (text_given text known.0 known.1))

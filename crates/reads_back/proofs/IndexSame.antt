@@ -20,11 +20,11 @@ use Rattle.scheme.specs.Making.{Asks, Got, Maker, free_from, freeing, put}
 use Rattle.scheme.specs.Scheme.{coded}
 use Rattle.scheme.specs.declared.making.Active.{Active}
 use Rattle.scheme.specs.declared.making.Piece.{Piece}
-use Rattle.scheme_stands.proofs.Growth.{calm, Grown, Final, before, before_free, before_put, later}
+use Rattle.scheme_stands.proofs.Growth.{calm, Grown, Final, before as before_part, before_free, before_put, later}
 use Rattle.scheme_stands.proofs.Parts.{grows, grows_operand, grows_rk, grows_rk_text}
 use Rattle.scheme_stands.specs.Words.{Fn}
 use Rattle.reads_back.proofs.Deeper.{some_depth}
-use Rattle.reads_back.proofs.Mentions.{AskingPasses, IsAhead, ahead_behind, ahead_front, mentions_in, Mention}
+use Rattle.reads_back.proofs.Mentions.{AskingPasses, IsAhead, ahead_behind, ahead_front, mentions_in, Mention, made_behind, made_both}
 use Rattle.reads_back.proofs.Operators.{last_taken}
 use Rattle.reads_back.proofs.OperatorsSame.{few_more}
 use Rattle.reads_back.proofs.PassedMentions.{PassesMentions, operand_passes, rk_passes, rk_text_passes}
@@ -179,61 +179,63 @@ key_few None on key deep more first second = let all = few_more (max on.levels k
 key_few (Some name) on key deep more first second = let all = few_more on.levels in omega (arith, first, all)
 
 -- what is known of a key that asks so
-pub record KeySame (f : Function) (g : Fn) (active : List Active) (listed : List ℕ) (z : Maker) (left behind : List (Option Inner)) (asked : Asks ℕ) (mentions : List Mention) (key : OperandValue) (deep : ℕ) : Type 0 where
-  pub can : can_write_operand (place f.of listed f.short) left key ≡ true
-  pub leaves : left_by_operand key left ≡ behind
-  pub few : (n : ℕ) → (operand_wording f listed z left n key).levels ≤ 3 * deep + 3
+pub record KeySame (f : Function) (g : Fn) (active : List Active) (listed : List ℕ) (z : Maker) (lefts : ℕ → List (Option Inner)) (before behind : ℕ) (asked : Asks ℕ) (mentions : List Mention) (key : OperandValue) (deep : ℕ) : Type 0 where
+  pub can : can_write_operand (place f.of listed f.short) (lefts before) key ≡ true
+  pub leaves : left_by_operand key (lefts before) ≡ lefts behind
+  pub makes : behind ≡ made_behind mentions before
+  pub few : (n : ℕ) → (operand_wording f listed z lefts before n key).levels ≤ 3 * deep + 3
   pub passes : AskingPasses mentions asked
   pub grown : (m : Maker) → Grown calm m (asked m).after
-  pub as_rk : (m : Maker) → IsAhead g active mentions m → Final (length m.labels) (asked m).after z → rk (coded (operand_wording f listed z left (length m.constants) key).words) m ≡ asked m
-  pub taken : (m : Maker) → IsAhead g active mentions m → Final (length m.labels) (asked m).after z → length (asked m).after.constants ≡ taken_behind_operand key (length m.constants)
+  pub as_rk : (m : Maker) → IsAhead g active before mentions m → Final (length m.labels) (asked m).after z → rk (coded (operand_wording f listed z lefts before (length m.constants) key).words) m ≡ asked m
+  pub taken : (m : Maker) → IsAhead g active before mentions m → Final (length m.labels) (asked m).after z → length (asked m).after.constants ≡ taken_behind_operand key (length m.constants)
 
 -- as much of it as an index asks for, which has no names to come behind its key
-record KeyWritten (f : Function) (g : Fn) (active : List Active) (listed : List ℕ) (z : Maker) (left behind : List (Option Inner)) (asked : Asks ℕ) (mentions : List Mention) (key : OperandValue) (deep : ℕ) : Type 0 where
-  can : can_write_operand (place f.of listed f.short) left key ≡ true
-  leaves : left_by_operand key left ≡ behind
-  few : (n : ℕ) → (operand_wording f listed z left n key).levels ≤ 3 * deep + 3
+record KeyWritten (f : Function) (g : Fn) (active : List Active) (listed : List ℕ) (z : Maker) (lefts : ℕ → List (Option Inner)) (before behind : ℕ) (asked : Asks ℕ) (mentions : List Mention) (key : OperandValue) (deep : ℕ) : Type 0 where
+  can : can_write_operand (place f.of listed f.short) (lefts before) key ≡ true
+  leaves : left_by_operand key (lefts before) ≡ lefts behind
+  makes : behind ≡ made_behind mentions before
+  few : (n : ℕ) → (operand_wording f listed z lefts before n key).levels ≤ 3 * deep + 3
   grown : (m : Maker) → Grown calm m (asked m).after
-  as_rk : (m : Maker) → IsAhead g active mentions m → Final (length m.labels) (asked m).after z → rk (coded (operand_wording f listed z left (length m.constants) key).words) m ≡ asked m
-  taken : (m : Maker) → IsAhead g active mentions m → Final (length m.labels) (asked m).after z → length (asked m).after.constants ≡ taken_behind_operand key (length m.constants)
+  as_rk : (m : Maker) → IsAhead g active before mentions m → Final (length m.labels) (asked m).after z → rk (coded (operand_wording f listed z lefts before (length m.constants) key).words) m ≡ asked m
+  taken : (m : Maker) → IsAhead g active before mentions m → Final (length m.labels) (asked m).after z → length (asked m).after.constants ≡ taken_behind_operand key (length m.constants)
 
 -- the word behind both
 abbrev behind_key : (to : ℕ) → Maker → ℕ → Got ℕ → Maker
 behind_key to m x y = free_from m.free (put 1 (Piece.Abc Op.GetTable to x y.value) y.after)
 
-module _ {f : Function} {g : Fn} {active : List Active} {listed : List ℕ} {z : Maker} {left mid behind : List (Option Inner)} {on : Expression} {o : Value} {asked : Asks ℕ} {mentions : List Mention} {key : OperandValue} {deep : ℕ} {v : Value}
-    (first : Rewritten f g active listed z left mid on o) (second : KeyWritten f g active listed z mid behind asked mentions key deep) (made : made_index o key ≡ Some v) where
+module _ {f : Function} {g : Fn} {active : List Active} {listed : List ℕ} {z : Maker} {lefts : ℕ → List (Option Inner)} {before mid behind : ℕ} {on : Expression} {o : Value} {asked : Asks ℕ} {mentions : List Mention} {key : OperandValue} {deep : ℕ} {v : Value}
+    (first : Rewritten f g active listed z lefts before mid on o) (second : KeyWritten f g active listed z lefts mid behind asked mentions key deep) (made : made_index o key ≡ Some v) where
   is : Indexes (place f.of listed f.short) o key v
   is = indexes (place f.of listed f.short) o key v made
 
   -- what is written, where so many constants are taken behind the value
-  indexed_is : (n m : ℕ) → taken_behind o n ≡ m → wording f listed z left n v ≡ with_key (field_name (place f.of listed f.short) key) (as_prefix (wording f listed z left n o)) (operand_wording f listed z mid m key)
+  indexed_is : (n m : ℕ) → taken_behind o n ≡ m → wording f listed z lefts before n v ≡ with_key (field_name (place f.of listed f.short) key) (as_prefix (wording f listed z lefts before n o)) (operand_wording f listed z lefts mid m key)
   indexed_is n m taken =
       let at = place f.of listed f.short in
-      is.words n left
-      ∙ ap (λ fs. with_key (field_name at key) (as_prefix (wording f listed z left n o)) (word_operand at (taken_behind o n) fs key)) first.leaves
-      ∙ ap (λ n'. with_key (field_name at key) (as_prefix (wording f listed z left n o)) (word_operand at n' mid key)) taken
+      is.words n (lefts before)
+      ∙ ap (λ fs. with_key (field_name at key) (as_prefix (wording f listed z lefts before n o)) (word_operand at (taken_behind o n) fs key)) first.leaves
+      ∙ ap (λ n'. with_key (field_name at key) (as_prefix (wording f listed z lefts before n o)) (word_operand at n' (lefts mid) key)) taken
 
-  indexed_few : (n : ℕ) → (wording f listed z left n v).levels ≤ 3 * suc (max (depth_of_expression on) deep) + 2
+  indexed_few : (n : ℕ) → (wording f listed z lefts before n v).levels ≤ 3 * suc (max (depth_of_expression on) deep) + 2
   indexed_few n =
-      let w = wording f listed z left n o in
-      let u = operand_wording f listed z mid (taken_behind o n) key in
-      let same : (wording f listed z left n v).levels ≡ (with_key (field_name (place f.of listed f.short) key) (as_prefix w) u).levels = ap (λ w. w.levels) (indexed_is n (taken_behind o n) refl) in
+      let w = wording f listed z lefts before n o in
+      let u = operand_wording f listed z lefts mid (taken_behind o n) key in
+      let same : (wording f listed z lefts before n v).levels ≡ (with_key (field_name (place f.of listed f.short) key) (as_prefix w) u).levels = ap (λ w. w.levels) (indexed_is n (taken_behind o n) refl) in
       let one = levels_wrapped (is_prefix w.words) w in
       let all = key_few (field_name (place f.of listed f.short) key) (as_prefix w) u (3 * depth_of_expression on + 3) (3 * deep + 3) (omega (arith, first.few n, one)) (second.few (taken_behind o n)) in
       omega (arith, same, all)
 
-  indexed_can : suc (depth_of_expression on) ≤ 200 → can_write (place f.of listed f.short) left v ≡ true
+  indexed_can : suc (depth_of_expression on) ≤ 200 → can_write (place f.of listed f.short) (lefts before) v ≡ true
   indexed_can few =
       let more : suc (keys_of o) ≤ 200 = omega (arith, few, first.keys) in
-      is.can left more first.can (ap (λ fs. can_write_operand (place f.of listed f.short) fs key) first.leaves ∙ second.can)
+      is.can (lefts before) more first.can (ap (λ fs. can_write_operand (place f.of listed f.short) fs key) first.leaves ∙ second.can)
 
-  module _ (kept : PassesMentions (mentions_in on) (code on)) (to : ℕ) (m : Maker) (ahead : IsAhead g active (mentions_in on ++ mentions) m) (final : Final (length m.labels) (freeing (indexed_value 1 (code on) asked to) m) z) where
-    on_ahead : IsAhead g active (mentions_in on) m
+  module _ (kept : PassesMentions (mentions_in on) (code on)) (to : ℕ) (m : Maker) (ahead : IsAhead g active before (mentions_in on ++ mentions) m) (final : Final (length m.labels) (freeing (indexed_value 1 (code on) asked to) m) z) where
+    on_ahead : IsAhead g active before (mentions_in on) m
     on_ahead = ahead_front (mentions_in on) mentions ahead
 
-    key_ahead : IsAhead g active mentions (operand (code on) m).after
-    key_ahead = ahead_behind (mentions_in on) mentions (operand_passes (mentions_in on) (code on) kept m) ahead
+    key_ahead : IsAhead g active mid mentions (operand (code on) m).after
+    key_ahead = ahead_behind (mentions_in on) mentions first.makes (operand_passes (mentions_in on) (code on) kept m) ahead
 
     both_final : Final (length m.labels) (asked (operand (code on) m).after).after z
     both_final =
@@ -242,22 +244,22 @@ module _ {f : Function} {g : Fn} {active : List Active} {listed : List ℕ} {z :
         before_put 1 (Piece.Abc Op.GetTable to x.value y.value) y.after (before_free m.free (indexed_value 1 (code on) asked to m) final)
 
     front_final : Final (length m.labels) (operand (code on) m).after z
-    front_final = before (second.grown (operand (code on) m).after) both_final
+    front_final = before_part (second.grown (operand (code on) m).after) both_final
 
     behind_final : Final (length (operand (code on) m).after.labels) (asked (operand (code on) m).after).after z
     behind_final = let grown = grows_operand {v = calm} (code on) (grows calm (one_line_expression on)) m in later grown.more both_final
 
-    indexed_same : (coded (wording f listed z left (length m.constants) v).words).to_reg to m ≡ freeing (indexed_value 1 (code on) asked to) m
+    indexed_same : (coded (wording f listed z lefts before (length m.constants) v).words).to_reg to m ≡ freeing (indexed_value 1 (code on) asked to) m
     indexed_same =
         let at = place f.of listed f.short in
         let x = operand (code on) m in
         let m1 = x.after in
-        let w = wording f listed z left (length m.constants) o in
-        let u = operand_wording f listed z mid (length m1.constants) key in
+        let w = wording f listed z lefts before (length m.constants) o in
+        let u = operand_wording f listed z lefts mid (length m1.constants) key in
         ap (λ w. (coded w.words).to_reg to m) (indexed_is (length m.constants) (length m1.constants) (sym (operand_taken first m on_ahead front_final)))
         ∙ index_to (field_name at key) (as_prefix w) u to m
         ∙ ap (λ x. behind_key to m x.value (key_asks (field_name at key) u x.after)) (operand_wrapped (is_prefix w.words) w m ∙ operand_same first m on_ahead front_final)
-        ∙ ap (behind_key to m x.value) (key_asks_same at (length m1.constants) mid key m1 ∙ second.as_rk m1 key_ahead behind_final)
+        ∙ ap (behind_key to m x.value) (key_asks_same at (length m1.constants) (lefts mid) key m1 ∙ second.as_rk m1 key_ahead behind_final)
 
     indexed_taken : length (freeing (indexed_value 1 (code on) asked to) m).constants ≡ taken_behind v (length m.constants)
     indexed_taken =
@@ -267,13 +269,14 @@ module _ {f : Function} {g : Fn} {active : List Active} {listed : List ℕ} {z :
 
   -- an expression whose code this is
   indexed_rewritten : (e : Expression) → mentions_in e ≡ mentions_in on ++ mentions → suc (max (depth_of_expression on) deep) ≤ depth_of_expression e → depth_of_expression e ≤ 200 → is_name e ≡ false → fold e ≡ None → is_multiple e ≡ false →
-      ((to : ℕ) (m : Maker) → (code e).to_reg to m ≡ freeing (indexed_value 1 (code on) asked to) m) → PassesMentions (mentions_in on) (code on) → Rewritten f g active listed z left behind e v
+      ((to : ℕ) (m : Maker) → (code e).to_reg to m ≡ freeing (indexed_value 1 (code on) asked to) m) → PassesMentions (mentions_in on) (code on) → Rewritten f g active listed z lefts before behind e v
   indexed_rewritten e mentioned deeper shallow plain none single code_is kept =
       let name = field_name (place f.of listed f.short) key in
-      let ahead_of : (m : Maker) → IsAhead g active (mentions_in e) m → IsAhead g active (mentions_in on ++ mentions) m = λ m ahead. subst (λ mentions. IsAhead g active mentions m) mentioned ahead in
+      let ahead_of : (m : Maker) → IsAhead g active before (mentions_in e) m → IsAhead g active before (mentions_in on ++ mentions) m = λ m ahead. subst (λ mentions. IsAhead g active before mentions m) mentioned ahead in
       record {
         can = indexed_can (omega (arith, deeper, shallow));
-        leaves = is.unused left ∙ ap (left_by_operand key) first.leaves ∙ second.leaves;
+        leaves = is.unused (lefts before) ∙ ap (left_by_operand key) first.leaves ∙ second.leaves;
+        makes = second.makes ∙ ap (made_behind mentions) first.makes ∙ sym (made_both (mentions_in on) mentions before) ∙ ap (λ mentions. made_behind mentions before) (sym mentioned);
         named = λ n. ap (λ w. is_name w.words) (indexed_is n (taken_behind o n) refl) ∙ key_plain name _ _ ∙ sym plain;
         folded = λ n. ap (λ w. fold w.words) (indexed_is n (taken_behind o n) refl) ∙ key_folded name _ _ ∙ sym none;
         several = λ n. ap (λ w. is_multiple w.words) (indexed_is n (taken_behind o n) refl) ∙ key_single name _ _ ∙ sym is.several;
@@ -289,14 +292,15 @@ module _ {f : Function} {g : Fn} {active : List Active} {listed : List ℕ} {z :
 
 -- ---- expressions that are indexed
 
-module _ {f : Function} {g : Fn} {active : List Active} {listed : List ℕ} {z : Maker} {left mid behind : List (Option Inner)} where
+module _ {f : Function} {g : Fn} {active : List Active} {listed : List ℕ} {z : Maker} {lefts : ℕ → List (Option Inner)} {before mid behind : ℕ} where
   -- a tree is no deeper than 200, so it has no more keys one behind the other
   pub index_rewritten : (line : ℕ) (on key : Expression) (o : Value) (k : OperandValue) (v : Value) → depth_of_expression (index_expression line on key) ≤ 200 → PassesMentions (mentions_in on) (code on) →
-      Rewritten f g active listed z left mid on o → RewrittenOperand f g active listed z mid behind key k → made_index o k ≡ Some v → Rewritten f g active listed z left behind (index_expression line on key) v
+      Rewritten f g active listed z lefts before mid on o → RewrittenOperand f g active listed z lefts mid behind key k → made_index o k ≡ Some v → Rewritten f g active listed z lefts before behind (index_expression line on key) v
   index_rewritten line on key o k v shallow kept first second made =
-      let asks : KeyWritten f g active listed z mid behind (rk (code key)) (mentions_in key) k (depth_of_expression key) = record {
+      let asks : KeyWritten f g active listed z lefts mid behind (rk (code key)) (mentions_in key) k (depth_of_expression key) = record {
         can = second.can;
         leaves = second.leaves;
+        makes = second.makes;
         few = second.few;
         grown = grows_rk (code key) (grows calm (one_line_expression key));
         as_rk = second.as_rk;
@@ -305,17 +309,18 @@ module _ {f : Function} {g : Fn} {active : List Active} {listed : List ℕ} {z :
       indexed_rewritten first asks made (index_expression line on key) refl (omega arith) shallow refl refl refl (λ to m. refl) kept
 
   pub field_rewritten : (line : ℕ) (on : Expression) (text : Text) (o : Value) (k : OperandValue) (v : Value) → depth_of_expression (field_expression line on text) ≤ 200 → PassesMentions (mentions_in on) (code on) →
-      Rewritten f g active listed z left mid on o → KeySame f g active listed z mid behind (rk_text 1 text) [] k 1 → made_index o k ≡ Some v → Rewritten f g active listed z left behind (field_expression line on text) v
+      Rewritten f g active listed z lefts before mid on o → KeySame f g active listed z lefts mid behind (rk_text 1 text) [] k 1 → made_index o k ≡ Some v → Rewritten f g active listed z lefts before behind (field_expression line on text) v
   field_rewritten line on text o k v shallow kept first key made =
-      let asks : KeyWritten f g active listed z mid behind (rk_text 1 text) [] k 1 = record { can = key.can; leaves = key.leaves; few = key.few; grown = key.grown; as_rk = key.as_rk; taken = key.taken } in
+      let asks : KeyWritten f g active listed z lefts mid behind (rk_text 1 text) [] k 1 = record { can = key.can; leaves = key.leaves; makes = key.makes; few = key.few; grown = key.grown; as_rk = key.as_rk; taken = key.taken } in
       indexed_rewritten first asks made (field_expression line on text) (sym (append-nil (mentions_in on))) (omega (arith, some_depth on)) shallow refl refl refl (λ to m. refl) kept
 
-module _ {f : Function} {g : Fn} {active : List Active} {listed : List ℕ} {z : Maker} {left behind : List (Option Inner)} where
+module _ {f : Function} {g : Fn} {active : List Active} {listed : List ℕ} {z : Maker} {lefts : ℕ → List (Option Inner)} {before behind : ℕ} where
   -- a key that is an expression
-  pub expression_key : (key : Expression) (k : OperandValue) → PassesMentions (mentions_in key) (code key) → RewrittenOperand f g active listed z left behind key k → KeySame f g active listed z left behind (rk (code key)) (mentions_in key) k (depth_of_expression key)
+  pub expression_key : (key : Expression) (k : OperandValue) → PassesMentions (mentions_in key) (code key) → RewrittenOperand f g active listed z lefts before behind key k → KeySame f g active listed z lefts before behind (rk (code key)) (mentions_in key) k (depth_of_expression key)
   expression_key key k passed operand = record {
     can = operand.can;
     leaves = operand.leaves;
+    makes = operand.makes;
     few = operand.few;
     passes = rk_passes (mentions_in key) (code key) passed;
     grown = grows_rk (code key) (grows calm (one_line_expression key));
@@ -323,16 +328,17 @@ module _ {f : Function} {g : Fn} {active : List Active} {listed : List ℕ} {z :
     taken = operand.taken;
   }
 
-  pub key_deeper : {asked : Asks ℕ} {mentions : List Mention} {k : OperandValue} {deep more : ℕ} → deep ≤ more → KeySame f g active listed z left behind asked mentions k deep → KeySame f g active listed z left behind asked mentions k more
-  key_deeper deeper key = record { can = key.can; leaves = key.leaves; few = λ n. omega (arith, key.few n, deeper); passes = key.passes; grown = key.grown; as_rk = key.as_rk; taken = key.taken }
+  pub key_deeper : {asked : Asks ℕ} {mentions : List Mention} {k : OperandValue} {deep more : ℕ} → deep ≤ more → KeySame f g active listed z lefts before behind asked mentions k deep → KeySame f g active listed z lefts before behind asked mentions k more
+  key_deeper deeper key = record { can = key.can; leaves = key.leaves; makes = key.makes; few = λ n. omega (arith, key.few n, deeper); passes = key.passes; grown = key.grown; as_rk = key.as_rk; taken = key.taken }
 
   -- the name of a field is a string, which is an operand as one that is an expression of its own
-  pub text_key : (line : ℕ) (text : Text) (k : OperandValue) → RewrittenOperand f g active listed z left behind (text_literal line text) k → KeySame f g active listed z left behind (rk_text 1 text) [] k 1
+  pub text_key : (line : ℕ) (text : Text) (k : OperandValue) → RewrittenOperand f g active listed z lefts before behind (text_literal line text) k → KeySame f g active listed z lefts before behind (rk_text 1 text) [] k 1
   text_key line text k operand =
       let asked = text_asks text in
       record {
         can = operand.can;
         leaves = operand.leaves;
+        makes = operand.makes;
         few = operand.few;
         passes = rk_text_passes 1 text;
         grown = grows_rk_text 1 text;

@@ -27,7 +27,8 @@ use Rattle.reads_back.proofs.Rewriting.{IsMadeBy, Rewritten, code, keys_of}
 use Rattle.reads_back.proofs.WholeNumbers.{IsWhole}
 use Rattle.reads_back.proofs.WordsSame.{no_local}
 use Rattle.reads_back.proofs.NameReads.{IsListed}
-use Rattle.reads_back.proofs.Mentions.{IsAhead, Mention, name_mention}
+use Rattle.reads_back.proofs.Mentions.{IsAhead, Mention, name_mention, made_behind, mentions_in}
+use Rattle.reads_back.proofs.MentionsMeant.{folded_nameless}
 
 -- ---- no expression is without depth
 
@@ -49,13 +50,15 @@ record LoadsIt (k : Constant) (e : Expression) : Type 0 where
   named : is_name e ≡ false
   single : is_multiple e ≡ false
   folded : fold (literal_word k).words ≡ fold e
+  nameless : mentions_in e ≡ []
   as_loaded : (r : ℕ) (m : Maker) → (code e).to_reg r m ≡ loads r k m
 
-module _ {f : Function} {g : Fn} {active : List Active} {listed : List ℕ} {z : Maker} {left : List (Option Inner)} (made : IsMadeBy f g active listed z) where
-  loaded_rewritten : (e : Expression) (k : Constant) (number : ℕ) → HasNumber g k number → IsLoaded k → LoadsIt k e → Rewritten f g active listed z left left e (constant_value number)
+module _ {f : Function} {g : Fn} {active : List Active} {listed : List ℕ} {z : Maker} {lefts : ℕ → List (Option Inner)} {before : ℕ} (made : IsMadeBy f g active listed z) where
+  loaded_rewritten : (e : Expression) (k : Constant) (number : ℕ) → HasNumber g k number → IsLoaded k → LoadsIt k e → Rewritten f g active listed z lefts before before e (constant_value number)
   loaded_rewritten e k number has loaded it = record {
     can = ap is_some there;
     leaves = refl;
+    makes = ap (λ mentions. made_behind mentions before) (sym it.nameless);
     named = λ n. ap (λ (w : Wording). is_name w.words) word_is ∙ loaded.named ∙ sym it.named;
     folded = λ n. ap (λ (w : Wording). fold w.words) word_is ∙ it.folded;
     several = λ n. ap (λ (w : Wording). is_multiple w.words) word_is ∙ loaded.single;
@@ -76,26 +79,27 @@ module _ {f : Function} {g : Fn} {active : List Active} {listed : List ℕ} {z :
       word_is = ap constant_word there
 
   -- a folded number is the numeral of it
-  pub number_rewritten : (e : Expression) (n : ℤ) (v : Value) → IsWhole n → fold e ≡ Some n → IsConstant g (Constant.Number n) v → Rewritten f g active listed z left left e v
+  pub number_rewritten : (e : Expression) (n : ℤ) (v : Value) → IsWhole n → fold e ≡ Some n → IsConstant g (Constant.Number n) v → Rewritten f g active listed z lefts before before e v
   number_rewritten e n v whole is (number, has, same) =
-      subst (Rewritten f g active listed z left left e) (sym same)
+      subst (Rewritten f g active listed z lefts before before e) (sym same)
       (loaded_rewritten e (Constant.Number n) number has
       (record { named = numeral_plain n; single = numeral_single n; few = numeral_few n; as_loaded = numeral_loads n whole })
-      (record { named = number_no_name e n is; single = number_single e n is; folded = fold_numeral n whole ∙ sym is; as_loaded = number_loads e n is }))
+      (record { named = number_no_name e n is; single = number_single e n is; folded = fold_numeral n whole ∙ sym is; nameless = folded_nameless e n is; as_loaded = number_loads e n is }))
 
-  pub text_rewritten : (line : ℕ) (text : Text) (v : Value) → IsConstant g (Constant.Text text) v → Rewritten f g active listed z left left (text_literal line text) v
+  pub text_rewritten : (line : ℕ) (text : Text) (v : Value) → IsConstant g (Constant.Text text) v → Rewritten f g active listed z lefts before before (text_literal line text) v
   text_rewritten line text v (number, has, same) =
-      subst (Rewritten f g active listed z left left (text_literal line text)) (sym same)
+      subst (Rewritten f g active listed z lefts before before (text_literal line text)) (sym same)
       (loaded_rewritten (text_literal line text) (Constant.Text text) number has
       (record { named = refl; single = refl; few = omega arith; as_loaded = λ r m. refl })
-      (record { named = refl; single = refl; folded = refl; as_loaded = λ r m. refl }))
+      (record { named = refl; single = refl; folded = refl; nameless = refl; as_loaded = λ r m. refl }))
 
   -- ---- literals that are words
 
-  pub nil_rewritten : (line : ℕ) (v : Value) → v ≡ nil_value → Rewritten f g active listed z left left (nil_literal line) v
-  nil_rewritten line v is = subst (Rewritten f g active listed z left left (nil_literal line)) (sym is) (record {
+  pub nil_rewritten : (line : ℕ) (v : Value) → v ≡ nil_value → Rewritten f g active listed z lefts before before (nil_literal line) v
+  nil_rewritten line v is = subst (Rewritten f g active listed z lefts before before (nil_literal line)) (sym is) (record {
     can = refl;
     leaves = refl;
+    makes = refl;
     named = λ n. refl;
     folded = λ n. refl;
     several = λ n. refl;
@@ -109,10 +113,11 @@ module _ {f : Function} {g : Fn} {active : List Active} {listed : List ℕ} {z :
     multi_taken = λ several op want m ahead final. refl;
   })
 
-  pub true_rewritten : (line : ℕ) (v : Value) → v ≡ bool_value true → Rewritten f g active listed z left left (true_literal line) v
-  true_rewritten line v is = subst (Rewritten f g active listed z left left (true_literal line)) (sym is) (record {
+  pub true_rewritten : (line : ℕ) (v : Value) → v ≡ bool_value true → Rewritten f g active listed z lefts before before (true_literal line) v
+  true_rewritten line v is = subst (Rewritten f g active listed z lefts before before (true_literal line)) (sym is) (record {
     can = refl;
     leaves = refl;
+    makes = refl;
     named = λ n. refl;
     folded = λ n. refl;
     several = λ n. refl;
@@ -126,10 +131,11 @@ module _ {f : Function} {g : Fn} {active : List Active} {listed : List ℕ} {z :
     multi_taken = λ several op want m ahead final. refl;
   })
 
-  pub false_rewritten : (line : ℕ) (v : Value) → v ≡ bool_value false → Rewritten f g active listed z left left (false_literal line) v
-  false_rewritten line v is = subst (Rewritten f g active listed z left left (false_literal line)) (sym is) (record {
+  pub false_rewritten : (line : ℕ) (v : Value) → v ≡ bool_value false → Rewritten f g active listed z lefts before before (false_literal line) v
+  false_rewritten line v is = subst (Rewritten f g active listed z lefts before before (false_literal line)) (sym is) (record {
     can = refl;
     leaves = refl;
+    makes = refl;
     named = λ n. refl;
     folded = λ n. refl;
     several = λ n. refl;
@@ -143,10 +149,11 @@ module _ {f : Function} {g : Fn} {active : List Active} {listed : List ℕ} {z :
     multi_taken = λ several op want m ahead final. refl;
   })
 
-  pub vararg_rewritten : (line : ℕ) (v : Value) → v ≡ vararg_value → Rewritten f g active listed z left left (vararg_expression line) v
-  vararg_rewritten line v is = subst (Rewritten f g active listed z left left (vararg_expression line)) (sym is) (record {
+  pub vararg_rewritten : (line : ℕ) (v : Value) → v ≡ vararg_value → Rewritten f g active listed z lefts before before (vararg_expression line) v
+  vararg_rewritten line v is = subst (Rewritten f g active listed z lefts before before (vararg_expression line)) (sym is) (record {
     can = refl;
     leaves = refl;
+    makes = refl;
     named = λ n. refl;
     folded = λ n. refl;
     several = λ n. refl;
@@ -192,7 +199,7 @@ pub record IsWritten (f : Function) (listed : List ℕ) (left : List (Option Inn
 
 module _ {f : Function} {g : Fn} {active : List Active} {listed : List ℕ} {z : Maker} (made : IsMadeBy f g active listed z) where
   -- the name that comes next means what the scope finds
-  pub next_means : (text : Text) (w : Where) (others : List Mention) (m : Maker) → Means g.law active text w → IsAhead g active (name_mention text ∷ others) m → next_name m ≡ w
+  pub next_means : {before : ℕ} (text : Text) (w : Where) (others : List Mention) (m : Maker) → Means g.law active text w → IsAhead g active before (name_mention text ∷ others) m → next_name m ≡ w
   next_means text w others m means ahead =
       ap (where_is (head_or global_use m.ahead.names)) ahead.active_are ∙ made.certain text (where_is (head_or global_use m.ahead.names) active) w ahead.meant.0 means
 
@@ -219,11 +226,12 @@ module _ {f : Function} {g : Fn} {active : List Active} {listed : List ℕ} {z :
         subst (IsWritten f listed left text) (sym is) (record { can = ap is_some there; leaves = refl; word_is = λ n. ap name_word there; keys = refl })
     variable_written text in_globals v good there (number, has, is) = subst (IsWritten f listed left text) (sym is) (global_written text number good has)
 
-module _ {f : Function} {g : Fn} {active : List Active} {listed : List ℕ} {z : Maker} {left : List (Option Inner)} (made : IsMadeBy f g active listed z) where
-  pub name_rewritten : (line : ℕ) (text : Text) (v : Value) → is_good_name text ≡ true → IsNamed g active text v → Rewritten f g active listed z left left (name_expression line text) v
+module _ {f : Function} {g : Fn} {active : List Active} {listed : List ℕ} {z : Maker} {lefts : ℕ → List (Option Inner)} {before : ℕ} (made : IsMadeBy f g active listed z) where
+  pub name_rewritten : (line : ℕ) (text : Text) (v : Value) → is_good_name text ≡ true → IsNamed g active text v → Rewritten f g active listed z lefts before before (name_expression line text) v
   name_rewritten line text v good (w, means, is) = record {
     can = written.can;
     leaves = written.leaves;
+    makes = refl;
     named = λ n. ap (λ (w : Wording). is_name w.words) (written.word_is n);
     folded = λ n. ap (λ (w : Wording). fold w.words) (written.word_is n);
     several = λ n. ap (λ (w : Wording). is_multiple w.words) (written.word_is n) ∙ sym (variable_single g text w v is);
@@ -239,16 +247,17 @@ module _ {f : Function} {g : Fn} {active : List Active} {listed : List ℕ} {z :
     multi_taken = λ several. cc;
   }
     where
-      written : IsWritten f listed left text v
-      written = variable_written made left text w v good (made.all.listed_as text w means) is
+      written : IsWritten f listed (lefts before) text v
+      written = variable_written made (lefts before) text w v good (made.all.listed_as text w means) is
 
 -- ---- in parentheses
 
-module _ {f : Function} {g : Fn} {active : List Active} {listed : List ℕ} {z : Maker} {left behind : List (Option Inner)} where
-  pub parenthesized_rewritten : (line : ℕ) (e : Expression) (v : Value) → Rewritten f g active listed z left behind e v → Rewritten f g active listed z left behind (parenthesized line e) v
+module _ {f : Function} {g : Fn} {active : List Active} {listed : List ℕ} {z : Maker} {lefts : ℕ → List (Option Inner)} {before behind : ℕ} where
+  pub parenthesized_rewritten : (line : ℕ) (e : Expression) (v : Value) → Rewritten f g active listed z lefts before behind e v → Rewritten f g active listed z lefts before behind (parenthesized line e) v
   parenthesized_rewritten line e v rewritten = record {
     can = rewritten.can;
     leaves = rewritten.leaves;
+    makes = rewritten.makes;
     named = rewritten.named;
     folded = rewritten.folded;
     several = rewritten.several;

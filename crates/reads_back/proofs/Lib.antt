@@ -36,6 +36,7 @@ pub mod PassedMentions
 pub mod WordsSame
 pub mod ConstantsSame
 pub mod LeavesSame
+pub mod FunctionsSame
 pub mod GivenSame
 pub mod CallsSame
 pub mod ActsRead
@@ -76,6 +77,7 @@ pub mod ActsRewritten
 pub mod ActsFormed
 pub mod DeclaredLocals
 pub mod ListedLocals
+pub mod InnerNames
 pub mod StraightScopes
 pub mod DeclaredValues
 pub mod WordsLater

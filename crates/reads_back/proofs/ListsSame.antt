@@ -18,12 +18,12 @@ use Rattle.scheme.specs.Lists.{all_multi, all_next, ends_open as opens}
 use Rattle.scheme.specs.Making.{Maker}
 use Rattle.scheme.specs.Scheme.{all_coded, coded}
 use Rattle.scheme.specs.declared.making.Active.{Active}
-use Rattle.scheme_stands.proofs.Growth.{Final, before, calm, later}
+use Rattle.scheme_stands.proofs.Growth.{Final, before as before_part, calm, later}
 use Rattle.scheme_stands.proofs.Parts.{grow_all, grows, grows_all, grows_multi, grows_next}
 use Rattle.scheme_stands.specs.Words.{Fn}
 use Rattle.reads_back.specs.Cores.{AllHaveCores, AreCores, ends_open}
 use Rattle.reads_back.proofs.GivenSame.{AllRewritten, closed_unless}
-use Rattle.reads_back.proofs.Mentions.{IsAhead, ahead_behind, ahead_front, mentions_in, mentions_in_all}
+use Rattle.reads_back.proofs.Mentions.{IsAhead, ahead_behind, ahead_front, mentions_in, mentions_in_all, made_behind}
 use Rattle.reads_back.proofs.PassedMentions.{mentions_passed, next_passes}
 use Rattle.reads_back.proofs.Rewriting.{code, wording}
 use Rattle.reads_back.proofs.Tests.{not_so}
@@ -139,19 +139,19 @@ module _ (at : Place) where
 -- ---- the code
 
 -- what is known between the first one and the others
-module _ {g : Fn} {active : List Active} (e : Expression) (es : Expressions) (has : AllHaveCores (syntax.expression e es)) (m : Maker) (ahead : IsAhead g active (mentions_in e ++ mentions_in_all es) m) where
-  pub first_ahead : IsAhead g active (mentions_in e) m
+module _ {g : Fn} {active : List Active} {before : ℕ} (e : Expression) (es : Expressions) (has : AllHaveCores (syntax.expression e es)) (m : Maker) (ahead : IsAhead g active before (mentions_in e ++ mentions_in_all es) m) where
+  pub first_ahead : IsAhead g active before (mentions_in e) m
   first_ahead = ahead_front (mentions_in e) (mentions_in_all es) ahead
 
-  pub others_ahead : IsAhead g active (mentions_in_all es) (next_reg (code e) m)
-  others_ahead = ahead_behind (mentions_in e) (mentions_in_all es) (next_passes (mentions_in e) (code e) (mentions_passed e has.0) m) ahead
+  pub others_ahead : {mid : ℕ} → mid ≡ made_behind (mentions_in e) before → IsAhead g active mid (mentions_in_all es) (next_reg (code e) m)
+  others_ahead counts = ahead_behind (mentions_in e) (mentions_in_all es) counts (next_passes (mentions_in e) (code e) (mentions_passed e has.0) m) ahead
 
 module _ {z : Maker} (e : Expression) (es : Expressions) (m : Maker) where
   first_next : Final (length m.labels) (all_next (codes_of es) (next_reg (code e) m)) z → Final (length m.labels) (next_reg (code e) m) z
-  first_next final = before (grows_all {v = calm} (codes_of es) (grow_all calm (one_line_expressions es)) (next_reg (code e) m)) final
+  first_next final = before_part (grows_all {v = calm} (codes_of es) (grow_all calm (one_line_expressions es)) (next_reg (code e) m)) final
 
   first_multi : (op : Op) (want : Want) → Final (length m.labels) (all_multi op want (codes_of es) (next_reg (code e) m)) z → Final (length m.labels) (next_reg (code e) m) z
-  first_multi op want final = before (grows_multi {v = calm} op want (codes_of es) (grow_all calm (one_line_expressions es)) (next_reg (code e) m)) final
+  first_multi op want final = before_part (grows_multi {v = calm} op want (codes_of es) (grow_all calm (one_line_expressions es)) (next_reg (code e) m)) final
 
   pub others_final : {n : Maker} → Final (length m.labels) n z → Final (length (next_reg (code e) m).labels) n z
   others_final final = let grown = grows_next {v = calm} (code e) (grows calm (one_line_expression e)) m in later grown.more final
@@ -159,7 +159,7 @@ module _ {z : Maker} (e : Expression) (es : Expressions) (m : Maker) where
 module _ (f : Function) (g : Fn) (active : List Active) (listed : List ℕ) (z : Maker) (lefts : ℕ → List (Option Inner)) where
   -- each goes to the next register, whether the last one could give all its values or not
   pub next_all : (es : Expressions) (before behind : ℕ) (vs : Values) (all : Bool) → AllHaveCores es → AllRewritten f g active listed z lefts es → AreCores g active es before behind vs →
-      (m : Maker) → IsAhead g active (mentions_in_all es) m → Final (length m.labels) (all_next (codes_of es) m) z →
+      (m : Maker) → IsAhead g active before (mentions_in_all es) m → Final (length m.labels) (all_next (codes_of es) m) z →
       all_next (values_coded (place f.of listed f.short) (length m.constants) (lefts before) vs all) m ≡ all_next (codes_of es) m
   next_all no_expressions before behind vs all has written are m ahead final = ap (λ vs. all_next (values_coded (place f.of listed f.short) (length m.constants) (lefts before) vs all) m) are.1
   next_all (syntax.expression e es) before behind vs all has written (between, (v, rest, core, are, is)) m ahead final =
@@ -169,23 +169,23 @@ module _ (f : Function) (g : Fn) (active : List Active) (listed : List ℕ) (z :
       let here = first_next e es m final in
       ap (λ vs. all_next (values_coded at (length m.constants) (lefts before) vs all) m) is
       ∙ ap (all_next (values_coded at (taken_behind v (length m.constants)) (left_by v (lefts before)) rest all))
-      (next_wrapped (not ((ends_values rest && not all) && can_be_several v)) (wording f listed z (lefts before) (length m.constants) v) m ∙ next_same first m (first_ahead e es has m ahead) here)
+      (next_wrapped (not ((ends_values rest && not all) && can_be_several v)) (wording f listed z lefts before (length m.constants) v) m ∙ next_same first m (first_ahead e es has m ahead) here)
       ∙ ap (λ n. all_next (values_coded at n (left_by v (lefts before)) rest all) mid) (sym (next_taken first m (first_ahead e es has m ahead) here))
       ∙ ap (λ fs. all_next (values_coded at (length mid.constants) fs rest all) mid) first.leaves
-      ∙ next_all es between behind rest all has.1 written.1 are mid (others_ahead e es has m ahead) (others_final e es m final)
+      ∙ next_all es between behind rest all has.1 written.1 are mid (others_ahead e es has m ahead first.makes) (others_final e es m final)
 
   pub next_all_taken : (es : Expressions) (before behind : ℕ) (vs : Values) → AllHaveCores es → AllRewritten f g active listed z lefts es → AreCores g active es before behind vs →
-      (m : Maker) → IsAhead g active (mentions_in_all es) m → Final (length m.labels) (all_next (codes_of es) m) z → length (all_next (codes_of es) m).constants ≡ taken_behind_values vs (length m.constants)
+      (m : Maker) → IsAhead g active before (mentions_in_all es) m → Final (length m.labels) (all_next (codes_of es) m) z → length (all_next (codes_of es) m).constants ≡ taken_behind_values vs (length m.constants)
   next_all_taken no_expressions before behind vs has written are m ahead final = ap (λ vs. taken_behind_values vs (length m.constants)) (sym are.1)
   next_all_taken (syntax.expression e es) before behind vs has written (between, (v, rest, core, are, is)) m ahead final =
       let first = written.0 before between v core in
-      next_all_taken es between behind rest has.1 written.1 are (next_reg (code e) m) (others_ahead e es has m ahead) (others_final e es m final)
+      next_all_taken es between behind rest has.1 written.1 are (next_reg (code e) m) (others_ahead e es has m ahead first.makes) (others_final e es m final)
       ∙ ap (taken_behind_values rest) (next_taken first m (first_ahead e es has m ahead) (first_next e es m final))
       ∙ ap (λ vs. taken_behind_values vs (length m.constants)) (sym is)
 
   -- the last one gives several values, which are wanted
   pub multi_all : (op : Op) (want : Want) (es : Expressions) (before behind : ℕ) (vs : Values) → AllHaveCores es → AllRewritten f g active listed z lefts es → AreCores g active es before behind vs → ends_open es ≡ true →
-      (m : Maker) → IsAhead g active (mentions_in_all es) m → Final (length m.labels) (all_multi op want (codes_of es) m) z →
+      (m : Maker) → IsAhead g active before (mentions_in_all es) m → Final (length m.labels) (all_multi op want (codes_of es) m) z →
       all_multi op want (values_coded (place f.of listed f.short) (length m.constants) (lefts before) vs true) m ≡ all_multi op want (codes_of es) m
   multi_all op want no_expressions before behind vs has written are ends m ahead final = not_so ends
   multi_all op want (syntax.expression e no_expressions) before behind vs has written (between, (v, rest, core, are, is)) ends m ahead final =
@@ -205,10 +205,10 @@ module _ (f : Function) (g : Fn) (active : List Active) (listed : List ℕ) (z :
       ∙ ap (λ n. all_multi op want (values_coded at n (left_by v (lefts before)) (and_value more.0 more.1) true) mid) (sym (next_taken first m here_ahead here))
       ∙ ap (λ fs. all_multi op want (values_coded at (length mid.constants) fs (and_value more.0 more.1) true) mid) first.leaves
       ∙ ap (λ rest. all_multi op want (values_coded at (length mid.constants) (lefts between) rest true) mid) (sym rest_is)
-      ∙ multi_all op want (syntax.expression d es) between behind rest has.1 written.1 are ends mid (others_ahead e others has m ahead) (others_final e others m final)
+      ∙ multi_all op want (syntax.expression d es) between behind rest has.1 written.1 are ends mid (others_ahead e others has m ahead first.makes) (others_final e others m final)
 
   pub multi_all_taken : (op : Op) (want : Want) (es : Expressions) (before behind : ℕ) (vs : Values) → AllHaveCores es → AllRewritten f g active listed z lefts es → AreCores g active es before behind vs → ends_open es ≡ true →
-      (m : Maker) → IsAhead g active (mentions_in_all es) m → Final (length m.labels) (all_multi op want (codes_of es) m) z → length (all_multi op want (codes_of es) m).constants ≡ taken_behind_values vs (length m.constants)
+      (m : Maker) → IsAhead g active before (mentions_in_all es) m → Final (length m.labels) (all_multi op want (codes_of es) m) z → length (all_multi op want (codes_of es) m).constants ≡ taken_behind_values vs (length m.constants)
   multi_all_taken op want no_expressions before behind vs has written are ends m ahead final = not_so ends
   multi_all_taken op want (syntax.expression e no_expressions) before behind vs has written (between, (v, rest, core, are, is)) ends m ahead final =
       (written.0 before between v core).multi_taken ends op want m (ahead_front (mentions_in e) [] ahead) final
@@ -216,6 +216,6 @@ module _ (f : Function) (g : Fn) (active : List Active) (listed : List ℕ) (z :
   multi_all_taken op want (syntax.expression e (syntax.expression d es)) before behind vs has written (between, (v, rest, core, are, is)) ends m ahead final =
       let others = syntax.expression d es in
       let first = written.0 before between v core in
-      multi_all_taken op want (syntax.expression d es) between behind rest has.1 written.1 are ends (next_reg (code e) m) (others_ahead e others has m ahead) (others_final e others m final)
+      multi_all_taken op want (syntax.expression d es) between behind rest has.1 written.1 are ends (next_reg (code e) m) (others_ahead e others has m ahead first.makes) (others_final e others m final)
       ∙ ap (taken_behind_values rest) (next_taken first m (first_ahead e others has m ahead) (first_multi e others m op want final))
       ∙ ap (λ vs. taken_behind_values vs (length m.constants)) (sym is)

@@ -1,5 +1,5 @@
 -- What an expression mentions, in its order: names and functions; that what comes next in a function that is being made means what the scope finds by it; and what a part passes of it.
-use Rattle.std.proofs.Common.{◌≡◌, suc, Bool, false, List, [], ◌∷◌, ◌++◌, refl, sym, ap, ap₂, ◌∙◌, subst, drop, length}
+use Rattle.std.proofs.Common.{◌≡◌, suc, Bool, false, List, [], ◌∷◌, ◌++◌, refl, sym, ap, ap₂, ◌∙◌, subst, drop, length, ℕ}
 use Rattle.lua_num.specs.Bytes.{Text}
 use Rattle.lua_tree.specs.Scoping.{global_use}
 use Rattle.lua_tree.specs.Syntax as syntax
@@ -72,6 +72,25 @@ pub behind_both : (active : List Active) (names : List Text) (mentions others : 
 behind_both active names [] others c = refl
 behind_both active names (mention ∷ mentions) others c = behind_both active names mentions others (behind_mention active names mention c)
 
+-- how many functions were made behind these, where so many were made before
+abbrev pub made_behind : List Mention → ℕ → ℕ
+made_behind [] made = made
+made_behind (name_mention text ∷ mentions) made = made_behind mentions made
+made_behind (function_mention body method ∷ mentions) made = made_behind mentions (suc made)
+made_behind (locals_mention texts ∷ mentions) made = made_behind mentions made
+
+pub made_both : (mentions others : List Mention) (made : ℕ) → made_behind (mentions ++ others) made ≡ made_behind others (made_behind mentions made)
+made_both [] others made = refl
+made_both (name_mention text ∷ mentions) others made = made_both mentions others made
+made_both (function_mention body method ∷ mentions) others made = made_both mentions others (suc made)
+made_both (locals_mention texts ∷ mentions) others made = made_both mentions others made
+
+made_is : (active : List Active) (names : List Text) (mentions : List Mention) (c : Coming) → (coming_behind active names mentions c).functions ≡ made_behind mentions c.functions
+made_is active names [] c = refl
+made_is active names (name_mention text ∷ mentions) c = made_is active names mentions (behind_mention active names (name_mention text) c)
+made_is active names (function_mention body method ∷ mentions) c = made_is active names mentions (behind_mention active names (function_mention body method) c)
+made_is active names (locals_mention texts ∷ mentions) c = made_is active names mentions (behind_mention active names (locals_mention texts) c)
+
 -- ---- what it means
 
 abbrev pub IsMentionMeant : Fn → List Active → Mention → Coming → Type 0
@@ -132,20 +151,23 @@ AskingPasses mentions ask = (m : Maker) → Passed mentions m (ask m).after
 
 -- ---- what is known ahead of a part
 
--- these locals are active, and these mentions come next
-pub record IsAhead (g : Fn) (active : List Active) (mentions : List Mention) (m : Maker) : Type 0 where
+-- these locals are active, so many functions were made, and these mentions come next
+pub record IsAhead (g : Fn) (active : List Active) (made : ℕ) (mentions : List Mention) (m : Maker) : Type 0 where
   pub active_are : m.active ≡ active
   pub upvalues_are : m.upvalue_names ≡ g.upvalue_names
+  pub made_are : length m.functions ≡ made
   pub meant : AreMeant g active mentions (coming m)
 
 -- as much is known ahead of its first part, and behind it of the rest
-pub ahead_front : {g : Fn} {active : List Active} {m : Maker} (mentions others : List Mention) → IsAhead g active (mentions ++ others) m → IsAhead g active mentions m
-ahead_front {g} {active} {m} mentions others ahead = record { active_are = ahead.active_are; upvalues_are = ahead.upvalues_are; meant = front_meant g active mentions others (coming m) ahead.meant }
+pub ahead_front : {g : Fn} {active : List Active} {made : ℕ} {m : Maker} (mentions others : List Mention) → IsAhead g active made (mentions ++ others) m → IsAhead g active made mentions m
+ahead_front {g} {active} {m = m} mentions others ahead =
+    record { active_are = ahead.active_are; upvalues_are = ahead.upvalues_are; made_are = ahead.made_are; meant = front_meant g active mentions others (coming m) ahead.meant }
 
-pub ahead_behind : {g : Fn} {active : List Active} {m n : Maker} (mentions others : List Mention) → Passed mentions m n → IsAhead g active (mentions ++ others) m → IsAhead g active others n
-ahead_behind {g} {active} {m} {n} mentions others passed ahead = record {
+pub ahead_behind : {g : Fn} {active : List Active} {made behind : ℕ} {m n : Maker} (mentions others : List Mention) → behind ≡ made_behind mentions made → Passed mentions m n → IsAhead g active made (mentions ++ others) m → IsAhead g active behind others n
+ahead_behind {g} {active} {m = m} {n} mentions others counts passed ahead = record {
   active_are = ap (λ (around : Around). around.active) passed.around ∙ ahead.active_are;
   upvalues_are = ap (λ (around : Around). around.upvalue_names) passed.around ∙ ahead.upvalues_are;
+  made_are = ap (λ (c : Coming). c.functions) passed.behind ∙ made_is m.active m.upvalue_names mentions (coming m) ∙ ap (made_behind mentions) ahead.made_are ∙ sym counts;
   meant =
       let same : coming n ≡ coming_behind active g.upvalue_names mentions (coming m) = passed.behind ∙ ap₂ (λ active names. coming_behind active names mentions (coming m)) ahead.active_are ahead.upvalues_are in
       subst (AreMeant g active others) (sym same) (rest_meant g active mentions others (coming m) ahead.meant);

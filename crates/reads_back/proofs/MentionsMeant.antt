@@ -86,7 +86,7 @@ both_none : (mentions others : List Mention) → mentions ≡ [] → others ≡ 
 both_none mentions others first second = ap₂ (λ (mentions others : List Mention). mentions ++ others) first second
 
 -- only numbers are folded
-folded_nameless : (e : Expression) (n : ℤ) → fold e ≡ Some n → mentions_in e ≡ []
+pub folded_nameless : (e : Expression) (n : ℤ) → fold e ≡ Some n → mentions_in e ≡ []
 folded_nameless (number_literal line x) n is = refl
 folded_nameless (parenthesized line e) n is = folded_nameless e n is
 folded_nameless (unary_expression line op e) n is = let inside = folded_one op (fold e) n is in folded_nameless e inside.0 inside.1
@@ -106,7 +106,7 @@ literal_nameless_by : (folded : Option ℤ) (e : Expression) (k : Constant) → 
 literal_nameless_by (Some n) e k folded is = folded_nameless e n folded
 literal_nameless_by None e k folded is = plain_nameless e k is
 
-literal_nameless : (e : Expression) (k : Constant) → literal e ≡ Some k → mentions_in e ≡ []
+pub literal_nameless : (e : Expression) (k : Constant) → literal e ≡ Some k → mentions_in e ≡ []
 literal_nameless e k is = literal_nameless_by (fold e) e k refl is
 
 -- ---- the uses of an expression

@@ -16,7 +16,7 @@ use Rattle.scheme.specs.Expressions.{fold, is_small, literal, local_register, nu
 use Rattle.scheme.specs.Making.{Got, Maker}
 use Rattle.scheme.specs.Scheme.{coded}
 use Rattle.scheme.specs.declared.making.Active.{Active}
-use Rattle.scheme_stands.proofs.Growth.{Final, before, calm}
+use Rattle.scheme_stands.proofs.Growth.{Final, before as before_part, calm}
 use Rattle.scheme_stands.proofs.Parts.{grows, grows_operand, grows_rk}
 use Rattle.scheme_stands.specs.Expressions.{IsLarge}
 use Rattle.scheme_stands.specs.Words.{Fn}
@@ -25,11 +25,12 @@ use Rattle.reads_back.proofs.ConstantsSame.{before_load, constant_is, constant_t
 use Rattle.reads_back.proofs.Deeper.{some_depth}
 use Rattle.reads_back.proofs.LeavesSame.{text_rewritten}
 use Rattle.reads_back.proofs.PlainWords.{IsLoadable, IsShown, is_constant, is_nil, is_no_literal, is_truth, shown}
-use Rattle.reads_back.proofs.Mentions.{IsAhead, mentions_in}
+use Rattle.reads_back.proofs.Mentions.{IsAhead, mentions_in, made_behind}
 use Rattle.reads_back.proofs.Rewriting.{IsMadeBy, Rewritten, RewrittenOperand, code, operand_wording, wording}
 use Rattle.reads_back.proofs.Tests.{first_of_both, second_of_both}
 use Rattle.reads_back.proofs.WholeNumbers.{IsWhole, folded_whole}
 use Rattle.reads_back.proofs.WordsSame.{fold_wrapped, levels_wrapped, operand_final, operand_same, operand_taken, operand_wrapped, rk_large, rk_plain, rk_small, same_literal}
+use Rattle.reads_back.proofs.MentionsMeant.{literal_nameless}
 
 -- ---- literals
 
@@ -135,25 +136,26 @@ module _ {f : Function} {g : Fn} {active : List Active} {listed : List ℕ} {z :
 
   -- ---- what is written of a literal
 
-  loaded_text : (left : List (Option Inner)) (text : Text) (v : Value) → IsConstant g (Constant.Text text) v → (n : ℕ) → literal (wording f listed z left n v).words ≡ Some (Constant.Text text)
-  loaded_text left text v (number, has, same) n =
-      ap (λ (v : Value). literal (wording f listed z left n v).words) same
+  loaded_text : (lefts : ℕ → List (Option Inner)) (before : ℕ) (text : Text) (v : Value) → IsConstant g (Constant.Text text) v → (n : ℕ) → literal (wording f listed z lefts before n v).words ≡ Some (Constant.Text text)
+  loaded_text lefts before text v (number, has, same) n =
+      ap (λ (v : Value). literal (wording f listed z lefts before n v).words) same
       ∙ ap (λ there. literal (constant_word there).words) (constant_is made (Constant.Text text) number has)
 
-  plain_written : (left : List (Option Inner)) (e : Expression) (before behind : ℕ) (k : Constant) (v : Value) → plain_literal e ≡ Some k → IsCore g active e before behind v → (n : ℕ) → literal (wording f listed z left n v).words ≡ Some k
-  plain_written left (nil_literal line) before behind k v is core n = ap (λ (v : Value). literal (wording f listed z left n v).words) core.1 ∙ is
-  plain_written left (true_literal line) before behind k v is core n = ap (λ (v : Value). literal (wording f listed z left n v).words) core.1 ∙ is
-  plain_written left (false_literal line) before behind k v is core n = ap (λ (v : Value). literal (wording f listed z left n v).words) core.1 ∙ is
-  plain_written left (text_literal line text) before behind k v is core n = loaded_text left text v core.1 n ∙ is
-  plain_written left e before behind k v is core n = cc
+  plain_written : (lefts : ℕ → List (Option Inner)) (e : Expression) (before behind : ℕ) (k : Constant) (v : Value) → plain_literal e ≡ Some k → IsCore g active e before behind v → (n : ℕ) → literal (wording f listed z lefts before n v).words ≡ Some k
+  plain_written lefts (nil_literal line) before behind k v is core n = ap (λ (v : Value). literal (wording f listed z lefts before n v).words) core.1 ∙ is
+  plain_written lefts (true_literal line) before behind k v is core n = ap (λ (v : Value). literal (wording f listed z lefts before n v).words) core.1 ∙ is
+  plain_written lefts (false_literal line) before behind k v is core n = ap (λ (v : Value). literal (wording f listed z lefts before n v).words) core.1 ∙ is
+  plain_written lefts (text_literal line text) before behind k v is core n = loaded_text lefts before text v core.1 n ∙ is
+  plain_written lefts e before behind k v is core n = cc
 
-module _ {f : Function} {g : Fn} {active : List Active} {listed : List ℕ} {z : Maker} {left behind : List (Option Inner)} (made : IsMadeBy f g active listed z) where
+module _ {f : Function} {g : Fn} {active : List Active} {listed : List ℕ} {z : Maker} {lefts : ℕ → List (Option Inner)} {before behind : ℕ} (made : IsMadeBy f g active listed z) where
   -- ---- a constant with a small number
 
-  small_rewritten : (e : Expression) (k : Constant) (number : ℕ) → HasCore e → literal e ≡ Some k → HasNumber g k number → number ≤ 255 → left ≡ behind → RewrittenOperand f g active listed z left behind e (constant_operand number)
+  small_rewritten : (e : Expression) (k : Constant) (number : ℕ) → HasCore e → literal e ≡ Some k → HasNumber g k number → number ≤ 255 → behind ≡ before → RewrittenOperand f g active listed z lefts before behind e (constant_operand number)
   small_rewritten e k number cored is has small same = record {
     can = ap is_some there;
-    leaves = same;
+    leaves = ap lefts (sym same);
+    makes = same ∙ ap (λ mentions. made_behind mentions before) (sym (literal_nameless e k is));
     folded = λ n. fold_by (constant_word (slice_get f.of.constants number)).words ∙ ap number_in (word_literal ∙ sym is) ∙ sym (fold_by e);
     few = λ n. omega (arith, ap (λ (w : Wording). w.levels) word_is, word_few k, some_depth e);
     as_rk = λ m ahead final. rk_small (constant_word (slice_get f.of.constants number)).words k m word_literal (small_now m final) ∙ sym (is_small_constant m final);
@@ -170,26 +172,27 @@ module _ {f : Function} {g : Fn} {active : List Active} {listed : List ℕ} {z :
       word_literal = ap (λ (w : Wording). literal w.words) word_is ∙ word_is_literal k (literal_whole e k cored is)
 
       small_now : (m : Maker) → Final (length m.labels) (rk (code e) m).after z → is_small k m ≡ true
-      small_now m final = small_there made k number m has small (before (grows_rk {v = calm} (code e) (grows calm (one_line_expression e)) m) final)
+      small_now m final = small_there made k number m has small (before_part (grows_rk {v = calm} (code e) (grows calm (one_line_expression e)) m) final)
 
       is_small_constant : (m : Maker) → Final (length m.labels) (rk (code e) m).after z → rk (code e) m ≡ small_constant k m
       is_small_constant m final = rk_small (one_line_expression e) k m (same_literal e ∙ is) (small_now m final)
 
   -- ---- a value in a register
 
-  value_rewritten : (e : Expression) (v : Value) → Rewritten f g active listed z left behind e v → ((m : Maker) → Final (length m.labels) (rk (code e) m).after z → rk (code e) m ≡ operand (code e) m) →
-      ((m : Maker) (k : Constant) → IsAhead g active (mentions_in e) m → Final (length m.labels) (rk (code e) m).after z → Final (length m.labels) (operand (code e) m).after z → literal (operand_wording f listed z left (length m.constants) (value_operand v)).words ≡ Some k → is_small k m ≡ false) →
-      RewrittenOperand f g active listed z left behind e (value_operand v)
+  value_rewritten : (e : Expression) (v : Value) → Rewritten f g active listed z lefts before behind e v → ((m : Maker) → Final (length m.labels) (rk (code e) m).after z → rk (code e) m ≡ operand (code e) m) →
+      ((m : Maker) (k : Constant) → IsAhead g active before (mentions_in e) m → Final (length m.labels) (rk (code e) m).after z → Final (length m.labels) (operand (code e) m).after z → literal (operand_wording f listed z lefts before (length m.constants) (value_operand v)).words ≡ Some k → is_small k m ≡ false) →
+      RewrittenOperand f g active listed z lefts before behind e (value_operand v)
   value_rewritten e v rewritten own large = record {
     can = rewritten.can;
     leaves = rewritten.leaves;
-    folded = λ n. fold_wrapped (bare_at f listed n v) (wording f listed z left n v) ∙ rewritten.folded n;
-    few = λ n. omega (arith, levels_wrapped (bare_at f listed n v) (wording f listed z left n v), rewritten.few n);
+    makes = rewritten.makes;
+    folded = λ n. fold_wrapped (bare_at f listed n v) (wording f listed z lefts before n v) ∙ rewritten.folded n;
+    few = λ n. omega (arith, levels_wrapped (bare_at f listed n v) (wording f listed z lefts before n v), rewritten.few n);
     as_rk = λ m ahead final.
         let n = length m.constants in
         let final' = subst (λ (got : Got ℕ). Final (length m.labels) got.after z) (own m final) final in
-        not_small (operand_wording f listed z left n (value_operand v)).words m (λ k is. large m k ahead final final' is)
-        ∙ operand_wrapped (bare_at f listed n v) (wording f listed z left n v) m
+        not_small (operand_wording f listed z lefts before n (value_operand v)).words m (λ k is. large m k ahead final final' is)
+        ∙ operand_wrapped (bare_at f listed n v) (wording f listed z lefts before n v) m
         ∙ operand_same rewritten m ahead final'
         ∙ sym (own m final);
     taken = λ m ahead final.
@@ -200,23 +203,23 @@ module _ {f : Function} {g : Fn} {active : List Active} {listed : List ℕ} {z :
   -- ---- a literal with no small number
 
   -- where an expression is a literal, it is written as that literal
-  written_literal : (e : Expression) (before after : ℕ) (k : Constant) (v : Value) → literal e ≡ Some k → IsCore g active e before after v → Rewritten f g active listed z left behind e v → (n : ℕ) → literal (wording f listed z left n v).words ≡ Some k
-  written_literal e before after k v is core rewritten n = by (fold e) refl
+  written_literal : (e : Expression) (k : Constant) (v : Value) → literal e ≡ Some k → IsCore g active e before behind v → Rewritten f g active listed z lefts before behind e v → (n : ℕ) → literal (wording f listed z lefts before n v).words ≡ Some k
+  written_literal e k v is core rewritten n = by (fold e) refl
     where
-      by : (folded : Option ℤ) → fold e ≡ folded → literal (wording f listed z left n v).words ≡ Some k
+      by : (folded : Option ℤ) → fold e ≡ folded → literal (wording f listed z lefts before n v).words ≡ Some k
       by (Some number) known =
-          ap (λ folded. number_or folded (plain_literal (wording f listed z left n v).words)) (rewritten.folded n ∙ known)
+          ap (λ folded. number_or folded (plain_literal (wording f listed z lefts before n v).words)) (rewritten.folded n ∙ known)
           ∙ sym (ap (λ folded. number_or folded (plain_literal e)) known)
           ∙ is
-      by None known = plain_written made left e before after k v (plain_by (fold e) (plain_literal e) (Some k) known is) core n
+      by None known = plain_written made lefts e before behind k v (plain_by (fold e) (plain_literal e) (Some k) known is) core n
 
-  large_rewritten : (e : Expression) (before after : ℕ) (k : Constant) (v : Value) → literal e ≡ Some k → IsLarge g k → IsCore g active e before after v → Rewritten f g active listed z left behind e v → RewrittenOperand f g active listed z left behind e (value_operand v)
-  large_rewritten e before after k v is large core rewritten =
+  large_rewritten : (e : Expression) (k : Constant) (v : Value) → literal e ≡ Some k → IsLarge g k → IsCore g active e before behind v → Rewritten f g active listed z lefts before behind e v → RewrittenOperand f g active listed z lefts before behind e (value_operand v)
+  large_rewritten e k v is large core rewritten =
       value_rewritten e v rewritten
       (λ m final. rk_large (one_line_expression e) k m (same_literal e ∙ is) (large_now m final))
       (λ m other ahead final final' wrapped.
       let n = length m.constants in
-      let same = wrapped_literal (bare_at f listed n v) (wording f listed z left n v) k other (written_literal e before after k v is core rewritten n) wrapped in
+      let same = wrapped_literal (bare_at f listed n v) (wording f listed z lefts before n v) k other (written_literal e k v is core rewritten n) wrapped in
       subst (λ (k : Constant). is_small k m ≡ false) (sym same) (large_now m final))
     where
       large_now : (m : Maker) → Final (length m.labels) (rk (code e) m).after z → is_small k m ≡ false
@@ -225,7 +228,7 @@ module _ {f : Function} {g : Fn} {active : List Active} {listed : List ℕ} {z :
   -- ---- what is no literal
 
   -- what takes a constant is no local
-  constant_no_local : (e : Expression) (number : ℕ) (m : Maker) → Rewritten f g active listed z left behind e (constant_value number) → IsAhead g active (mentions_in e) m → local_register (one_line_expression e) m ≡ None
+  constant_no_local : (e : Expression) (number : ℕ) (m : Maker) → Rewritten f g active listed z lefts before behind e (constant_value number) → IsAhead g active before (mentions_in e) m → local_register (one_line_expression e) m ≡ None
   constant_no_local e number m rewritten ahead = by (local_register (one_line_expression e) m) refl
     where
       by : (local : Option ℕ) → local_register (one_line_expression e) m ≡ local → local ≡ None
@@ -233,7 +236,7 @@ module _ {f : Function} {g : Fn} {active : List Active} {listed : List ℕ} {z :
       by None is = refl
 
   -- a string with a large number
-  text_large : (e : Expression) (text : Text) (number : ℕ) (m : Maker) → HasNumber g (Constant.Text text) number → Rewritten f g active listed z left behind e (constant_value number) → IsAhead g active (mentions_in e) m → Final (length m.labels) (operand (code e) m).after z →
+  text_large : (e : Expression) (text : Text) (number : ℕ) (m : Maker) → HasNumber g (Constant.Text text) number → Rewritten f g active listed z lefts before behind e (constant_value number) → IsAhead g active before (mentions_in e) m → Final (length m.labels) (operand (code e) m).after z →
       is_bare (place f.of listed f.short) (length m.constants) (constant_value number) ≡ true → is_small (Constant.Text text) m ≡ false
   text_large e text number m has rewritten ahead final bare =
       not_up_to (constant_number (Constant.Text text) m.constants) (omega (arith, more, number_is made (Constant.Text text) number m has (before_load m.free (Constant.Text text) m (subst (λ (n : Maker). Final (length m.labels) n z) loaded (operand_final (one_line_expression e) m (constant_no_local e number m rewritten ahead) final)))))
@@ -247,8 +250,8 @@ module _ {f : Function} {g : Fn} {active : List Active} {listed : List ℕ} {z :
       loaded : (code e).to_reg m.free m ≡ loads m.free (Constant.Text text) m
       loaded = sym (rewritten.to_reg m.free m ahead (operand_final (one_line_expression e) m (constant_no_local e number m rewritten ahead) final)) ∙ ap (λ k. (coded (constant_word k).words).to_reg m.free m) there
 
-  constant_large : (e : Expression) (own : Constant) (number : ℕ) (m : Maker) (k : Constant) → IsLoadable own → HasNumber g own number → fold e ≡ None → Rewritten f g active listed z left behind e (constant_value number) → IsAhead g active (mentions_in e) m → Final (length m.labels) (operand (code e) m).after z →
-      is_bare (place f.of listed f.short) (length m.constants) (constant_value number) ≡ true → plain_literal (wording f listed z left (length m.constants) (constant_value number)).words ≡ Some k → is_small k m ≡ false
+  constant_large : (e : Expression) (own : Constant) (number : ℕ) (m : Maker) (k : Constant) → IsLoadable own → HasNumber g own number → fold e ≡ None → Rewritten f g active listed z lefts before behind e (constant_value number) → IsAhead g active before (mentions_in e) m → Final (length m.labels) (operand (code e) m).after z →
+      is_bare (place f.of listed f.short) (length m.constants) (constant_value number) ≡ true → plain_literal (wording f listed z lefts before (length m.constants) (constant_value number)).words ≡ Some k → is_small k m ≡ false
   constant_large e (Constant.Text text) number m k loadable has none rewritten ahead final bare plain =
       let there = constant_is made (Constant.Text text) number has in
       let same = same_Some (Constant.Text text) k (sym (ap (λ k. plain_literal (constant_word k).words) there) ∙ plain) in
@@ -259,21 +262,21 @@ module _ {f : Function} {g : Fn} {active : List Active} {listed : List ℕ} {z :
   constant_large e own number m k loadable has none rewritten ahead final bare plain = absurd loadable
 
   -- how a value is written that could be one
-  shown_large : (e : Expression) (v : Value) (m : Maker) (k : Constant) → fold e ≡ None → Rewritten f g active listed z left behind e v → IsShown g (place f.of listed f.short) left v → IsAhead g active (mentions_in e) m → Final (length m.labels) (operand (code e) m).after z →
-      is_bare (place f.of listed f.short) (length m.constants) v ≡ true → plain_literal (wording f listed z left (length m.constants) v).words ≡ Some k → is_small k m ≡ false
+  shown_large : (e : Expression) (v : Value) (m : Maker) (k : Constant) → fold e ≡ None → Rewritten f g active listed z lefts before behind e v → IsShown g (place f.of listed f.short) (lefts before) v → IsAhead g active before (mentions_in e) m → Final (length m.labels) (operand (code e) m).after z →
+      is_bare (place f.of listed f.short) (length m.constants) v ≡ true → plain_literal (wording f listed z lefts before (length m.constants) v).words ≡ Some k → is_small k m ≡ false
   shown_large e v m k none rewritten (is_nil is) ahead final =
-      subst (λ (v : Value). is_bare (place f.of listed f.short) (length m.constants) v ≡ true → plain_literal (wording f listed z left (length m.constants) v).words ≡ Some k → is_small k m ≡ false) (sym is)
-      (λ bare plain. subst (λ (k : Constant). is_small k m ≡ false) (same_Some Constant.Nil k plain) (no_small_number made Constant.Nil m refl bare (before (grows_operand {v = calm} (code e) (grows calm (one_line_expression e)) m) final)))
+      subst (λ (v : Value). is_bare (place f.of listed f.short) (length m.constants) v ≡ true → plain_literal (wording f listed z lefts before (length m.constants) v).words ≡ Some k → is_small k m ≡ false) (sym is)
+      (λ bare plain. subst (λ (k : Constant). is_small k m ≡ false) (same_Some Constant.Nil k plain) (no_small_number made Constant.Nil m refl bare (before_part (grows_operand {v = calm} (code e) (grows calm (one_line_expression e)) m) final)))
   shown_large e v m k none rewritten (is_truth b is) ahead final =
-      subst (λ (v : Value). is_bare (place f.of listed f.short) (length m.constants) v ≡ true → plain_literal (wording f listed z left (length m.constants) v).words ≡ Some k → is_small k m ≡ false) (sym is)
-      (truth_large made b m k (before (grows_operand {v = calm} (code e) (grows calm (one_line_expression e)) m) final))
+      subst (λ (v : Value). is_bare (place f.of listed f.short) (length m.constants) v ≡ true → plain_literal (wording f listed z lefts before (length m.constants) v).words ≡ Some k → is_small k m ≡ false) (sym is)
+      (truth_large made b m k (before_part (grows_operand {v = calm} (code e) (grows calm (one_line_expression e)) m) final))
   shown_large e v m k none rewritten (is_constant own number loadable has is) ahead final =
-      subst (λ (v : Value). is_bare (place f.of listed f.short) (length m.constants) v ≡ true → plain_literal (wording f listed z left (length m.constants) v).words ≡ Some k → is_small k m ≡ false) (sym is)
-      (constant_large e own number m k loadable has none (subst (Rewritten f g active listed z left behind e) is rewritten) ahead final)
+      subst (λ (v : Value). is_bare (place f.of listed f.short) (length m.constants) v ≡ true → plain_literal (wording f listed z lefts before (length m.constants) v).words ≡ Some k → is_small k m ≡ false) (sym is)
+      (constant_large e own number m k loadable has none (subst (Rewritten f g active listed z lefts before behind e) is rewritten) ahead final)
   shown_large e v m k none rewritten (is_no_literal never) ahead final = λ bare plain. let words = sym (never (length m.constants)) ∙ plain in cc
 
-  plain_rewritten : (e : Expression) (before after : ℕ) (v : Value) → literal e ≡ None → IsCore g active e before after v → Rewritten f g active listed z left behind e v → RewrittenOperand f g active listed z left behind e (value_operand v)
-  plain_rewritten e before after v is core rewritten =
+  plain_rewritten : (e : Expression) (v : Value) → literal e ≡ None → IsCore g active e before behind v → Rewritten f g active listed z lefts before behind e v → RewrittenOperand f g active listed z lefts before behind e (value_operand v)
+  plain_rewritten e v is core rewritten =
       value_rewritten e v rewritten
       (λ m final. rk_plain (one_line_expression e) m (same_literal e ∙ is))
       (λ m k ahead final final' wrapped. by m k ahead final' (is_bare (place f.of listed f.short) (length m.constants) v) refl wrapped)
@@ -281,10 +284,10 @@ module _ {f : Function} {g : Fn} {active : List Active} {listed : List ℕ} {z :
       none : fold e ≡ None
       none = fold_by e ∙ ap number_in is
 
-      by : (m : Maker) (k : Constant) → IsAhead g active (mentions_in e) m → Final (length m.labels) (operand (code e) m).after z → (bare : Bool) → is_bare (place f.of listed f.short) (length m.constants) v ≡ bare → literal (unless bare (wording f listed z left (length m.constants) v)).words ≡ Some k → is_small k m ≡ false
+      by : (m : Maker) (k : Constant) → IsAhead g active before (mentions_in e) m → Final (length m.labels) (operand (code e) m).after z → (bare : Bool) → is_bare (place f.of listed f.short) (length m.constants) v ≡ bare → literal (unless bare (wording f listed z lefts before (length m.constants) v)).words ≡ Some k → is_small k m ≡ false
       by m k ahead final true bare words =
           let n = length m.constants in
-          shown_large e v m k none rewritten (shown g active (place f.of listed f.short) left e before after v core rewritten.can) ahead final bare (plain_by (fold (wording f listed z left n v).words) (plain_literal (wording f listed z left n v).words) (Some k) (rewritten.folded n ∙ none) words)
+          shown_large e v m k none rewritten (shown g active (place f.of listed f.short) (lefts before) e before behind v core rewritten.can) ahead final bare (plain_by (fold (wording f listed z lefts before n v).words) (plain_literal (wording f listed z lefts before n v).words) (Some k) (rewritten.folded n ∙ none) words)
       by m k ahead final false bare words =
           let n = length m.constants in
           absurd (none_some k (sym (ap (λ folded. number_or folded None) (rewritten.folded n ∙ none)) ∙ words))
@@ -293,17 +296,17 @@ module _ {f : Function} {g : Fn} {active : List Active} {listed : List ℕ} {z :
           none_some k is = cc
 
 module _ {f : Function} {g : Fn} {active : List Active} {listed : List ℕ} {z : Maker} (lefts : ℕ → List (Option Inner)) (made : IsMadeBy f g active listed z) where
-  pub operand_rewritten : (e : Expression) (before behind : ℕ) (o : OperandValue) → HasCore e → IsOperand g active e before behind o → ((v : Value) → IsCore g active e before behind v → Rewritten f g active listed z (lefts before) (lefts behind) e v) →
-      RewrittenOperand f g active listed z (lefts before) (lefts behind) e o
+  pub operand_rewritten : (e : Expression) (before behind : ℕ) (o : OperandValue) → HasCore e → IsOperand g active e before behind o → ((v : Value) → IsCore g active e before behind v → Rewritten f g active listed z lefts before behind e v) →
+      RewrittenOperand f g active listed z lefts before behind e o
   operand_rewritten e before behind o has is written = by (literal e) refl is
     where
-      by : (k : Option Constant) → literal e ≡ k → IsOperandBy k g (IsCore g active e) before behind o → RewrittenOperand f g active listed z (lefts before) (lefts behind) e o
-      by (Some k) known (inl (as_many, (number, numbered, small, same))) = subst (RewrittenOperand f g active listed z (lefts before) (lefts behind) e) (sym same) (small_rewritten made e k number has known numbered small (ap lefts (sym as_many)))
-      by (Some k) known (inr (large, (v, core, same))) = subst (RewrittenOperand f g active listed z (lefts before) (lefts behind) e) (sym same) (large_rewritten made e before behind k v known large core (written v core))
-      by None known (v, core, same) = subst (RewrittenOperand f g active listed z (lefts before) (lefts behind) e) (sym same) (plain_rewritten made e before behind v known core (written v core))
+      by : (k : Option Constant) → literal e ≡ k → IsOperandBy k g (IsCore g active e) before behind o → RewrittenOperand f g active listed z lefts before behind e o
+      by (Some k) known (inl (as_many, (number, numbered, small, same))) = subst (RewrittenOperand f g active listed z lefts before behind e) (sym same) (small_rewritten made e k number has known numbered small as_many)
+      by (Some k) known (inr (large, (v, core, same))) = subst (RewrittenOperand f g active listed z lefts before behind e) (sym same) (large_rewritten made e k v known large core (written v core))
+      by None known (v, core, same) = subst (RewrittenOperand f g active listed z lefts before behind e) (sym same) (plain_rewritten made e v known core (written v core))
 
   -- the name of a field, as a string that is a key
-  pub key_rewritten : (line : ℕ) (text : Text) (before behind : ℕ) (o : OperandValue) → IsKey g text before behind o → RewrittenOperand f g active listed z (lefts before) (lefts behind) (text_literal line text) o
+  pub key_rewritten : (line : ℕ) (text : Text) (before behind : ℕ) (o : OperandValue) → IsKey g text before behind o → RewrittenOperand f g active listed z lefts before behind (text_literal line text) o
   key_rewritten line text before behind o is =
       operand_rewritten (text_literal line text) before behind o tt is
-      (λ v core. subst (λ (behind : ℕ). Rewritten f g active listed z (lefts before) (lefts behind) (text_literal line text) v) (sym core.0) (text_rewritten made line text v core.1))
+      (λ v core. subst (λ (behind : ℕ). Rewritten f g active listed z lefts before behind (text_literal line text) v) (sym core.0) (text_rewritten made line text v core.1))

@@ -272,7 +272,7 @@ further_pass : (uses : List Use) → Passes [] (further_words 1 uses)
 further_pass [] m = passed_none
 further_pass (one ∷ uses) m = passed_on (record { around = refl; behind = refl }) (further_pass uses (put 1 (further_word (where_is one m.active)) m))
 
-sources_named : (m : Maker) (uses : List Use) → source_names m uses ≡ map (captured_name m.active m.upvalue_names) uses
+pub sources_named : (m : Maker) (uses : List Use) → source_names m uses ≡ map (captured_name m.active m.upvalue_names) uses
 sources_named m [] = refl
 sources_named m (local_use declaration ∷ uses) = ap (λ names. name_of declaration m.active ∷ names) (sources_named m uses)
 sources_named m (upvalue_use slot ∷ uses) = ap (λ names. get_or m.upvalue_names slot [] ∷ names) (sources_named m uses)

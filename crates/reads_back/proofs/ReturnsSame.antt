@@ -24,7 +24,7 @@ use Rattle.reads_back.specs.Cores.{AllHaveCores, AreCores, HasCore, IsCore, ends
 use Rattle.reads_back.proofs.ActsFormed.{called_is}
 use Rattle.reads_back.proofs.GivenSame.{AllRewritten, closed_unless, list_rewritten}
 use Rattle.reads_back.proofs.ListsSame.{cores_few}
-use Rattle.reads_back.proofs.Mentions.{Passed, ahead_front, mentions_in, mentions_in_all, passed_none, passed_then}
+use Rattle.reads_back.proofs.Mentions.{Passed, ahead_front, mentions_in, mentions_in_all, passed_none, passed_then, made_both}
 use Rattle.reads_back.proofs.PassedMentions.{given_passed, mentions_passed, operand_passes}
 use Rattle.reads_back.proofs.Rewriting.{IsMadeBy, Rewritten, RewrittenAct, RewrittenGiven, code, wording}
 use Rattle.reads_back.proofs.Tests.{both_hold}
@@ -86,18 +86,19 @@ return_passes (syntax.expression e (syntax.expression d es)) has m =
 
 -- ---- what is written
 
-module _ (f : Function) (g : Fn) (active : List Active) (listed : List ℕ) (z : Maker) (left behind : List (Option Inner)) where
+module _ (f : Function) (g : Fn) (active : List Active) (listed : List ℕ) (z : Maker) (lefts : ℕ → List (Option Inner)) (before behind : ℕ) where
   abbrev ReturnsOne : Expression → Value → (all : Bool) → Type 0
-  ReturnsOne e v all = RewrittenAct f g active listed z left behind (return_statement (syntax.expression e no_expressions)) (returned (and_value v no_values) all)
+  ReturnsOne e v all = RewrittenAct f g active listed z lefts before behind (return_statement (syntax.expression e no_expressions)) (returned (and_value v no_values) all)
 
-module _ {f : Function} {g : Fn} {active : List Active} {listed : List ℕ} {z : Maker} {left behind : List (Option Inner)} where
-  returns_call : (e : Expression) (v : Value) → Rewritten f g active listed z left behind e v → is_call e ≡ true → ((n : ℕ) → is_call (wording f listed z left n v).words ≡ true) → ReturnsOne f g active listed z left behind e v true
+module _ {f : Function} {g : Fn} {active : List Active} {listed : List ℕ} {z : Maker} {lefts : ℕ → List (Option Inner)} {before behind : ℕ} where
+  returns_call : (e : Expression) (v : Value) → Rewritten f g active listed z lefts before behind e v → is_call e ≡ true → ((n : ℕ) → is_call (wording f listed z lefts before n v).words ≡ true) → ReturnsOne f g active listed z lefts before behind e v true
   returns_call e v written call written_call = record {
     can = both_hold _ true written.can refl;
     leaves = written.leaves;
+    makes = written.makes ∙ sym (made_both (mentions_in e) [] before);
     few = λ n. omega (arith, written.few n);
     made = λ m ahead final.
-        let w = (wording f listed z left (length m.constants) v).words in
+        let w = (wording f listed z lefts before (length m.constants) v).words in
         as_call (coded w) m (ap is_call (coded_is w) ∙ written_call (length m.constants))
         ∙ ap (put 1 (Piece.Abc Op.Return m.free 0 0)) (written.multi several Op.TailCall None m (ahead_front (mentions_in e) [] ahead) (inner m final))
         ∙ sym (call_returned e m call);
@@ -110,13 +111,14 @@ module _ {f : Function} {g : Fn} {active : List Active} {listed : List ℕ} {z :
       inner : (m : Maker) → Final (length m.labels) (return_part 1 (code e ∷ []) m) z → Final (length m.labels) ((code e).multi Op.TailCall None m) z
       inner m final = before_put 1 (Piece.Abc Op.Return m.free 0 0) ((code e).multi Op.TailCall None m) (subst (λ (n : Maker). Final (length m.labels) n z) (call_returned e m call) final)
 
-  returns_operand : (e : Expression) (v : Value) → Rewritten f g active listed z left behind e v → is_multiple e ≡ false → ReturnsOne f g active listed z left behind e v false
+  returns_operand : (e : Expression) (v : Value) → Rewritten f g active listed z lefts before behind e v → is_multiple e ≡ false → ReturnsOne f g active listed z lefts before behind e v false
   returns_operand e v written single = record {
     can = both_hold _ true written.can refl;
     leaves = written.leaves;
-    few = λ n. omega (arith, written.few n, levels_wrapped (not (true && can_be_several v)) (wording f listed z left n v));
+    makes = written.makes ∙ sym (made_both (mentions_in e) [] before);
+    few = λ n. omega (arith, written.few n, levels_wrapped (not (true && can_be_several v)) (wording f listed z lefts before n v));
     made = λ m ahead final.
-        let w = wording f listed z left (length m.constants) v in
+        let w = wording f listed z lefts before (length m.constants) v in
         let one = unless (not (true && can_be_several v)) w in
         as_operand (coded one.words) m (ap is_multiple (coded_is one.words) ∙ closed_unless (can_be_several v) w (written.several (length m.constants)))
         ∙ ap (λ (x : Got ℕ). put 1 (Piece.Abc Op.Return x.value 2 0) x.after) (operand_wrapped (not (true && can_be_several v)) w m ∙ operand_same written m (ahead_front (mentions_in e) [] ahead) (inner m final))
@@ -127,29 +129,31 @@ module _ {f : Function} {g : Fn} {active : List Active} {listed : List ℕ} {z :
       inner : (m : Maker) → Final (length m.labels) (return_part 1 (code e ∷ []) m) z → Final (length m.labels) (operand (code e) m).after z
       inner m final = let x = operand (code e) m in before_put 1 (Piece.Abc Op.Return x.value 2 0) x.after (subst (λ (n : Maker). Final (length m.labels) n z) (operand_returned e m single) final)
 
-  returns_vararg : (line : ℕ) (v : Value) → v ≡ vararg_value → left ≡ behind → ReturnsOne f g active listed z left behind (vararg_expression line) v true
-  returns_vararg line v is same = subst (λ v. ReturnsOne f g active listed z left behind (vararg_expression line) v true) (sym is) (record {
+  returns_vararg : (line : ℕ) (v : Value) → v ≡ vararg_value → behind ≡ before → ReturnsOne f g active listed z lefts before behind (vararg_expression line) v true
+  returns_vararg line v is same = subst (λ v. ReturnsOne f g active listed z lefts before behind (vararg_expression line) v true) (sym is) (record {
     can = refl;
-    leaves = same;
+    leaves = ap lefts (sym same);
+    makes = same;
     few = λ n. omega arith;
     made = λ m ahead final. refl;
     taken = λ m ahead final. refl;
   })
 
-  returns_one : (e : Expression) (before after : ℕ) (v : Value) → IsCore g active e before after v → (after ≡ before → left ≡ behind) → Rewritten f g active listed z left behind e v → ReturnsOne f g active listed z left behind e v (is_multiple e)
-  returns_one (call_expression line on args on_line) before after v is still_left written =
+  returns_one : (e : Expression) (v : Value) → IsCore g active e before behind v → Rewritten f g active listed z lefts before behind e v → ReturnsOne f g active listed z lefts before behind e v (is_multiple e)
+  returns_one (call_expression line on args on_line) v is written =
       let e = call_expression line on args on_line in
-      returns_call e v written refl (λ n. called_is (place f.of listed f.short) g active left e before after v n refl is)
-  returns_one (method_call line on name args on_line) before after v is still_left written =
+      returns_call e v written refl (λ n. called_is (place f.of listed f.short) g active (lefts before) e before behind v n refl is)
+  returns_one (method_call line on name args on_line) v is written =
       let e = method_call line on name args on_line in
-      returns_call e v written refl (λ n. called_is (place f.of listed f.short) g active left e before after v n refl is)
-  returns_one (vararg_expression line) before after v is still_left written = returns_vararg line v is.1 (still_left is.0)
-  returns_one e before after v is still_left written = returns_operand e v written refl
+      returns_call e v written refl (λ n. called_is (place f.of listed f.short) g active (lefts before) e before behind v n refl is)
+  returns_one (vararg_expression line) v is written = returns_vararg line v is.1 is.0
+  returns_one e v is written = returns_operand e v written refl
 
-  returns_none : (all : Bool) → left ≡ behind → RewrittenAct f g active listed z left behind (return_statement no_expressions) (returned no_values all)
+  returns_none : (all : Bool) → behind ≡ before → RewrittenAct f g active listed z lefts before behind (return_statement no_expressions) (returned no_values all)
   returns_none all same = record {
     can = refl;
-    leaves = same;
+    leaves = ap lefts (sym same);
+    makes = same;
     few = λ n. omega arith;
     made = λ m ahead final. refl;
     taken = λ m ahead final. refl;
@@ -157,15 +161,16 @@ module _ {f : Function} {g : Fn} {active : List Active} {listed : List ℕ} {z :
 
   -- several values are a list
   returns_list : (e d : Expression) (es : Expressions) (v w : Value) (rest : Values) (all : Bool) → let all_es = syntax.expression e (syntax.expression d es) in
-      RewrittenGiven f g active listed z left behind (argument_list all_es) (depth_of_expressions all_es) (and_value v (and_value w rest)) all →
-      ((n : ℕ) → (word_values (place f.of listed f.short) n left (and_value v (and_value w rest)) all).levels ≤ 3 * depth_of_expressions all_es + 3) →
-      RewrittenAct f g active listed z left behind (return_statement all_es) (returned (and_value v (and_value w rest)) all)
+      RewrittenGiven f g active listed z lefts before behind (argument_list all_es) (depth_of_expressions all_es) (and_value v (and_value w rest)) all →
+      ((n : ℕ) → (word_values (place f.of listed f.short) n (lefts before) (and_value v (and_value w rest)) all).levels ≤ 3 * depth_of_expressions all_es + 3) →
+      RewrittenAct f g active listed z lefts before behind (return_statement all_es) (returned (and_value v (and_value w rest)) all)
   returns_list e d es v w rest all given few = record {
     can = given.can;
     leaves = given.leaves;
+    makes = given.makes;
     few = λ n. omega (arith, few n);
     made = λ m ahead final.
-        let written = all_coded (word_values (place f.of listed f.short) (length m.constants) left (and_value v (and_value w rest)) all).words in
+        let written = all_coded (word_values (place f.of listed f.short) (length m.constants) (lefts before) (and_value v (and_value w rest)) all).words in
         ap (λ count. put 1 (Piece.Abc Op.Return m.free (count_field 1 count) 0) (open_list written m)) (given.counts (length m.constants))
         ∙ ap (put 1 (Piece.Abc Op.Return m.free (count_field 1 (list_count cs)) 0)) (given.part m ahead (inner m final));
     taken = λ m ahead final. given.taken m ahead (inner m final);
@@ -181,19 +186,19 @@ module _ {f : Function} {g : Fn} {active : List Active} {listed : List ℕ} {z :
 
 module _ {f : Function} {g : Fn} {active : List Active} {listed : List ℕ} {z : Maker} (lefts : ℕ → List (Option Inner)) (made : IsMadeBy f g active listed z) where
   pub return_rewritten_act : (es : Expressions) (before behind : ℕ) (vs : Values) (all : Bool) → AllHaveCores es → AllRewritten f g active listed z lefts es → AreCores g active es before behind vs → all ≡ ends_open es →
-      RewrittenAct f g active listed z (lefts before) (lefts behind) (return_statement es) (returned vs all)
+      RewrittenAct f g active listed z lefts before behind (return_statement es) (returned vs all)
   return_rewritten_act no_expressions before behind vs all has written are is =
-      subst (λ vs. RewrittenAct f g active listed z (lefts before) (lefts behind) (return_statement no_expressions) (returned vs all)) (sym are.1) (returns_none all (ap lefts (sym are.0)))
+      subst (λ vs. RewrittenAct f g active listed z lefts before behind (return_statement no_expressions) (returned vs all)) (sym are.1) (returns_none all are.0)
   return_rewritten_act (syntax.expression e no_expressions) before behind vs all has written (mid, (v, rest, core, (as_many, none), is_first)) is =
-      subst (λ all. RewrittenAct f g active listed z (lefts before) (lefts behind) (return_statement (syntax.expression e no_expressions)) (returned vs all)) (sym is)
-      (subst (λ vs. RewrittenAct f g active listed z (lefts before) (lefts behind) (return_statement (syntax.expression e no_expressions)) (returned vs (is_multiple e))) (sym (is_first ∙ ap (and_value v) none))
-      (subst (λ (made : ℕ). ReturnsOne f g active listed z (lefts before) (lefts made) e v (is_multiple e)) (sym as_many) (returns_one e before mid v core (λ same. ap lefts (sym same)) (written.0 before mid v core))))
+      subst (λ all. RewrittenAct f g active listed z lefts before behind (return_statement (syntax.expression e no_expressions)) (returned vs all)) (sym is)
+      (subst (λ vs. RewrittenAct f g active listed z lefts before behind (return_statement (syntax.expression e no_expressions)) (returned vs (is_multiple e))) (sym (is_first ∙ ap (and_value v) none))
+      (subst (λ (made : ℕ). ReturnsOne f g active listed z lefts before made e v (is_multiple e)) (sym as_many) (returns_one e v core (written.0 before mid v core))))
   return_rewritten_act (syntax.expression e (syntax.expression d es)) before behind vs all has written are is =
       let all_es = syntax.expression e (syntax.expression d es) in
       let first = are.1 in
       let more = first.3.1 in
       let same = first.4 ∙ ap (and_value first.0) more.4 in
-      subst (λ vs. RewrittenAct f g active listed z (lefts before) (lefts behind) (return_statement all_es) (returned vs all)) (sym same)
+      subst (λ vs. RewrittenAct f g active listed z lefts before behind (return_statement all_es) (returned vs all)) (sym same)
       (returns_list e d es first.0 more.0 more.1 all
-      (subst (λ vs. RewrittenGiven f g active listed z (lefts before) (lefts behind) (argument_list all_es) (depth_of_expressions all_es) vs all) same (list_rewritten lefts made all_es before behind vs all has written are is))
+      (subst (λ vs. RewrittenGiven f g active listed z lefts before behind (argument_list all_es) (depth_of_expressions all_es) vs all) same (list_rewritten lefts made all_es before behind vs all has written are is))
       (subst (λ vs. (n : ℕ) → (word_values (place f.of listed f.short) n (lefts before) vs all).levels ≤ 3 * depth_of_expressions all_es + 3) same (cores_few f g active listed z lefts all_es before behind vs all written are)))

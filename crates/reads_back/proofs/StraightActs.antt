@@ -26,7 +26,7 @@ use Rattle.reads_back.proofs.MarksSame.{ArePartsMade}
 use Rattle.reads_back.proofs.AssignmentStands.{assignment_forward, assignment_read}
 use Rattle.reads_back.proofs.PartsRead.{IsNoTable}
 use Rattle.reads_back.proofs.ReturnsRead.{return_forward, return_read}
-use Rattle.reads_back.proofs.Rewriting.{IsMadeBy, RewrittenAct}
+use Rattle.reads_back.proofs.Rewriting.{IsMadeBy, RewrittenAct, none_again}
 use Rattle.reads_back.proofs.TargetsCome.{ReadsTarget, ReadsTargets}
 use Rattle.reads_back.proofs.ValueReads.{call_read, reads_all}
 use Rattle.reads_back.proofs.WordsRead.{IsQuiet}
@@ -41,21 +41,21 @@ abbrev pub StartsWith : Function → Statement → Situation → (last : ℕ) �
 StartsWith f (local_statement names es) s last = StartHere f s.scope names last
 StartsWith f statement s last = Unit {0}
 
+-- no function is left, whatever was made
+abbrev pub none_left : ℕ → List (Option Inner)
+none_left made = []
+
 module _ {f : Function} {g : Fn} {active : List Active} {listed : List ℕ} {z : Maker} (made : IsMadeBy f g active listed z) where
   abbrev at : Place
   at = place f.of listed f.short
 
-  -- no function is left, whatever was made
-  abbrev none_left : ℕ → List (Option Inner)
-  none_left made = []
-
   all_written : (deep : ℕ) → deep ≤ 200 → AllWritten f g active listed z none_left deep
-  all_written deep low e has few = (rewritten_all none_left made e has (omega (arith, low, few))).value
+  all_written deep low e has few = (rewritten_all none_left made (none_again g none_left made.alone) e has (omega (arith, low, few))).value
 
   -- ---- what is written
 
   module _ (s : Statement) (is : IsAct s) (few : depth_of_statement s ≤ 65) where
-    pub written : (before behind : ℕ) (acted : Acted) → IsActed g active s before behind acted → RewrittenAct f g active listed z [] [] s acted
+    pub written : (before behind : ℕ) (acted : Acted) → IsActed g active s before behind acted → RewrittenAct f g active listed z none_left before behind s acted
     written before behind acted acts = act_rewritten none_left made 65 s before behind acted (all_written 65 (omega arith)) few is acts
 
     can : CanAct f g active listed none_left s

@@ -89,8 +89,8 @@ module _ {f : Function} {g : Fn} {z : Maker} (whole : IsWhole f g z) where
     pub here_final : Final (length m.labels) n z
     here_final = before_free (active_count n) n (before (all_grow rest (settle n) refl) next.final)
 
-    pub names_next : IsAhead g m.active (mentions_of_statement s) m
-    names_next = record { active_are = refl; upvalues_are = sym (statement_moves s next.straight.0.0 m).upvalues ∙ sym here_final.upvalues ∙ sym whole.upvalues; meant = (statement_meant g s next.straight.0.0 m.active n.active (spot m) (spot n) next.stand.0).meant }
+    pub names_next : IsAhead g m.active (length m.functions) (mentions_of_statement s) m
+    names_next = record { active_are = refl; upvalues_are = sym (statement_moves s next.straight.0.0 m).upvalues ∙ sym here_final.upvalues ∙ sym whole.upvalues; made_are = refl; meant = (statement_meant g s next.straight.0.0 m.active n.active (spot m) (spot n) next.stand.0).meant }
 
     listing_behind : IsListing f n.active n.locals (entries_from rest (settle n))
     listing_behind =

@@ -18,13 +18,13 @@ use Rattle.scheme.specs.Making.{Asks, Got, Maker, Part, free_from, freeing, put,
 use Rattle.scheme.specs.Scheme.{coded, entries}
 use Rattle.scheme.specs.declared.making.Active.{Active}
 use Rattle.scheme.specs.declared.making.Piece.{Piece}
-use Rattle.scheme_stands.proofs.Growth.{Final, Grown, before, before_free, before_put, calm, later}
+use Rattle.scheme_stands.proofs.Growth.{Final, Grown, before as before_part, before_free, before_put, calm, later}
 use Rattle.scheme_stands.proofs.Parts.{EntriesGrow, grow_entries, grows, grows_entries, grows_next, grows_rk, grows_set_list, grows_when}
 use Rattle.scheme_stands.specs.Lists.{is_last_item}
 use Rattle.scheme_stands.specs.Words.{Fn}
 use Rattle.reads_back.specs.Cores.{HasCore}
 use Rattle.reads_back.proofs.IndexSame.{KeySame, key_asks, key_asks_same}
-use Rattle.reads_back.proofs.Mentions.{IsAhead, Passed, ahead_behind, ahead_front, mentions_in, mentions_of_fields, Mention}
+use Rattle.reads_back.proofs.Mentions.{IsAhead, Passed, ahead_behind, ahead_front, mentions_in, mentions_of_fields, Mention, made_behind, made_both}
 use Rattle.reads_back.proofs.PassedMentions.{PassesMentions, mentions_passed, item_passes, next_passes, set_list_passes, when_passes}
 use Rattle.reads_back.proofs.Rewriting.{Rewritten, RewrittenGiven, RewrittenOperand, code, operand_wording, wording}
 use Rattle.reads_back.proofs.Tests.{both_hold}
@@ -61,31 +61,33 @@ closed_by t done pending c others m is = ap (λ b. cond b (open_entry 1 t done c
 abbrev keyed_from : (t done pending : ℕ) → Asks ℕ → Coded → List Entry → Part
 keyed_from t done pending asked c others m = entries_from 1 t done pending others (freeing (keyed_item 1 t asked c) m)
 
-module _ (f : Function) (listed : List ℕ) (z : Maker) (left : List (Option Inner)) where
+module _ (f : Function) (listed : List ℕ) (z : Maker) (lefts : ℕ → List (Option Inner)) (before : ℕ) where
   abbrev pub items_wording : ℕ → ItemList → (all : Bool) → FieldWording
-  items_wording n items all = word_items (place f.of listed f.short) n left items all
+  items_wording n items all = word_items (place f.of listed f.short) n (lefts before) items all
 
-module _ (f : Function) (g : Fn) (active : List Active) (listed : List ℕ) (z : Maker) (left behind : List (Option Inner)) where
+module _ (f : Function) (g : Fn) (active : List Active) (listed : List ℕ) (z : Maker) (lefts : ℕ → List (Option Inner)) (before behind : ℕ) where
   -- of the items of a constructor
   pub record RewrittenItems (fields : Fields) (deep : ℕ) (items : ItemList) (all : Bool) : Type 0 where
-    pub can : can_write_items (place f.of listed f.short) left items ≡ true
-    pub leaves : left_by_items items left ≡ behind
-    pub few : (n : ℕ) → (items_wording f listed z left n items all).levels ≤ 3 * deep + 3
-    pub last : (n : ℕ) → is_last (entries (items_wording f listed z left n items all).words) ≡ is_last (entries (one_line_fields fields))
-    pub positions : (n : ℕ) → positional_count (entries (items_wording f listed z left n items all).words) ≡ positional_count (entries (one_line_fields fields))
-    pub others : (n : ℕ) → other_count (entries (items_wording f listed z left n items all).words) ≡ other_count (entries (one_line_fields fields))
-    pub part : (t done pending : ℕ) (m : Maker) → IsAhead g active (mentions_of_fields fields) m → Final (length m.labels) (entries_from 1 t done pending (entries (one_line_fields fields)) m) z →
-        entries_from 1 t done pending (entries (items_wording f listed z left (length m.constants) items all).words) m ≡ entries_from 1 t done pending (entries (one_line_fields fields)) m
-    pub taken : (t done pending : ℕ) (m : Maker) → IsAhead g active (mentions_of_fields fields) m → Final (length m.labels) (entries_from 1 t done pending (entries (one_line_fields fields)) m) z →
+    pub can : can_write_items (place f.of listed f.short) (lefts before) items ≡ true
+    pub leaves : left_by_items items (lefts before) ≡ lefts behind
+    pub makes : behind ≡ made_behind (mentions_of_fields fields) before
+    pub few : (n : ℕ) → (items_wording f listed z lefts before n items all).levels ≤ 3 * deep + 3
+    pub last : (n : ℕ) → is_last (entries (items_wording f listed z lefts before n items all).words) ≡ is_last (entries (one_line_fields fields))
+    pub positions : (n : ℕ) → positional_count (entries (items_wording f listed z lefts before n items all).words) ≡ positional_count (entries (one_line_fields fields))
+    pub others : (n : ℕ) → other_count (entries (items_wording f listed z lefts before n items all).words) ≡ other_count (entries (one_line_fields fields))
+    pub part : (t done pending : ℕ) (m : Maker) → IsAhead g active before (mentions_of_fields fields) m → Final (length m.labels) (entries_from 1 t done pending (entries (one_line_fields fields)) m) z →
+        entries_from 1 t done pending (entries (items_wording f listed z lefts before (length m.constants) items all).words) m ≡ entries_from 1 t done pending (entries (one_line_fields fields)) m
+    pub taken : (t done pending : ℕ) (m : Maker) → IsAhead g active before (mentions_of_fields fields) m → Final (length m.labels) (entries_from 1 t done pending (entries (one_line_fields fields)) m) z →
         length (entries_from 1 t done pending (entries (one_line_fields fields)) m).constants ≡ taken_behind_items items (length m.constants)
 
-module _ {f : Function} {g : Fn} {active : List Active} {listed : List ℕ} {z : Maker} {left behind : List (Option Inner)} where
+module _ {f : Function} {g : Fn} {active : List Active} {listed : List ℕ} {z : Maker} {lefts : ℕ → List (Option Inner)} {before behind : ℕ} where
   -- ---- no more items
 
-  pub none_rewritten : (deep : ℕ) (all : Bool) → left ≡ behind → RewrittenItems f g active listed z left behind no_fields deep no_items all
+  pub none_rewritten : (deep : ℕ) (all : Bool) → behind ≡ before → RewrittenItems f g active listed z lefts before behind no_fields deep no_items all
   none_rewritten deep all same = record {
     can = refl;
-    leaves = same;
+    leaves = ap lefts (sym same);
+    makes = same;
     few = λ n. omega arith;
     last = λ n. refl;
     positions = λ n. refl;
@@ -96,17 +98,18 @@ module _ {f : Function} {g : Fn} {active : List Active} {listed : List ℕ} {z :
 
   -- ---- a last one, of which all values go into the table
 
-  pub open_rewritten : (e : Expression) (separator : Separator) (v : Value) (deep : ℕ) → depth_of_expression e ≤ deep → Rewritten f g active listed z left behind e v → is_multiple e ≡ true →
-      RewrittenItems f g active listed z left behind (positional e separator no_fields) deep (and_positional v no_items) true
+  pub open_rewritten : (e : Expression) (separator : Separator) (v : Value) (deep : ℕ) → depth_of_expression e ≤ deep → Rewritten f g active listed z lefts before behind e v → is_multiple e ≡ true →
+      RewrittenItems f g active listed z lefts before behind (positional e separator no_fields) deep (and_positional v no_items) true
   open_rewritten e separator v deep deeper written is = record {
     can = both_hold _ true written.can refl;
     leaves = written.leaves;
+    makes = written.makes ∙ sym (made_both (mentions_in e) [] before);
     few = λ n. omega (arith, written.few n, deeper);
     last = λ n. refl;
     positions = λ n. ap (λ (b : Bool). cond b 0 1) (several n) ∙ sym (ap (λ (b : Bool). cond b 0 1) of_code);
     others = λ n. refl;
     part = λ t done pending m ahead final.
-        as_open t done pending (coded (wording f listed z left (length m.constants) v).words) m (several (length m.constants))
+        as_open t done pending (coded (wording f listed z lefts before (length m.constants) v).words) m (several (length m.constants))
         ∙ ap (set_list 1 t 0 (suc done)) (written.multi is Op.Call None m (ahead_front (mentions_in e) [] ahead) (inner t done pending m final))
         ∙ sym (as_open t done pending (code e) m of_code);
     taken = λ t done pending m ahead final.
@@ -115,8 +118,8 @@ module _ {f : Function} {g : Fn} {active : List Active} {listed : List ℕ} {z :
         ∙ written.multi_taken is Op.Call None m (ahead_front (mentions_in e) [] ahead) (inner t done pending m final);
   }
     where
-      several : (n : ℕ) → is_multiple (coded (wording f listed z left n v).words).e ≡ true
-      several n = ap is_multiple (coded_is (wording f listed z left n v).words) ∙ written.several n ∙ written.gives is
+      several : (n : ℕ) → is_multiple (coded (wording f listed z lefts before n v).words).e ≡ true
+      several n = ap is_multiple (coded_is (wording f listed z lefts before n v).words) ∙ written.several n ∙ written.gives is
 
       of_code : is_multiple (code e).e ≡ true
       of_code = ap is_multiple (coded_is (one_line_expression e)) ∙ same_multiple e ∙ is
@@ -127,20 +130,21 @@ module _ {f : Function} {g : Fn} {active : List Active} {listed : List ℕ} {z :
       inner : (t done pending : ℕ) (m : Maker) → Final (length m.labels) (entries_from 1 t done pending (positional_entry (code e) ∷ []) m) z → Final (length m.labels) ((code e).multi Op.Call None m) z
       inner t done pending m final =
           let mid = (code e).multi Op.Call None m in
-          before (grows_set_list {v = calm} 1 t 0 (suc done) mid) (subst (λ n. Final (length m.labels) n z) (as_open t done pending (code e) m of_code) final)
+          before_part (grows_set_list {v = calm} 1 t 0 (suc done) mid) (subst (λ n. Final (length m.labels) n z) (as_open t done pending (code e) m of_code) final)
 
-module _ {f : Function} {g : Fn} {active : List Active} {listed : List ℕ} {z : Maker} {left mid behind : List (Option Inner)} where
+module _ {f : Function} {g : Fn} {active : List Active} {listed : List ℕ} {z : Maker} {lefts : ℕ → List (Option Inner)} {before mid behind : ℕ} where
   -- ---- an item without a key, and others behind it
 
-  pub positional_rewritten : (e : Expression) (separator : Separator) (rest : Fields) (v : Value) (items : ItemList) (all : Bool) (deep : ℕ) → HasCore e → depth_of_expression e ≤ deep → Rewritten f g active listed z left mid e v → RewrittenItems f g active listed z mid behind rest deep items all →
-      (is_last_item rest && is_multiple e) ≡ false → ((n : ℕ) → (is_last (entries (items_wording f listed z mid n items all).words) && is_multiple (as_value (ends_items items && not all) v (wording f listed z left n v)).words) ≡ false) →
-      RewrittenItems f g active listed z left behind (positional e separator rest) deep (and_positional v items) all
+  pub positional_rewritten : (e : Expression) (separator : Separator) (rest : Fields) (v : Value) (items : ItemList) (all : Bool) (deep : ℕ) → HasCore e → depth_of_expression e ≤ deep → Rewritten f g active listed z lefts before mid e v → RewrittenItems f g active listed z lefts mid behind rest deep items all →
+      (is_last_item rest && is_multiple e) ≡ false → ((n : ℕ) → (is_last (entries (items_wording f listed z lefts mid n items all).words) && is_multiple (as_value (ends_items items && not all) v (wording f listed z lefts before n v)).words) ≡ false) →
+      RewrittenItems f g active listed z lefts before behind (positional e separator rest) deep (and_positional v items) all
   positional_rewritten e separator rest v items all deep has deeper first others closed written_closed = record {
     can = both_hold _ _ first.can (ap (λ fs. can_write_items (place f.of listed f.short) fs items) first.leaves ∙ others.can);
     leaves = ap (left_by_items items) first.leaves ∙ others.leaves;
+    makes = others.makes ∙ ap (made_behind (mentions_of_fields rest)) first.makes ∙ sym (made_both (mentions_in e) (mentions_of_fields rest) before);
     few = λ n.
         let same = ap (λ (w : FieldWording). w.levels) (behind_is n) in
-        omega (arith, same, first.few n, deeper, levels_wrapped (not ((ends_items items && not all) && can_be_several v)) (wording f listed z left n v), others.few (taken_behind v n));
+        omega (arith, same, first.few n, deeper, levels_wrapped (not ((ends_items items && not all) && can_be_several v)) (wording f listed z lefts before n v), others.few (taken_behind v n));
     last = λ n. refl;
     positions = λ n.
         ap (λ (w : FieldWording). positional_count (positional_entry (coded (item n).words) ∷ entries w.words)) (behind_is n)
@@ -157,8 +161,8 @@ module _ {f : Function} {g : Fn} {active : List Active} {listed : List ℕ} {z :
         let same : length on.constants ≡ taken_behind v n = ap (λ ks. length ks) (between_constants t done pending m) ∙ next_taken first m (ahead_front (mentions_in e) (mentions_of_fields rest) ahead) on_first in
         ap (λ (w : FieldWording). entries_from 1 t done pending (positional_entry c ∷ entries w.words) m) (behind_is n)
         ∙ closed_by t done pending c (entries (behind_words n).words) m (item_closed n)
-        ∙ ap (λ mid. entries_from 1 t (suc done) (pending_after (suc pending)) (entries (behind_words n).words) (full_end 1 t (suc done) (suc pending) mid)) (next_wrapped (not ((ends_items items && not all) && can_be_several v)) (wording f listed z left n v) m ∙ next_same first m (ahead_front (mentions_in e) (mentions_of_fields rest) ahead) on_first)
-        ∙ ap (λ n. entries_from 1 t (suc done) (pending_after (suc pending)) (entries (items_wording f listed z mid n items all).words) on) (sym same)
+        ∙ ap (λ mid. entries_from 1 t (suc done) (pending_after (suc pending)) (entries (behind_words n).words) (full_end 1 t (suc done) (suc pending) mid)) (next_wrapped (not ((ends_items items && not all) && can_be_several v)) (wording f listed z lefts before n v) m ∙ next_same first m (ahead_front (mentions_in e) (mentions_of_fields rest) ahead) on_first)
+        ∙ ap (λ n. entries_from 1 t (suc done) (pending_after (suc pending)) (entries (items_wording f listed z lefts mid n items all).words) on) (sym same)
         ∙ others.part t (suc done) (pending_after (suc pending)) on (rest_ahead t done pending m ahead) at_rest
         ∙ sym (closed_by t done pending (code e) (entries (one_line_fields rest)) m code_closed);
     taken = λ t done pending m ahead final.
@@ -169,12 +173,12 @@ module _ {f : Function} {g : Fn} {active : List Active} {listed : List ℕ} {z :
   }
     where
       item : (n : ℕ) → Wording
-      item n = as_value (ends_items items && not all) v (wording f listed z left n v)
+      item n = as_value (ends_items items && not all) v (wording f listed z lefts before n v)
 
       behind_words : (n : ℕ) → FieldWording
-      behind_words n = items_wording f listed z mid (taken_behind v n) items all
+      behind_words n = items_wording f listed z lefts mid (taken_behind v n) items all
 
-      behind_is : (n : ℕ) → word_items (place f.of listed f.short) (taken_behind v n) (left_by v left) items all ≡ behind_words n
+      behind_is : (n : ℕ) → word_items (place f.of listed f.short) (taken_behind v n) (left_by v (lefts before)) items all ≡ behind_words n
       behind_is n = ap (λ fs. word_items (place f.of listed f.short) (taken_behind v n) fs items all) first.leaves
 
       item_closed : (n : ℕ) → (is_last (entries (behind_words n).words) && is_multiple (coded (item n).words).e) ≡ false
@@ -190,10 +194,10 @@ module _ {f : Function} {g : Fn} {active : List Active} {listed : List ℕ} {z :
       between_constants : (t done pending : ℕ) (m : Maker) → (between t done pending m).constants ≡ (next_reg (code e) m).constants
       between_constants t done pending m = when_constants (suc pending == 50) (set_list 1 t 50 (suc done)) (next_reg (code e) m) (set_list_constants t 50 (suc done) (next_reg (code e) m))
 
-      rest_ahead : (t done pending : ℕ) (m : Maker) → IsAhead g active (mentions_in e ++ mentions_of_fields rest) m → IsAhead g active (mentions_of_fields rest) (between t done pending m)
+      rest_ahead : (t done pending : ℕ) (m : Maker) → IsAhead g active before (mentions_in e ++ mentions_of_fields rest) m → IsAhead g active mid (mentions_of_fields rest) (between t done pending m)
       rest_ahead t done pending m ahead =
-          ahead_behind [] (mentions_of_fields rest) (when_passes (suc pending == 50) (set_list 1 t 50 (suc done)) (set_list_passes t 50 (suc done)) (next_reg (code e) m))
-          (ahead_behind (mentions_in e) (mentions_of_fields rest) (next_passes (mentions_in e) (code e) (mentions_passed e has) m) ahead)
+          ahead_behind [] (mentions_of_fields rest) refl (when_passes (suc pending == 50) (set_list 1 t 50 (suc done)) (set_list_passes t 50 (suc done)) (next_reg (code e) m))
+          (ahead_behind (mentions_in e) (mentions_of_fields rest) first.makes (next_passes (mentions_in e) (code e) (mentions_passed e has) m) ahead)
 
       between_grown : (t done pending : ℕ) (m : Maker) → Grown calm (next_reg (code e) m) (between t done pending m)
       between_grown t done pending m = grows_when (suc pending == 50) (set_list 1 t 50 (suc done)) (next_reg (code e) m) (grows_set_list 1 t 50 (suc done) (next_reg (code e) m))
@@ -206,7 +210,7 @@ module _ {f : Function} {g : Fn} {active : List Active} {listed : List ℕ} {z :
       whole t done pending m final = subst (λ n. Final (length m.labels) n z) (closed_by t done pending (code e) (entries (one_line_fields rest)) m code_closed) final
 
       first_final : (t done pending : ℕ) (m : Maker) → Final (length m.labels) (entries_from 1 t done pending (positional_entry (code e) ∷ entries (one_line_fields rest)) m) z → Final (length m.labels) (next_reg (code e) m) z
-      first_final t done pending m final = before (between_grown t done pending m) (before (rest_grown t (suc done) (pending_after (suc pending)) (between t done pending m)) (whole t done pending m final))
+      first_final t done pending m final = before_part (between_grown t done pending m) (before_part (rest_grown t (suc done) (pending_after (suc pending)) (between t done pending m)) (whole t done pending m final))
 
       here : (t done pending : ℕ) (m : Maker) → Final (length m.labels) (entries_from 1 t done pending (positional_entry (code e) ∷ entries (one_line_fields rest)) m) z →
           Final (length (between t done pending m).labels) (entries_from 1 t (suc done) (pending_after (suc pending)) (entries (one_line_fields rest)) (between t done pending m)) z
@@ -253,30 +257,34 @@ named_keyed text e separator rest = record { names = refl; from = λ t done pend
 pub keyed_keyed : (key e : Expression) (separator : Separator) (rest : Fields) → IsKeyed (keyed key e separator rest) (rk (code key)) (mentions_in key) e rest
 keyed_keyed key e separator rest = record { names = refl; from = λ t done pending m. refl; last = refl; positions = refl; others = refl }
 
-module _ {f : Function} {g : Fn} {active : List Active} {listed : List ℕ} {z : Maker} {left mid last behind : List (Option Inner)} (fields : Fields) (asked : Asks ℕ) (mentions : List Mention) (e : Expression) (rest : Fields) (k o : OperandValue) (items : ItemList) (all : Bool) (deep : ℕ)
-    (is : IsKeyed fields asked mentions e rest) (e_passes : PassesMentions (mentions_in e) (code e)) (key_same : KeySame f g active listed z left mid asked mentions k deep) (e_same : RewrittenOperand f g active listed z mid last e o) (deeper : depth_of_expression e ≤ deep)
-    (rest_same : RewrittenItems f g active listed z last behind rest deep items all) where
+module _ {f : Function} {g : Fn} {active : List Active} {listed : List ℕ} {z : Maker} {lefts : ℕ → List (Option Inner)} {before mid last behind : ℕ} (fields : Fields) (asked : Asks ℕ) (mentions : List Mention) (e : Expression) (rest : Fields) (k o : OperandValue) (items : ItemList) (all : Bool) (deep : ℕ)
+    (is : IsKeyed fields asked mentions e rest) (e_passes : PassesMentions (mentions_in e) (code e)) (key_same : KeySame f g active listed z lefts before mid asked mentions k deep) (e_same : RewrittenOperand f g active listed z lefts mid last e o) (deeper : depth_of_expression e ≤ deep)
+    (rest_same : RewrittenItems f g active listed z lefts last behind rest deep items all) where
   abbrev at : Place
   at = place f.of listed f.short
 
   -- what is written where so many constants are taken
   abbrev key_words : ℕ → Wording
-  key_words n = operand_wording f listed z left n k
+  key_words n = operand_wording f listed z lefts before n k
 
   abbrev e_words : ℕ → Wording
-  e_words n = operand_wording f listed z mid n o
+  e_words n = operand_wording f listed z lefts mid n o
 
   abbrev rest_words : ℕ → FieldWording
-  rest_words n = items_wording f listed z last n items all
+  rest_words n = items_wording f listed z lefts last n items all
 
-  written_is : (n : ℕ) → items_wording f listed z left n (and_keyed k o items) all ≡ and_keyed_item (field_name at k) (key_words n) (e_words (taken_behind_operand k n)) (separator_before items) (rest_words (taken_behind_operand o (taken_behind_operand k n)))
+  written_is : (n : ℕ) → items_wording f listed z lefts before n (and_keyed k o items) all ≡ and_keyed_item (field_name at k) (key_words n) (e_words (taken_behind_operand k n)) (separator_before items) (rest_words (taken_behind_operand o (taken_behind_operand k n)))
   written_is n =
       let n1 = taken_behind_operand k n in
       let n2 = taken_behind_operand o n1 in
       ap (λ fs. and_keyed_item (field_name at k) (key_words n) (word_operand at n1 fs o) (separator_before items) (word_items at n2 (left_by_operand o fs) items all)) key_same.leaves
       ∙ ap (λ fs. and_keyed_item (field_name at k) (key_words n) (e_words n1) (separator_before items) (word_items at n2 fs items all)) e_same.leaves
 
-  module _ (t done pending : ℕ) (m : Maker) (ahead : IsAhead g active (mentions_of_fields fields) m) (final : Final (length m.labels) (entries_from 1 t done pending (entries (one_line_fields fields)) m) z) where
+  -- behind its key and its value
+  item_makes : last ≡ made_behind (mentions ++ mentions_in e) before
+  item_makes = e_same.makes ∙ ap (made_behind (mentions_in e)) key_same.makes ∙ sym (made_both mentions (mentions_in e) before)
+
+  module _ (t done pending : ℕ) (m : Maker) (ahead : IsAhead g active before (mentions_of_fields fields) m) (final : Final (length m.labels) (entries_from 1 t done pending (entries (one_line_fields fields)) m) z) where
     -- behind the key, the item, and its word
     abbrev key_got : Got ℕ
     key_got = asked m
@@ -287,32 +295,32 @@ module _ {f : Function} {g : Fn} {active : List Active} {listed : List ℕ} {z :
     abbrev behind_it : Maker
     behind_it = freeing (keyed_item 1 t asked (code e)) m
 
-    item_ahead : IsAhead g active ((mentions ++ mentions_in e) ++ mentions_of_fields rest) m
-    item_ahead = subst (λ mentions. IsAhead g active mentions m) is.names ahead
+    item_ahead : IsAhead g active before ((mentions ++ mentions_in e) ++ mentions_of_fields rest) m
+    item_ahead = subst (λ mentions. IsAhead g active before mentions m) is.names ahead
 
-    both_ahead : IsAhead g active (mentions ++ mentions_in e) m
+    both_ahead : IsAhead g active before (mentions ++ mentions_in e) m
     both_ahead = ahead_front (mentions ++ mentions_in e) (mentions_of_fields rest) item_ahead
 
-    key_ahead : IsAhead g active mentions m
+    key_ahead : IsAhead g active before mentions m
     key_ahead = ahead_front mentions (mentions_in e) both_ahead
 
-    e_ahead : IsAhead g active (mentions_in e) key_got.after
-    e_ahead = ahead_behind mentions (mentions_in e) (key_same.passes m) both_ahead
+    e_ahead : IsAhead g active mid (mentions_in e) key_got.after
+    e_ahead = ahead_behind mentions (mentions_in e) key_same.makes (key_same.passes m) both_ahead
 
-    rest_ahead : IsAhead g active (mentions_of_fields rest) behind_it
-    rest_ahead = ahead_behind (mentions ++ mentions_in e) (mentions_of_fields rest) (item_passes t mentions (mentions_in e) asked (code e) key_same.passes e_passes m) item_ahead
+    rest_ahead : IsAhead g active last (mentions_of_fields rest) behind_it
+    rest_ahead = ahead_behind (mentions ++ mentions_in e) (mentions_of_fields rest) item_makes (item_passes t mentions (mentions_in e) asked (code e) key_same.passes e_passes m) item_ahead
 
     whole : Final (length m.labels) (keyed_from t done pending asked (code e) (entries (one_line_fields rest)) m) z
     whole = subst (λ n. Final (length m.labels) n z) (is.from t done pending m) final
 
     behind_final : Final (length m.labels) behind_it z
-    behind_final = before (grows_entries {v = calm} 1 t done pending (entries (one_line_fields rest)) (grow_entries calm (one_line_fields rest)) behind_it) whole
+    behind_final = before_part (grows_entries {v = calm} 1 t done pending (entries (one_line_fields rest)) (grow_entries calm (one_line_fields rest)) behind_it) whole
 
     e_final : Final (length m.labels) e_got.after z
     e_final = before_put 1 (Piece.Abc Op.SetTable t key_got.value e_got.value) e_got.after (before_free m.free (keyed_item 1 t asked (code e) m) behind_final)
 
     key_final : Final (length m.labels) key_got.after z
-    key_final = before (grows_rk {v = calm} (code e) (grows calm (one_line_expression e)) key_got.after) e_final
+    key_final = before_part (grows_rk {v = calm} (code e) (grows calm (one_line_expression e)) key_got.after) e_final
 
     e_later : Final (length key_got.after.labels) e_got.after z
     e_later = let grown = key_same.grown m in later grown.more e_final
@@ -329,14 +337,14 @@ module _ {f : Function} {g : Fn} {active : List Active} {listed : List ℕ} {z :
     e_count : length behind_it.constants ≡ taken_behind_operand o (taken_behind_operand k (length m.constants))
     e_count = e_same.taken key_got.after e_ahead e_later ∙ ap (taken_behind_operand o) key_count
 
-    keyed_same : entries_from 1 t done pending (entries (items_wording f listed z left (length m.constants) (and_keyed k o items) all).words) m ≡ entries_from 1 t done pending (entries (one_line_fields fields)) m
+    keyed_same : entries_from 1 t done pending (entries (items_wording f listed z lefts before (length m.constants) (and_keyed k o items) all).words) m ≡ entries_from 1 t done pending (entries (one_line_fields fields)) m
     keyed_same =
         let n = length m.constants in
         let n1 = taken_behind_operand k n in
         let n2 = taken_behind_operand o n1 in
         ap (λ (w : FieldWording). entries_from 1 t done pending (entries w.words) m) (written_is n)
         ∙ written_keyed (field_name at k) (key_words n) (e_words n1) (separator_before items) (rest_words n2) t done pending m
-        ∙ ap (λ (got : Got ℕ). behind_key got (coded (e_words n1).words) (entries (rest_words n2).words)) (key_asks_same at n left k m ∙ key_same.as_rk m key_ahead key_final)
+        ∙ ap (λ (got : Got ℕ). behind_key got (coded (e_words n1).words) (entries (rest_words n2).words)) (key_asks_same at n (lefts before) k m ∙ key_same.as_rk m key_ahead key_final)
         ∙ ap (λ n1. behind_key key_got (coded (e_words n1).words) (entries (rest_words n2).words)) (sym key_count)
         ∙ ap (λ (got : Got ℕ). behind_item key_got got (entries (rest_words n2).words)) (e_same.as_rk key_got.after e_ahead e_later)
         ∙ ap (λ n2. entries_from 1 t done pending (entries (rest_words n2).words) behind_it) (sym e_count)
@@ -352,10 +360,11 @@ module _ {f : Function} {g : Fn} {active : List Active} {listed : List ℕ} {z :
     keyed_taken : length (entries_from 1 t done pending (entries (one_line_fields fields)) m).constants ≡ taken_behind_items (and_keyed k o items) (length m.constants)
     keyed_taken = ap (λ (n : Maker). length n.constants) (is.from t done pending m) ∙ rest_same.taken t done pending behind_it rest_ahead rest_later ∙ ap (taken_behind_items items) e_count
 
-  pub keyed_rewritten : RewrittenItems f g active listed z left behind fields deep (and_keyed k o items) all
+  pub keyed_rewritten : RewrittenItems f g active listed z lefts before behind fields deep (and_keyed k o items) all
   keyed_rewritten = record {
     can = both_hold _ _ key_same.can (both_hold _ _ (ap (λ fs. can_write_operand at fs o) key_same.leaves ∙ e_same.can) (ap (λ fs. can_write_items at (left_by_operand o fs) items) key_same.leaves ∙ ap (λ fs. can_write_items at fs items) e_same.leaves ∙ rest_same.can));
     leaves = ap (λ fs. left_by_items items (left_by_operand o fs)) key_same.leaves ∙ ap (left_by_items items) e_same.leaves ∙ rest_same.leaves;
+    makes = rest_same.makes ∙ ap (made_behind (mentions_of_fields rest)) item_makes ∙ sym (made_both (mentions ++ mentions_in e) (mentions_of_fields rest) before) ∙ ap (λ mentions. made_behind mentions before) (sym is.names);
     few = λ n.
         let n1 = taken_behind_operand k n in
         let same = ap (λ (w : FieldWording). w.levels) (written_is n) in
@@ -374,9 +383,9 @@ module _ {f : Function} {g : Fn} {active : List Active} {listed : List ℕ} {z :
 abbrev begun : List Entry → Part
 begun others m = take_registers 1 (put 1 (Piece.Abc Op.NewTable m.free (size_hint (positional_count others)) (size_hint (other_count others))) m)
 
-module _ {f : Function} {g : Fn} {active : List Active} {listed : List ℕ} {z : Maker} {left behind : List (Option Inner)} {fields : Fields} {deep : ℕ} {items : ItemList} {all : Bool} (same : RewrittenItems f g active listed z left behind fields deep items all) where
+module _ {f : Function} {g : Fn} {active : List Active} {listed : List ℕ} {z : Maker} {lefts : ℕ → List (Option Inner)} {before behind : ℕ} {fields : Fields} {deep : ℕ} {items : ItemList} {all : Bool} (same : RewrittenItems f g active listed z lefts before behind fields deep items all) where
   abbrev written : ℕ → List Entry
-  written n = entries (items_wording f listed z left n items all).words
+  written n = entries (items_wording f listed z lefts before n items all).words
 
   begun_same : (n : ℕ) (m : Maker) → begun (written n) m ≡ begun (entries (one_line_fields fields)) m
   begun_same n m = ap₂ (λ a b. take_registers 1 (put 1 (Piece.Abc Op.NewTable m.free (size_hint a) (size_hint b)) m)) (same.positions n) (same.others n)
@@ -387,15 +396,15 @@ module _ {f : Function} {g : Fn} {active : List Active} {listed : List ℕ} {z :
   begun_passes : (others : List Entry) (m : Maker) → Passed [] m (begun others m)
   begun_passes others m = record { around = refl; behind = refl }
 
-  begun_ahead : (m : Maker) → IsAhead g active (mentions_of_fields fields) m → IsAhead g active (mentions_of_fields fields) (begun (entries (one_line_fields fields)) m)
-  begun_ahead m ahead = ahead_behind [] (mentions_of_fields fields) (begun_passes (entries (one_line_fields fields)) m) ahead
+  begun_ahead : (m : Maker) → IsAhead g active before (mentions_of_fields fields) m → IsAhead g active before (mentions_of_fields fields) (begun (entries (one_line_fields fields)) m)
+  begun_ahead m ahead = ahead_behind [] (mentions_of_fields fields) refl (begun_passes (entries (one_line_fields fields)) m) ahead
 
-  table_same : (m : Maker) → IsAhead g active (mentions_of_fields fields) m → Final (length m.labels) (table_at 1 (entries (one_line_fields fields)) m) z → table_at 1 (written (length m.constants)) m ≡ table_at 1 (entries (one_line_fields fields)) m
+  table_same : (m : Maker) → IsAhead g active before (mentions_of_fields fields) m → Final (length m.labels) (table_at 1 (entries (one_line_fields fields)) m) z → table_at 1 (written (length m.constants)) m ≡ table_at 1 (entries (one_line_fields fields)) m
   table_same m ahead final =
       ap (λ n. free_from (m.free + 1) (entries_from 1 m.free 0 0 (written (length m.constants)) n)) (begun_same (length m.constants) m)
       ∙ ap (free_from (m.free + 1)) (same.part m.free 0 0 (begun (entries (one_line_fields fields)) m) (begun_ahead m ahead) (items_final m final))
 
-  table_taken : (m : Maker) → IsAhead g active (mentions_of_fields fields) m → Final (length m.labels) (table_at 1 (entries (one_line_fields fields)) m) z → length (table_at 1 (entries (one_line_fields fields)) m).constants ≡ taken_behind_items items (length m.constants)
+  table_taken : (m : Maker) → IsAhead g active before (mentions_of_fields fields) m → Final (length m.labels) (table_at 1 (entries (one_line_fields fields)) m) z → length (table_at 1 (entries (one_line_fields fields)) m).constants ≡ taken_behind_items items (length m.constants)
   table_taken m ahead final = same.taken m.free 0 0 (begun (entries (one_line_fields fields)) m) (begun_ahead m ahead) (items_final m final)
 
   abbrev table_code : ℕ → Maker → Maker
@@ -408,10 +417,11 @@ module _ {f : Function} {g : Fn} {active : List Active} {listed : List ℕ} {z :
   inner : (r : ℕ) (m : Maker) → Final (length m.labels) (table_code r m) z → Final (length m.labels) (table_at 1 (entries (one_line_fields fields)) m) z
   inner r m final = moved_final (not (m.free == r)) (length m.labels) r m.free (table_at 1 (entries (one_line_fields fields)) m) (before_free m.free _ final)
 
-  pub table_rewritten : (line depth : ℕ) → depth_of_fields fields ≡ deep → Rewritten f g active listed z left behind (constructor line fields) (table_value items all depth)
+  pub table_rewritten : (line depth : ℕ) → depth_of_fields fields ≡ deep → Rewritten f g active listed z lefts before behind (constructor line fields) (table_value items all depth)
   table_rewritten line depth is_deep = record {
     can = same.can;
     leaves = same.leaves;
+    makes = same.makes;
     named = λ n. refl;
     folded = λ n. refl;
     several = λ n. refl;
@@ -440,12 +450,13 @@ module _ {f : Function} {g : Fn} {active : List Active} {listed : List ℕ} {z :
       ap (λ (same : Bool). take_registers 1 (free_from m.free (when (not same) (put 1 (Piece.Abc Op.Move m.free m.free 0)) at))) (eq-eqb m.free m.free refl)
       ∙ ap (λ (high : ℕ). record at { free = m.free + 1; high = high }) high
 
-  pub table_rewritten_given : (depth : ℕ) → depth_of_fields fields ≡ deep → RewrittenGiven f g active listed z left behind (table_argument fields) deep (and_value (table_value items all depth) no_values) false
+  pub table_rewritten_given : (depth : ℕ) → depth_of_fields fields ≡ deep → RewrittenGiven f g active listed z lefts before behind (table_argument fields) deep (and_value (table_value items all depth) no_values) false
   table_rewritten_given depth is_deep = record {
     can = both_hold _ true same.can refl;
     leaves = same.leaves;
+    makes = same.makes;
     few = λ n. omega (arith, same.few n);
     counts = λ n. refl;
-    part = λ m ahead final. next_table (written (length m.constants)) (grow_entries calm (items_wording f listed z left (length m.constants) items all).words) (items_wording f listed z left (length m.constants) items all).words m ∙ table_same m ahead final;
+    part = λ m ahead final. next_table (written (length m.constants)) (grow_entries calm (items_wording f listed z lefts before (length m.constants) items all).words) (items_wording f listed z lefts before (length m.constants) items all).words m ∙ table_same m ahead final;
     taken = λ m ahead final. table_taken m ahead final;
   }

@@ -18,7 +18,7 @@ use Rattle.scheme.specs.Making.{Asks, Got, Maker, Where, answer, in_globals, in_
 use Rattle.scheme.specs.Scheme.{all_coded, coded}
 use Rattle.scheme.specs.Statements.{all_targets, clashes, copied, copies, is_among, renamed, with_copy}
 use Rattle.scheme.specs.declared.making.Active.{Active}
-use Rattle.scheme_stands.proofs.Growth.{Final, Grown, before, calm, later, on_part, on_put, on_take, start}
+use Rattle.scheme_stands.proofs.Growth.{Final, Grown, before as before_part, calm, later, on_part, on_put, on_take, start}
 use Rattle.scheme_stands.proofs.Parts.{AllGrow, asks_cond, grow_all, grows, grows_operand}
 use Rattle.scheme_stands.specs.Words.{Fn, Means}
 use Rattle.reads_back.specs.Acted.{IsVariableTarget, can_write_targets, is_part, left_by_targets, taken_behind_targets, words_targets}
@@ -28,7 +28,7 @@ use Rattle.reads_back.proofs.Deeper.{some_depth}
 use Rattle.reads_back.proofs.IndexSame.{KeySame, expression_key, key_asks, key_asks_same, key_few, named_key, text_key}
 use Rattle.reads_back.proofs.LeavesSame.{next_means, text_rewritten, variable_written}
 use Rattle.reads_back.proofs.ListsSame.{codes_of}
-use Rattle.reads_back.proofs.Mentions.{AskingPasses, IsAhead, Passed, ahead_behind, ahead_front, mentions_in, mentions_in_all, passed_none, passed_then, Mention}
+use Rattle.reads_back.proofs.Mentions.{AskingPasses, IsAhead, Passed, ahead_behind, ahead_front, mentions_in, mentions_in_all, passed_none, passed_then, Mention, made_behind, made_both}
 use Rattle.reads_back.proofs.OperandsSame.{key_rewritten, operand_rewritten}
 use Rattle.reads_back.proofs.PassedMentions.{PassesMentions, mentions_passed, operand_passes, pass_passes}
 use Rattle.reads_back.proofs.Rewriting.{IsMadeBy, Rewritten, code, operand_wording, wording}
@@ -113,17 +113,17 @@ constant_plain : (k : Option Constant) → is_name (constant_word k).words ≡ f
 constant_plain None = refl
 constant_plain (Some k) = literal_plain k
 
-module _ {f : Function} {g : Fn} {active : List Active} {listed : List ℕ} {z : Maker} {left behind : List (Option Inner)} where
+module _ {f : Function} {g : Fn} {active : List Active} {listed : List ℕ} {z : Maker} {lefts : ℕ → List (Option Inner)} {before behind : ℕ} where
   -- what is written of an operand is a name where the expression is one
-  operand_named : (e : Expression) (before after : ℕ) (o : OperandValue) → IsOperand g active e before after o → ((v : Value) → IsCore g active e before after v → Rewritten f g active listed z left behind e v) → (n : ℕ) → is_name (operand_wording f listed z left n o).words ≡ is_name e
-  operand_named e before after o is written n = by (literal e) refl is
+  operand_named : (e : Expression) (o : OperandValue) → IsOperand g active e before behind o → ((v : Value) → IsCore g active e before behind v → Rewritten f g active listed z lefts before behind e v) → (n : ℕ) → is_name (operand_wording f listed z lefts before n o).words ≡ is_name e
+  operand_named e o is written n = by (literal e) refl is
     where
-      value_named : (v : Value) → IsCore g active e before after v → o ≡ value_operand v → is_name (operand_wording f listed z left n o).words ≡ is_name e
-      value_named v core same = ap (λ o. is_name (operand_wording f listed z left n o).words) same ∙ name_wrapped (is_bare (place f.of listed f.short) n v) (wording f listed z left n v) ∙ (written v core).named n
+      value_named : (v : Value) → IsCore g active e before behind v → o ≡ value_operand v → is_name (operand_wording f listed z lefts before n o).words ≡ is_name e
+      value_named v core same = ap (λ o. is_name (operand_wording f listed z lefts before n o).words) same ∙ name_wrapped (is_bare (place f.of listed f.short) n v) (wording f listed z lefts before n v) ∙ (written v core).named n
 
-      by : (k : Option Constant) → literal e ≡ k → IsOperandBy k g (IsCore g active e) before after o → is_name (operand_wording f listed z left n o).words ≡ is_name e
+      by : (k : Option Constant) → literal e ≡ k → IsOperandBy k g (IsCore g active e) before behind o → is_name (operand_wording f listed z lefts before n o).words ≡ is_name e
       by (Some k) known (inl (as_many, (number, numbered, small, same))) =
-          ap (λ o. is_name (operand_wording f listed z left n o).words) same ∙ constant_plain (constant_at (place f.of listed f.short) number) ∙ sym (literal_no_name e k known)
+          ap (λ o. is_name (operand_wording f listed z lefts before n o).words) same ∙ constant_plain (constant_at (place f.of listed f.short) number) ∙ sym (literal_no_name e k known)
       by (Some k) known (inr (large, (v, core, same))) = value_named v core same
       by None known (v, core, same) = value_named v core same
 
@@ -154,15 +154,16 @@ key_named_by (Some text) key is = ap is_name (sym (is text refl))
 
 -- ---- one target
 
-module _ (f : Function) (g : Fn) (active : List Active) (listed : List ℕ) (z : Maker) (left behind : List (Option Inner)) where
+module _ (f : Function) (g : Fn) (active : List Active) (listed : List ℕ) (z : Maker) (lefts : ℕ → List (Option Inner)) (before behind : ℕ) where
   pub record TargetSame (target : Expression) (t : TargetValue) : Type 0 where
-    pub can : can_write_target (place f.of listed f.short) left t ≡ true
-    pub leaves : left_by_target t left ≡ behind
-    pub few : (n : ℕ) → (word_target (place f.of listed f.short) n left t).levels ≤ 3 * depth_of_expression target + 3
+    pub can : can_write_target (place f.of listed f.short) (lefts before) t ≡ true
+    pub leaves : left_by_target t (lefts before) ≡ lefts behind
+    pub makes : behind ≡ made_behind (mentions_in target) before
+    pub few : (n : ℕ) → (word_target (place f.of listed f.short) n (lefts before) t).levels ≤ 3 * depth_of_expression target + 3
     pub passes : AskingPasses (mentions_in target) (code target).target
-    pub same : (m : Maker) → IsAhead g active (mentions_in target) m → Final (length m.labels) ((code target).target m).after z → (coded (word_target (place f.of listed f.short) (length m.constants) left t).words).target m ≡ (code target).target m
-    pub taken : (m : Maker) → IsAhead g active (mentions_in target) m → Final (length m.labels) ((code target).target m).after z → length ((code target).target m).after.constants ≡ taken_behind_target t (length m.constants)
-    pub is_place : (m : Maker) → IsAhead g active (mentions_in target) m → IsPlace g t ((code target).target m).value
+    pub same : (m : Maker) → IsAhead g active before (mentions_in target) m → Final (length m.labels) ((code target).target m).after z → (coded (word_target (place f.of listed f.short) (length m.constants) (lefts before) t).words).target m ≡ (code target).target m
+    pub taken : (m : Maker) → IsAhead g active before (mentions_in target) m → Final (length m.labels) ((code target).target m).after z → length ((code target).target m).after.constants ≡ taken_behind_target t (length m.constants)
+    pub is_place : (m : Maker) → IsAhead g active before (mentions_in target) m → IsPlace g t ((code target).target m).value
 
 -- a name is written as itself, and takes nothing
 record NameWritten (at : Place) (text : Text) (t : TargetValue) : Type 0 where
@@ -184,34 +185,35 @@ module _ {f : Function} {g : Fn} {active : List Active} {listed : List ℕ} {z :
       let written = λ (fs : List (Option Inner)). variable_written made fs text in_globals (global_value number) good tt (number, has, refl) in
       subst (NameWritten (place f.of listed f.short) text) (sym is) (record { can = λ fs. (written fs).can; unused = λ fs. refl; taken = λ n. refl; word_is = λ n fs. (written fs).word_is n })
 
-  pub name_same : (left : List (Option Inner)) (line : ℕ) (text : Text) (w : Where) (t : TargetValue) → is_good_name text ≡ true → Means g.law active text w → IsVariableTarget g text w t →
-      TargetSame f g active listed z left left (name_expression line text) t
-  name_same left line text w t good means is =
+  pub name_same : (lefts : ℕ → List (Option Inner)) (before line : ℕ) (text : Text) (w : Where) (t : TargetValue) → is_good_name text ≡ true → Means g.law active text w → IsVariableTarget g text w t →
+      TargetSame f g active listed z lefts before before (name_expression line text) t
+  name_same lefts before line text w t good means is =
       let written = name_written text w t good means is in
       record {
-        can = written.can left;
-        leaves = written.unused left;
-        few = λ n. omega (arith, ap (λ (w : Wording). w.levels) (written.word_is n left));
+        can = written.can (lefts before);
+        leaves = written.unused (lefts before);
+        makes = refl;
+        few = λ n. omega (arith, ap (λ (w : Wording). w.levels) (written.word_is n (lefts before)));
         passes = pass_passes text;
-        same = λ m ahead final. ap (λ (w : Wording). (coded w.words).target m) (written.word_is (length m.constants) left);
+        same = λ m ahead final. ap (λ (w : Wording). (coded w.words).target m) (written.word_is (length m.constants) (lefts before));
         taken = λ m ahead final. sym (written.taken (length m.constants));
         is_place = λ m ahead. subst (λ w. IsVariableTarget g text w t) (sym (next_means made text w [] m means ahead)) is;
       }
 
-module _ {f : Function} {g : Fn} {active : List Active} {listed : List ℕ} {z : Maker} {left mid behind : List (Option Inner)} (target on : Expression) (x : Value) (k : OperandValue) (asked : Asks ℕ) (key_named : Bool) (mentions : List Mention) (deep : ℕ)
-    (first : Rewritten f g active listed z left mid on x) (second : KeySame f g active listed z mid behind asked mentions k deep) (named : (n : ℕ) → is_name (operand_wording f listed z mid n k).words ≡ key_named)
+module _ {f : Function} {g : Fn} {active : List Active} {listed : List ℕ} {z : Maker} {lefts : ℕ → List (Option Inner)} {before mid behind : ℕ} (target on : Expression) (x : Value) (k : OperandValue) (asked : Asks ℕ) (key_named : Bool) (mentions : List Mention) (deep : ℕ)
+    (first : Rewritten f g active listed z lefts before mid on x) (second : KeySame f g active listed z lefts mid behind asked mentions k deep) (named : (n : ℕ) → is_name (operand_wording f listed z lefts mid n k).words ≡ key_named)
     (on_passes : PassesMentions (mentions_in on) (code on)) (mentioned : mentions_in target ≡ mentions_in on ++ mentions) (deeper : suc (max (depth_of_expression on) deep) ≤ depth_of_expression target)
     (target_is : (m : Maker) → (code target).target m ≡ part_at (code on) asked (is_name (code on).e) key_named m) where
   abbrev words_at : ℕ → Wording
-  words_at n = with_key (field_name (place f.of listed f.short) k) (as_prefix (wording f listed z left n x)) (operand_wording f listed z mid (taken_behind x n) k)
+  words_at n = with_key (field_name (place f.of listed f.short) k) (as_prefix (wording f listed z lefts before n x)) (operand_wording f listed z lefts mid (taken_behind x n) k)
 
-  words_are : (n : ℕ) → word_target (place f.of listed f.short) n left (index_target x k) ≡ words_at n
-  words_are n = ap (λ fs. with_key (field_name (place f.of listed f.short) k) (as_prefix (wording f listed z left n x)) (word_operand (place f.of listed f.short) (taken_behind x n) fs k)) first.leaves
+  words_are : (n : ℕ) → word_target (place f.of listed f.short) n (lefts before) (index_target x k) ≡ words_at n
+  words_are n = ap (λ fs. with_key (field_name (place f.of listed f.short) k) (as_prefix (wording f listed z lefts before n x)) (word_operand (place f.of listed f.short) (taken_behind x n) fs k)) first.leaves
 
-  part_few : (n : ℕ) → (word_target (place f.of listed f.short) n left (index_target x k)).levels ≤ 3 * depth_of_expression target + 3
+  part_few : (n : ℕ) → (word_target (place f.of listed f.short) n (lefts before) (index_target x k)).levels ≤ 3 * depth_of_expression target + 3
   part_few n =
-      let w = wording f listed z left n x in
-      let u = operand_wording f listed z mid (taken_behind x n) k in
+      let w = wording f listed z lefts before n x in
+      let u = operand_wording f listed z lefts mid (taken_behind x n) k in
       let one = levels_wrapped (is_prefix w.words) w in
       let all = key_few (field_name (place f.of listed f.short) k) (as_prefix w) u (3 * depth_of_expression on + 3) (3 * deep + 3) (omega (arith, first.few n, one)) (second.few (taken_behind x n)) in
       omega (arith, all, ap (λ (w : Wording). w.levels) (words_are n), deeper)
@@ -223,34 +225,34 @@ module _ {f : Function} {g : Fn} {active : List Active} {listed : List ℕ} {z :
       (subst (λ (mentions : List Mention). Passed mentions m (asked t.after).after) (sym mentioned) (passed_then (mentions_in on) mentions (operand_passes (mentions_in on) (code on) on_passes m) (second.passes t.after)))
 
   -- both are names on both sides
-  on_named : (n : ℕ) → is_name (coded (as_prefix (wording f listed z left n x)).words).e ≡ is_name (code on).e
+  on_named : (n : ℕ) → is_name (coded (as_prefix (wording f listed z lefts before n x)).words).e ≡ is_name (code on).e
   on_named n =
-      let w = wording f listed z left n x in
+      let w = wording f listed z lefts before n x in
       ap is_name (coded_is (as_prefix w).words) ∙ name_wrapped (is_prefix w.words) w ∙ first.named n ∙ sym (same_name on) ∙ sym (ap is_name (coded_is (one_line_expression on)))
 
-  key_same_name : (n : ℕ) → key_is_name (field_name (place f.of listed f.short) k) (operand_wording f listed z mid n k) ≡ key_named
+  key_same_name : (n : ℕ) → key_is_name (field_name (place f.of listed f.short) k) (operand_wording f listed z lefts mid n k) ≡ key_named
   key_same_name n =
       let at = place f.of listed f.short in
-      key_named_by (field_name at k) (operand_wording f listed z mid n k) (named_key at n mid k) ∙ named n
+      key_named_by (field_name at k) (operand_wording f listed z lefts mid n k) (named_key at n (lefts mid) k) ∙ named n
 
-  module _ (m : Maker) (ahead : IsAhead g active (mentions_in target) m) (final : Final (length m.labels) ((code target).target m).after z) where
+  module _ (m : Maker) (ahead : IsAhead g active before (mentions_in target) m) (final : Final (length m.labels) ((code target).target m).after z) where
     abbrev on_at : Got ℕ
     on_at = operand (code on) m
 
-    both_ahead : IsAhead g active (mentions_in on ++ mentions) m
-    both_ahead = subst (λ (mentions : List Mention). IsAhead g active mentions m) mentioned ahead
+    both_ahead : IsAhead g active before (mentions_in on ++ mentions) m
+    both_ahead = subst (λ (mentions : List Mention). IsAhead g active before mentions m) mentioned ahead
 
-    on_ahead : IsAhead g active (mentions_in on) m
+    on_ahead : IsAhead g active before (mentions_in on) m
     on_ahead = ahead_front (mentions_in on) mentions both_ahead
 
-    key_ahead : IsAhead g active mentions on_at.after
-    key_ahead = ahead_behind (mentions_in on) mentions (operand_passes (mentions_in on) (code on) on_passes m) both_ahead
+    key_ahead : IsAhead g active mid mentions on_at.after
+    key_ahead = ahead_behind (mentions_in on) mentions first.makes (operand_passes (mentions_in on) (code on) on_passes m) both_ahead
 
     key_final : Final (length m.labels) (asked on_at.after).after z
     key_final = subst (λ (to : Got Target). Final (length m.labels) to.after z) (target_is m) final
 
     on_final : Final (length m.labels) on_at.after z
-    on_final = before (second.grown on_at.after) key_final
+    on_final = before_part (second.grown on_at.after) key_final
 
     key_later : Final (length on_at.after.labels) (asked on_at.after).after z
     key_later = let grown = grows_operand {v = calm} (code on) (grows calm (one_line_expression on)) m in later grown.more key_final
@@ -262,28 +264,29 @@ module _ {f : Function} {g : Fn} {active : List Active} {listed : List ℕ} {z :
     abbrev part_there : Got ℕ → Asks ℕ → (of_on of_key : Bool) → Got Target
     part_there t ask of_on of_key = let k = ask t.after in record { value = part_target t.value k.value (local_by of_on m) (local_by of_key t.after); after = k.after }
 
-    part_same : (coded (word_target (place f.of listed f.short) (length m.constants) left (index_target x k)).words).target m ≡ (code target).target m
+    part_same : (coded (word_target (place f.of listed f.short) (length m.constants) (lefts before) (index_target x k)).words).target m ≡ (code target).target m
     part_same =
         let at = place f.of listed f.short in
         let n = length m.constants in
-        let w = wording f listed z left n x in
-        let u = operand_wording f listed z mid (taken_behind x n) k in
+        let w = wording f listed z lefts before n x in
+        let u = operand_wording f listed z lefts mid (taken_behind x n) k in
         ap (λ (w : Wording). (coded w.words).target m) (words_are n)
         ∙ written_part (field_name at k) (as_prefix w) u m
         ∙ ap₂ (λ (of_on of_key : Bool). part_there (operand (coded (as_prefix w).words) m) (key_asks (field_name at k) u) of_on of_key) (on_named n) (key_same_name (taken_behind x n))
         ∙ ap (λ (t : Got ℕ). part_there t (key_asks (field_name at k) u) (is_name (code on).e) key_named) (operand_wrapped (is_prefix w.words) w m ∙ operand_same first m on_ahead on_final)
-        ∙ ap (λ n. part_there on_at (key_asks (field_name at k) (operand_wording f listed z mid n k)) (is_name (code on).e) key_named) (sym on_taken)
+        ∙ ap (λ n. part_there on_at (key_asks (field_name at k) (operand_wording f listed z lefts mid n k)) (is_name (code on).e) key_named) (sym on_taken)
         ∙ ap (λ (k : Got ℕ). record { value = part_target on_at.value k.value (local_by (is_name (code on).e) m) (local_by key_named on_at.after); after = k.after })
-        (key_asks_same at (length on_at.after.constants) mid k on_at.after ∙ second.as_rk on_at.after key_ahead key_later)
+        (key_asks_same at (length on_at.after.constants) (lefts mid) k on_at.after ∙ second.as_rk on_at.after key_ahead key_later)
         ∙ sym (target_is m)
 
     part_taken : length ((code target).target m).after.constants ≡ taken_behind_target (index_target x k) (length m.constants)
     part_taken = ap (λ (to : Got Target). length to.after.constants) (target_is m) ∙ second.taken on_at.after key_ahead key_later ∙ ap (taken_behind_operand k) on_taken
 
-  part_target_same : TargetSame f g active listed z left behind target (index_target x k)
+  part_target_same : TargetSame f g active listed z lefts before behind target (index_target x k)
   part_target_same = record {
     can = both_hold _ _ first.can (ap (λ fs. can_write_operand (place f.of listed f.short) fs k) first.leaves ∙ second.can);
     leaves = ap (left_by_operand k) first.leaves ∙ second.leaves;
+    makes = second.makes ∙ ap (made_behind mentions) first.makes ∙ sym (made_both (mentions_in on) mentions before) ∙ ap (λ mentions. made_behind mentions before) (sym mentioned);
     few = part_few;
     passes = part_passes;
     same = part_same;
@@ -292,33 +295,34 @@ module _ {f : Function} {g : Fn} {active : List Active} {listed : List ℕ} {z :
   }
 
 module _ {f : Function} {g : Fn} {active : List Active} {listed : List ℕ} {z : Maker} (lefts : ℕ → List (Option Inner)) (made : IsMadeBy f g active listed z) where
-  pub index_same : (line : ℕ) (on key : Expression) (before mid behind : ℕ) (x : Value) (k : OperandValue) → HasCore on → HasCore key → Rewritten f g active listed z (lefts before) (lefts mid) on x →
-      ((v : Value) → IsCore g active key mid behind v → Rewritten f g active listed z (lefts mid) (lefts behind) key v) → IsOperand g active key mid behind k →
-      TargetSame f g active listed z (lefts before) (lefts behind) (index_expression line on key) (index_target x k)
+  pub index_same : (line : ℕ) (on key : Expression) (before mid behind : ℕ) (x : Value) (k : OperandValue) → HasCore on → HasCore key → Rewritten f g active listed z lefts before mid on x →
+      ((v : Value) → IsCore g active key mid behind v → Rewritten f g active listed z lefts mid behind key v) → IsOperand g active key mid behind k →
+      TargetSame f g active listed z lefts before behind (index_expression line on key) (index_target x k)
   index_same line on key before mid behind x k on_has key_has first written is =
       part_target_same (index_expression line on key) on x k (rk (code key)) (is_name (code key).e) (mentions_in key) (depth_of_expression key) first
       (expression_key key k (mentions_passed key key_has) (operand_rewritten lefts made key mid behind k key_has is written))
-      (λ n. operand_named key mid behind k is written n ∙ sym (same_name key) ∙ sym (ap is_name (coded_is (one_line_expression key)))) (mentions_passed on on_has) refl (omega arith) (λ m. refl)
+      (λ n. operand_named key k is written n ∙ sym (same_name key) ∙ sym (ap is_name (coded_is (one_line_expression key)))) (mentions_passed on on_has) refl (omega arith) (λ m. refl)
 
-  pub field_same : (line : ℕ) (on : Expression) (text : Text) (before mid behind : ℕ) (x : Value) (k : OperandValue) → HasCore on → Rewritten f g active listed z (lefts before) (lefts mid) on x → IsKey g text mid behind k →
-      TargetSame f g active listed z (lefts before) (lefts behind) (field_expression line on text) (index_target x k)
+  pub field_same : (line : ℕ) (on : Expression) (text : Text) (before mid behind : ℕ) (x : Value) (k : OperandValue) → HasCore on → Rewritten f g active listed z lefts before mid on x → IsKey g text mid behind k →
+      TargetSame f g active listed z lefts before behind (field_expression line on text) (index_target x k)
   field_same line on text before mid behind x k has first is =
       part_target_same (field_expression line on text) on x k (rk_text 1 text) false [] 1 first (text_key 1 text k (key_rewritten lefts made 1 text mid behind k is))
-      (operand_named {active = active} {left = lefts mid} {behind = lefts mid} (text_literal 1 text) mid behind k is (λ v core. text_rewritten made 1 text v core.1)) (mentions_passed on has) (sym (append-nil (mentions_in on))) (omega (arith, some_depth on)) (λ m. refl)
+      (operand_named (text_literal 1 text) k is (λ v core. subst (λ (behind : ℕ). Rewritten f g active listed z lefts mid behind (text_literal 1 text) v) (sym core.0) (text_rewritten made 1 text v core.1))) (mentions_passed on has) (sym (append-nil (mentions_in on))) (omega (arith, some_depth on)) (λ m. refl)
 
 -- ---- all targets
 
-module _ (f : Function) (g : Fn) (active : List Active) (listed : List ℕ) (z : Maker) (left behind : List (Option Inner)) where
+module _ (f : Function) (g : Fn) (active : List Active) (listed : List ℕ) (z : Maker) (lefts : ℕ → List (Option Inner)) (before behind : ℕ) where
   pub record TargetsSame (targets : Expressions) (ts : List TargetValue) : Type 0 where
-    pub can : can_write_targets (place f.of listed f.short) left ts ≡ true
-    pub leaves : left_by_targets ts left ≡ behind
-    pub few : (n : ℕ) → (words_targets (place f.of listed f.short) n left ts).levels ≤ 3 * depth_of_expressions targets + 3
+    pub can : can_write_targets (place f.of listed f.short) (lefts before) ts ≡ true
+    pub leaves : left_by_targets ts (lefts before) ≡ lefts behind
+    pub makes : behind ≡ made_behind (mentions_in_all targets) before
+    pub few : (n : ℕ) → (words_targets (place f.of listed f.short) n (lefts before) ts).levels ≤ 3 * depth_of_expressions targets + 3
     pub count : length (codes_of targets) ≡ length ts
     pub passes : AskingPasses (mentions_in_all targets) (all_targets (codes_of targets))
-    pub same : (m : Maker) → IsAhead g active (mentions_in_all targets) m → Final (length m.labels) (all_targets (codes_of targets) m).after z →
-        all_targets (all_coded (words_targets (place f.of listed f.short) (length m.constants) left ts).words) m ≡ all_targets (codes_of targets) m
-    pub taken : (m : Maker) → IsAhead g active (mentions_in_all targets) m → Final (length m.labels) (all_targets (codes_of targets) m).after z → length (all_targets (codes_of targets) m).after.constants ≡ taken_behind_targets ts (length m.constants)
-    pub are_places : (m : Maker) → IsAhead g active (mentions_in_all targets) m → ArePlaces g ts (all_targets (codes_of targets) m).value
+    pub same : (m : Maker) → IsAhead g active before (mentions_in_all targets) m → Final (length m.labels) (all_targets (codes_of targets) m).after z →
+        all_targets (all_coded (words_targets (place f.of listed f.short) (length m.constants) (lefts before) ts).words) m ≡ all_targets (codes_of targets) m
+    pub taken : (m : Maker) → IsAhead g active before (mentions_in_all targets) m → Final (length m.labels) (all_targets (codes_of targets) m).after z → length (all_targets (codes_of targets) m).after.constants ≡ taken_behind_targets ts (length m.constants)
+    pub are_places : (m : Maker) → IsAhead g active before (mentions_in_all targets) m → ArePlaces g ts (all_targets (codes_of targets) m).value
 
 -- as many are written
 pub written_count : (at : Place) (n : ℕ) (fs : List (Option Inner)) (ts : List TargetValue) → length (all_coded (words_targets at n fs ts).words) ≡ length ts
@@ -333,22 +337,23 @@ targets_grow (c ∷ cs) grow m = on_part (targets_grow cs grow.1 (c.target m).af
 abbrev and_targets : Got Target → Got (List Target) → Got (List Target)
 and_targets one others = record { value = one.value ∷ others.value; after = others.after }
 
-module _ {f : Function} {g : Fn} {active : List Active} {listed : List ℕ} {z : Maker} {left behind : List (Option Inner)} where
-  pub none_same : left ≡ behind → TargetsSame f g active listed z left behind no_expressions []
-  none_same same = record { can = refl; leaves = same; few = λ n. omega arith; count = refl; passes = λ m. passed_none; same = λ m ahead final. refl; taken = λ m ahead final. refl; are_places = λ m ahead. tt }
+module _ {f : Function} {g : Fn} {active : List Active} {listed : List ℕ} {z : Maker} {lefts : ℕ → List (Option Inner)} {before behind : ℕ} where
+  pub none_same : behind ≡ before → TargetsSame f g active listed z lefts before behind no_expressions []
+  none_same same = record { can = refl; leaves = ap lefts (sym same); makes = same; few = λ n. omega arith; count = refl; passes = λ m. passed_none; same = λ m ahead final. refl; taken = λ m ahead final. refl; are_places = λ m ahead. tt }
 
-module _ {f : Function} {g : Fn} {active : List Active} {listed : List ℕ} {z : Maker} {left mid behind : List (Option Inner)} where
-  pub more_same : (target : Expression) (targets : Expressions) (t : TargetValue) (ts : List TargetValue) → TargetSame f g active listed z left mid target t → TargetsSame f g active listed z mid behind targets ts →
-      TargetsSame f g active listed z left behind (syntax.expression target targets) (t ∷ ts)
+module _ {f : Function} {g : Fn} {active : List Active} {listed : List ℕ} {z : Maker} {lefts : ℕ → List (Option Inner)} {before mid behind : ℕ} where
+  pub more_same : (target : Expression) (targets : Expressions) (t : TargetValue) (ts : List TargetValue) → TargetSame f g active listed z lefts before mid target t → TargetsSame f g active listed z lefts mid behind targets ts →
+      TargetsSame f g active listed z lefts before behind (syntax.expression target targets) (t ∷ ts)
   more_same target targets t ts first others = record {
     can = both_hold _ _ first.can (ap (λ fs. can_write_targets at fs ts) first.leaves ∙ others.can);
     leaves = ap (left_by_targets ts) first.leaves ∙ others.leaves;
+    makes = others.makes ∙ ap (made_behind (mentions_in_all targets)) first.makes ∙ sym (made_both (mentions_in target) (mentions_in_all targets) before);
     few = λ n. omega (arith, first.few n, ap (λ fs. (words_targets at (taken_behind_target t n) fs ts).levels) first.leaves, others.few (taken_behind_target t n));
     count = ap suc others.count;
     passes = λ m. passed_then (mentions_in target) (mentions_in_all targets) (first.passes m) (others.passes (one m).after);
     same = λ m ahead final.
-        ap (λ one. and_targets one (all_targets (written (taken_behind_target t (length m.constants)) (left_by_target t left)) one.after)) (first.same m (first_ahead m ahead) (first_final m final))
-        ∙ ap (λ n. and_targets (one m) (all_targets (written n (left_by_target t left)) (one m).after)) (sym (first.taken m (first_ahead m ahead) (first_final m final)))
+        ap (λ one. and_targets one (all_targets (written (taken_behind_target t (length m.constants)) (left_by_target t (lefts before))) one.after)) (first.same m (first_ahead m ahead) (first_final m final))
+        ∙ ap (λ n. and_targets (one m) (all_targets (written n (left_by_target t (lefts before))) (one m).after)) (sym (first.taken m (first_ahead m ahead) (first_final m final)))
         ∙ ap (λ fs. and_targets (one m) (all_targets (written (length (one m).after.constants) fs) (one m).after)) first.leaves
         ∙ ap (and_targets (one m)) (others.same (one m).after (others_ahead m ahead) (others_final m final));
     taken = λ m ahead final. others.taken (one m).after (others_ahead m ahead) (others_final m final) ∙ ap (taken_behind_targets ts) (first.taken m (first_ahead m ahead) (first_final m final));
@@ -364,14 +369,14 @@ module _ {f : Function} {g : Fn} {active : List Active} {listed : List ℕ} {z :
       one : (m : Maker) → Got Target
       one m = (code target).target m
 
-      first_ahead : (m : Maker) → IsAhead g active (mentions_in target ++ mentions_in_all targets) m → IsAhead g active (mentions_in target) m
+      first_ahead : (m : Maker) → IsAhead g active before (mentions_in target ++ mentions_in_all targets) m → IsAhead g active before (mentions_in target) m
       first_ahead m ahead = ahead_front (mentions_in target) (mentions_in_all targets) ahead
 
-      others_ahead : (m : Maker) → IsAhead g active (mentions_in target ++ mentions_in_all targets) m → IsAhead g active (mentions_in_all targets) (one m).after
-      others_ahead m ahead = ahead_behind (mentions_in target) (mentions_in_all targets) (first.passes m) ahead
+      others_ahead : (m : Maker) → IsAhead g active before (mentions_in target ++ mentions_in_all targets) m → IsAhead g active mid (mentions_in_all targets) (one m).after
+      others_ahead m ahead = ahead_behind (mentions_in target) (mentions_in_all targets) first.makes (first.passes m) ahead
 
       first_final : (m : Maker) → Final (length m.labels) (all_targets (codes_of targets) (one m).after).after z → Final (length m.labels) (one m).after z
-      first_final m final = before (targets_grow (codes_of targets) (grow_all calm (one_line_expressions targets)) (one m).after) final
+      first_final m final = before_part (targets_grow (codes_of targets) (grow_all calm (one_line_expressions targets)) (one m).after) final
 
       others_final : (m : Maker) → Final (length m.labels) (all_targets (codes_of targets) (one m).after).after z → Final (length (one m).after.labels) (all_targets (codes_of targets) (one m).after).after z
       others_final m final = let grown = (grows calm (one_line_expression target)).target m in later grown.more final

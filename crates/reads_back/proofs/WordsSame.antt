@@ -177,23 +177,23 @@ rk_on_right op w m = rk_wrapped (right_binds (level_of_op op) (is_power op) w.wo
 
 -- ---- what is written of a value
 
-module _ {f : Function} {g : Fn} {active : List Active} {listed : List ℕ} {z : Maker} {left behind : List (Option Inner)} {e : Expression} {v : Value} (rewritten : Rewritten f g active listed z left behind e v) where
-  pub next_same : (m : Maker) → IsAhead g active (mentions_in e) m → Final (length m.labels) (next_reg (code e) m) z → next_reg (coded (wording f listed z left (length m.constants) v).words) m ≡ next_reg (code e) m
+module _ {f : Function} {g : Fn} {active : List Active} {listed : List ℕ} {z : Maker} {lefts : ℕ → List (Option Inner)} {before behind : ℕ} {e : Expression} {v : Value} (rewritten : Rewritten f g active listed z lefts before behind e v) where
+  pub next_same : (m : Maker) → IsAhead g active before (mentions_in e) m → Final (length m.labels) (next_reg (code e) m) z → next_reg (coded (wording f listed z lefts before (length m.constants) v).words) m ≡ next_reg (code e) m
   next_same m ahead final = ap (take_registers 1) (rewritten.to_reg m.free m ahead (before_take 1 ((code e).to_reg m.free m) final))
 
-  pub next_taken : (m : Maker) → IsAhead g active (mentions_in e) m → Final (length m.labels) (next_reg (code e) m) z → length (next_reg (code e) m).constants ≡ taken_behind v (length m.constants)
+  pub next_taken : (m : Maker) → IsAhead g active before (mentions_in e) m → Final (length m.labels) (next_reg (code e) m) z → length (next_reg (code e) m).constants ≡ taken_behind v (length m.constants)
   next_taken m ahead final = rewritten.taken m.free m ahead (before_take 1 ((code e).to_reg m.free m) final)
 
   abbrev one_line : Expression
   one_line = one_line_expression e
 
   abbrev written_at : Maker → Expression
-  written_at m = (wording f listed z left (length m.constants) v).words
+  written_at m = (wording f listed z lefts before (length m.constants) v).words
 
   written_local : (m : Maker) → local_register (written_at m) m ≡ local_register one_line m
   written_local m = same_local (written_at m) one_line m (rewritten.named (length m.constants) ∙ sym (same_name e))
 
-  pub operand_same : (m : Maker) → IsAhead g active (mentions_in e) m → Final (length m.labels) (operand (code e) m).after z → operand (coded (wording f listed z left (length m.constants) v).words) m ≡ operand (code e) m
+  pub operand_same : (m : Maker) → IsAhead g active before (mentions_in e) m → Final (length m.labels) (operand (code e) m).after z → operand (coded (wording f listed z lefts before (length m.constants) v).words) m ≡ operand (code e) m
   operand_same m ahead final = by (local_register one_line m) refl
     where
       by : (local : Option ℕ) → local_register one_line m ≡ local → operand (coded (written_at m)) m ≡ operand (code e) m
@@ -203,7 +203,7 @@ module _ {f : Function} {g : Fn} {active : List Active} {listed : List ℕ} {z :
           ∙ ap (λ (after : Maker). record { value = m.free; after = take_registers 1 after }) (rewritten.to_reg m.free m ahead (operand_final one_line m is final))
           ∙ sym (operand_next one_line m is)
 
-  pub operand_taken : (m : Maker) → IsAhead g active (mentions_in e) m → Final (length m.labels) (operand (code e) m).after z → length (operand (code e) m).after.constants ≡ taken_behind v (length m.constants)
+  pub operand_taken : (m : Maker) → IsAhead g active before (mentions_in e) m → Final (length m.labels) (operand (code e) m).after z → length (operand (code e) m).after.constants ≡ taken_behind v (length m.constants)
   operand_taken m ahead final = by (local_register one_line m) refl
     where
       by : (local : Option ℕ) → local_register one_line m ≡ local → length (operand (code e) m).after.constants ≡ taken_behind v (length m.constants)
