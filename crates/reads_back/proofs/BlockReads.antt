@@ -2,7 +2,7 @@
 use Rattle.std.proofs.Common.{◌≡◌, ℕ, zero, suc, ◌+◌, ◌-◌, ◌<◌, ◌≤◌, Bool, true, false, List, [], ◌∷◌, ◌++◌, drop, length, length-append, map, append-nil, append_assoc, Option, Some, None, refl, sym, ap, ap₂, ◌∙◌, subst, arith, le-leb, lt-ltb, if◌then◌else◌}
 use Rattle.std.proofs.lemmas.List.{length-map, length-replicate}
 use Rattle.std.specs.List.{prefix_len}
-use Rattle.std.specs.Prelude.{◌==◌, ◌^◌, option_and_then, replicate}
+use Rattle.std.specs.Prelude.{◌==◌, ◌^◌, option_and_then, replicate, Option}
 use Rattle.lua_num.specs.Bytes.{Text}
 use Rattle.lua_tree.specs.Names.{are_names, are_some_names, is_name}
 use Rattle.lua_tree.specs.Syntax as syntax
@@ -34,6 +34,7 @@ use Rattle.reads_back.proofs.StraightActs.{StartsWith, act_forward, act_read, fe
 use Rattle.reads_back.proofs.StraightBlocks.{AreWritten, ComesNext, IsWhole, comes_behind, listed_by, low, made_there}
 use Rattle.reads_back.proofs.Tests.{first_of_both, not_below}
 use Rattle.reads_back.proofs.WordsRead.{IsQuiet}
+use Rattle.lua_tree.specs.Outline.{Part}
 
 some_names : (names : List Text) → are_some_names names ≡ true → 0 < length names
 some_names [] good = cc
@@ -69,9 +70,9 @@ numbers_both first (suc count) more =
 no_local : Declared
 no_local = record { outer = None; register = 0; step = None; captured = false }
 
-abbrev invented : Maker → Situation
-invented m = record {
-  left = [];
+abbrev invented : (left : List (Option Inner)) → Maker → Situation
+invented left m = record {
+  left = left;
   scope = record { declared = replicate (length m.active) no_local; active = listed_by m };
   step = 0;
   pc = 0;
@@ -82,13 +83,13 @@ invented m = record {
   seen = 0;
 }
 
--- the locals of the function in the making are those that are declared, all active before the last word, and no functions are left
-pub record IsThere (f : Function) (m : Maker) (now : Situation) : Type 0 where
+-- the locals of the function in the making are those that are declared, all active before the last word, and these functions are left
+pub record IsThere (f : Function) (lefts : ℕ → List (Option Inner)) (m : Maker) (now : Situation) : Type 0 where
   pub declared : length now.scope.declared ≡ length m.active
   pub active : length m.items < f.last → now.scope.active ≡ listed_by m
-  pub left : now.left ≡ []
+  pub left : now.left ≡ lefts (length m.functions)
 
-module _ {f : Function} {g : Fn} {z : Maker} (whole : IsWhole f g z) where
+module _ {f : Function} {g : Fn} {z : Maker} {lefts : ℕ → List (Option Inner)} {of : ℕ → Part} (whole : IsWhole f g z lefts of) where
   module _ {block : Statements} {m : Maker} (next : ComesNext f g z block m) where
     count_same : length m.active ≡ length m.locals
     count_same = as_many_listed 0 m.active m.locals next.listing.are
@@ -110,7 +111,7 @@ module _ {f : Function} {g : Fn} {z : Maker} (whole : IsWhole f g z) where
     last_pc = length behind.items
 
     forward : first_pc ≤ last_pc
-    forward = act_forward (made_there whole next) s next.straight.0.0 next.straight.0.1 (low whole next) behind.active (spot m) (spot behind) next.stand.0
+    forward = act_forward (made_there whole next) whole.left s next.straight.0.0 next.straight.0.1 (low whole next) behind.active (spot m) (spot behind) next.stand.0
 
     own_entries : (s : Statement) → IsAct s → (n : Maker) → StartFrom (length n.items) (entries_by s n)
     own_entries (local_statement names es) is n = entries_start names (length n.items)
@@ -161,14 +162,14 @@ module _ {f : Function} {g : Fn} {z : Maker} (whole : IsWhole f g z) where
       starts_with other is now as_many active within = absurd (subst IsAct is next.straight.0.0)
 
       -- its words are read
-      act_there : last_pc ≤ f.last → (now : Situation) → length now.scope.declared ≡ length m.active → HasLocals m.active (listed_by m) now → now.left ≡ [] → now.entries ≡ [] → now.taken ≡ now.seen → ActRead f g m.active s (length m.functions) (length behind.functions) now first_pc last_pc
+      act_there : last_pc ≤ f.last → (now : Situation) → length now.scope.declared ≡ length m.active → HasLocals m.active (listed_by m) now → now.left ≡ lefts (length m.functions) → now.entries ≡ [] → now.taken ≡ now.seen → ActRead f g m.active s (length m.functions) (length behind.functions) now first_pc last_pc
       act_there within now as_many locals left_is empty taken =
-          act_read (made_there whole next) s next.straight.0.0 next.straight.0.1 (low whole next) behind.active (spot m) (spot behind) next.stand.0 now locals left_is empty taken (is_quiet now.scope as_many within) (starts_with s refl now as_many locals.places within)
+          act_read (made_there whole next) whole.left s next.straight.0.0 next.straight.0.1 (low whole next) behind.active (spot m) (spot behind) next.stand.0 now locals left_is empty taken (is_quiet now.scope as_many within) (starts_with s refl now as_many locals.places within)
 
       -- and they are some
       is_later : last_pc ≤ f.last → first_pc < last_pc
       is_later within =
-          let act = act_there within (invented m) (length-replicate (length m.active) no_local) (record { base = refl; places = refl }) refl refl refl in
+          let act = act_there within (invented (lefts (length m.functions)) m) (length-replicate (length m.active) no_local) (record { base = refl; places = refl }) refl refl refl in
           act.later
 
   block_forward : (block : Statements) (m : Maker) → ComesNext f g z block m → length m.items ≤ length (all_made block m).items
@@ -190,7 +191,7 @@ module _ {f : Function} {g : Fn} {z : Maker} (whole : IsWhole f g z) where
 
   -- what the step is of what is written
   kind_is : (s : Statement) → IsAct s → (m : Maker) (acted : Acted) (n first listed : ℕ) (kind : DraftKind) (before after : ℕ) → IsActed g m.active s before after acted → kind ≡ kind_of_act first acted → first + length (entries_by s (made_by s m)) ≤ listed →
-      KindIs listed (act_statement (place f.of (listed_by m) f.short) n [] acted) kind
+      KindIs listed (act_statement (place f.of (listed_by m) f.short) n (lefts before) acted) kind
   kind_is (call_statement e) is m (called v) n first listed kind before after acts same room = same
   kind_is (assignment targets es) is m (assigned ts vs all last) n first listed kind before after acts same room = same
   kind_is (local_statement names es) is m (declared others vs all) n first listed kind before after acts same room =
@@ -209,8 +210,8 @@ module _ {f : Function} {g : Fn} {z : Maker} (whole : IsWhole f g z) where
   declares_count s is m before after acted acts = absurd acts
 
   -- what is known behind the words of the first statement
-  there_behind : {line : ℕ} {semi : Bool} {s : Statement} {rest : Statements} {m : Maker} {number : ℕ} {now : Situation} (next : ComesNext f g z (syntax.statement line semi s rest) m) → IsThere f m now → now.scope.active ≡ listed_by m →
-      (act : ActRead f g m.active s (length m.functions) (length (made_by s m).functions) (begun number (length m.items) now) (length m.items) (length (made_by s m).items)) → IsThere f (settle (made_by s m)) (left_at f (length (made_by s m).items) act.behind)
+  there_behind : {line : ℕ} {semi : Bool} {s : Statement} {rest : Statements} {m : Maker} {number : ℕ} {now : Situation} (next : ComesNext f g z (syntax.statement line semi s rest) m) → IsThere f lefts m now → now.scope.active ≡ listed_by m →
+      (act : ActRead f g m.active s (length m.functions) (length (made_by s m).functions) (begun number (length m.items) now) (length m.items) (length (made_by s m).items)) → IsThere f lefts (settle (made_by s m)) (left_at f (length (made_by s m).items) act.behind)
   there_behind {s = s} {rest} {m} next there active act =
       let n = made_by s m in
       let more = comes_behind whole next in
@@ -230,21 +231,21 @@ module _ {f : Function} {g : Fn} {z : Maker} (whole : IsWhole f g z) where
             ap (λ locals. (leave locals (length n.items) act.behind.scope).active) more.listing.listed
             ∙ all_left f.last (length n.items) (length n.active) (n.locals ++ entries_from rest (settle n)) act.behind.scope before all_active as_many
             ∙ all_active;
-        left = act.left ∙ ap (left_by_act act.acted) there.left ∙ (written (made_there whole next) s next.straight.0.0 (low whole next) (length m.functions) (length n.functions) act.acted act.is).leaves;
+        left = act.left ∙ ap (left_by_act act.acted) there.left ∙ (written (made_there whole next) whole.left s next.straight.0.0 (low whole next) (length m.functions) (length n.functions) act.acted act.is).leaves;
       }
 
   -- ---- steps up to the last word
 
   pub record StepsRead (block : Statements) (m : Maker) (drafts : List Drafted) (now : Situation) : Type 0 where
     pub written : Statements
-    pub are : AreWritten f g now.seen block written m
+    pub are : AreWritten f g lefts now.seen block written m
     pub more : List Drafted
     pub behind : Situation
     pub reads : (count : ℕ) → f.last ≤ count + length m.items → drafts_from f count (drafts, length m.items, now) ≡ Some (drafts ++ more, f.last, behind)
     pub drafts_are : AreDraftsOf (length f.of.locals) written more
     pub all_declared : length f.of.locals ≡ length behind.scope.declared
 
-  no_steps : (m : Maker) (drafts : List Drafted) (now : Situation) → ComesNext f g z no_statements m → length m.items ≡ f.last → IsThere f m now → StepsRead no_statements m drafts now
+  no_steps : (m : Maker) (drafts : List Drafted) (now : Situation) → ComesNext f g z no_statements m → length m.items ≡ f.last → IsThere f lefts m now → StepsRead no_statements m drafts now
   no_steps m drafts now next over there = record {
     written = no_statements;
     are = refl;
@@ -277,12 +278,12 @@ module _ {f : Function} {g : Fn} {z : Maker} (whole : IsWhole f g z) where
       ∙ ap (λ n. if n == 0 then words_from f (suc (f.last - pc)) pc step else None) none
       ∙ act.reads (suc (f.last - pc)) (omega (arith, act.later, within))
 
-  one_step : {s : Statement} {rest : Statements} {m : Maker} (line : ℕ) (semi : Bool) (drafts : List Drafted) (now : Situation) (next : ComesNext f g z (syntax.statement line semi s rest) m) → now.scope.active ≡ listed_by m → IsThere f m now →
+  one_step : {s : Statement} {rest : Statements} {m : Maker} (line : ℕ) (semi : Bool) (drafts : List Drafted) (now : Situation) (next : ComesNext f g z (syntax.statement line semi s rest) m) → now.scope.active ≡ listed_by m → IsThere f lefts m now →
       (act : ActRead f g m.active s (length m.functions) (length (made_by s m).functions) (begun (length drafts) (length m.items) now) (length m.items) (length (made_by s m).items)) → step_at f (length drafts) (length m.items) now ≡ Some (act.draft, act.behind) → length (made_by s m).items ≤ f.last →
       StepsRead rest (settle (made_by s m)) (drafts ++ act.draft ∷ []) (left_at f (length (made_by s m).items) act.behind) → StepsRead (syntax.statement line semi s rest) m drafts now
   one_step {s} {rest} {m} line semi drafts now next active there act is_read within others = record {
     written = syntax.statement 1 false here others.written;
-    are = (act.acted, others.written, act.is, subst (λ taken. AreWritten f g taken rest others.written (settle n)) act.seen others.are, refl);
+    are = (act.acted, others.written, act.is, subst (λ taken. AreWritten f g lefts taken rest others.written (settle n)) act.seen others.are, refl);
     more = act.draft ∷ others.more;
     behind = others.behind;
     reads = reads;
@@ -294,7 +295,7 @@ module _ {f : Function} {g : Fn} {z : Maker} (whole : IsWhole f g z) where
       n = made_by s m
 
       here : Statement
-      here = act_statement (place f.of (listed_by m) f.short) now.seen [] act.acted
+      here = act_statement (place f.of (listed_by m) f.short) now.seen (lefts (length m.functions)) act.acted
 
       part : act.draft.part ≡ part_of here
       part = act.part ∙ ap₂ (λ (listed : List ℕ) (left : List (Option Inner)). part_of (act_statement (place f.of listed f.short) now.seen left act.acted)) active there.left
@@ -302,7 +303,7 @@ module _ {f : Function} {g : Fn} {z : Maker} (whole : IsWhole f g z) where
       few : act.draft.levels ≤ 200
       few =
           let same = act.levels ∙ ap₂ (λ (listed : List ℕ) (left : List (Option Inner)). act_levels (place f.of listed f.short) now.seen left act.acted) active there.left in
-          omega (arith, same, few_levels (made_there whole next) s next.straight.0.0 (low whole next) (length m.functions) (length n.functions) act.acted now.seen act.is)
+          omega (arith, same, few_levels (made_there whole next) whole.left s next.straight.0.0 (low whole next) (length m.functions) (length n.functions) act.acted now.seen act.is)
 
       room : length now.scope.declared + length (entries_by s n) ≤ length f.of.locals
       room =
@@ -324,7 +325,7 @@ module _ {f : Function} {g : Fn} {z : Maker} (whole : IsWhole f g z) where
 
   -- ---- all steps
 
-  pub block_read : (block : Statements) (m : Maker) (drafts : List Drafted) (now : Situation) → ComesNext f g z block m → length (all_made block m).items ≡ f.last → IsThere f m now → StepsRead block m drafts now
+  pub block_read : (block : Statements) (m : Maker) (drafts : List Drafted) (now : Situation) → ComesNext f g z block m → length (all_made block m).items ≡ f.last → IsThere f lefts m now → StepsRead block m drafts now
   block_read no_statements m drafts now next ends there = no_steps m drafts now next ends there
   block_read (syntax.statement line semi s rest) m drafts now next ends there =
       let n = made_by s m in

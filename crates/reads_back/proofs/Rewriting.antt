@@ -34,8 +34,6 @@ pub record IsMadeBy (f : Function) (g : Fn) (active : List Active) (listed : Lis
   pub few : length z.constants ≤ 262144
   -- the scope finds one meaning by a name
   pub certain : (text : Text) (one other : Where) → Means g.law active text one → Means g.law active text other → one ≡ other
-  -- no functions are made in it
-  pub alone : g.functions ≡ no_functions
 
 pub none_next : {g : Fn} (active : List Active) (body : FunctionBody) (method : Bool) (c : Coming) → g.functions ≡ no_functions → IsMadeNext g active body method c → ⊥
 none_next active body method c alone next = none-some next.chunk (sym (ap (λ functions. function_at functions c.functions) alone) ∙ next.is)

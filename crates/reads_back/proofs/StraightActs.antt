@@ -1,7 +1,7 @@
 -- What is known of each statement of a straight block where it is made: it is read as what it is, and what is written of it is well formed, has the same names and makes the same code.
 use Rattle.std.proofs.Common.{◌≡◌, ℕ, suc, ◌≤◌, false, true, List, [], length, None, arith, Option}
 use Rattle.lua_tree.specs.OneLine.{one_line_statement}
-use Rattle.lua_tree.specs.Outline.{Part, statement_part}
+use Rattle.lua_tree.specs.Outline.{Part, statement_part, nothing}
 use Rattle.lua_tree.specs.Syntax as syntax
 use Rattle.lua_tree.specs.Syntax.{Expression, Expressions, Statement, assignment, call_statement, field_expression, index_expression, name_expression, local_statement, no_expressions, return_statement}
 use Rattle.lua_tree.specs.WellFormed.{depth_of_expression, depth_of_expressions, depth_of_statement, ends_block, formed_statement, statement_begins_with_paren}
@@ -21,16 +21,18 @@ use Rattle.reads_back.proofs.ActsRead.{ActRead, CanAct, call_statement_read}
 use Rattle.reads_back.proofs.ActsRewritten.{AllWritten, act_rewritten}
 use Rattle.reads_back.proofs.BehindWords.{HasLocals}
 use Rattle.reads_back.proofs.DeclarationsRead.{StartHere, local_forward, local_read}
-use Rattle.reads_back.proofs.Marks.{SamePart}
+use Rattle.reads_back.proofs.Marks.{SamePart, ArePartsLeft}
 use Rattle.reads_back.proofs.MarksSame.{ArePartsMade}
 use Rattle.reads_back.proofs.AssignmentStands.{assignment_forward, assignment_read}
 use Rattle.reads_back.proofs.PartsRead.{IsNoTable}
 use Rattle.reads_back.proofs.ReturnsRead.{return_forward, return_read}
-use Rattle.reads_back.proofs.Rewriting.{IsMadeBy, RewrittenAct, none_again}
+use Rattle.reads_back.proofs.Rewriting.{IsMadeBy, RewrittenAct, none_again, AreAgain, none_next}
 use Rattle.reads_back.proofs.TargetsCome.{ReadsTarget, ReadsTargets}
 use Rattle.reads_back.proofs.ValueReads.{call_read, reads_all}
 use Rattle.reads_back.proofs.WordsRead.{IsQuiet}
 use Rattle.reads_back.proofs.WrittenSame.{rewritten_all}
+use Rattle.proto.specs.Chunk.{no_functions}
+use Rattle.reads_back.proofs.WrittenFormed.{AreFineLeft}
 
 begun_none : (v : Value) → BeginsWithVariable v → IsNoTable v
 begun_none (table_value items all depth) begins = begins
@@ -41,46 +43,56 @@ abbrev pub StartsWith : Function → Statement → Situation → (last : ℕ) �
 StartsWith f (local_statement names es) s last = StartHere f s.scope names last
 StartsWith f statement s last = Unit {0}
 
--- no function is left, whatever was made
+-- what is known of the functions that are left where so many were made, and of the parts of the source that they are
+pub record AreLeft (g : Fn) (lefts : ℕ → List (Option Inner)) (of : ℕ → Part) : Type 0 where
+  pub again : AreAgain g lefts
+  pub fine : (made : ℕ) → AreFineLeft (lefts made)
+  pub parts : (made : ℕ) → ArePartsLeft of (lefts made)
+  pub made : (active : List Active) → ArePartsMade g active of
+
+-- where none is made none is left
 abbrev pub none_left : ℕ → List (Option Inner)
 none_left made = []
 
-module _ {f : Function} {g : Fn} {active : List Active} {listed : List ℕ} {z : Maker} (made : IsMadeBy f g active listed z) where
+pub none_are_left : (g : Fn) → g.functions ≡ no_functions → AreLeft g none_left (λ number. nothing)
+none_are_left g alone = record { again = none_again g none_left alone; fine = λ made. tt; parts = λ made. tt; made = λ active body c next. absurd (none_next active body false c alone next) }
+
+module _ {f : Function} {g : Fn} {active : List Active} {listed : List ℕ} {z : Maker} (made : IsMadeBy f g active listed z) {lefts : ℕ → List (Option Inner)} {of : ℕ → Part} (left : AreLeft g lefts of) where
   abbrev at : Place
   at = place f.of listed f.short
 
-  all_written : (deep : ℕ) → deep ≤ 200 → AllWritten f g active listed z none_left deep
-  all_written deep low e has few = (rewritten_all none_left made (none_again g none_left made.alone) e has (omega (arith, low, few))).value
+  all_written : (deep : ℕ) → deep ≤ 200 → AllWritten f g active listed z lefts deep
+  all_written deep low e has few = (rewritten_all lefts made left.again e has (omega (arith, low, few))).value
 
   -- ---- what is written
 
   module _ (s : Statement) (is : IsAct s) (few : depth_of_statement s ≤ 65) where
-    pub written : (before behind : ℕ) (acted : Acted) → IsActed g active s before behind acted → RewrittenAct f g active listed z none_left before behind s acted
-    written before behind acted acts = act_rewritten none_left made 65 s before behind acted (all_written 65 (omega arith)) few is acts
+    pub written : (before behind : ℕ) (acted : Acted) → IsActed g active s before behind acted → RewrittenAct f g active listed z lefts before behind s acted
+    written before behind acted acts = act_rewritten lefts made 65 s before behind acted (all_written 65 (omega arith)) few is acts
 
-    can : CanAct f g active listed none_left s
+    can : CanAct f g active listed lefts s
     can = record { can = λ before behind acted acts. (written before behind acted acts).can }
 
-    pub few_levels : (before behind : ℕ) (acted : Acted) (n : ℕ) → IsActed g active s before behind acted → act_levels at n [] acted ≤ 200
+    pub few_levels : (before behind : ℕ) (acted : Acted) (n : ℕ) → IsActed g active s before behind acted → act_levels at n (lefts before) acted ≤ 200
     few_levels before behind acted n acts = let levels = (written before behind acted acts).few n in omega (arith, few, levels)
 
-    pub written_formed : (before behind : ℕ) (acted : Acted) (n : ℕ) → IsActed g active s before behind acted → formed_statement (act_statement at n [] acted) ≡ true
-    written_formed before behind acted n acts = act_formed at g active s before behind acted n [] tt is acts (written before behind acted acts).can
+    pub written_formed : (before behind : ℕ) (acted : Acted) (n : ℕ) → IsActed g active s before behind acted → formed_statement (act_statement at n (lefts before) acted) ≡ true
+    written_formed before behind acted n acts = act_formed at g active s before behind acted n (lefts before) (left.fine before) is acts (written before behind acted acts).can
 
-    pub written_shallow : (before behind : ℕ) (acted : Acted) (n : ℕ) → IsActed g active s before behind acted → suc (depth_of_statement (act_statement at n [] acted)) ≤ 200
+    pub written_shallow : (before behind : ℕ) (acted : Acted) (n : ℕ) → IsActed g active s before behind acted → suc (depth_of_statement (act_statement at n (lefts before) acted)) ≤ 200
     written_shallow before behind acted n acts =
         let levels = few_levels before behind acted n acts in
-        let low = act_shallow at g active s before behind acted n [] tt is acts (written before behind acted acts).can (omega (arith, levels)) in
+        let low = act_shallow at g active s before behind acted n (lefts before) (left.fine before) is acts (written before behind acted acts).can (omega (arith, levels)) in
         omega (arith, levels, low)
 
-    pub written_marks : (of : ℕ → Part) → ArePartsMade g active of → (before behind : ℕ) (acted : Acted) (n : ℕ) → IsActed g active s before behind acted → SamePart (statement_part 1 (act_statement at n [] acted)) (statement_part 1 (one_line_statement s))
-    written_marks of parts_made before behind acted n acts = act_marks made.is_function made.all of parts_made s before behind acted n 1 [] tt is acts (written before behind acted acts).can
+    pub written_marks : (before behind : ℕ) (acted : Acted) (n : ℕ) → IsActed g active s before behind acted → SamePart (statement_part 1 (act_statement at n (lefts before) acted)) (statement_part 1 (one_line_statement s))
+    written_marks before behind acted n acts = act_marks made.is_function made.all of (left.made active) s before behind acted n 1 (lefts before) (left.parts before) is acts (written before behind acted acts).can
 
-    pub written_closed : StatementBeginsWithName s → (before behind : ℕ) (acted : Acted) (n : ℕ) → IsActed g active s before behind acted → statement_begins_with_paren (act_statement at n [] acted) ≡ false
-    written_closed begins before behind acted n acts = act_closed at g active s before behind acted n [] begins is acts (written before behind acted acts).can
+    pub written_closed : StatementBeginsWithName s → (before behind : ℕ) (acted : Acted) (n : ℕ) → IsActed g active s before behind acted → statement_begins_with_paren (act_statement at n (lefts before) acted) ≡ false
+    written_closed begins before behind acted n acts = act_closed at g active s before behind acted n (lefts before) begins is acts (written before behind acted acts).can
 
-    pub written_ends : (before behind : ℕ) (acted : Acted) (n : ℕ) → IsActed g active s before behind acted → ends_block (act_statement at n [] acted) ≡ ends_block s
-    written_ends before behind acted n acts = act_ends at g active s before behind acted n [] acts
+    pub written_ends : (before behind : ℕ) (acted : Acted) (n : ℕ) → IsActed g active s before behind acted → ends_block (act_statement at n (lefts before) acted) ≡ ends_block s
+    written_ends before behind acted n acts = act_ends at g active s before behind acted n (lefts before) acts
 
   -- ---- what is read
 
@@ -106,7 +118,7 @@ module _ {f : Function} {g : Fn} {active : List Active} {listed : List ℕ} {z :
   act_forward (return_statement es) is begins few after p q stands = return_forward made.is_function made.all es is (omega (arith, few)) p q stands.part_at
   act_forward s is begins few after p q stands = absurd is
 
-  pub act_read : (s : Statement) → IsAct s → StatementBeginsWithName s → depth_of_statement s ≤ 65 → (after : List Active) (p q : Spot) → StatementAt g None s active after p q → (now : Situation) → HasLocals active listed now → now.left ≡ [] → now.entries ≡ [] → now.taken ≡ now.seen →
+  pub act_read : (s : Statement) → IsAct s → StatementBeginsWithName s → depth_of_statement s ≤ 65 → (after : List Active) (p q : Spot) → StatementAt g None s active after p q → (now : Situation) → HasLocals active listed now → now.left ≡ lefts p.functions → now.entries ≡ [] → now.taken ≡ now.seen →
       IsQuiet f now.scope p.pc q.pc → StartsWith f s now q.pc → ActRead f g active s p.functions q.functions now p.pc q.pc
   act_read (call_statement e) is begins few after p q stands now locals left_is empty taken quiet starts =
       let call = call_read made.is_function made.all e is.0 is.1 (omega (arith, few)) in

@@ -1,6 +1,6 @@
 -- A straight block in a function that is being made: what is known before each of its statements, and that what is written of them makes the same function.
-use Rattle.std.proofs.Common.{◌≡◌, ℕ, ◌≤◌, true, false, not, ◌&&◌, List, [], ◌++◌, length, map, append_assoc, None, Some, refl, sym, ap, ◌∙◌, subst, arith}
-use Rattle.std.specs.Prelude.{Bool}
+use Rattle.std.proofs.Common.{◌≡◌, ℕ, ◌≤◌, true, false, not, ◌&&◌, List, ◌++◌, length, map, append_assoc, None, Some, refl, sym, ap, ◌∙◌, subst, arith}
+use Rattle.std.specs.Prelude.{Bool, Option}
 use Rattle.lua_tree.specs.OneLine.{one_line_statement}
 use Rattle.lua_tree.specs.Outline.{Part, statement_part, statements_part}
 use Rattle.lua_tree.specs.Syntax as syntax
@@ -13,10 +13,9 @@ use Rattle.scheme.specs.Scheme.{statement_made, statements_made}
 use Rattle.scheme.specs.Statements.{settle}
 use Rattle.scheme_stands.proofs.Blocks.{Settled}
 use Rattle.scheme_stands.proofs.Growth.{Final, Grown, before, before_free, later, loose, on_free, on_part, spot, start}
-use Rattle.scheme_stands.proofs.Makers.{no_names}
 use Rattle.scheme_stands.proofs.Standing.{statements_room}
 use Rattle.scheme_stands.proofs.Statements.{grow_statement}
-use Rattle.scheme_stands.specs.Words.{Fn}
+use Rattle.scheme_stands.specs.Words.{Fn, Names}
 use Rattle.reads_back.specs.Acted.{Acted, IsActed, act_statement, taken_behind_act}
 use Rattle.reads_back.specs.ReadAs.{ArePlain}
 use Rattle.reads_back.specs.Straight.{AreStraightBy}
@@ -24,17 +23,17 @@ use Rattle.reads_back.proofs.ActsRead.{numbers_from}
 use Rattle.reads_back.proofs.BlockMakers.{AllStand, AreAllActs, all_made, entries_by, entries_from, made_by, statement_listed, statement_moves}
 use Rattle.reads_back.proofs.ListedLocals.{ended}
 use Rattle.reads_back.proofs.Marks.{SamePart, both_same, part_then}
-use Rattle.reads_back.proofs.MarksSame.{ArePartsMade}
 use Rattle.reads_back.proofs.Mentions.{IsAhead}
 use Rattle.reads_back.proofs.StatementsMeant.{statement_meant}
 use Rattle.reads_back.proofs.PlainStraight.{AreOnLine}
 use Rattle.reads_back.proofs.Rewriting.{IsMadeBy, mentions_of_statement}
-use Rattle.reads_back.proofs.StraightActs.{written, written_closed, written_ends, written_formed, written_marks, written_shallow}
-use Rattle.reads_back.proofs.StraightScopes.{IsListing, are_listed, is_certain}
+use Rattle.reads_back.proofs.StraightActs.{written, written_closed, written_ends, written_formed, written_marks, written_shallow, AreLeft}
+use Rattle.reads_back.proofs.StraightScopes.{IsListing, are_listed, is_certain, AreNamed}
 use Rattle.reads_back.proofs.Tests.{and_not, both_hold, first_of_both, second_of_both}
 use Rattle.reads_back.proofs.WordsRead.{IsFunction}
 use Rattle.reads_back.specs.Cores.{IsOnOneLine}
-use Rattle.proto.specs.Chunk.{no_functions}
+use Rattle.reads_back.proofs.InnerNames.{AreKnown}
+use Rattle.core_expr.specs.Values.{Inner}
 
 pub all_acts : (block : Statements) → AreStraightBy IsOnOneLine block → AreAllActs block
 all_acts no_statements are = tt
@@ -42,13 +41,16 @@ all_acts (syntax.statement line semi s rest) are = (are.0.0, all_acts rest are.1
 
 -- ---- what is known of a function that is made whole, and before some of its statements
 
--- the function that is read is the one that is made in the end; it has no upvalues
-pub record IsWhole (f : Function) (g : Fn) (z : Maker) : Type 0 where
+-- the function that is read is the one that is made in the end, with these functions left where so many were made
+pub record IsWhole (f : Function) (g : Fn) (z : Maker) (lefts : ℕ → List (Option Inner)) (of : ℕ → Part) : Type 0 where
   pub is_function : IsFunction f g
-  pub law : g.law ≡ Some no_names
+  pub names : Names
+  pub law : g.law ≡ Some names
+  pub known : AreKnown names
+  pub named : AreNamed f names
+  pub left : AreLeft g lefts of
   pub constants : g.constants ≡ z.constants
   pub upvalues : g.upvalue_names ≡ z.upvalue_names
-  pub alone : g.functions ≡ no_functions
   pub few : length z.constants ≤ 262144
 
 -- these statements are made behind the others
@@ -70,15 +72,14 @@ all_grow : (block : Statements) (m : Maker) → Settled m → Grown loose m (all
 all_grow no_statements m settled = start m
 all_grow (syntax.statement line semi s rest) m settled = on_part (all_grow rest (settle (made_by s m)) refl) (on_free (active_count (made_by s m)) (grow_statement (one_line_statement s) 1 None m settled))
 
-module _ {f : Function} {g : Fn} {z : Maker} (whole : IsWhole f g z) where
+module _ {f : Function} {g : Fn} {z : Maker} {lefts : ℕ → List (Option Inner)} {of : ℕ → Part} (whole : IsWhole f g z lefts of) where
   pub made_there : {block : Statements} {m : Maker} → ComesNext f g z block m → IsMadeBy f g m.active (listed_by m) z
   made_there {m = m} next = record {
     is_function = whole.is_function;
-    all = are_listed next.listing whole.law (omega (arith, next.room, whole.is_function.few));
+    all = are_listed whole.names next.listing whole.law whole.named (omega (arith, next.room, whole.is_function.few));
     constants = whole.constants;
     few = whole.few;
-    certain = is_certain g m.active whole.law;
-    alone = whole.alone;
+    certain = is_certain g whole.names whole.known m.active whole.law;
   }
 
   module _ {line : ℕ} {semi : Bool} {s : Statement} {rest : Statements} {m : Maker} (next : ComesNext f g z (syntax.statement line semi s rest) m) where
@@ -123,22 +124,22 @@ module _ {f : Function} {g : Fn} {z : Maker} (whole : IsWhole f g z) where
 -- ---- what is written of a block
 
 -- statements on line 1 without semicolons, each of which is written of the act that a statement is, where so many constants were taken before the first
-abbrev pub AreWritten : Function → Fn → (taken : ℕ) → (block written : Statements) → Maker → Type 0
-AreWritten f g n no_statements written m = written ≡ no_statements
-AreWritten f g n (syntax.statement line semi s rest) written m =
-    (acted : Acted) × (others : Statements) × IsActed g m.active s (length m.functions) (length (made_by s m).functions) acted × AreWritten f g (taken_behind_act acted n) rest others (settle (made_by s m))
-    × (written ≡ syntax.statement 1 false (act_statement (place f.of (listed_by m) f.short) n [] acted) others)
+abbrev pub AreWritten : Function → Fn → (lefts : ℕ → List (Option Inner)) → (taken : ℕ) → (block written : Statements) → Maker → Type 0
+AreWritten f g lefts n no_statements written m = written ≡ no_statements
+AreWritten f g lefts n (syntax.statement line semi s rest) written m =
+    (acted : Acted) × (others : Statements) × IsActed g m.active s (length m.functions) (length (made_by s m).functions) acted × AreWritten f g lefts (taken_behind_act acted n) rest others (settle (made_by s m))
+    × (written ≡ syntax.statement 1 false (act_statement (place f.of (listed_by m) f.short) n (lefts (length m.functions)) acted) others)
 
-module _ {f : Function} {g : Fn} {z : Maker} (whole : IsWhole f g z) where
-  pub block_same : (block tree : Statements) (taken : ℕ) (m : Maker) → ComesNext f g z block m → AreWritten f g taken block tree m → taken ≡ length m.constants → statements_made tree None m ≡ all_made block m
+module _ {f : Function} {g : Fn} {z : Maker} {lefts : ℕ → List (Option Inner)} {of : ℕ → Part} (whole : IsWhole f g z lefts of) where
+  pub block_same : (block tree : Statements) (taken : ℕ) (m : Maker) → ComesNext f g z block m → AreWritten f g lefts taken block tree m → taken ≡ length m.constants → statements_made tree None m ≡ all_made block m
   block_same no_statements tree taken m next are count = ap (λ block. statements_made block None m) are
   block_same (syntax.statement line semi s rest) tree taken m next are count =
       let acted = are.0 in
-      let one = written (made_there whole next) s next.straight.0.0 (low whole next) (length m.functions) (length (made_by s m).functions) acted are.2 in
+      let one = written (made_there whole next) whole.left s next.straight.0.0 (low whole next) (length m.functions) (length (made_by s m).functions) acted are.2 in
       let later_on = settle (made_by s m) in
       let counted : taken_behind_act acted taken ≡ length later_on.constants = ap (taken_behind_act acted) count ∙ sym (one.taken m (names_next whole next) (here_final whole next)) in
       ap (λ block. statements_made block None m) are.4
-      ∙ ap (λ taken. statements_made are.1 None (settle (statement_made (act_statement (place f.of (listed_by m) f.short) taken [] acted) 1 None m))) count
+      ∙ ap (λ taken. statements_made are.1 None (settle (statement_made (act_statement (place f.of (listed_by m) f.short) taken (lefts (length m.functions)) acted) 1 None m))) count
       ∙ ap (λ m. statements_made are.1 None (settle m)) (one.made m (names_next whole next) (here_final whole next))
       ∙ block_same rest are.1 (taken_behind_act acted taken) later_on (comes_behind whole next) are.3 counted
 
@@ -156,47 +157,47 @@ module _ {f : Function} {g : Fn} {z : Maker} (whole : IsWhole f g z) where
       by true is = cc
       by false is = refl
 
-  pub block_formed : (block tree : Statements) (taken : ℕ) (m : Maker) → ComesNext f g z block m → formed_statements block ≡ true → AreWritten f g taken block tree m → formed_statements tree ≡ true
+  pub block_formed : (block tree : Statements) (taken : ℕ) (m : Maker) → ComesNext f g z block m → formed_statements block ≡ true → AreWritten f g lefts taken block tree m → formed_statements tree ≡ true
   block_formed no_statements tree taken m next formed are = ap formed_statements are
   block_formed (syntax.statement line semi s no_statements) tree taken m next formed are =
-      let one = written_formed (made_there whole next) s next.straight.0.0 (low whole next) (length m.functions) (length (made_by s m).functions) are.0 taken are.2 in
-      ap formed_statements (are.4 ∙ ap (syntax.statement 1 false (act_statement (place f.of (listed_by m) f.short) taken [] are.0)) are.3) ∙ both_hold _ true one refl
+      let one = written_formed (made_there whole next) whole.left s next.straight.0.0 (low whole next) (length m.functions) (length (made_by s m).functions) are.0 taken are.2 in
+      ap formed_statements (are.4 ∙ ap (syntax.statement 1 false (act_statement (place f.of (listed_by m) f.short) taken (lefts (length m.functions)) are.0)) are.3) ∙ both_hold _ true one refl
   block_formed (syntax.statement line semi s (syntax.statement line' semi' s' rest)) tree taken m next formed are =
       let more = comes_behind whole next in
       let made = made_there whole next in
       let others = second_of_both _ _ (second_of_both (formed_statement s) _ formed) in
-      let one = written_formed made s next.straight.0.0 (low whole next) (length m.functions) (length (made_by s m).functions) are.0 taken are.2 in
-      let on = written_ends made s next.straight.0.0 (low whole next) (length m.functions) (length (made_by s m).functions) are.0 taken are.2 ∙ goes_on s s' line' semi semi' rest (first_of_both _ _ (second_of_both (formed_statement s) _ formed)) in
+      let one = written_formed made whole.left s next.straight.0.0 (low whole next) (length m.functions) (length (made_by s m).functions) are.0 taken are.2 in
+      let on = written_ends made whole.left s next.straight.0.0 (low whole next) (length m.functions) (length (made_by s m).functions) are.0 taken are.2 ∙ goes_on s s' line' semi semi' rest (first_of_both _ _ (second_of_both (formed_statement s) _ formed)) in
       let behind_taken = taken_behind_act are.0 taken in
-      let closed = written_closed (made_there whole more) s' more.straight.0.0 (low whole more) more.straight.0.1 (length (made_by s m).functions) (length (made_by s' (settle (made_by s m))).functions) are.3.0 behind_taken are.3.2 in
-      let first = act_statement (place f.of (listed_by m) f.short) taken [] are.0 in
+      let closed = written_closed (made_there whole more) whole.left s' more.straight.0.0 (low whole more) more.straight.0.1 (length (made_by s m).functions) (length (made_by s' (settle (made_by s m))).functions) are.3.0 behind_taken are.3.2 in
+      let first = act_statement (place f.of (listed_by m) f.short) taken (lefts (length m.functions)) are.0 in
       ap formed_statements are.4
       ∙ both_hold _ _ one
-      (both_hold _ _ (ap (may_follow first false) are.3.4 ∙ follows first (act_statement (place f.of (listed_by (settle (made_by s m))) f.short) behind_taken [] are.3.0) 1 false are.3.1 on closed)
+      (both_hold _ _ (ap (may_follow first false) are.3.4 ∙ follows first (act_statement (place f.of (listed_by (settle (made_by s m))) f.short) behind_taken (lefts (length (made_by s m).functions)) are.3.0) 1 false are.3.1 on closed)
       (block_formed (syntax.statement line' semi' s' rest) are.1 behind_taken (settle (made_by s m)) more others are.3))
 
-  pub block_shallow : (block tree : Statements) (taken : ℕ) (m : Maker) → ComesNext f g z block m → AreWritten f g taken block tree m → depth_of_statements tree ≤ 200
+  pub block_shallow : (block tree : Statements) (taken : ℕ) (m : Maker) → ComesNext f g z block m → AreWritten f g lefts taken block tree m → depth_of_statements tree ≤ 200
   block_shallow no_statements tree taken m next are = omega (arith, ap depth_of_statements are)
   block_shallow (syntax.statement line semi s rest) tree taken m next are =
-      let one = written_shallow (made_there whole next) s next.straight.0.0 (low whole next) (length m.functions) (length (made_by s m).functions) are.0 taken are.2 in
+      let one = written_shallow (made_there whole next) whole.left s next.straight.0.0 (low whole next) (length m.functions) (length (made_by s m).functions) are.0 taken are.2 in
       let others = block_shallow rest are.1 (taken_behind_act are.0 taken) (settle (made_by s m)) (comes_behind whole next) are.3 in
       omega (arith, ap depth_of_statements are.4, one, others)
 
   -- ---- the names
 
   -- where each function that is made is the part of the source that has its number
-  pub block_marks : (of : ℕ → Part) → ((rest : Statements) (m : Maker) → ComesNext f g z rest m → ArePartsMade g m.active of) → (block tree : Statements) (taken : ℕ) (m : Maker) → ComesNext f g z block m → AreWritten f g taken block tree m → SamePart (statements_part tree) (statements_part block)
-  block_marks of parts_made no_statements tree taken m next are = λ here. ap (λ block. statements_part block here) are
-  block_marks of parts_made (syntax.statement line semi s rest) tree taken m next are =
+  pub block_marks : (block tree : Statements) (taken : ℕ) (m : Maker) → ComesNext f g z block m → AreWritten f g lefts taken block tree m → SamePart (statements_part tree) (statements_part block)
+  block_marks no_statements tree taken m next are = λ here. ap (λ block. statements_part block here) are
+  block_marks (syntax.statement line semi s rest) tree taken m next are =
       let on : SamePart (statement_part 1 (one_line_statement s)) (statement_part line s) = λ here. ap (λ s. statement_part 1 s here) next.on_line.1 ∙ ap (λ line. statement_part line s here) (sym next.on_line.0) in
-      let one = part_then (written_marks (made_there whole next) s next.straight.0.0 (low whole next) of (parts_made (syntax.statement line semi s rest) m next) (length m.functions) (length (made_by s m).functions) are.0 taken are.2) on in
-      let others = block_marks of parts_made rest are.1 (taken_behind_act are.0 taken) (settle (made_by s m)) (comes_behind whole next) are.3 in
+      let one = part_then (written_marks (made_there whole next) whole.left s next.straight.0.0 (low whole next) (length m.functions) (length (made_by s m).functions) are.0 taken are.2) on in
+      let others = block_marks rest are.1 (taken_behind_act are.0 taken) (settle (made_by s m)) (comes_behind whole next) are.3 in
       part_then (λ here. ap (λ block. statements_part block here) are.4) (both_same one others)
 
   -- ---- lines and semicolons
 
-  pub block_plain : (block tree : Statements) (taken : ℕ) (m : Maker) → ComesNext f g z block m → AreWritten f g taken block tree m → ArePlain tree
+  pub block_plain : (block tree : Statements) (taken : ℕ) (m : Maker) → ComesNext f g z block m → AreWritten f g lefts taken block tree m → ArePlain tree
   block_plain no_statements tree taken m next are = subst ArePlain (sym are) tt
   block_plain (syntax.statement line semi s rest) tree taken m next are =
-      let closed = written_closed (made_there whole next) s next.straight.0.0 (low whole next) next.straight.0.1 (length m.functions) (length (made_by s m).functions) are.0 taken are.2 in
+      let closed = written_closed (made_there whole next) whole.left s next.straight.0.0 (low whole next) next.straight.0.1 (length m.functions) (length (made_by s m).functions) are.0 taken are.2 in
       subst ArePlain (sym are.4) (refl, refl, closed, block_plain rest are.1 (taken_behind_act are.0 taken) (settle (made_by s m)) (comes_behind whole next) are.3)

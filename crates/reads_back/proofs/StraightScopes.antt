@@ -1,5 +1,5 @@
--- What names mean where so many locals are active, all of them listed: in a function without upvalues.
-use Rattle.std.proofs.Common.{◌≡◌, ℕ, zero, suc, ◌+◌, ◌<◌, ◌≤◌, List, [], ◌∷◌, ◌++◌, length, map, Some, None, refl, sym, ap, ◌∙◌, subst, arith, if◌then◌else◌}
+-- What names mean where so many locals are active, all of them listed.
+use Rattle.std.proofs.Common.{◌≡◌, ℕ, zero, suc, ◌+◌, ◌<◌, ◌≤◌, List, [], ◌∷◌, ◌++◌, length, map, Some, None, refl, sym, ap, ◌∙◌, subst, arith, if◌then◌else◌, true≢false}
 use Rattle.std.proofs.Math.Nat.{zero-add}
 use Rattle.std.proofs.lemmas.Option.{same_Some}
 use Rattle.std.proofs.lemmas.Slice.Eq.{bytes_eq-Decides}
@@ -7,16 +7,16 @@ use Rattle.std.specs.Prelude.{slice_get, option_map}
 use Rattle.lua_num.specs.Bytes.{Text}
 use Rattle.lua_tree.specs.Names.{is_name}
 use Rattle.proto.specs.declared.parts.LocVar.{LocVar}
-use Rattle.core_expr.specs.Places.{name_of_entry, name_of_local, place}
+use Rattle.core_expr.specs.Places.{name_of_entry, name_of_local, place, as_name}
 use Rattle.recover_expr.specs.Situation.{Function}
 use Rattle.scheme.specs.Making.{Where, in_register, in_upvalue, in_globals}
 use Rattle.scheme.specs.declared.making.Active.{Active}
-use Rattle.scheme_stands.proofs.Makers.{no_names}
-use Rattle.scheme_stands.specs.Words.{Fn, Law, Means, MeansBy, own_register}
+use Rattle.scheme_stands.specs.Words.{Fn, Law, Means, MeansBy, own_register, Names}
 use Rattle.reads_back.proofs.ActsRead.{numbers_from}
 use Rattle.reads_back.proofs.ListedLocals.{AreListedAs, ended, listed_at, own_named}
 use Rattle.reads_back.proofs.NameReads.{AreListed, IsListed}
 use Rattle.reads_back.proofs.Tests.{second_of_both}
+use Rattle.reads_back.proofs.InnerNames.{AreKnown}
 
 number_there : (first count place : ℕ) → place < count → slice_get (numbers_from first count) place ≡ Some (first + place)
 number_there first zero place few = absurd (omega (arith, few))
@@ -46,6 +46,10 @@ pub record IsListing (f : Function) (active : List Active) (entries more : List 
   pub are : AreListedAs 0 active entries
   pub listed : f.of.locals ≡ map (ended f.last) (entries ++ more)
 
+-- the upvalues of the function that is read have these names
+abbrev pub AreNamed : Function → Names → Type 0
+AreNamed f n = (text : Text) (slot : ℕ) → slice_get n.upvalues slot ≡ Some text → as_name (slice_get f.of.upvalue_names slot) ≡ Some text
+
 module _ {f : Function} {active : List Active} {entries more : List LocVar} (listing : IsListing f active entries more) where
   named_there : (text : Text) (r : ℕ) → own_register text active ≡ Some r → IsListed f (length active) (numbers_from 0 (length active)) text (in_register r)
   named_there text r is =
@@ -62,25 +66,27 @@ module _ {f : Function} {active : List Active} {entries more : List LocVar} (lis
             ∙ ap Some (sym name),
       )
 
-  listed_as : (text : Text) (w : Where) → MeansBy no_names active text w → IsListed f (length active) (numbers_from 0 (length active)) text w
-  listed_as text (in_register r) means = named_there text r means
-  listed_as text (in_upvalue slot) means = let none = means.1 in cc
-  listed_as text in_globals means = tt
+  listed_as : (n : Names) → AreNamed f n → (text : Text) (w : Where) → MeansBy n active text w → IsListed f (length active) (numbers_from 0 (length active)) text w
+  listed_as n named text (in_register r) means = named_there text r means
+  listed_as n named text (in_upvalue slot) means = named text slot means.1
+  listed_as n named text in_globals means = tt
 
-as_names : (g : Fn) (active : List Active) → g.law ≡ Some no_names → (text : Text) (w : Where) → Means g.law active text w → MeansBy no_names active text w
-as_names g active law text w means = subst (λ (law : Law). Means law active text w) law means
+as_names : (g : Fn) (n : Names) (active : List Active) → g.law ≡ Some n → (text : Text) (w : Where) → Means g.law active text w → MeansBy n active text w
+as_names g n active law text w means = subst (λ (law : Law). Means law active text w) law means
 
-pub are_listed : {f : Function} {g : Fn} {active : List Active} {entries more : List LocVar} → IsListing f active entries more → g.law ≡ Some no_names → length active ≤ 250 → AreListed f g active (numbers_from 0 (length active))
-are_listed {f} {g} {active} listing law few = record { listed_as = λ text w means. listed_as listing text w (as_names g active law text w means); few = few }
+pub are_listed : {f : Function} {g : Fn} {active : List Active} {entries more : List LocVar} (n : Names) → IsListing f active entries more → g.law ≡ Some n → AreNamed f n → length active ≤ 250 → AreListed f g active (numbers_from 0 (length active))
+are_listed {f} {g} {active} n listing law named few = record { listed_as = λ text w means. listed_as listing n named text w (as_names g n active law text w means); few = few }
 
-one_meaning : (active : List Active) (text : Text) (one other : Where) → MeansBy no_names active text one → MeansBy no_names active text other → one ≡ other
-one_meaning active text (in_register r) (in_register s) first second = ap in_register (same_Some r s (sym first ∙ second))
-one_meaning active text (in_register r) (in_upvalue slot) first second = let none = second.1 in cc
-one_meaning active text (in_register r) in_globals first second = let none = sym first ∙ second.0 in cc
-one_meaning active text (in_upvalue slot) other first second = let none = first.1 in cc
-one_meaning active text in_globals (in_register s) first second = let none = sym first.0 ∙ second in cc
-one_meaning active text in_globals (in_upvalue slot) first second = let none = second.1 in cc
-one_meaning active text in_globals in_globals first second = refl
+one_meaning : (n : Names) → AreKnown n → (active : List Active) (text : Text) (one other : Where) → MeansBy n active text one → MeansBy n active text other → one ≡ other
+one_meaning n known active text (in_register r) (in_register s) first second = ap in_register (same_Some r s (sym first ∙ second))
+one_meaning n known active text (in_register r) (in_upvalue slot) first second = let none = sym first ∙ second.0 in cc
+one_meaning n known active text (in_register r) in_globals first second = let none = sym first ∙ second.0 in cc
+one_meaning n known active text (in_upvalue slot) (in_register s) first second = let none = sym first.0 ∙ second in cc
+one_meaning n known active text (in_upvalue slot) (in_upvalue other) first second = ap in_upvalue (known.slots text slot other first.1 second.1)
+one_meaning n known active text (in_upvalue slot) in_globals first second = absurd (true≢false (sym (known.around text slot first.1) ∙ second.1))
+one_meaning n known active text in_globals (in_register s) first second = let none = sym first.0 ∙ second in cc
+one_meaning n known active text in_globals (in_upvalue slot) first second = absurd (true≢false (sym (known.around text slot second.1) ∙ first.1))
+one_meaning n known active text in_globals in_globals first second = refl
 
-pub is_certain : (g : Fn) (active : List Active) → g.law ≡ Some no_names → (text : Text) (one other : Where) → Means g.law active text one → Means g.law active text other → one ≡ other
-is_certain g active law text one other first second = one_meaning active text one other (as_names g active law text one first) (as_names g active law text other second)
+pub is_certain : (g : Fn) (n : Names) → AreKnown n → (active : List Active) → g.law ≡ Some n → (text : Text) (one other : Where) → Means g.law active text one → Means g.law active text other → one ≡ other
+is_certain g n known active law text one other first second = one_meaning n known active text one other (as_names g n active law text one first) (as_names g n active law text other second)

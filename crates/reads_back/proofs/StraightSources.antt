@@ -40,7 +40,8 @@ use Rattle.reads_back.proofs.StepsPlaced.{AreEnding, steps_are_placed}
 use Rattle.reads_back.proofs.StraightBlocks.{ComesNext, IsWhole, all_acts, block_formed, block_marks, block_plain, block_same, block_shallow}
 use Rattle.reads_back.proofs.WordsRead.{IsFunction, abc_is_read}
 use Rattle.reads_back.proofs.NoneMade.{straight_all_the_same}
-use Rattle.reads_back.proofs.Rewriting.{none_next}
+use Rattle.reads_back.proofs.InnerNames.{none_known}
+use Rattle.reads_back.proofs.StraightActs.{none_are_left, none_left}
 
 -- ---- chunks that are the same but for lines
 
@@ -195,8 +196,8 @@ module _ (stand : NamesStand) (semicolons : SemicolonsDoNotMatter) (chunk : Chun
       few = at.limits.registers;
     }
 
-    whole : IsWhole f g z
-    whole = record { is_function = is_function; law = refl; constants = refl; upvalues = refl; alone = none_there; few = at.limits.constants }
+    whole : IsWhole f g z none_left (λ number. nothing)
+    whole = record { is_function = is_function; names = no_names; law = refl; known = none_known; named = λ text slot is. cc; left = none_are_left g none_there; constants = refl; upvalues = refl; few = at.limits.constants }
 
     listed : f.of.locals ≡ map (ended f.last) (entries_from plain.body (begun plain))
     unfolding f
@@ -221,7 +222,7 @@ module _ (stand : NamesStand) (semicolons : SemicolonsDoNotMatter) (chunk : Chun
     abbrev before : Situation
     before = left_at f 0 (at_first [])
 
-    there : IsThere f (begun plain) before
+    there : IsThere f none_left (begun plain) before
     there = record { declared = refl; active = λ some. refl; left = refl }
 
     read : StepsRead whole plain.body (begun plain) [] before
@@ -236,7 +237,7 @@ module _ (stand : NamesStand) (semicolons : SemicolonsDoNotMatter) (chunk : Chun
     formed = record { formed = block_formed whole plain.body read.written 0 (begun plain) first_next formed_plain.formed read.are; shallow = block_shallow whole plain.body read.written 0 (begun plain) first_next read.are }
 
     outline_same : outline tree ≡ outline plain
-    outline_same = ap (λ walk. walk.marks) (block_marks whole (λ number. nothing) (λ rest m next body c made. absurd (none_next m.active body false c none_there made)) plain.body read.written 0 (begun plain) first_next read.are beginning)
+    outline_same = ap (λ walk. walk.marks) (block_marks whole plain.body read.written 0 (begun plain) first_next read.are beginning)
 
     made_same : statements_made read.written None (begun plain) ≡ behind_block plain
     made_same = block_same whole plain.body read.written 0 (begun plain) first_next read.are refl ∙ sym ends_block
