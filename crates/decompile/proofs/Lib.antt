@@ -1,3 +1,4 @@
 mod Given
 mod Unfound
+mod ActsLevels
 mod StraightChunks

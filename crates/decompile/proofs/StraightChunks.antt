@@ -1,40 +1,45 @@
--- What is recovered of the chunk of a straight source: the statements that are read of its words, one after the other.
-use Rattle.std.proofs.Common.{◌≡◌, ◌∙◌, ℕ, ◌≤◌, ◌<◌, ◌^◌, true, false, List, [], ◌∷◌, length, Option, Some, None, Err, refl, sym, ap, ap₂, subst, arith, inl, inr}
-use Rattle.std.specs.Prelude.{Bool, IsSome, ◌&&◌, ◌⊎◌, not}
+-- What is recovered of the chunk of a straight source is one of its trees, with the statements that are read of its words; and nothing is lost but for want of memory.
+use Rattle.std.proofs.Common.{◌≡◌, ◌∙◌, ℕ, zero, suc, ◌+◌, ◌≤◌, true, false, List, [], ◌∷◌, length, Option, Some, Err, refl, sym, ap, ap₂, subst, arith, inl, inr}
+use Rattle.std.specs.Prelude.{IsSome, ◌⊎◌}
+use Rattle.std.proofs.lemmas.Bool.{false≢true, not-true}
 use Rattle.std.proofs.lemmas.Bool.Decides.{nat_tests}
-use Rattle.std.proofs.lemmas.Option.{none-some, same_Some}
+use Rattle.std.proofs.lemmas.Option.{none-some, same_Some, some_pair_parts}
 use Rattle.core_expr.specs.Values.{Inner}
 use Rattle.lua_num.specs.Bytes.{Text}
 use Rattle.lua_tree.specs.Syntax as syntax
 use Rattle.lua_tree.specs.WellFormed.{WellFormed, formed_statement, formed_statements, may_follow, ends_block, depth_of_statements, begins_with_paren, statement_begins_with_paren}
 use Rattle.lua_tree.specs.Syntax.{Statements, no_statements, Statement, assignment, call_statement, local_statement, return_statement, no_expressions, Expression, index_expression, field_expression, call_expression, method_call, function_body, Source}
 use Rattle.proto.specs.Short.{IsShort}
-use Rattle.proto.specs.Chunk.{Chunk, Functions, function, and_function, own, each, no_lines, no_functions, functions, SameButLines}
+use Rattle.proto.specs.Chunk.{Chunk, Functions, Own, function, and_function, own, each, no_lines, no_functions, SameButLines}
 use Rattle.recover_expr.specs.Drafts.{Part}
 use Rattle.recover_expr.specs.Placing.{Steps}
 use Rattle.recover_expr.specs.Reading.{read_steps}
 use Rattle.recover_expr.specs.declared.steps.Step.{Step}
 use Rattle.recover_expr.specs.declared.steps.StepKind.{StepKind}
 use Rattle.recover_flow.specs.Acts as acts
-use Rattle.recover_flow.specs.Acts.{ActsAreBuilt, ActsAreFound, ActsAreLow, AreLow, IsPlain, NoneOpen, is_return, is_return_step, part_of_statement, parts_of_statements, plans_of, without_semicolons}
+use Rattle.recover_flow.specs.Acts.{ActsAreBuilt, ActsAreFound, IsPlain, NoneOpen, is_return, is_return_step, part_of_statement, parts_of_statements, plans_of, without_semicolons}
 use Rattle.recover_flow.specs.Built.{built_body}
-use Rattle.recover_flow.specs.Debug.{LacksDebug}
+use Rattle.recover_flow.specs.Debug.{FirstUntold, FirstUntoldIn, LacksDebug, Tells}
 use Rattle.recover_flow.specs.Parts.{begins_open, is_open}
 use Rattle.recover_flow.specs.Plans.{Plans, body_levels}
-use Rattle.recover_flow.specs.Recovering.{IsFound, IsFunctionFound, IsLost, IsLostOnlyWhere, IsMainFound, IsSourceFound, IsSourceless, IsUnrecovered, StandsNowhere, is_vararg, main_of}
+use Rattle.recover_flow.specs.Recovering.{AreFound, IsFound, IsFunctionFound, IsLost, IsOneLost, IsLostOnlyWhere, IsMainFound, IsSourceFound, IsSourceless, IsUnrecovered, StandsNowhere, is_vararg, main_of}
 use Rattle.recover_flow.specs.declared.lost.Lost.{Lost}
 use Rattle.recover_flow.specs.Searching.{whole_body}
 use Rattle.recover_flow.specs.Standing.{BodyStands}
-use Rattle.reads_back.specs.ReadAs.{IsStraightChunk, IsStepOf, AreStepsOf, IsKindOf, part_of, parts_of, ArePlain, IsReadBack, StraightSourcesAreRead, IsAlone, StraightChunksAreAlone, FlatSourcesAreStraight}
+use Rattle.reads_back.specs.ReadAs.{ArePlain, AreRead, AreStepsOf, FlatSourcesAreStraight, IsKindOf, IsRead, IsReadFrom, IsSourceRead, IsStraightChunk, IsTold, StraightSourcesAreRead, part_of, parts_of}
+use Rattle.reads_back.proofs.InnerReads.{low_levels}
+use Rattle.reads_back.proofs.Tests.{first_of_both, second_of_both}
 use Rattle.scheme.specs.Scheme.{scheme}
 use Rattle.scheme_lines.specs.Alike.{SemicolonsDoNotMatter}
 use Rattle.scheme_lines.specs.Bare.{bare_statements}
 use Rattle.decompile.specs.Recoverable.{IsFlatChunk, IsGiven, IsRecoverable}
 use Rattle.decompile.specs.Given.{IsTreeFor}
 use Rattle.decompile.specs.Refusals.{refused_by}
+use Rattle.decompile.proofs.ActsLevels.{acts_levels}
 
 -- ---- statements
 
+-- whether an expression begins with a parenthesis is said twice in the crates below, of what is recovered and of trees: both agree
 open_is : (e : Expression) → is_open e ≡ begins_with_paren e
 open_is (index_expression line on key) = open_is on
 open_is (field_expression line on name) = open_is on
@@ -42,162 +47,203 @@ open_is (call_expression line on args on_line) = open_is on
 open_is (method_call line on name args on_line) = open_is on
 open_is e = refl
 
+-- and so is whether a statement does
 begins_is : (s : Statement) → begins_open s ≡ statement_begins_with_paren s
 begins_is (assignment no_expressions es) = refl
 begins_is (assignment (syntax.expression target rest) es) = open_is target
 begins_is (call_statement e) = open_is e
 begins_is s = refl
 
+-- no plain statement does
 none_open : (block : Statements) → ArePlain block → NoneOpen block
 none_open no_statements plain = tt
 none_open (syntax.statement line semi s rest) plain = (begins_is s ∙ plain.2, none_open rest plain.3)
 
--- what is plain has no semicolons, and every line is 1
+-- plain statements are on line 1 and have no semicolons already
 stays : (block : Statements) → ArePlain block → without_semicolons block ≡ block
 stays no_statements plain = refl
 stays (syntax.statement line semi s rest) plain = let others = stays rest plain.3 in let first = plain.0 in let second = plain.1 in cc
 
+-- what stands of a statement in its step is said twice too, of what is read and of what is recovered
 part_is : (s : Statement) → part_of s ≡ part_of_statement s
 part_is (return_statement es) = refl
 part_is s = refl
 
+-- and so is what stands of several
 parts_are : (block : Statements) → parts_of block ≡ parts_of_statements block
 parts_are no_statements = refl
 parts_are (syntax.statement line semi s rest) = ap₂ (λ part (others : List Part). part ∷ others) (part_is s) (parts_are rest)
 
 -- ---- steps
 
-left_of_both : (a b : Bool) → a && b ≡ true → a ≡ true
-left_of_both true b both = refl
-left_of_both false b both = cc
+-- the step of a statement that does not end its block is an act or a declaration
+goes_on : (count : ℕ) (s : Statement) (kind : StepKind) → ends_block s ≡ false → IsKindOf count s kind → IsPlain count kind
+goes_on count (local_statement names es) kind on is = inr is
+goes_on count (return_statement es) kind on is = cc
+goes_on count s kind on is = inl is
 
-right_of_both : (a b : Bool) → a && b ≡ true → b ≡ true
-right_of_both true b both = both
-right_of_both false b both = cc
+-- and the step of any straight statement is so, or a return
+is_last : (count : ℕ) (s : Statement) (kind : StepKind) → IsKindOf count s kind → IsPlain count kind ⊎ (kind ≡ StepKind.Return)
+is_last count (local_statement names es) kind is = inl (inr is)
+is_last count (return_statement es) kind is = inr is
+is_last count s kind is = inl (inl is)
 
-not_so : (a : Bool) → not a ≡ true → a ≡ false
-not_so true is = cc
-not_so false is = refl
-
--- the step of a statement behind which others stand does not return
-goes_on : (count : ℕ) (s : Statement) (step : Step) → ends_block s ≡ false → IsStepOf count s step → IsPlain count step.kind
-goes_on count (local_statement names es) step on is = inr is.kind
-goes_on count (return_statement es) step on is = cc
-goes_on count s step on is = inl is.kind
-
-is_last : (count : ℕ) (s : Statement) (step : Step) → IsStepOf count s step → IsPlain count step.kind ⊎ (step.kind ≡ StepKind.Return)
-is_last count (local_statement names es) step is = inl (inr is.kind)
-is_last count (return_statement es) step is = inr is.kind
-is_last count s step is = inl (inl is.kind)
-
--- a return is the last step, since it is the last statement
-all_plain : (count : ℕ) (block : Statements) (steps : List Step) → formed_statements block ≡ true → AreStepsOf count block steps → acts.ArePlain count steps
-all_plain count no_statements steps formed are = subst (acts.ArePlain count) (sym are) tt
-all_plain count (syntax.statement line semi s rest) [] formed are = absurd are
-all_plain count (syntax.statement line semi s no_statements) (step ∷ []) formed are = is_last count s step are.0
-all_plain count (syntax.statement line semi s no_statements) (step ∷ next ∷ steps) formed are = let over = are.1 in cc
-all_plain count (syntax.statement line semi s (syntax.statement line' semi' s' rest)) (step ∷ []) formed are = absurd are.1
-all_plain count (syntax.statement line semi s (syntax.statement line' semi' s' rest)) (step ∷ next ∷ steps) formed are =
+-- only the last step can be a return, since a return ends its block
+all_plain : (count most : ℕ) (block : Statements) (steps : List Step) → formed_statements block ≡ true → AreStepsOf count most block steps → acts.ArePlain count steps
+all_plain count most no_statements steps formed are = subst (acts.ArePlain count) (sym are) tt
+all_plain count most (syntax.statement line semi s rest) [] formed are = absurd are
+all_plain count most (syntax.statement line semi s no_statements) (step ∷ []) formed are = is_last count s step.kind are.0.kind
+all_plain count most (syntax.statement line semi s no_statements) (step ∷ next ∷ steps) formed are = let over = are.1 in cc
+all_plain count most (syntax.statement line semi s (syntax.statement line' semi' s' rest)) (step ∷ []) formed are = absurd are.1
+all_plain count most (syntax.statement line semi s (syntax.statement line' semi' s' rest)) (step ∷ next ∷ steps) formed are =
     let others = syntax.statement line' semi' s' rest in
-    let behind = right_of_both (formed_statement s) _ formed in
-    let follows = left_of_both (may_follow s semi others) _ behind in
-    (goes_on count s step (not_so (ends_block s) (left_of_both _ _ follows)) are.0, all_plain count others (next ∷ steps) (right_of_both (may_follow s semi others) _ behind) are.1)
+    let behind = second_of_both (formed_statement s) _ formed in
+    let follows = first_of_both (may_follow s semi others) _ behind in
+    (goes_on count s step.kind (not-true (ends_block s) (first_of_both _ _ follows)) are.0.kind, all_plain count most others (next ∷ steps) (second_of_both (may_follow s semi others) _ behind) are.1)
 
-all_low : (count : ℕ) (block : Statements) (steps : List Step) → AreStepsOf count block steps → AreLow 200 steps
-all_low count no_statements steps are = subst (AreLow 200) (sym are) tt
-all_low count (syntax.statement line semi s rest) [] are = absurd are
-all_low count (syntax.statement line semi s rest) (step ∷ steps) are = (are.0.levels, all_low count rest steps are.1)
-
+-- a step returns where its statement does
 returns_is : (count : ℕ) (s : Statement) (kind : StepKind) → IsKindOf count s kind → is_return_step kind ≡ is_return s
 returns_is count (local_statement names es) kind is = ap is_return_step is.1
 returns_is count (return_statement es) kind is = ap is_return_step is
 returns_is count s kind is = ap is_return_step is
 
-all_steps : (count : ℕ) (block : Statements) (steps : List Step) → AreStepsOf count block steps → acts.AreStepsOf block steps
-all_steps count no_statements steps are = are
-all_steps count (syntax.statement line semi s rest) [] are = absurd are
-all_steps count (syntax.statement line semi s rest) (step ∷ steps) are = (returns_is count s step.kind are.0.kind, all_steps count rest steps are.1)
+-- and so the steps that are read are those of which the statements are built
+all_steps : (count most : ℕ) (block : Statements) (steps : List Step) → AreStepsOf count most block steps → acts.AreStepsOf block steps
+all_steps count most no_statements steps are = are
+all_steps count most (syntax.statement line semi s rest) [] are = absurd are
+all_steps count most (syntax.statement line semi s rest) (step ∷ steps) are = (returns_is count s step.kind are.0.kind, all_steps count most rest steps are.1)
 
--- ---- a function with no functions in it
+-- ---- a function
 
-found_alone : (chunk : Chunk) → functions chunk ≡ no_functions → (found : Inner) → IsFound false chunk found → IsFunctionFound chunk [] false found
-found_alone (function f no_functions) none found (left, empty, is) = subst (λ those. IsFunctionFound (function f no_functions) those false found) empty is
-found_alone (function f (and_function c rest)) none found is = cc
-
-lost_alone : (chunk : Chunk) → functions chunk ≡ no_functions → IsLost false 0 chunk → IsUnrecovered chunk [] false
-lost_alone (function f no_functions) none (inl deep) = absurd (omega (arith, deep))
-lost_alone (function f no_functions) none (inr (inl one)) = absurd one
-lost_alone (function f no_functions) none (inr (inr (left, empty, unrecovered))) = subst (λ those. IsUnrecovered (function f no_functions) those false) empty unrecovered
-lost_alone (function f (and_function c rest)) none lost = cc
-
--- ---- what is recovered
-
--- the laws, of one chunk
-record IsChunkRead (chunk : Chunk) (of : Source) : Type 0 where
+-- the words of a function are read as steps, where one body stands and no other: it needs no more levels than a tree may have, and these statements are built of it
+record IsChunkRead (chunk : Chunk) (left : List (Option Inner)) (found : Inner) : Type 0 where
   steps : Steps
-  read : read_steps chunk [] false ≡ Some steps
-  params : steps.params ≡ []
+  written : Statements
+  read : read_steps chunk left false ≡ Some steps
   behind : List Part
   stands : BodyStands steps.steps (whole_body steps.steps) (plans_of 0 steps.steps)
   only : (plans : Plans) → BodyStands steps.steps (whole_body steps.steps) plans → plans ≡ plans_of 0 steps.steps
   low : body_levels steps.steps (plans_of 0 steps.steps) ≤ 200
-  built : built_body (plans_of 0 steps.steps) steps.parts ≡ Some (of.body, behind)
+  built : built_body (plans_of 0 steps.steps) steps.parts ≡ Some (written, behind)
+  body : found.body ≡ function_body steps.params (is_vararg chunk) written 1 1
+  levels : found.levels ≡ body_levels steps.steps (plans_of 0 steps.steps)
 
-as_read : ActsAreFound → ActsAreBuilt → ActsAreLow → {chunk : Chunk} {source : Source} (steps : Steps) → read_steps chunk [] false ≡ Some steps → (back : IsReadBack source steps) →
-    IsChunkRead chunk back.tree
-as_read found built low steps read back =
-    let count = length steps.steps in
-    let block = back.tree.body in
-    let stands = found steps.steps (all_plain count block steps.steps back.formed.formed back.read.are) in
-    let made = built block steps.steps (none_open block back.plain) (all_steps count block steps.steps back.read.are) in
-    let parts : steps.parts ≡ parts_of_statements block = back.read.parts ∙ parts_are block in
-    record {
-      steps = steps;
-      read = read;
-      params = back.read.params;
-      behind = made.0;
-      stands = stands.0;
-      only = stands.1;
-      low = low 200 steps.steps (grind arith) (all_low count block steps.steps back.read.are);
-      built = ap (built_body (plans_of 0 steps.steps)) parts ∙ made.1 ∙ ap (λ body. Some (body, made.0)) (stays block back.plain);
-    }
+-- the laws of functions whose steps are all statements by themselves
+pub record ActLaws : Type 0 where
+  pub found : ActsAreFound
+  pub built : ActsAreBuilt
 
-same_first : {A B : Type 0} {first other : A} {second behind : B} → ◌≡◌ {A = Option (A × B)} (Some (first, second)) (Some (other, behind)) → first ≡ other
-same_first {A} {B} {first} {other} {second} {behind} same =
-    let pair : ◌≡◌ {A = A × B} (first, second) (other, behind) = cc in
-    ap (λ (p : A × B). p.0) pair
+module _ (laws : ActLaws) where
+  -- what the laws say of a function whose words are read as statements
+  as_read : {chunk : Chunk} {left : List (Option Inner)} {found : Inner} → IsReadFrom chunk left found → IsChunkRead chunk left found
+  as_read back =
+      let steps = back.steps.steps in
+      let count = length steps in
+      let block = back.written in
+      let stands = laws.found steps (all_plain count 200 block steps back.formed back.are) in
+      let made = laws.built block steps (none_open block back.plain) (all_steps count 200 block steps back.are) in
+      let parts : back.steps.parts ≡ parts_of_statements block = back.parts ∙ parts_are block in
+      let levels = acts_levels count 200 block steps back.are in
+      record {
+        steps = back.steps;
+        written = block;
+        read = back.read;
+        behind = made.0;
+        stands = stands.0;
+        only = stands.1;
+        low = let few = low_levels count 200 block steps back.are in omega (arith, levels, few);
+        built = ap (built_body (plans_of 0 steps)) parts ∙ made.1 ∙ ap (λ body. Some (body, made.0)) (stays block back.plain);
+        body = back.body;
+        levels = back.levels ∙ sym levels;
+      }
 
-module _ {chunk : Chunk} {of : Source} (is_read : IsChunkRead chunk of) where
-  -- what is built of the one body that stands there
-  built_of : (steps : Steps) (plans : Plans) → steps ≡ is_read.steps → BodyStands steps.steps (whole_body steps.steps) plans → built_body plans steps.parts ≡ Some (of.body, is_read.behind)
-  built_of steps plans same stands =
-      let one = is_read.only plans (subst (λ (s : Steps). BodyStands s.steps (whole_body s.steps) plans) same stands) in
-      ap₂ (λ body (s : Steps). built_body body s.parts) one same ∙ is_read.built
+  module _ {chunk : Chunk} {left : List (Option Inner)} {found : Inner} (from : IsReadFrom chunk left found) where
+    is_read : IsChunkRead chunk left found
+    is_read = as_read from
 
-  -- a function that is found is this
-  found_is : (found : Inner) → IsFunctionFound chunk [] false found → found.body ≡ function_body [] (is_vararg chunk) of.body 1 1
-  found_is found is =
-      let same : is.steps ≡ is_read.steps = same_Some is.steps is_read.steps (sym is.read ∙ is_read.read) in
-      is.body
-      ∙ ap₂ (λ params block. function_body params (is_vararg chunk) block 1 1) (ap (λ (s : Steps). s.params) same ∙ is_read.params)
-      (same_first (sym is.built ∙ built_of is.steps is.plans same is.stands))
+    -- what is built of the one body that stands there
+    built_of : (steps : Steps) (plans : Plans) → steps ≡ is_read.steps → BodyStands steps.steps (whole_body steps.steps) plans → built_body plans steps.parts ≡ Some (is_read.written, is_read.behind)
+    built_of steps plans same stands =
+        let one = is_read.only plans (subst (λ (s : Steps). BodyStands s.steps (whole_body s.steps) plans) same stands) in
+        ap₂ (λ body (s : Steps). built_body body s.parts) one same ∙ is_read.built
 
-  -- and one is found
-  is_recovered : IsUnrecovered chunk [] false → ⊥
-  is_recovered (inl unread) = none-some is_read.steps (sym unread ∙ is_read.read)
-  is_recovered (inr (steps, read, inl nowhere)) =
-      let none = subst (λ (s : Steps). StandsNowhere s) (same_Some steps is_read.steps (sym read ∙ is_read.read)) nowhere in
-      let few = is_read.low in let many = none (plans_of 0 is_read.steps.steps) is_read.stands in grind (arith, nat_tests)
-  is_recovered (inr (steps, read, inr unbuilt)) =
-      none-some _ (sym unbuilt.3 ∙ built_of steps unbuilt.0 (same_Some steps is_read.steps (sym read ∙ is_read.read)) unbuilt.1)
+    -- what is found of the function is what is read
+    found_is : (other : Inner) → IsFunctionFound chunk left false other → other ≡ found
+    found_is other is =
+        let same : is.steps ≡ is_read.steps = same_Some is.steps is_read.steps (sym is.read ∙ is_read.read) in
+        let one = is_read.only is.plans (subst (λ (s : Steps). BodyStands s.steps (whole_body s.steps) is.plans) same is.stands) in
+        ap₂ (λ body levels. record { body = body; levels = levels })
+        (is.body
+        ∙ ap₂ (λ params block. function_body params (is_vararg chunk) block 1 1) (ap (λ (s : Steps). s.params) same) (some_pair_parts _ _ _ _ (sym is.built ∙ built_of is.steps is.plans same is.stands)).0
+        ∙ sym is_read.body)
+        (is.levels ∙ ap₂ (λ (s : Steps) (plans : Plans). body_levels s.steps plans) same one ∙ sym is_read.levels)
 
-  -- a tree that is found has these statements
-  tree_is : functions chunk ≡ no_functions → {tree : Source} → IsSourceFound chunk tree → tree.body ≡ of.body
-  tree_is none {tree} is = ap (λ (t : Source). t.body) is.is_main ∙ ap (λ body. (main_of body).body) (main_is is.function)
-    where
-      main_is : IsMainFound chunk is.found → is.found.body ≡ function_body [] (is_vararg chunk) of.body 1 1
-      main_is (inl found) = found_is is.found (found_alone chunk none is.found found)
-      main_is (inr (lost, found)) = absurd (is_recovered (lost_alone chunk none lost))
+    -- and it is recovered
+    is_recovered : IsUnrecovered chunk left false → ⊥
+    is_recovered (inl unread) = none-some is_read.steps (sym unread ∙ is_read.read)
+    is_recovered (inr (steps, read, inl nowhere)) =
+        let none = subst (λ (s : Steps). StandsNowhere s) (same_Some steps is_read.steps (sym read ∙ is_read.read)) nowhere in
+        let few = is_read.low in let many = none (plans_of 0 is_read.steps.steps) is_read.stands in grind (arith, nat_tests)
+    is_recovered (inr (steps, read, inr unbuilt)) =
+        none-some _ (sym unbuilt.3 ∙ built_of steps unbuilt.0 (same_Some steps is_read.steps (sym read ∙ is_read.read)) unbuilt.1)
+
+  -- ---- a function and those in it
+
+  -- what is found of a function, behind those in it, is what is read
+  mutual
+    found_once : (deep : ℕ) (chunk : Chunk) (found other : Inner) → IsRead deep chunk found → IsFound false chunk other → other ≡ found
+    found_once zero chunk found other read is = absurd read
+    found_once (suc deep) (function f inner) found other (left, are, from) (those, they, is) =
+        found_is from other (subst (λ left. IsFunctionFound (function f inner) left false other) (left_once deep inner left those are they) is)
+
+    left_once : (deep : ℕ) (functions : Functions) (left those : List (Option Inner)) → AreRead deep functions left → AreFound false functions those → those ≡ left
+    left_once deep no_functions left those are they = they ∙ sym are
+    left_once deep (and_function c rest) left those (found, others, read, are, same) (found', others', is, they, is_same) =
+        is_same
+        ∙ ap₂ (λ (found : Inner) (others : List (Option Inner)). Some found ∷ others) (found_once deep c found found' read is) (left_once deep rest others others' are they)
+        ∙ sym same
+
+  -- and it is not lost, where none of those in it stands too deep
+  mutual
+    never_lost : (deep depth : ℕ) (chunk : Chunk) (found : Inner) → deep + depth ≤ 201 → IsRead deep chunk found → IsLost false depth chunk → ⊥
+    never_lost zero depth chunk found few read lost = absurd read
+    never_lost (suc deep) depth (function f inner) found few (left, are, from) (inl many) = absurd (omega (arith, few, many))
+    never_lost (suc deep) depth (function f inner) found few (left, are, from) (inr (inl one)) = none_lost deep (suc depth) inner left (omega (arith, few)) are one
+    never_lost (suc deep) depth (function f inner) found few (left, are, from) (inr (inr (those, they, unrecovered))) =
+        is_recovered from (subst (λ left. IsUnrecovered (function f inner) left false) (left_once deep inner left those are they) unrecovered)
+
+    none_lost : (deep depth : ℕ) (functions : Functions) (left : List (Option Inner)) → deep + depth ≤ 201 → AreRead deep functions left → IsOneLost false depth functions → ⊥
+    none_lost deep depth no_functions left few are one = absurd one
+    none_lost deep depth (and_function c rest) left few (found, others, read, are, same) (inl lost) = never_lost deep depth c found few read lost
+    none_lost deep depth (and_function c rest) left few (found, others, read, are, same) (inr one) = none_lost deep depth rest others few are one
+
+-- ---- what it tells
+
+-- a function tells what is asked of it
+tells : (f : Own) → IsTold f → Tells f
+tells f told = record { lines = told.lines; names = told.names }
+
+-- and so does each function in it
+mutual
+  none_untold : (deep : ℕ) (chunk : Chunk) (found : Inner) → IsRead deep chunk found → (path : List ℕ) → FirstUntold chunk path → ⊥
+  none_untold zero chunk found read path untold = absurd read
+  none_untold (suc deep) (function f inner) found (left, are, from) [] untold = untold (tells f from.told)
+  none_untold (suc deep) (function f inner) found (left, are, from) (n ∷ path) untold = none_untold_in deep inner left are n path untold.1
+
+  none_untold_in : (deep : ℕ) (functions : Functions) (left : List (Option Inner)) → AreRead deep functions left → (n : ℕ) (path : List ℕ) → FirstUntoldIn functions n path → ⊥
+  none_untold_in deep no_functions left are n path untold = absurd untold
+  none_untold_in deep (and_function c rest) left (found, others, read, are, same) zero path untold = none_untold deep c found read path untold
+  none_untold_in deep (and_function c rest) left (found, others, read, are, same) (suc n) path untold = none_untold_in deep rest others are n path untold.1
+
+-- ---- the chunk
+
+-- the name of a chunk's source stays where its lines are left out
+source_stays : (c : Chunk) → (own (each no_lines c)).source ≡ (own c).source
+source_stays (function f inner) = refl
+
+-- so a chunk tells the name under which a source has it, lines aside
+named_as : (chunk : Chunk) (source : Source) (name : Text) → SameButLines chunk (scheme source name) → (own chunk).source ≡ Some name
+named_as chunk source name same = sym (source_stays chunk) ∙ ap (λ c. (own c).source) same ∙ source_stays (scheme source name)
 
 -- a tree with the statements of one that is well formed is so too
 formed_again : (of tree : Source) → WellFormed of → tree.body ≡ of.body → WellFormed tree
@@ -206,85 +252,70 @@ formed_again of tree well is = record {
   shallow = subst (λ block. depth_of_statements block ≤ 200) (sym is) well.shallow;
 }
 
--- ---- the chunk
-
-source_stays : (c : Chunk) → (own (each no_lines c)).source ≡ (own c).source
-source_stays (function f inner) = refl
-
-named_as : (chunk : Chunk) (source : Source) (name : Text) → SameButLines chunk (scheme source name) → (own chunk).source ≡ Some name
-named_as chunk source name same = sym (source_stays chunk) ∙ ap (λ c. (own c).source) same ∙ source_stays (scheme source name)
-
-code_short : (chunk : Chunk) → IsShort chunk → length (own chunk).code < 2 ^ 32
-code_short (function f inner) short = short.0.code
+-- a well-formed tree with the statements that are read is one of the chunk
+is_tree_for : SemicolonsDoNotMatter → {chunk : Chunk} (straight : IsStraightChunk chunk) (read : IsSourceRead straight.source chunk) (tree : Source) → WellFormed tree → tree.body ≡ read.tree.body → IsTreeFor chunk tree
+is_tree_for semicolons {chunk} straight read tree formed is =
+    let again = semicolons read.tree tree (ap (λ (body : Statements). record { body = bare_statements body; last_line = 1 }) (sym is)) in
+    record {
+      formed = formed;
+      scoped = again.scoped (read.alike.scoped straight.scoped);
+      fits = again.fits (read.alike.fits straight.fits);
+      name = straight.name;
+      named = named_as chunk straight.source straight.name straight.same;
+      same = straight.same ∙ read.alike.same straight.name ∙ again.same straight.name;
+    }
 
 -- ---- why none is recovered
 
-some_named : {A : Type 0} (found : Option A) → IsSome found → found ≡ None → ⊥
-some_named None some none = cc
-some_named (Some it) some none = cc
+module _ (laws : ActLaws) {chunk : Chunk} {source : Source} (read : IsSourceRead source chunk) where
+  -- the chunk tells what its source is recovered by
+  lacks_nothing : (path : List ℕ) → LacksDebug chunk path → ⊥
+  lacks_nothing path (inl (unnamed, top)) = false≢true (subst IsSome unnamed read.named)
+  lacks_nothing path (inr (named, untold)) = none_untold 67 chunk read.found read.read path untold
 
--- it tells what is asked of it
-lacks_nothing : (chunk : Chunk) → IsAlone chunk → (path : List ℕ) → LacksDebug chunk path → ⊥
-lacks_nothing chunk alone path (inl (unnamed, top)) = some_named (own chunk).source alone.named unnamed
-lacks_nothing (function f no_functions) alone [] (inr (named, untold)) = untold (record { lines = alone.lines; names = alone.names })
-lacks_nothing (function f no_functions) alone (n ∷ path) (inr (named, untold)) = untold.1
-lacks_nothing (function f (and_function c rest)) alone path (inr lacks) = absurd (no_more c rest alone.none)
-  where
-    no_more : (c : Chunk) (rest : Functions) → and_function c rest ≡ no_functions → ⊥
-    no_more c rest same = cc
+  -- a tree that is found has the statements that are read
+  tree_is : {tree : Source} → IsSourceFound chunk tree → tree.body ≡ read.tree.body
+  tree_is {tree} is = ap (λ (t : Source). t.body) is.is_main ∙ ap (λ (found : Inner). (main_of found.body).body) (main_is is.function) ∙ ap (λ body. (main_of body).body) read.body
+    where
+      main_is : IsMainFound chunk is.found → is.found ≡ read.found
+      main_is (inl found) = found_once laws 67 chunk read.found is.found read.read found
+      main_is (inr (lost, found)) = absurd (never_lost laws 67 0 chunk read.found (omega arith) read.read lost)
 
--- none is without a source
-has_source : {chunk : Chunk} {of : Source} → functions chunk ≡ no_functions → WellFormed of → IsChunkRead chunk of → IsSourceless chunk → ⊥
-has_source {chunk} none well is_read (inl (lost, shortest)) = is_recovered is_read (lost_alone chunk none lost)
-has_source {of = of} none well is_read (inr (source, found, misformed)) = misformed (formed_again of source well (tree_is is_read none found))
-
--- and it is one of the chunk
-is_tree_for : SemicolonsDoNotMatter → {chunk : Chunk} (straight : IsStraightChunk chunk) (steps : Steps) (back : IsReadBack straight.source steps) (tree : Source) → WellFormed tree → tree.body ≡ back.tree.body →
-    IsTreeFor chunk tree
-is_tree_for semicolons {chunk} straight steps back tree formed is =
-    let again = semicolons back.tree tree (ap (λ (body : Statements). record { body = bare_statements body; last_line = 1 }) (sym is)) in
-    record {
-      formed = formed;
-      scoped = again.scoped (back.alike.scoped straight.scoped);
-      fits = again.fits (back.alike.fits straight.fits);
-      name = straight.name;
-      named = named_as chunk straight.source straight.name straight.same;
-      same = straight.same ∙ back.alike.same straight.name ∙ again.same straight.name;
-    }
+  -- and it is not without a source
+  has_source : IsSourceless chunk → ⊥
+  has_source (inl (lost, shortest)) = never_lost laws 67 0 chunk read.found (omega arith) read.read lost
+  has_source (inr (tree, found, misformed)) = misformed (formed_again read.tree tree read.formed (tree_is found))
 
 -- ---- with the laws of what is below
 
+-- those that a straight source needs
 pub record StraightLaws : Type 0 where
   pub read : StraightSourcesAreRead
-  pub alone : StraightChunksAreAlone
-  pub found : ActsAreFound
-  pub built : ActsAreBuilt
-  pub low : ActsAreLow
+  pub acts : ActLaws
   pub semicolons : SemicolonsDoNotMatter
 
-pub laws_of : StraightSourcesAreRead → StraightChunksAreAlone → ActsAreFound → ActsAreBuilt → ActsAreLow → SemicolonsDoNotMatter → StraightLaws
-laws_of read alone found built low semicolons = record { read = read; alone = alone; found = found; built = built; low = low; semicolons = semicolons }
+-- they are put together
+pub laws_of : StraightSourcesAreRead → ActsAreFound → ActsAreBuilt → SemicolonsDoNotMatter → StraightLaws
+laws_of read found built semicolons = record { read = read; acts = record { found = found; built = built }; semicolons = semicolons }
 
 module _ (laws : StraightLaws) (chunk : Chunk) (short : IsShort chunk) (straight : IsStraightChunk chunk) where
-  steps_read : (steps : Steps) × (read_steps chunk [] false ≡ Some steps) × IsReadBack straight.source steps
-  steps_read = laws.read chunk straight (code_short chunk short)
-
-  chunk_read : IsChunkRead chunk steps_read.2.tree
-  chunk_read = as_read laws.found laws.built laws.low steps_read.0 steps_read.1 steps_read.2
+  -- its words are read as a tree that is alike to the source
+  source_read : IsSourceRead straight.source chunk
+  source_read = laws.read chunk straight short
 
   -- what is recovered of it is a tree of it
   pub straight_given : (tree : Source) → WellFormed tree → IsSourceFound chunk tree → IsTreeFor chunk tree
-  straight_given tree formed found =
-      is_tree_for laws.semicolons straight steps_read.0 steps_read.2 tree formed (tree_is chunk_read (laws.alone chunk straight).none found)
+  straight_given tree formed found = is_tree_for laws.semicolons straight source_read tree formed (tree_is laws.acts source_read found)
 
   -- and nothing is lost but for want of memory
   pub straight_lost : (lost : Lost) → IsLostOnlyWhere chunk lost → IsGiven (Err (refused_by lost))
-  straight_lost (Lost.NoDebug path) why = absurd (lacks_nothing chunk (laws.alone chunk straight) path why)
-  straight_lost (Lost.At path pc reason) why = absurd (has_source (laws.alone chunk straight).none steps_read.2.formed chunk_read why)
+  straight_lost (Lost.NoDebug path) why = absurd (lacks_nothing laws.acts source_read path why)
+  straight_lost (Lost.At path pc reason) why = absurd (has_source laws.acts source_read why)
   straight_lost Lost.OutOfMemory why = tt
 
 -- ---- flat sources
 
+-- the chunk of a flat source is that of a straight one
 flat_as_straight : FlatSourcesAreStraight → {chunk : Chunk} → IsFlatChunk chunk → IsStraightChunk chunk
 flat_as_straight flats flat = record {
   source = flat.source;
@@ -296,6 +327,7 @@ flat_as_straight flats flat = record {
   same = flat.same;
 }
 
+-- and so is each that is recoverable
 pub as_straight : FlatSourcesAreStraight → {chunk : Chunk} → IsRecoverable chunk → IsStraightChunk chunk
 as_straight flats (inl straight) = straight
 as_straight flats (inr flat) = flat_as_straight flats flat

@@ -7,22 +7,25 @@ use Rattle.lua_tree.specs.Names.{are_some_names}
 use Rattle.lua_tree.specs.Syntax as syntax
 use Rattle.lua_tree.specs.Syntax.{Expression, Expressions, Statement, assignment, call_expression, call_statement, field_expression, index_expression, local_statement, method_call, name_expression, no_expressions, parenthesized, return_statement}
 use Rattle.lua_tree.specs.WellFormed.{are_targets, begins_with_paren, depth_of_expression, depth_of_expressions, depth_of_statement, ends_block, formed_expression, formed_expressions, formed_statement, has_expressions, is_call, is_prefix, is_target, statement_begins_with_paren}
-use Rattle.core_expr.specs.Counting.{left_by, left_by_operand, left_by_values, taken_behind, taken_behind_operand, taken_behind_values}
+use Rattle.core_expr.specs.Counting.{one_more, left_by, left_by_operand, left_by_values, taken_behind, taken_behind_operand, taken_behind_values}
 use Rattle.core_expr.specs.Making.{and_last, deepest, depth_of, depth_of_operand, made_index}
 use Rattle.core_expr.specs.Places.{Place, constant_name, field_name, local_name, upvalue_name}
 use Rattle.core_expr.specs.Targets.{TargetValue, can_write_target, global_target, index_target, left_by_target, local_target, taken_behind_target, upvalue_target, word_target}
 use Rattle.core_expr.specs.Values.{Inner, OperandList, OperandValue, Value, Values, and_operand, and_value, nil_value, no_values, call_value, global_value, index_value, local_value, method_value, no_operands, upvalue_value}
 use Rattle.core_expr.specs.Writing.{Wording, as_prefix, can_write, can_write_values, name_word, unless, with_key, word, word_keys, word_operand, word_values}
+use Rattle.recover_expr.specs.Assigning.{function_as}
 use Rattle.recover_expr.specs.Entries.{and_last_value}
 use Rattle.recover_expr.specs.Lists.{value_count}
 use Rattle.scheme.specs.Making.{Where, in_globals, in_register, in_upvalue}
 use Rattle.scheme.specs.declared.making.Active.{Active}
 use Rattle.scheme_stands.specs.Words.{Fn}
-use Rattle.reads_back.specs.Acted.{Acted, AreTargets, AreValues, AreWithOperand, Assigned, IsAct, IsActed, IsTarget, IsVariableTarget, act_levels, act_statement, assigned, called, can_act, can_write_last, can_write_targets, declared, last_target, left_by_targets, returned, some_missing, taken_behind_targets, with_last_nil, words_assigned, words_targets}
+use Rattle.reads_back.specs.Acted.{Acted, AreAssigned, AreTargets, AreValues, AreWithOperand, Assigned, Assigns, IsAct, IsActed, IsTarget, IsVariableTarget, act_levels, act_statement, assigned, assigned_levels, assigned_statement, called, can_act, can_write_last, can_write_targets, declared, last_target, left_by_targets, returned, some_missing, taken_behind_targets, with_last_nil, words_assigned, words_targets}
 use Rattle.reads_back.specs.Cores.{AreCores, IsCore, IsVariable, ends_open}
 use Rattle.reads_back.specs.Straight.{BeginsWithName, StatementBeginsWithName}
 use Rattle.reads_back.proofs.FunctionsLeft.{each_by_target, each_by_targets, each_by_values}
 use Rattle.reads_back.proofs.MarksSame.{over_made}
+use Rattle.reads_back.proofs.NamedActs.{function_as_closed, function_as_depth, function_as_ends, function_as_formed, named_can, named_fine, path_names}
+use Rattle.reads_back.proofs.Paths.{IsNamed, named_or_holds}
 use Rattle.reads_back.proofs.Tests.{both_hold, first_of_both, not_so, or_first, or_second, second_of_both}
 use Rattle.reads_back.proofs.WrittenFormed.{AreFine, AreFineLeft, IsFine, operand_fine, values_fine, word_fine}
 
@@ -260,14 +263,44 @@ called_is at g active left (method_call line on name args on_line) before behind
 called_is at g active left e before behind v n call is = not_so call
 
 module _ (at : Place) (g : Fn) (active : List Active) where
-  pub act_formed : (s : Statement) (before behind : ℕ) (acted : Acted) (n : ℕ) (left : List (Option Inner)) → AreFineLeft left → IsAct s → IsActed g active s before behind acted → can_act at left acted ≡ true → formed_statement (act_statement at n left acted) ≡ true
-  act_formed (call_statement e) before behind (called v) n left fine_left has is can = let fine = word_fine at v n left fine_left can in both_hold _ _ (called_is at g active left e before behind v n has.0 is) fine.formed
-  act_formed (assignment targets es) before behind (assigned ts vs all last) n left fine_left has is can =
+  -- an assignment, where no path says it
+  pub assigned_formed : (targets es : Expressions) (before behind : ℕ) (ts : List TargetValue) (vs : Values) (all : Bool) (last : Option OperandValue) (n : ℕ) (left : List (Option Inner)) → AreFineLeft left → Assigns targets es → AreAssigned g active targets es ts before behind (record { values = vs; all = all; last = last }) → can_act at left (assigned ts vs all last) ≡ true →
+      formed_statement (assigned_statement at n left ts vs all last) ≡ true
+  assigned_formed targets es before behind ts vs all last n left fine_left has is can =
       let fine = assigned_parts at ts vs all last n left fine_left can in
       let to = fine.0.0 in
       let values = fine.1 in
       let some = some_words at (taken_behind_targets ts n) (left_by_targets ts left) vs all last (some_assigned g active es ts is.0 behind (record { values = vs; all = all; last = last }) has.given is.2) in
       both_hold _ _ (some_targets g active at n left targets before is.0 ts has.some is.1) (both_hold _ _ fine.0.1 (both_hold _ _ to.formed (both_hold _ _ some values.formed)))
+
+  -- it is no deeper than its levels tell
+  pub assigned_shallow : (ts : List TargetValue) (vs : Values) (all : Bool) (last : Option OperandValue) (n : ℕ) (left : List (Option Inner)) → AreFineLeft left → can_act at left (assigned ts vs all last) ≡ true → assigned_levels at n left ts vs all last ≤ 400 →
+      suc (depth_of_statement (assigned_statement at n left ts vs all last)) ≤ assigned_levels at n left ts vs all last
+  assigned_shallow ts vs all last n left fine_left can few =
+      let fine = assigned_parts at ts vs all last n left fine_left can in
+      let targets = fine.0.0 in
+      let values = fine.1 in
+      let low = targets.shallow (omega (arith, few)) in
+      let high = values.shallow (omega (arith, few)) in
+      omega (arith, few, low, high)
+
+  -- it begins with no parenthesis
+  pub assigned_closed : (targets es : Expressions) (before behind : ℕ) (ts : List TargetValue) (vs : Values) (all : Bool) (last : Option OperandValue) (n : ℕ) (left : List (Option Inner)) → StatementBeginsWithName (assignment targets es) → AreAssigned g active targets es ts before behind (record { values = vs; all = all; last = last }) → can_act at left (assigned ts vs all last) ≡ true →
+      statement_begins_with_paren (assigned_statement at n left ts vs all last) ≡ false
+  assigned_closed targets es before behind [] vs all last n left begins is can = refl
+  assigned_closed no_expressions es before behind (t ∷ ts) vs all last n left begins is can = absurd is.1
+  assigned_closed (syntax.expression target targets) es before behind (t ∷ ts) vs all last n left begins is can =
+      let first = is.1 in
+      let open_words = variable_open at (value_of_target t) n left (target_begins g active target before first.0 t begins.0 first.1) (can_be_read at left t (first_of_both _ _ (first_of_both _ _ can))) in
+      ap (λ w. begins_with_paren w.words) (written_as_value at n left t) ∙ open_words.bare
+
+  pub act_formed : (s : Statement) (before behind : ℕ) (acted : Acted) (n : ℕ) (left : List (Option Inner)) → AreFineLeft left → IsAct s → IsActed g active s before behind acted → can_act at left acted ≡ true → formed_statement (act_statement at n left acted) ≡ true
+  act_formed (call_statement e) before behind (called v) n left fine_left has is can = let fine = word_fine at v n left fine_left can in both_hold _ _ (called_is at g active left e before behind v n has.0 is) fine.formed
+  act_formed (assignment targets es) before behind (assigned ts vs all last) n left fine_left has is can =
+      let named : (path : List Text) (found : Inner) → IsNamed at left ts vs last path found → formed_statement (function_as path found.body) ≡ true = λ path found named.
+      let fine = named_fine at left ts vs last path found named fine_left in
+      function_as_formed path found.body (path_names at left named.target path (named_can at left ts vs last path found named (first_of_both _ _ can)) named.has_path) fine.formed in
+      named_or_holds (λ s levels. formed_statement s ≡ true) at left ts vs last (assigned_statement at n left ts vs all last) (assigned_levels at n left ts vs all last) (assigned_formed targets es before behind ts vs all last n left fine_left has is can) named
   act_formed (local_statement names es) before behind (declared others vs all) n left fine_left has is can =
       let fine = values_fine at vs all n left fine_left can in
       both_hold _ _ (ap are_some_names is.0 ∙ has.0) fine.formed
@@ -277,23 +310,19 @@ module _ (at : Place) (g : Fn) (active : List Active) where
   pub act_shallow : (s : Statement) (before behind : ℕ) (acted : Acted) (n : ℕ) (left : List (Option Inner)) → AreFineLeft left → IsAct s → IsActed g active s before behind acted → can_act at left acted ≡ true → act_levels at n left acted ≤ 400 → suc (depth_of_statement (act_statement at n left acted)) ≤ act_levels at n left acted
   act_shallow s before behind (called v) n left fine_left has is can few = let fine = word_fine at v n left fine_left can in let low = fine.shallow (omega (arith, few)) in omega (arith, few, low)
   act_shallow s before behind (assigned ts vs all last) n left fine_left has is can few =
-      let fine = assigned_parts at ts vs all last n left fine_left can in
-      let targets = fine.0.0 in
-      let values = fine.1 in
-      let low = targets.shallow (omega (arith, few)) in
-      let high = values.shallow (omega (arith, few)) in
-      omega (arith, few, low, high)
+      let named : (path : List Text) (found : Inner) → IsNamed at left ts vs last path found → one_more (one_more found.levels) ≤ 400 → suc (depth_of_statement (function_as path found.body)) ≤ one_more (one_more found.levels) = λ path found named few.
+      let fine = named_fine at left ts vs last path found named fine_left in
+      let low = fine.shallow (omega (arith, few)) in
+      omega (arith, few, low, function_as_depth path found.body) in
+      named_or_holds (λ s levels. levels ≤ 400 → suc (depth_of_statement s) ≤ levels) at left ts vs last (assigned_statement at n left ts vs all last) (assigned_levels at n left ts vs all last) (assigned_shallow ts vs all last n left fine_left can) named few
   act_shallow s before behind (declared names vs all) n left fine_left has is can few = let fine = values_fine at vs all n left fine_left can in let low = fine.shallow (omega (arith, few)) in omega (arith, few, low)
   act_shallow s before behind (returned vs all) n left fine_left has is can few = let fine = values_fine at vs all n left fine_left can in let low = fine.shallow (omega (arith, few)) in omega (arith, few, low)
 
   pub act_closed : (s : Statement) (before behind : ℕ) (acted : Acted) (n : ℕ) (left : List (Option Inner)) → StatementBeginsWithName s → IsAct s → IsActed g active s before behind acted → can_act at left acted ≡ true → statement_begins_with_paren (act_statement at n left acted) ≡ false
   act_closed (call_statement e) before behind (called v) n left begins has is can = let open_words = variable_open at v n left (name_begins g active e before behind v begins is) can in open_words.bare
-  act_closed (assignment targets es) before behind (assigned [] vs all last) n left begins has is can = refl
-  act_closed (assignment no_expressions es) before behind (assigned (t ∷ ts) vs all last) n left begins has is can = absurd is.1
-  act_closed (assignment (syntax.expression target targets) es) before behind (assigned (t ∷ ts) vs all last) n left begins has is can =
-      let first = is.1 in
-      let open_words = variable_open at (value_of_target t) n left (target_begins g active target before first.0 t begins.0 first.1) (can_be_read at left t (first_of_both _ _ (first_of_both _ _ can))) in
-      ap (λ w. begins_with_paren w.words) (written_as_value at n left t) ∙ open_words.bare
+  act_closed (assignment targets es) before behind (assigned ts vs all last) n left begins has is can =
+      named_or_holds (λ s levels. statement_begins_with_paren s ≡ false) at left ts vs last (assigned_statement at n left ts vs all last) (assigned_levels at n left ts vs all last) (assigned_closed targets es before behind ts vs all last n left begins is can)
+      (λ path found named. function_as_closed path found.body)
   act_closed (local_statement names es) before behind (declared others vs all) n left begins has is can = refl
   act_closed (return_statement es) before behind (returned vs all) n left begins has is can = refl
   act_closed s before behind acted n left begins has is can = absurd is
@@ -301,7 +330,8 @@ module _ (at : Place) (g : Fn) (active : List Active) where
 -- a return ends its block, and nothing else does
 pub act_ends : (at : Place) (g : Fn) (active : List Active) (s : Statement) (before behind : ℕ) (acted : Acted) (n : ℕ) (left : List (Option Inner)) → IsActed g active s before behind acted → ends_block (act_statement at n left acted) ≡ ends_block s
 act_ends at g active (call_statement e) before behind (called v) n left is = refl
-act_ends at g active (assignment targets es) before behind (assigned ts vs all last) n left is = refl
+act_ends at g active (assignment targets es) before behind (assigned ts vs all last) n left is =
+    named_or_holds (λ s levels. ends_block s ≡ false) at left ts vs last (assigned_statement at n left ts vs all last) (assigned_levels at n left ts vs all last) refl (λ path found named. function_as_ends path found.body)
 act_ends at g active (local_statement names es) before behind (declared others vs all) n left is = refl
 act_ends at g active (return_statement es) before behind (returned vs all) n left is = refl
 act_ends at g active s before behind acted n left is = absurd is

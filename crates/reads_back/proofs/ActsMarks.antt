@@ -1,35 +1,52 @@
 -- What is written of an act mentions the same names as the act, in the same order.
-use Rattle.std.proofs.Common.{◌≡◌, ℕ, ◌⊎◌, inl, inr, Bool, false, List, [], ◌∷◌, length, Option, Some, None, refl, ap, ◌∙◌, true}
+use Rattle.std.proofs.Common.{◌≡◌, ℕ, ◌⊎◌, inl, inr, Bool, false, List, [], ◌∷◌, length, Option, Some, None, refl, ap, subst, ◌∙◌, true}
 use Rattle.lua_num.specs.Bytes.{Text}
 use Rattle.lua_tree.specs.Joins.{join_expressions}
 use Rattle.lua_tree.specs.OneLine.{one_line_expression, one_line_expressions, one_line_statement}
-use Rattle.lua_tree.specs.Outline.{Part, both, come, declares, expression_part, expressions_part, nothing, statement_part}
+use Rattle.lua_tree.specs.Outline.{Part, both, come, declares, expression_part, expressions_part, nothing, path_part, statement_part}
 use Rattle.lua_tree.specs.Syntax as syntax
 use Rattle.lua_tree.specs.Syntax.{Expression, Expressions, Statement, assignment, call_statement, field_expression, index_expression, local_statement, name_expression, no_expressions, return_statement}
 use Rattle.core_expr.specs.Counting.{left_by_values, taken_behind_values}
-use Rattle.core_expr.specs.Places.{Place, place}
-use Rattle.core_expr.specs.Targets.{TargetValue, can_write_target, index_target, left_by_target, taken_behind_target, word_target}
+use Rattle.core_expr.specs.Places.{Place, constant_name, local_name, place, upvalue_name}
+use Rattle.core_expr.specs.Targets.{TargetValue, can_write_target, global_target, index_target, left_by_target, local_target, path_of, upvalue_target, taken_behind_target, word_target}
 use Rattle.core_expr.specs.Values.{Inner, OperandValue, Values}
 use Rattle.core_expr.specs.Writing.{can_write_values, word_operand, word_values}
+use Rattle.recover_expr.specs.Assigning.{function_as}
 use Rattle.recover_expr.specs.Situation.{Function}
 use Rattle.scheme.specs.Expressions.{literal}
 use Rattle.scheme.specs.Making.{Where, in_globals, in_register, in_upvalue}
 use Rattle.scheme.specs.declared.making.Active.{Active}
 use Rattle.scheme_stands.specs.Words.{Fn}
-use Rattle.reads_back.specs.Acted.{Acted, AreActTargets, AreTargets, AreValues, AreWithOperand, Assigned, EndWithOperand, IsAct, IsActTarget, IsActed, IsTarget, IsVariableTarget, act_statement, assigned, called, can_act, can_write_last, can_write_targets, declared, last_target, left_by_targets, returned, taken_behind_targets, words_assigned, words_targets}
+use Rattle.reads_back.specs.Acted.{Acted, AreActTargets, AreAssigned, Assigns, assigned_levels, assigned_statement, function_in, AreTargets, AreValues, AreWithOperand, Assigned, EndWithOperand, IsAct, IsActTarget, IsActed, IsTarget, IsVariableTarget, act_statement, assigned, called, can_act, can_write_last, can_write_targets, declared, last_target, left_by_targets, returned, taken_behind_targets, words_assigned, words_targets}
 use Rattle.reads_back.specs.Cores.{AllHaveCores, IsVariable, ends_open}
 use Rattle.reads_back.proofs.ActsFormed.{can_be_read, value_of_target, written_as_value}
 use Rattle.reads_back.proofs.Marks.{ArePartsLeft, IsPartLeft, SamePart, both_assoc, both_same, nothing_behind, operand_part, part_back, part_of, part_of_operand, part_then, parts_of, same_part, values_part, word_part}
-use Rattle.reads_back.proofs.FunctionsLeft.{each_by_target, each_by_targets, each_by_values}
+use Rattle.reads_back.proofs.FunctionsLeft.{each_by_target, each_by_targets, each_by_values, left_there}
 use Rattle.reads_back.proofs.DeclaredValues.{assigned_part, assigned_parts, declared_parts, last_part}
 use Rattle.reads_back.proofs.MarksSame.{ArePartsMade, key_part, list_part, marks_of, of_operand}
 use Rattle.reads_back.proofs.NameReads.{AreListed}
+use Rattle.reads_back.proofs.NamedActs.{field_path_part, function_as_part, named_can, single_path_part}
+use Rattle.reads_back.proofs.Paths.{IsNamed, function_alone, named_or_holds}
 use Rattle.reads_back.proofs.Tests.{first_of_both, second_of_both}
 use Rattle.reads_back.proofs.WordsRead.{IsFunction}
 
 module _ (at : Place) (of : ℕ → Part) (natural : at.short ≡ false) where
   target_part : (t : TargetValue) (n : ℕ) (fs : List (Option Inner)) → ArePartsLeft of fs → can_write_target at fs t ≡ true → SamePart (expression_part (word_target at n fs t).words) (part_of at of (value_of_target t))
   target_part t n fs parts_left can = part_then (λ here. ap (λ w. expression_part w.words here) (written_as_value at n fs t)) (word_part at of natural (value_of_target t) n fs parts_left (can_be_read at fs t can))
+
+module _ (at : Place) (of : ℕ → Part) where
+  -- the path of a target mentions what the target does
+  pub path_of_part : (fs : List (Option Inner)) (t : TargetValue) (path : List Text) → can_write_target at fs t ≡ true → path_of at t ≡ Some path → SamePart (path_part 1 path) (part_of at of (value_of_target t))
+  path_of_part fs (local_target r) path can is = single_path_part at of (local_name at r) path can is
+  path_of_part fs (upvalue_target u) path can is = single_path_part at of (upvalue_name at u) path can is
+  path_of_part fs (global_target k) path can is = single_path_part at of (constant_name at k) path can is
+  path_of_part fs (index_target on key) path can is = field_path_part at of fs on key path (first_of_both _ _ can) is
+
+  -- a function that is all of the values is all that they mention
+  alone_part : (vs : Values) (all : Bool) (last : Option OperandValue) (number : ℕ) → function_in vs last ≡ Some number → SamePart (of number) (assigned_part at of (record { values = vs; all = all; last = last }))
+  alone_part vs all last number is =
+      function_alone (λ vs last. SamePart (of number) (assigned_part at of (record { values = vs; all = all; last = last }))) number
+      (part_back (part_then (nothing_behind (both (of number) nothing)) (nothing_behind (of number)))) (same_part (of number)) vs last is
 
 module _ {f : Function} {g : Fn} {active : List Active} {listed : List ℕ} (is_function : IsFunction f g) (listed_names : AreListed f g active listed) (of : ℕ → Part) (parts_made : ArePartsMade g active of) where
   abbrev at : Place
@@ -93,17 +110,46 @@ module _ {f : Function} {g : Fn} {active : List Active} {listed : List ℕ} (is_
   values_marks es ts before behind to has (inr is) =
       part_then (assigned_parts at of (length ts) (last_target ts) (ends_open es) is.0 to is.3) (list_part is_function listed_names of parts_made es has before behind is.0 is.1)
 
-  pub act_marks : (s : Statement) (before behind : ℕ) (acted : Acted) (n line : ℕ) (left : List (Option Inner)) → ArePartsLeft of left → IsAct s → IsActed g active s before behind acted → can_act at left acted ≡ true → SamePart (statement_part line (act_statement at n left acted)) (statement_part line (one_line_statement s))
-  act_marks (call_statement e) before behind (called v) n line left parts_left has is can = part_then (word_part at of is_function.natural v n left parts_left can) ((marks_of is_function listed_names of parts_made e has.1).one before behind v is)
-  act_marks (assignment targets es) before behind (assigned ts vs all last) n line left parts_left has is can =
+  -- an assignment, where no path says it
+  pub assigned_marks : (targets es : Expressions) (before behind : ℕ) (ts : List TargetValue) (vs : Values) (all : Bool) (last : Option OperandValue) (n : ℕ) (left : List (Option Inner)) → ArePartsLeft of left → Assigns targets es → AreAssigned g active targets es ts before behind (record { values = vs; all = all; last = last }) → can_act at left (assigned ts vs all last) ≡ true →
+      SamePart (statement_part 1 (assigned_statement at n left ts vs all last)) (statement_part 1 (one_line_statement (assignment targets es)))
+  assigned_marks targets es before behind ts vs all last n left parts_left has is can =
       let values = second_of_both (can_write_targets at left ts) _ can in
       both_same (targets_marks targets before is.0 ts n left parts_left has.targets is.1 (first_of_both _ _ can))
       (part_then (assigned_words vs all last (taken_behind_targets ts n) (left_by_targets ts left) (each_by_targets (IsPartLeft of) ts left parts_left) (first_of_both _ _ values) (second_of_both (can_write_values at (left_by_targets ts left) vs) _ values))
       (values_marks es ts is.0 behind (record { values = vs; all = all; last = last }) has.values is.2))
-  act_marks (local_statement names es) before behind (declared others vs all) n line left parts_left has is can =
+
+  -- one target
+  alone_marks : (es : Expressions) (before behind : ℕ) (ts : List TargetValue) (t : TargetValue) → ts ≡ t ∷ [] → AreActTargets es → AreTargets g active es before behind ts → SamePart (part_of at of (value_of_target t)) (expressions_part (one_line_expressions es))
+  alone_marks no_expressions before behind ts t one are is = absurd (subst (AreTargets g active no_expressions before behind) one is)
+  alone_marks (syntax.expression e no_expressions) before behind ts t one are is =
+      let those = subst (AreTargets g active (syntax.expression e no_expressions) before behind) one is in
+      part_then (target_marks e before those.0 t are.0 those.1) (part_back (nothing_behind (expression_part (one_line_expression e))))
+  alone_marks (syntax.expression e (syntax.expression d es)) before behind ts t one are is =
+      let those = subst (AreTargets g active (syntax.expression e (syntax.expression d es)) before behind) one is in
+      absurd those.2
+
+  -- a function statement that says a path
+  named_marks : (targets es : Expressions) (before behind : ℕ) (ts : List TargetValue) (vs : Values) (all : Bool) (last : Option OperandValue) (left : List (Option Inner)) → ArePartsLeft of left → Assigns targets es → AreAssigned g active targets es ts before behind (record { values = vs; all = all; last = last }) → can_act at left (assigned ts vs all last) ≡ true →
+      (path : List Text) (found : Inner) → IsNamed at left ts vs last path found → SamePart (statement_part 1 (function_as path found.body)) (statement_part 1 (one_line_statement (assignment targets es)))
+  named_marks targets es before behind ts vs all last left parts_left has is can path found named =
+      let target = path_of_part at of left named.target path (named_can at left ts vs last path found named (first_of_both _ _ can)) named.has_path in
+      let body = left_there (IsPartLeft of) named.number left found parts_left named.there in
+      let function = part_then body (alone_part at of vs all last named.number named.goes) in
+      part_then (function_as_part 1 path found.body)
+      (both_same (part_then target (alone_marks targets before is.0 ts named.target named.one has.targets is.1))
+      (part_then function (values_marks es ts is.0 behind (record { values = vs; all = all; last = last }) has.values is.2)))
+
+  -- on the line 1, which every path has that is written as a target
+  pub act_marks : (s : Statement) (before behind : ℕ) (acted : Acted) (n : ℕ) (left : List (Option Inner)) → ArePartsLeft of left → IsAct s → IsActed g active s before behind acted → can_act at left acted ≡ true → SamePart (statement_part 1 (act_statement at n left acted)) (statement_part 1 (one_line_statement s))
+  act_marks (call_statement e) before behind (called v) n left parts_left has is can = part_then (word_part at of is_function.natural v n left parts_left can) ((marks_of is_function listed_names of parts_made e has.1).one before behind v is)
+  act_marks (assignment targets es) before behind (assigned ts vs all last) n left parts_left has is can =
+      named_or_holds (λ s levels. SamePart (statement_part 1 s) (statement_part 1 (one_line_statement (assignment targets es)))) at left ts vs last (assigned_statement at n left ts vs all last) (assigned_levels at n left ts vs all last)
+      (assigned_marks targets es before behind ts vs all last n left parts_left has is can) (named_marks targets es before behind ts vs all last left parts_left has is can)
+  act_marks (local_statement names es) before behind (declared others vs all) n left parts_left has is can =
       let made = part_then (declared_parts at of (length names) (ends_open es) is.1 vs all is.3) (list_part is_function listed_names of parts_made es has.1 before behind is.1 is.2) in
       let values = part_then (values_part at of is_function.natural vs all n left parts_left can) made in
-      λ here. ap (λ names. both (declares line 0 names) (both (expressions_part (word_values at n left vs all).words) (come 0 names here.declarations)) here) is.0
-      ∙ both_same (same_part (declares line 0 names)) (both_same values (same_part (come 0 names here.declarations))) here
-  act_marks (return_statement es) before behind (returned vs all) n line left parts_left has is can = part_then (values_part at of is_function.natural vs all n left parts_left can) (list_part is_function listed_names of parts_made es has before behind vs is.0)
-  act_marks s before behind acted n line left parts_left has is can = absurd is
+      λ here. ap (λ names. both (declares 1 0 names) (both (expressions_part (word_values at n left vs all).words) (come 0 names here.declarations)) here) is.0
+      ∙ both_same (same_part (declares 1 0 names)) (both_same values (same_part (come 0 names here.declarations))) here
+  act_marks (return_statement es) before behind (returned vs all) n left parts_left has is can = part_then (values_part at of is_function.natural vs all n left parts_left can) (list_part is_function listed_names of parts_made es has before behind vs is.0)
+  act_marks s before behind acted n left parts_left has is can = absurd is

@@ -5,7 +5,7 @@ use Rattle.std.specs.Prelude.{◌&&◌, ◌==◌, not, if◌then◌else◌}
 use Rattle.lua_tree.specs.OneLine.{one_line_expressions}
 use Rattle.lua_tree.specs.Syntax as syntax
 use Rattle.lua_tree.specs.Syntax.{Expression, Expressions, no_expressions, name_expression, index_expression, field_expression, assignment, nil_literal}
-use Rattle.lua_tree.specs.WellFormed.{depth_of_expressions}
+use Rattle.lua_tree.specs.WellFormed.{depth_of_expressions, depth_of_statement}
 use Rattle.core_expr.specs.Counting.{left_by, left_by_operand, left_by_values, taken_behind, taken_behind_operand, taken_behind_values}
 use Rattle.core_expr.specs.Places.{Place, place}
 use Rattle.core_expr.specs.Targets.{TargetValue, global_target, index_target, local_target, upvalue_target}
@@ -24,7 +24,7 @@ use Rattle.scheme_stands.proofs.Growth.{Final, before as before_part, calm, late
 use Rattle.scheme_stands.proofs.Lines.{grows_adjust}
 use Rattle.scheme_stands.proofs.Parts.{AllGrow, grow_all}
 use Rattle.scheme_stands.specs.Words.{Fn}
-use Rattle.reads_back.specs.Acted.{AreActTargets, AreAssigned, AreTargets, AreValues, AreWithOperand, Assigned, EndWithOperand, Assigns, IsActTarget, IsTarget, all_named_behind, assigned, can_write_last, is_part, last_target, left_by_last, left_by_targets, some_missing, taken_behind_last, taken_behind_targets, with_last_nil, words_assigned, words_targets}
+use Rattle.reads_back.specs.Acted.{AreActTargets, AreAssigned, AreTargets, AreValues, AreWithOperand, Assigned, EndWithOperand, Assigns, IsActTarget, IsTarget, all_named_behind, assigned, can_write_last, is_part, last_target, left_by_last, left_by_targets, some_missing, taken_behind_last, taken_behind_targets, with_last_nil, words_assigned, words_targets, can_act, named_by, lean_assignment}
 use Rattle.reads_back.specs.Cores.{AllHaveCores, AreCores, IsCore, ends_open}
 use Rattle.reads_back.proofs.AdjustedEntries.{count_last}
 use Rattle.reads_back.proofs.AssignedMentions.{copies_pass}
@@ -33,6 +33,7 @@ use Rattle.reads_back.proofs.EachStoredSame.{EachSame, LastNoLocal, Placed, and_
 use Rattle.reads_back.proofs.GivenSame.{AllRewritten}
 use Rattle.reads_back.proofs.ListsSame.{coded_count, codes_of, cores_count, list_few, opens_is, values_coded}
 use Rattle.reads_back.proofs.Mentions.{IsAhead, ahead_behind, ahead_front, mentions_in_all, made_behind, made_both}
+use Rattle.reads_back.proofs.NamedSame.{lean_alone, lean_values, named_few, named_same}
 use Rattle.reads_back.proofs.Rewriting.{IsMadeBy, Rewritten, RewrittenAct}
 use Rattle.reads_back.proofs.TargetsSame.{ArePlaces, TargetSame, TargetsSame, copies_constants, copies_grow, copies_places, field_same, index_same, more_same, name_same, none_same, targets_grow, written_count}
 use Rattle.reads_back.proofs.Tests.{both_hold}
@@ -378,17 +379,24 @@ module _ {f : Function} {g : Fn} {active : List Active} {listed : List ℕ} {z :
           ∙ goes.takes (places_of m).after es_ahead goes_later
           ∙ ap₂ (λ ts n. all_named_behind ts (taken_by to n)) (targets_are g ts (places_of m).value are_there) (sym taken_there)
 
-  stores_act : RewrittenAct f g active listed z lefts before behind (assignment targets es) (assigned ts to.values to.all to.last)
-  stores_act =
+  can_store : can_act (place f.of listed f.short) (lefts before) (assigned ts to.values to.all to.last) ≡ true
+  can_store = let at = place f.of listed f.short in both_hold _ _ first.can (ap (λ fs. can_write_values at fs to.values && can_write_last at (left_by_values to.values fs) to.last) first.leaves ∙ stores.can)
+
+  -- where what is no function statement is as deep as it is
+  stores_act : (named_by (place f.of listed f.short) ts to.values to.last ≡ None → depth_of_statement (assignment targets es) ≤ lean_assignment targets es) →
+      RewrittenAct f g active listed z lefts before behind (assignment targets es) (assigned ts to.values to.all to.last)
+  stores_act lean =
       let at = place f.of listed f.short in
       record {
-        can = both_hold _ _ first.can (ap (λ fs. can_write_values at fs to.values && can_write_last at (left_by_values to.values fs) to.last) first.leaves ∙ stores.can);
+        can = can_store;
         leaves = ap (λ fs. left_by_last to.last (left_by_values to.values fs)) first.leaves ∙ stores.leaves;
         makes = stores.makes ∙ ap (made_behind (mentions_in_all es)) first.makes ∙ sym (made_both (mentions_in_all targets) (mentions_in_all es) before);
         few = λ n.
             let next = taken_behind_targets ts n in
-            omega (arith, first.few n, ap (λ fs. (words_assigned at next fs to.values to.all to.last).levels) first.leaves, stores.few next);
-        made = act_made;
+            let same = ap (λ fs. (words_assigned at next fs to.values to.all to.last).levels) first.leaves in
+            let few = stores.few next in
+            named_few at n (lefts before) to.values to.all to.last ts (lean_assignment targets es) can_store (λ none. omega (arith, first.few n, same, few, lean none)) (omega (arith, same, few, lean_values targets es));
+        made = λ m ahead final. named_same at (length m.constants) (lefts before) to.values to.all to.last ts can_store m ∙ act_made m ahead final;
         taken = act_taken;
       }
 
@@ -411,3 +419,4 @@ module _ {f : Function} {g : Fn} {active : List Active} {listed : List ℕ} {z :
       AreAssigned g active targets es ts before behind to → RewrittenAct f g active listed z lefts before behind (assignment targets es) (assigned ts to.values to.all to.last)
   assignment_rewritten_act targets es before behind ts to assigns to_written written (mid, are, are_values) =
       stores_act targets es ts to (targets_same targets before mid ts assigns.targets to_written are) (all_stores lefts made ts es mid behind assigns.values written to are_values)
+      (lean_alone made targets es before behind ts to (mid, are, are_values))

@@ -4,13 +4,13 @@ use Rattle.std.proofs.lemmas.Bool.{eqb-true, le-ltb, ne_eqb}
 use Rattle.std.specs.Prelude.{◌==◌, not, option_map, if◌then◌else◌, replicate, Option}
 use Rattle.lua_tree.specs.Syntax as syntax
 use Rattle.lua_tree.specs.Syntax.{Expression, Expressions, field_expression, index_expression, name_expression, no_expressions, assignment}
-use Rattle.lua_tree.specs.WellFormed.{depth_of_expression, depth_of_expressions}
+use Rattle.lua_tree.specs.WellFormed.{depth_of_expression, depth_of_expressions, has_expressions}
 use Rattle.opcode.specs.declared.op.Op.{Op}
 use Rattle.opcode.specs.declared.word.Instr.{Instr}
 use Rattle.core_expr.specs.Counting.{taken_behind_values}
 use Rattle.core_expr.specs.Places.{place}
 use Rattle.core_expr.specs.Targets.{TargetValue}
-use Rattle.core_expr.specs.Values.{OperandValue, Values, Inner}
+use Rattle.core_expr.specs.Values.{OperandValue, Values, Inner, and_value, no_values}
 use Rattle.recover_expr.specs.Assigning.{assigned_from, stored_function}
 use Rattle.recover_expr.specs.Effects.{is_from, makes_value, reads_from}
 use Rattle.recover_expr.specs.Entries.{Entries, and_last_value, value_entry}
@@ -28,27 +28,26 @@ use Rattle.scheme_stands.specs.Lists.{AdjustAt}
 use Rattle.scheme_stands.specs.Relation.{all_related, related}
 use Rattle.scheme_stands.specs.Statements.{AssignAt, CopiesAt, CopyBy, EachStoredAt, NoTargetsAt, StoreAt, StoreRegisterAt, StoresBy, TargetsAt}
 use Rattle.scheme_stands.specs.Words.{Fn, Spot, Stretch, WordAt, instr_by}
-use Rattle.reads_back.specs.Acted.{Acted, AreActTargets, AreTargets, AreValues, AreWithOperand, Assigned, Assigns, EndWithOperand, IsActTarget, IsActed, all_named_behind, assigned, can_act, is_part, last_target, some_missing, stores_function, taken_behind_act, taken_behind_last, taken_behind_targets, values_assigned}
+use Rattle.reads_back.specs.Acted.{Acted, AreActTargets, AreTargets, AreValues, AreWithOperand, Assigned, Assigns, EndWithOperand, IsActTarget, IsActed, all_named_behind, assigned, can_act, is_part, last_target, some_missing, taken_behind_act, taken_behind_last, taken_behind_targets, values_assigned, function_in}
 use Rattle.reads_back.specs.Cores.{AllHaveCores, AreCores, Counted, HasCore, ends_open}
 use Rattle.reads_back.proofs.ActsRead.{ActRead, CanAct, can_now}
 use Rattle.reads_back.proofs.AdjustedEntries.{count_last}
 use Rattle.reads_back.proofs.AdjustedWords.{adjust_begins, adjust_fits, adjust_forward, next_fit}
 use Rattle.reads_back.proofs.AssignedComes.{AssignedComes, assigned_come, some_related}
 use Rattle.reads_back.proofs.AssignmentsRead.{turn_acts}
-use Rattle.reads_back.proofs.BehindWords.{HasLocals, behind_words, quiet_same, same_then}
+use Rattle.reads_back.proofs.BehindWords.{HasLocals, behind_words, quiet_same, same_then, locals_then}
 use Rattle.reads_back.proofs.Comes.{Begins, IsWanted, ReadsCore}
 use Rattle.reads_back.proofs.EachStored.{AllStored, EachAt, all_fit, all_said, all_stored, destinations_of, each_at, is_said}
 use Rattle.reads_back.proofs.FirstWords.{BeginsFor, value_first}
 use Rattle.reads_back.proofs.GlobalTargets.{HaveGlobals, each_globals, stored_globals}
 use Rattle.reads_back.proofs.GivenLists.{AllCome, AllRead, all_forward}
 use Rattle.reads_back.proofs.HeldOperands.{IsTaken, ReadsHeld, operand_held, rk_held, text_held}
-use Rattle.reads_back.proofs.LastStored.{Begun, GoesTo, LastStored, last_forward, last_stored, no_item_below}
+use Rattle.reads_back.proofs.LastStored.{Begun, GoesTo, LastStored, last_forward, last_stored, no_item_below, store_reads}
 use Rattle.reads_back.proofs.NameReads.{AreListed}
-use Rattle.reads_back.proofs.NoFunctions.{IsNoFunctionExpression}
 use Rattle.reads_back.proofs.PartsUsed.{all_there_length}
 use Rattle.reads_back.proofs.Reaches.{Reaches, reaches_on, reaches_then}
 use Rattle.reads_back.proofs.SeveralValues.{wanted_come}
-use Rattle.reads_back.proofs.StoredTargets.{AreThere, Destination, IsThere, StoreWordAt, StoreWordsAt, first_stored, parts_used, seen_with, seen_with_all, store_piece, target_to, targets_to, to_global, to_local, to_part, to_upvalue, used_by_all}
+use Rattle.reads_back.proofs.StoredTargets.{AreThere, Destination, IsThere, StoreWordAt, StoreWordsAt, first_stored, parts_used, seen_with, seen_with_all, store_piece, target_to, targets_to, used_by_all}
 use Rattle.reads_back.proofs.StoresRead.{IsInStep}
 use Rattle.reads_back.proofs.Taking.{operand_taken_later, values_taken_later}
 use Rattle.reads_back.proofs.TargetsCome.{AreNoItems, AreSaid, Fits, ReadsTarget, ReadsTargets, TargetsCome, targets_come, targets_forward}
@@ -97,21 +96,12 @@ module _ {f : Function} {g : Fn} (is_function : IsFunction f g) where
   store_next : (d : Destination) (r : ℕ) (p q : Spot) → StoreWordAt g d r p q → q.pc ≡ suc p.pc
   store_next d r p q at = let word : WordAt g (store_piece d r) p q = at in word.next
 
-  -- a store reads its register
-  store_reads : (base : ℕ) (d : Destination) (r : ℕ) (p q : Spot) → base ≤ r → r < 256 → StoreWordAt g d r p q → is_so (λ i. reads_from i base) (instr_at f p.pc) ≡ true
-  store_reads base (to_local x) r p q above small at = ap (is_so (λ i. reads_from i base)) (instr_is is_function at (abc_is_read is_function at)) ∙ le-leb base r above
-  store_reads base (to_upvalue slot) r p q above small at = ap (is_so (λ i. reads_from i base)) (instr_is is_function at (abc_is_read is_function at)) ∙ le-leb base r above
-  store_reads base (to_global number) r p q above small at = ap (is_so (λ i. reads_from i base)) (instr_is is_function at (abx_is_read is_function at)) ∙ le-leb base r above
-  store_reads base (to_part on key x y) r p q above small at =
-      ap (is_so (λ i. reads_from i base)) (instr_is is_function at (abc_is_read is_function at))
-      ∙ or_second (nat_le base x) _ (or_second (is_from y base) (is_from r base) (both_hold _ _ (le-leb base r above) (lt-ltb r 256 small)))
-
-  -- and so does the first of several
+  -- the first of several stores reads a register
   first_reads : (base : ℕ) (ds : List Destination) → 0 < length ds → (r : ℕ) (p q : Spot) → base ≤ r → r + length ds ≤ 250 → StoreWordsAt g r ds p q → (is_so (λ i. reads_from i base) (instr_at f p.pc) ≡ true) × (p.pc < q.pc)
   first_reads base [] some r p q above low at = absurd (omega (arith, some))
   first_reads base (d ∷ []) some r p q above low at =
       let there : at.mid.pc ≡ p.pc = at.first_at.pc in
-      (ap (λ (pc : ℕ). is_so (λ i. reads_from i base) (instr_at f pc)) (sym there) ∙ store_reads base d r at.mid q above (omega (arith, low)) at.second_at, omega (arith, there, store_next d r at.mid q at.second_at))
+      (ap (λ (pc : ℕ). is_so (λ i. reads_from i base) (instr_at f pc)) (sym there) ∙ store_reads base d r at.mid q is_function above (omega (arith, low)) at.second_at, omega (arith, there, store_next d r at.mid q at.second_at))
   first_reads base (d ∷ b ∷ ds) some r p q above low at =
       let rest = first_reads base (b ∷ ds) (omega arith) (suc r) p at.mid (omega (arith, above)) (omega (arith, low)) at.first_at in
       (rest.0, omega (arith, rest.1, store_next d r at.mid q at.second_at))
@@ -274,13 +264,13 @@ module _ {f : Function} {g : Fn} {active : List Active} {listed : List ℕ} (is_
     above = free + length (all_related g at.front)
 
     fronts : AllRead f g active listed 200 at.front
-    fronts = each_read is_function all at.front at.has_front (omega arith) (omega (arith, few, at.shallow_front))
+    fronts = each_read is_function all at.front at.parts.has_front (omega arith) (omega (arith, few, at.parts.shallow_front))
 
     last_read : ReadsCore f g active listed at.last
-    last_read = (reads_all is_function all at.last at.has_last (omega (arith, few, at.shallow_last))).one
+    last_read = (reads_all is_function all at.last at.parts.has_last (omega (arith, few, at.parts.shallow_last))).one
 
     front_on : p.pc ≤ at.mid.pc
-    front_on = all_forward f g active listed 200 at.front fronts free p at.mid at.front_at
+    front_on = all_forward f g active listed 200 at.front fronts free p at.mid at.parts.front_at
 
     last_on : at.mid.pc ≤ at.stored.pc
     last_on = last_forward is_function all at.place at.to at.said at.fits at.last last_read above at.mid at.stored at.last_at
@@ -309,7 +299,7 @@ module _ {f : Function} {g : Fn} {active : List Active} {listed : List ℕ} (is_
   each_wants targets (syntax.expression e (syntax.expression d es)) are reads has few some same s locals to (place ∷ []) free1 free2 p mid last q counts at copies more within stores = absurd (omega (arith, counts, same))
   each_wants targets no_expressions are reads has few some same s locals to places free1 free2 p mid last q counts at copies more within stores = absurd (omega (arith, same, some))
 
--- ---- which values are written, and that none is the function of a statement
+-- ---- which values are written, and that several are no function alone
 
 as_many : (count : ℕ) (target : Option TargetValue) (is_open : Bool) (values : Values) → value_count values ≡ count → values_assigned count target is_open values ≡ record { values = values; all = true; last = None }
 as_many count target is_open values same =
@@ -331,13 +321,23 @@ several_there targets zero entries some given other enough each = absurd (omega 
 several_there (suc (suc targets)) values entries some given other enough each = omega (arith, enough)
 several_there targets (suc (suc values)) entries some given other enough each = omega (arith, each)
 
--- no function goes alone to one target
-no_function_alone : (g : Fn) (active : List Active) (targets : Expressions) (before behind : ℕ) (ts : List TargetValue) → AreTargets g active targets before behind ts → length ts ≡ 1 → (e : Expression) → stores_function targets (syntax.expression e no_expressions) ≡ false → IsNoFunctionExpression e
-no_function_alone g active (syntax.expression target no_expressions) before behind ts are one e plain = plain
-no_function_alone g active (syntax.expression target (syntax.expression other targets)) before behind (t ∷ []) are one e plain = absurd are.2
-no_function_alone g active (syntax.expression target (syntax.expression other targets)) before behind (t ∷ u ∷ ts) are one e plain = cc
-no_function_alone g active targets before behind [] are one e plain = cc
-no_function_alone g active no_expressions before behind (t ∷ ts) are one e plain = absurd are
+some_values : (g : Fn) (active : List Active) (es : Expressions) (before behind : ℕ) (vs : Values) → AreCores g active es before behind vs → has_expressions es ≡ true → 0 < value_count vs
+some_values g active no_expressions before behind vs are given = not_so given
+some_values g active (syntax.expression e es) before behind vs (mid, (first, rest, is_first, are_rest, is)) given = omega (arith, ap value_count is)
+
+several_in : (vs : Values) → 1 < value_count vs → function_in vs None ≡ None
+several_in no_values several = absurd (omega (arith, several))
+several_in (and_value v no_values) several = absurd (omega (arith, several))
+several_in (and_value v (and_value w vs)) several = refl
+
+-- several values for one target are written
+several_written : (count : ℕ) (target : Option TargetValue) (is_open : Bool) (values : Values) (to : Assigned) → count ≡ 1 → 1 < value_count values → values_assigned count target is_open values ≡ to → function_in to.values to.last ≡ None
+several_written count target is_open values to one several is =
+    let missing = some_missing (suc (value_count values) == count) target values in
+    let written : Bool → Assigned = λ fewer. if fewer then missing else record { values = values; all = true; last = None } in
+    let all : values_assigned count target is_open values ≡ record { values = values; all = true; last = None } =
+    ap (λ fewer. written (not is_open && fewer)) (le-ltb (value_count values) count (omega (arith, one, several))) ∙ ap written (and_not (not is_open)) in
+    ap (λ (to : Assigned). function_in to.values to.last) (sym is ∙ all) ∙ several_in values several
 
 -- ---- behind the targets
 
@@ -348,7 +348,7 @@ module _ {f : Function} {g : Fn} {active : List Active} {listed : List ℕ} {lef
   there = record s { scope = come.scope; entries = come.parts; seen = come.seen }
 
   locals_there : HasLocals active listed there
-  locals_there = record { base = locals.base; places = come.same.active ∙ locals.places }
+  locals_there = locals_then come.same locals
 
   reached : Reaches f p.pc s last.pc there
   reached = subst (λ (entries : Entries). Reaches f p.pc s last.pc (record s { scope = come.scope; entries = entries ++ come.parts; seen = come.seen })) empty come.reaches
@@ -396,7 +396,7 @@ module _ {f : Function} {g : Fn} {active : List Active} {listed : List ℕ} {lef
         let can_there : can_act (place_in_step f u) s.left acted ≡ true = subst (λ (listed : List ℕ). can_act (place f.of listed f.short) s.left acted ≡ true) (sym step.places) (can_now can mid.functions acted left_is acts) in
         let used = subst (λ (ds : List Destination). used_by_all (length active) ds (replicate (length come.parts) false) ≡ replicate (length come.parts) true) is come.used in
         let ends = targets_end is_function ds d begun.pc begun.straight begun.used to come.parts begun.values come.behind mid q u step refl stand used begun.enough (omega (arith, fit, come.counts))
-        (subst (λ (free : ℕ). StoreWordsAt g free ds mid q) come.counts at) quiet.within begun.writes (λ none. begun.plain (ap length none)) can_there in
+        (subst (λ (free : ℕ). StoreWordsAt g free ds mid q) come.counts at) quiet.within begun.writes (λ none. begun.function (ap length none)) can_there in
         subst (λ (made : ℕ). ActRead f g active (assignment targets es) p.functions made s p.pc q.pc) (sym (words_keep g free ds mid q at))
         (turn_acts acted begun.scope (seen_with_all ds u.seen) come.behind refl acts (same_then come.same begun.same) (taken to) (reaches_then reached begun.reaches) (omega (arith, begun.later, on)) (begun.turn ∙ ap (option_map as_over) ends))
 
@@ -409,7 +409,7 @@ module _ {f : Function} {g : Fn} {active : List Active} {listed : List ℕ} {lef
     stands = last_stands at.vs at.to at.is
 
     above_low : first_above ≤ 250
-    above_low = next_fit g active is_function.few at.front free last at.mid low at.front_at
+    above_low = next_fit g active is_function.few at.front free last at.mid low at.parts.front_at
 
     to_stored : at.mid.pc ≤ at.stored.pc
     to_stored = last_on is_function all es few come.ds free last q at
@@ -422,33 +422,26 @@ module _ {f : Function} {g : Fn} {active : List Active} {listed : List ℕ} {lef
     front_wanted some =
         let reads = first_reads is_function there.base at.vs (omega (arith, at.counts, some)) free at.stored q (omega (arith, next)) (omega (arith, above_low, at.counts)) at.others_at in
         let below = is_below f (length active) listed stands.0 come.behind at.place at.to at.fits stands.2 in
-        last_wants is_function all at.last at.has_last (omega (arith, few, at.shallow_last)) there locals_there at.stored (omega (arith, reads.1, quiet.within)) reads.0 first_above (omega (arith, next, some)) at.mid at.place below at.last_at
+        last_wants is_function all at.last at.parts.has_last (omega (arith, few, at.parts.shallow_last)) there locals_there at.stored (omega (arith, reads.1, quiet.within)) reads.0 first_above (omega (arith, next, some)) at.mid at.place below at.last_at
 
     front_come : AllCome f (AreCores g active at.front last.functions at.mid.functions) 200 there (length (all_related g at.front)) last.pc at.mid.pc
     front_come =
-        wanted_come f g active listed 200 at.front (fronts is_function all es few come.ds free last q at) free last at.mid there locals_there next (quiet_before at.mid.pc (omega (arith, to_stored, to_end)) quiet_there) front_wanted at.front_at
+        wanted_come f g active listed 200 at.front (fronts is_function all es few come.ds free last q at) free last at.mid there locals_there next (quiet_before at.mid.pc (omega (arith, to_stored, to_end)) quiet_there) front_wanted at.parts.front_at
 
     abbrev ts : List TargetValue
     ts = targets_to (at.vs ++ at.to ∷ [])
 
-    are_targets : AreTargets g active targets p.functions last.functions ts
-    are_targets = subst (λ (ds : List Destination). AreTargets g active targets p.functions last.functions (targets_to ds)) at.is come.are
-
-    last_plain : length (all_related g at.front) ≡ 0 → IsNoFunctionExpression at.last
-    last_plain none =
-        no_function_alone g active targets p.functions last.functions ts are_targets (omega (arith, count_targets at.vs at.to, at.counts, none)) at.last (subst (λ (es : Expressions). stores_function targets es ≡ false) (at.alone none) assigns.plain)
-
     last_goes : LastStored f g active at.last at.mid.functions at.stored.functions at.to there (length (all_related g at.front)) front_come.values last.pc at.stored.pc
     last_goes =
         last_stored is_function all at.place at.to at.said at.fits at.last (last_read is_function all es few come.ds free last q at) there stands.0 come.behind first_above at.mid at.stored locals_there stands.2 (mid_length at.vs at.to at.is) (no_item at.vs at.to at.is) front_come
-        (omega (arith, come.counts)) above_low (quiet_from at.mid.pc (front_on is_function all es few come.ds free last q at) (quiet_before at.stored.pc to_end quiet_there)) last_plain at.last_at
+        (omega (arith, come.counts)) above_low (quiet_from at.mid.pc (front_on is_function all es few come.ds free last q at) (quiet_before at.stored.pc to_end quiet_there)) at.last_at
 
     values_are : (vs : Values) (to : Assigned) → AreCores g active at.front last.functions at.mid.functions vs → value_count vs ≡ length at.vs → GoesTo g active at.last at.to vs at.mid.functions at.stored.functions to →
         AreWithOperand g active ts es last.functions at.stored.functions to ⊎ AreValues g active ts es last.functions at.stored.functions to
     values_are vs to are counts (inl goes) =
         let values = and_last_value vs goes.1 in
         let count : value_count values ≡ length ts = omega (arith, count_last vs goes.1, counts, count_targets at.vs at.to) in
-        inr (values, at.cores last.functions at.mid.functions at.stored.functions vs goes.1 are goes.2, ap (λ part. part && (value_count values == length ts)) (ap is_part (ends_as at.vs at.to) ∙ goes.0), as_many (length ts) (last_target ts) (ends_open es) values count ∙ sym goes.3)
+        inr (values, at.parts.cores last.functions at.mid.functions at.stored.functions vs goes.1 are goes.2, ap (λ part. part && (value_count values == length ts)) (ap is_part (ends_as at.vs at.to) ∙ goes.0), as_many (length ts) (last_target ts) (ends_open es) values count ∙ sym goes.3)
     values_are vs to are counts (inr goes) =
         inl (
           ap is_part (ends_as at.vs at.to) ∙ goes.0,
@@ -485,7 +478,7 @@ module _ {f : Function} {g : Fn} {active : List Active} {listed : List ℕ} {lef
 
     values_come : AssignedComes f g active es last.functions mid.functions there stores.last (suc others) last.pc mid.pc
     values_come =
-        let wanted = reads_want f mid.pc there (store_reads is_function there.base stores.last (free + others) mid stores.mid (omega (arith, next)) (omega (arith, all_low)) stores.first_at) in
+        let wanted = reads_want f mid.pc there (store_reads there.base stores.last (free + others) mid stores.mid is_function (omega (arith, next)) (omega (arith, all_low)) stores.first_at) in
         assigned_come is_function all es assigns.values assigns.given (omega (arith, few)) stores.last (suc others) free last mid there other locals_there next (quiet_before mid.pc (omega (arith, store_on, stores_on)) quiet_there) wanted adjust
 
     first_begins : (values : AssignedComes f g active es last.functions mid.functions there stores.last (suc others) last.pc mid.pc) → Begun f (length active) there others stores.last values.to last.pc stores.mid.pc
@@ -513,7 +506,9 @@ module _ {f : Function} {g : Fn} {active : List Active} {listed : List ℕ} {lef
               ∙ ap₂ (λ (n seen : ℕ). option_map as_over (assigned_from f None stores.mid.pc (record u { seen = seen_with d seen }) (first_stored mid.pc d (parts_used (length active) n d) others (true ∷ [])))) size (sym values.taken);
           enough = omega (arith, values.enough);
           writes = values.writes;
-          plain = λ none. several_plain values.entries (several_there (suc others) (length (all_related g es)) (length values.entries) (omega arith) (some_related g es assigns.given) other values.enough values.each);
+          function = λ none.
+              several_plain values.entries (several_there (suc others) (length (all_related g es)) (length values.entries) (omega arith) (some_related g es assigns.given) other values.enough values.each)
+              ∙ sym (several_written (suc others) (Some (target_to d)) (ends_open es) values.from values.to (ap suc none) (omega (arith, values.other, none, some_values g active es last.functions mid.functions values.from values.are assigns.given)) values.written);
         }
 
     adjusted_acts : ActRead f g active (assignment targets es) p.functions q.functions s p.pc q.pc

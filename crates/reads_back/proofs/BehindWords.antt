@@ -36,6 +36,10 @@ pub record HasLocals (active : List Active) (listed : List ℕ) (s : Situation) 
 abbrev pub behind_words : (scope : Scope) → (seen : ℕ) → (more : Entries) → Situation → Situation
 behind_words scope seen more s = record s { scope = scope; entries = s.entries ++ more; seen = seen }
 
+-- the locals are known there too
+pub locals_then : {active : List Active} {listed : List ℕ} {s : Situation} {scope : Scope} {entries : Entries} {seen : ℕ} → SameLocals s.scope scope → HasLocals active listed s → HasLocals active listed (record s { scope = scope; entries = entries; seen = seen })
+locals_then same locals = record { base = locals.base; places = same.active ∙ locals.places }
+
 -- the entries of values
 abbrev pub entries_of : Values → Entries
 entries_of no_values = []

@@ -18,12 +18,9 @@ use Rattle.reads_back.specs.Acted.{IsAct}
 use Rattle.reads_back.proofs.ActsSame.{act_passes}
 use Rattle.reads_back.proofs.DeclaredLocals.{actives_of, entries_at, local_declares}
 use Rattle.reads_back.proofs.ListedLocals.{AreListedAs, as_many_listed, declared_listed, listed_behind}
-use Rattle.reads_back.specs.Coming.{Coming}
 use Rattle.reads_back.proofs.Mentions.{Passed, coming, coming_behind}
-use Rattle.reads_back.proofs.NoneMade.{none_functions, statement_makes_none}
 use Rattle.reads_back.proofs.PlainStraight.{AreOnLine}
 use Rattle.reads_back.proofs.Rewriting.{mentions_of_statement}
-use Rattle.reads_back.specs.Straight.{AreStraight}
 
 -- all are acts
 abbrev pub AreAllActs : Statements → Type 0
@@ -126,14 +123,6 @@ block_locals (syntax.statement line semi s rest) acts m =
     let n = made_by s m in
     let moves = statement_moves s acts.0 m in
     block_locals rest acts.1 (settle n) ∙ ap (λ locals. locals ++ entries_from rest (settle n)) moves.locals ∙ append_assoc m.locals (entries_by s n) (entries_from rest (settle n))
-
--- where no function stands in it none is made
-pub block_functions : (block : Statements) → AreAllActs block → AreStraight block → (m : Maker) → length (all_made block m).functions ≡ length m.functions
-block_functions no_statements acts straight m = refl
-block_functions (syntax.statement line semi s rest) acts straight m =
-    let n = made_by s m in
-    let moves = statement_moves s acts.0 m in
-    block_functions rest acts.1 straight.1 (settle n) ∙ ap (λ (c : Coming). c.functions) moves.behind ∙ none_functions m.active m.upvalue_names (mentions_of_statement s) (coming m) (statement_makes_none s straight.0.0)
 
 pub block_listed : (block : Statements) → AreAllActs block → (m : Maker) → AreListedAs 0 m.active m.locals → AreListedAs 0 (all_made block m).active (all_made block m).locals
 block_listed no_statements acts m are = are

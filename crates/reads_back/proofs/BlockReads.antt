@@ -1,9 +1,10 @@
 -- The words of a straight block are read one statement after the other, each as what is written of it.
-use Rattle.std.proofs.Common.{◌≡◌, ℕ, zero, suc, ◌+◌, ◌-◌, ◌<◌, ◌≤◌, Bool, true, false, List, [], ◌∷◌, ◌++◌, drop, length, length-append, map, append-nil, append_assoc, Option, Some, None, refl, sym, ap, ap₂, ◌∙◌, subst, arith, le-leb, lt-ltb, if◌then◌else◌}
+use Rattle.std.proofs.Common.{◌≡◌, ℕ, zero, suc, ◌*◌, ◌+◌, ◌-◌, ◌<◌, ◌≤◌, Bool, true, false, List, [], ◌∷◌, ◌++◌, drop, length, length-append, map, append-nil, append_assoc, Option, Some, None, refl, sym, ap, ap₂, ◌∙◌, subst, arith, le-leb, lt-ltb, if◌then◌else◌}
 use Rattle.std.proofs.lemmas.List.{length-map, length-replicate}
 use Rattle.std.specs.List.{prefix_len}
 use Rattle.std.specs.Prelude.{◌==◌, ◌^◌, option_and_then, replicate, Option}
 use Rattle.lua_num.specs.Bytes.{Text}
+use Rattle.lua_tree.specs.WellFormed.{depth_of_statement}
 use Rattle.lua_tree.specs.Names.{are_names, are_some_names, is_name}
 use Rattle.lua_tree.specs.Syntax as syntax
 use Rattle.lua_tree.specs.Syntax.{Statement, Statements, assignment, call_statement, local_statement, no_statements, return_statement}
@@ -20,17 +21,18 @@ use Rattle.scheme.specs.Making.{Maker}
 use Rattle.scheme.specs.Statements.{settle}
 use Rattle.scheme_stands.proofs.Growth.{spot}
 use Rattle.scheme_stands.specs.Words.{Fn}
-use Rattle.reads_back.specs.Acted.{Acted, IsAct, IsActed, act_levels, act_statement, assigned, called, declared, left_by_act, returned}
+use Rattle.reads_back.specs.Acted.{Acted, IsAct, IsActed, act_levels, act_statement, assigned, called, declared, left_by_act, returned, lean_depth, lean_depth_of, named_by, assigned_statement}
 use Rattle.reads_back.specs.ReadAs.{part_of}
 use Rattle.reads_back.proofs.ActsRead.{ActRead, Declares, kind_of_act, locals_of, numbers_from}
 use Rattle.reads_back.proofs.BehindWords.{HasLocals}
 use Rattle.reads_back.proofs.BlockMakers.{actives_by, all_made, entries_by, entries_from, good_names, made_by, statement_moves}
 use Rattle.reads_back.proofs.DeclarationsRead.{StartHere}
-use Rattle.reads_back.proofs.DeclaredLocals.{actives_of, entries_at}
+use Rattle.reads_back.proofs.DeclaredLocals.{actives_of, entries_at, entries_count}
+use Rattle.reads_back.proofs.FunctionSteps.{as_assigned}
 use Rattle.reads_back.proofs.ListedLocals.{as_many_listed, ended}
 use Rattle.reads_back.proofs.StartingLocals.{StartFrom, all_left, all_start, are_declared, at_front, behind_front, entries_start, names_listed, none_start, numbers_length, shown_name, start_both, start_later}
 use Rattle.reads_back.proofs.StepsPlaced.{AreDraftsOf, KindIs}
-use Rattle.reads_back.proofs.StraightActs.{StartsWith, act_forward, act_read, few_levels, written}
+use Rattle.reads_back.proofs.StraightActs.{StartsWith, act_forward, act_read, few_levels, written, written_shallow}
 use Rattle.reads_back.proofs.StraightBlocks.{AreWritten, ComesNext, IsWhole, comes_behind, listed_by, low, made_there}
 use Rattle.reads_back.proofs.Tests.{first_of_both, not_below}
 use Rattle.reads_back.proofs.WordsRead.{IsQuiet}
@@ -49,10 +51,6 @@ first_shown end front (name ∷ names) pc others at is good =
 actives_count : (texts : List Text) (captures : List Bool) (declaration listed : ℕ) → length (actives_of texts captures declaration listed) ≡ length texts
 actives_count [] captures declaration listed = refl
 actives_count (text ∷ texts) captures declaration listed = ap suc (actives_count texts (drop 1 captures) (suc declaration) (suc listed))
-
-entries_count : (texts : List Text) (pc : ℕ) → length (entries_at texts pc) ≡ length texts
-entries_count [] pc = refl
-entries_count (text ∷ texts) pc = ap suc (entries_count texts pc)
 
 numbers_both : (first count more : ℕ) → numbers_from first (count + more) ≡ numbers_from first count ++ numbers_from (first + count) more
 numbers_both first zero more =
@@ -111,7 +109,7 @@ module _ {f : Function} {g : Fn} {z : Maker} {lefts : ℕ → List (Option Inner
     last_pc = length behind.items
 
     forward : first_pc ≤ last_pc
-    forward = act_forward (made_there whole next) whole.left s next.straight.0.0 next.straight.0.1 (low whole next) behind.active (spot m) (spot behind) next.stand.0
+    forward = act_forward (made_there whole.made next) whole.left s next.straight.0.0 next.straight.0.1 (low whole.made next) behind.active (spot m) (spot behind) next.stand.0
 
     own_entries : (s : Statement) → IsAct s → (n : Maker) → StartFrom (length n.items) (entries_by s n)
     own_entries (local_statement names es) is n = entries_start names (length n.items)
@@ -141,8 +139,8 @@ module _ {f : Function} {g : Fn} {z : Maker} {lefts : ℕ → List (Option Inner
           let count : length scope.declared ≡ length m.locals = as_many ∙ count_same next in
           let moves = statement_moves s next.straight.0.0 m in
           let added : length behind.active ≡ length m.active + length names = ap length moves.active ∙ length-append m.active (actives_by s m) ∙ ap (λ s. length m.active + length (actives_by s m)) is ∙ ap (λ n. length m.active + n) (actives_count names m.ahead.captures m.ahead.declarations (length m.locals)) in
-          let room = (comes_behind whole next).room in
-          let few : length m.locals + length names ≤ 250 = omega (arith, added, room, whole.is_function.few, count_same next) in
+          let room = (comes_behind whole.made next).room in
+          let few : length m.locals + length names ≤ 250 = omega (arith, added, room, whole.made.is_function.few, count_same next) in
           let named = names_listed f.last last_pc m.locals names others (length scope.declared) count good in
           record {
             some = some_names names acts.0;
@@ -164,7 +162,7 @@ module _ {f : Function} {g : Fn} {z : Maker} {lefts : ℕ → List (Option Inner
       -- its words are read
       act_there : last_pc ≤ f.last → (now : Situation) → length now.scope.declared ≡ length m.active → HasLocals m.active (listed_by m) now → now.left ≡ lefts (length m.functions) → now.entries ≡ [] → now.taken ≡ now.seen → ActRead f g m.active s (length m.functions) (length behind.functions) now first_pc last_pc
       act_there within now as_many locals left_is empty taken =
-          act_read (made_there whole next) whole.left s next.straight.0.0 next.straight.0.1 (low whole next) behind.active (spot m) (spot behind) next.stand.0 now locals left_is empty taken (is_quiet now.scope as_many within) (starts_with s refl now as_many locals.places within)
+          act_read (made_there whole.made next) whole.left s next.straight.0.0 next.straight.0.1 (low whole.made next) behind.active (spot m) (spot behind) next.stand.0 now locals left_is empty taken (is_quiet now.scope as_many within) (starts_with s refl now as_many locals.places within)
 
       -- and they are some
       is_later : last_pc ≤ f.last → first_pc < last_pc
@@ -175,14 +173,14 @@ module _ {f : Function} {g : Fn} {z : Maker} {lefts : ℕ → List (Option Inner
   block_forward : (block : Statements) (m : Maker) → ComesNext f g z block m → length m.items ≤ length (all_made block m).items
   block_forward no_statements m next = omega arith
   block_forward (syntax.statement line semi s rest) m next =
-      let others = block_forward rest (settle (made_by s m)) (comes_behind whole next) in omega (arith, forward next, others)
+      let others = block_forward rest (settle (made_by s m)) (comes_behind whole.made next) in omega (arith, forward next, others)
 
   -- no local of a block starts where its words begin
   pub later_starts : (block : Statements) (m : Maker) → ComesNext f g z block m → length (all_made block m).items ≤ f.last → StartFrom (suc (length m.items)) (entries_from block m)
   later_starts no_statements m next within = tt
   later_starts (syntax.statement line semi s rest) m next within =
       let n = made_by s m in
-      let more = comes_behind whole next in
+      let more = comes_behind whole.made next in
       let rest_later = later_starts rest (settle n) more within in
       let later = is_later next rest_later (omega (arith, within, block_forward rest (settle n) more)) in
       start_later (suc (length m.items)) (length n.items) (entries_from (syntax.statement line semi s rest) m) (omega (arith, later)) (all_behind next rest_later)
@@ -193,7 +191,9 @@ module _ {f : Function} {g : Fn} {z : Maker} {lefts : ℕ → List (Option Inner
   kind_is : (s : Statement) → IsAct s → (m : Maker) (acted : Acted) (n first listed : ℕ) (kind : DraftKind) (before after : ℕ) → IsActed g m.active s before after acted → kind ≡ kind_of_act first acted → first + length (entries_by s (made_by s m)) ≤ listed →
       KindIs listed (act_statement (place f.of (listed_by m) f.short) n (lefts before) acted) kind
   kind_is (call_statement e) is m (called v) n first listed kind before after acts same room = same
-  kind_is (assignment targets es) is m (assigned ts vs all last) n first listed kind before after acts same room = same
+  kind_is (assignment targets es) is m (assigned ts vs all last) n first listed kind before after acts same room =
+      let at = place f.of (listed_by m) f.short in
+      as_assigned (λ s. KindIs listed s kind) (lefts before) (named_by at ts vs last) (assigned_statement at n (lefts before) ts vs all last) (λ path method body. same) same
   kind_is (local_statement names es) is m (declared others vs all) n first listed kind before after acts same room =
       let some = some_names names is.0 in
       let as_many = entries_count names (length (made_by (local_statement names es) m).items) in
@@ -214,7 +214,7 @@ module _ {f : Function} {g : Fn} {z : Maker} {lefts : ℕ → List (Option Inner
       (act : ActRead f g m.active s (length m.functions) (length (made_by s m).functions) (begun number (length m.items) now) (length m.items) (length (made_by s m).items)) → IsThere f lefts (settle (made_by s m)) (left_at f (length (made_by s m).items) act.behind)
   there_behind {s = s} {rest} {m} next there active act =
       let n = made_by s m in
-      let more = comes_behind whole next in
+      let more = comes_behind whole.made next in
       let moves = statement_moves s next.straight.0.0 m in
       let count = declares_count s next.straight.0.0 m (length m.functions) (length n.functions) act.acted act.is in
       let added : length n.active ≡ length m.active + locals_of act.acted = ap length moves.active ∙ length-append m.active (actives_by s m) ∙ ap (λ more. length m.active + more) (sym count) in
@@ -231,22 +231,22 @@ module _ {f : Function} {g : Fn} {z : Maker} {lefts : ℕ → List (Option Inner
             ap (λ locals. (leave locals (length n.items) act.behind.scope).active) more.listing.listed
             ∙ all_left f.last (length n.items) (length n.active) (n.locals ++ entries_from rest (settle n)) act.behind.scope before all_active as_many
             ∙ all_active;
-        left = act.left ∙ ap (left_by_act act.acted) there.left ∙ (written (made_there whole next) whole.left s next.straight.0.0 (low whole next) (length m.functions) (length n.functions) act.acted act.is).leaves;
+        left = act.left ∙ ap (left_by_act act.acted) there.left ∙ (written (made_there whole.made next) whole.left s next.straight.0.0 (low whole.made next) (length m.functions) (length n.functions) act.acted act.is).leaves;
       }
 
   -- ---- steps up to the last word
 
-  pub record StepsRead (block : Statements) (m : Maker) (drafts : List Drafted) (now : Situation) : Type 0 where
+  pub record StepsRead (most : ℕ) (block : Statements) (m : Maker) (drafts : List Drafted) (now : Situation) : Type 0 where
     pub written : Statements
     pub are : AreWritten f g lefts now.seen block written m
     pub more : List Drafted
     pub behind : Situation
     pub reads : (count : ℕ) → f.last ≤ count + length m.items → drafts_from f count (drafts, length m.items, now) ≡ Some (drafts ++ more, f.last, behind)
-    pub drafts_are : AreDraftsOf (length f.of.locals) written more
+    pub drafts_are : AreDraftsOf (length f.of.locals) most written more
     pub all_declared : length f.of.locals ≡ length behind.scope.declared
 
-  no_steps : (m : Maker) (drafts : List Drafted) (now : Situation) → ComesNext f g z no_statements m → length m.items ≡ f.last → IsThere f lefts m now → StepsRead no_statements m drafts now
-  no_steps m drafts now next over there = record {
+  no_steps : (most : ℕ) (m : Maker) (drafts : List Drafted) (now : Situation) → ComesNext f g z no_statements m → length m.items ≡ f.last → IsThere f lefts m now → StepsRead most no_statements m drafts now
+  no_steps most m drafts now next over there = record {
     written = no_statements;
     are = refl;
     more = [];
@@ -278,16 +278,16 @@ module _ {f : Function} {g : Fn} {z : Maker} {lefts : ℕ → List (Option Inner
       ∙ ap (λ n. if n == 0 then words_from f (suc (f.last - pc)) pc step else None) none
       ∙ act.reads (suc (f.last - pc)) (omega (arith, act.later, within))
 
-  one_step : {s : Statement} {rest : Statements} {m : Maker} (line : ℕ) (semi : Bool) (drafts : List Drafted) (now : Situation) (next : ComesNext f g z (syntax.statement line semi s rest) m) → now.scope.active ≡ listed_by m → IsThere f lefts m now →
+  one_step : {s : Statement} {rest : Statements} {m : Maker} (most line : ℕ) (semi : Bool) (drafts : List Drafted) (now : Situation) (next : ComesNext f g z (syntax.statement line semi s rest) m) → 3 * lean_depth s + 4 ≤ most → now.scope.active ≡ listed_by m → IsThere f lefts m now →
       (act : ActRead f g m.active s (length m.functions) (length (made_by s m).functions) (begun (length drafts) (length m.items) now) (length m.items) (length (made_by s m).items)) → step_at f (length drafts) (length m.items) now ≡ Some (act.draft, act.behind) → length (made_by s m).items ≤ f.last →
-      StepsRead rest (settle (made_by s m)) (drafts ++ act.draft ∷ []) (left_at f (length (made_by s m).items) act.behind) → StepsRead (syntax.statement line semi s rest) m drafts now
-  one_step {s} {rest} {m} line semi drafts now next active there act is_read within others = record {
+      StepsRead most rest (settle (made_by s m)) (drafts ++ act.draft ∷ []) (left_at f (length (made_by s m).items) act.behind) → StepsRead most (syntax.statement line semi s rest) m drafts now
+  one_step {s} {rest} {m} most line semi drafts now next is_low active there act is_read within others = record {
     written = syntax.statement 1 false here others.written;
     are = (act.acted, others.written, act.is, subst (λ taken. AreWritten f g lefts taken rest others.written (settle n)) act.seen others.are, refl);
     more = act.draft ∷ others.more;
     behind = others.behind;
     reads = reads;
-    drafts_are = (record { kind = kind; part = part; few = few }, others.drafts_are);
+    drafts_are = (record { kind = kind; part = part; enough = enough; few = few }, others.drafts_are);
     all_declared = others.all_declared;
   }
     where
@@ -300,10 +300,14 @@ module _ {f : Function} {g : Fn} {z : Maker} {lefts : ℕ → List (Option Inner
       part : act.draft.part ≡ part_of here
       part = act.part ∙ ap₂ (λ (listed : List ℕ) (left : List (Option Inner)). part_of (act_statement (place f.of listed f.short) now.seen left act.acted)) active there.left
 
-      few : act.draft.levels ≤ 200
-      few =
-          let same = act.levels ∙ ap₂ (λ (listed : List ℕ) (left : List (Option Inner)). act_levels (place f.of listed f.short) now.seen left act.acted) active there.left in
-          omega (arith, same, few_levels (made_there whole next) whole.left s next.straight.0.0 (low whole next) (length m.functions) (length n.functions) act.acted now.seen act.is)
+      levels : act.draft.levels ≡ act_levels (place f.of (listed_by m) f.short) now.seen (lefts (length m.functions)) act.acted
+      levels = act.levels ∙ ap₂ (λ (listed : List ℕ) (left : List (Option Inner)). act_levels (place f.of listed f.short) now.seen left act.acted) active there.left
+
+      enough : suc (depth_of_statement here) ≤ act.draft.levels
+      enough = omega (arith, levels, written_shallow (made_there whole.made next) whole.left s next.straight.0.0 (low whole.made next) (length m.functions) (length n.functions) act.acted now.seen act.is)
+
+      few : act.draft.levels ≤ most
+      few = omega (arith, levels, is_low, few_levels (made_there whole.made next) whole.left s next.straight.0.0 (low whole.made next) (length m.functions) (length n.functions) act.acted now.seen act.is)
 
       room : length now.scope.declared + length (entries_by s n) ≤ length f.of.locals
       room =
@@ -325,11 +329,12 @@ module _ {f : Function} {g : Fn} {z : Maker} {lefts : ℕ → List (Option Inner
 
   -- ---- all steps
 
-  pub block_read : (block : Statements) (m : Maker) (drafts : List Drafted) (now : Situation) → ComesNext f g z block m → length (all_made block m).items ≡ f.last → IsThere f lefts m now → StepsRead block m drafts now
-  block_read no_statements m drafts now next ends there = no_steps m drafts now next ends there
-  block_read (syntax.statement line semi s rest) m drafts now next ends there =
+  -- with no more levels than so many
+  pub block_read : (most : ℕ) (block : Statements) (m : Maker) (drafts : List Drafted) (now : Situation) → ComesNext f g z block m → 3 * lean_depth_of block + 1 ≤ most → length (all_made block m).items ≡ f.last → IsThere f lefts m now → StepsRead most block m drafts now
+  block_read most no_statements m drafts now next is_low ends there = no_steps most m drafts now next ends there
+  block_read most (syntax.statement line semi s rest) m drafts now next is_low ends there =
       let n = made_by s m in
-      let more = comes_behind whole next in
+      let more = comes_behind whole.made next in
       let rest_later = later_starts rest (settle n) more (omega (arith, ends)) in
       let within : length n.items ≤ f.last = omega (arith, ends, block_forward rest (settle n) more) in
       let later = is_later next rest_later within in
@@ -337,7 +342,7 @@ module _ {f : Function} {g : Fn} {z : Maker} {lefts : ℕ → List (Option Inner
       let base : length now.scope.active ≡ length m.active = ap length active ∙ numbers_length 0 (length m.active) in
       let act = act_there next rest_later within (begun (length drafts) (length m.items) now) there.declared (record { base = base; places = active }) there.left refl refl in
       let quiet = is_quiet next rest_later now.scope there.declared within in
-      let few : length now.scope.active ≤ 250 = omega (arith, base, next.room, whole.is_function.few) in
+      let few : length now.scope.active ≤ 250 = omega (arith, base, next.room, whole.made.is_function.few) in
       let is_read = act_is_read m now act (quiet.none (length m.items) (omega arith) later) few within in
       let behind = left_at f (length n.items) act.behind in
-      one_step line semi drafts now next active there act is_read within (block_read rest (settle n) (drafts ++ act.draft ∷ []) behind more ends (there_behind next there active act))
+      one_step most line semi drafts now next (omega (arith, is_low)) active there act is_read within (block_read most rest (settle n) (drafts ++ act.draft ∷ []) behind more (omega (arith, is_low)) ends (there_behind next there active act))

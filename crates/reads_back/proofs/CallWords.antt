@@ -19,7 +19,7 @@ use Rattle.scheme_stands.specs.Expressions.{Rel}
 use Rattle.scheme_stands.specs.Lists.{GivenRel, CallAt}
 use Rattle.scheme_stands.specs.Words.{Fn, Spot, WordAt, instr_by}
 use Rattle.reads_back.proofs.Comes.{Begins, Comes, IsCallWord, IsWanted, Reads, comes_next, CallComes, ReadsCall, GivenComes, ReadsGiven}
-use Rattle.reads_back.proofs.BehindWords.{HasLocals, same_then, quiet_same, behind_words}
+use Rattle.reads_back.proofs.BehindWords.{HasLocals, same_then, quiet_same, behind_words, locals_then}
 use Rattle.reads_back.proofs.Reaches.{Reaches, reaches_on, reaches_then}
 use Rattle.reads_back.proofs.TakenEntries.{at_place, top_taken}
 use Rattle.reads_back.proofs.ValueWords.{next_free, place_of_next}
@@ -203,7 +203,7 @@ module _ {f : Function} {g : Fn} {active : List Active} {listed : List ℕ} {On 
       let before = quiet_before at.last.pc (omega (arith, later)) quiet in
       let one = comes_next on_reads free p at.mid s locals is (quiet_before at.mid.pc (given_reads.forward (free + 1) at.mid at.last at.given_at) before) (on_wanted free op want p q s is quiet.within by at) at.on_at in
       let next : free + 1 ≡ next_free (behind_one one) = omega (arith, is, length-append s.entries (one.entry ∷ [])) in
-      let there : HasLocals active listed (behind_one one) = record { base = locals.base; places = one.same.active ∙ locals.places } in
+      let there : HasLocals active listed (behind_one one) = locals_then one.same locals in
       let some : 0 < length (behind_one one).entries = omega (arith, length-append s.entries (one.entry ∷ [])) in
       let args = given_reads.comes (free + 1) at.mid at.last (behind_one one) there next (quiet_same one.same (quiet_from at.mid.pc on_first before)) some at.given_at in
       let mid = at.mid.functions in

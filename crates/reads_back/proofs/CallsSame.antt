@@ -93,9 +93,6 @@ module _ {f : Function} {g : Fn} {active : List Active} {listed : List ℕ} {z :
   behind_on : (op : Op) (want : Want) (m : Maker) → Final (length m.labels) (of_call op want m) z → Final (length (next_reg (code on) m).labels) ((given (one_line_arguments args) 1).part (next_reg (code on) m)) z
   behind_on op want m final = let grown = grows_next {v = calm} (code on) (grows calm (one_line_expression on)) m in later grown.more (before_word op want m final)
 
-  on_ahead : (m : Maker) → IsAhead g active before (mentions_in on ++ mentions_given args) m → IsAhead g active before (mentions_in on) m
-  on_ahead m ahead = ahead_front (mentions_in on) (mentions_given args) ahead
-
   behind_ahead : (m : Maker) → IsAhead g active before (mentions_in on ++ mentions_given args) m → IsAhead g active mid (mentions_given args) (next_reg (code on) m)
   behind_ahead m ahead = ahead_behind (mentions_in on) (mentions_given args) on_written.makes (next_passes (mentions_in on) (code on) (mentions_passed on has) m) ahead
 
@@ -104,8 +101,8 @@ module _ {f : Function} {g : Fn} {active : List Active} {listed : List ℕ} {z :
       let n = length m.constants in
       let on_made = next_reg (code on) m in
       call_at_same (coded (prefix_words n).words) (code on) (given (arguments_wording f listed z lefts mid (taken_behind o n) values all).words 1) (given (one_line_arguments args) 1) op want m
-      (next_wrapped (is_prefix (wording f listed z lefts before n o).words) (wording f listed z lefts before n o) m ∙ next_same on_written m (on_ahead m ahead) (before_args op want m final))
-      (ap (λ n. (given (arguments_wording f listed z lefts mid n values all).words 1).part on_made) (sym (next_taken on_written m (on_ahead m ahead) (before_args op want m final))) ∙ args_written.part on_made (behind_ahead m ahead) (behind_on op want m final))
+      (next_wrapped (is_prefix (wording f listed z lefts before n o).words) (wording f listed z lefts before n o) m ∙ next_same on_written m (ahead_front (mentions_in on) (mentions_given args) ahead) (before_args op want m final))
+      (ap (λ n. (given (arguments_wording f listed z lefts mid n values all).words 1).part on_made) (sym (next_taken on_written m (ahead_front (mentions_in on) (mentions_given args) ahead) (before_args op want m final))) ∙ args_written.part on_made (behind_ahead m ahead) (behind_on op want m final))
       (args_written.counts (taken_behind o n))
 
   call_taken : (op : Op) (want : Want) (m : Maker) → IsAhead g active before (mentions_in on ++ mentions_given args) m → Final (length m.labels) (of_call op want m) z →
@@ -113,7 +110,7 @@ module _ {f : Function} {g : Fn} {active : List Active} {listed : List ℕ} {z :
   call_taken op want m ahead final =
       results_keep m.free want _
       ∙ args_written.taken (next_reg (code on) m) (behind_ahead m ahead) (behind_on op want m final)
-      ∙ ap (taken_behind_values values) (next_taken on_written m (on_ahead m ahead) (before_args op want m final))
+      ∙ ap (taken_behind_values values) (next_taken on_written m (ahead_front (mentions_in on) (mentions_given args) ahead) (before_args op want m final))
 
   call_written : Rewritten f g active listed z lefts before behind (call_expression line on args on_line) (call_value o values all depth)
   call_written = record {
@@ -213,9 +210,6 @@ module _ {f : Function} {g : Fn} {active : List Active} {listed : List ℕ} {z :
       let two = grows_rk_text {v = calm} 1 name (take_registers 2 (free_from m.free (operand (code on) m).after)) in
       later (omega (arith, one.more, two.more)) (behind_given op want m final)
 
-  self_ahead : (m : Maker) → IsAhead g active before (mentions_in on ++ mentions_given args) m → IsAhead g active before (mentions_in on) m
-  self_ahead m ahead = ahead_front (mentions_in on) (mentions_given args) ahead
-
   -- the name of a method is a constant, and so no name of the scope
   name_is_passed : (m : Maker) → Passed [] (take_registers 2 (free_from m.free (operand (code on) m).after)) (before_given m)
   name_is_passed m = let passed = rk_text_passes 1 name (take_registers 2 (free_from m.free (operand (code on) m).after)) in record { around = passed.around; behind = passed.behind }
@@ -229,13 +223,13 @@ module _ {f : Function} {g : Fn} {active : List Active} {listed : List ℕ} {z :
   given_taken : (op : Op) (want : Want) (m : Maker) → IsAhead g active before (mentions_in on ++ mentions_given args) m → Final (length m.labels) (of_method op want m) z → length (before_given m).constants ≡ behind_name (length m.constants)
   given_taken op want m ahead final =
       name_taken made name number (take_registers 2 (free_from m.free (operand (code on) m).after)) numbered (behind_rk op want m final)
-      ∙ ap (λ n. with_constant n number) (operand_taken on_written m (self_ahead m ahead) (behind_operand op want m final))
+      ∙ ap (λ n. with_constant n number) (operand_taken on_written m (ahead_front (mentions_in on) (mentions_given args) ahead) (behind_operand op want m final))
 
   method_same : (op : Op) (want : Want) (m : Maker) → IsAhead g active before (mentions_in on ++ mentions_given args) m → Final (length m.labels) (of_method op want m) z → written_method (length m.constants) op want m ≡ of_method op want m
   method_same op want m ahead final =
       let n = length m.constants in
       method_at_same (coded (on_words n).words) (code on) name (given (arguments_wording f listed z lefts mid (behind_name n) values all).words 1) (given (one_line_arguments args) 1) op want m
-      (operand_wrapped (is_prefix (wording f listed z lefts before n o).words) (wording f listed z lefts before n o) m ∙ operand_same on_written m (self_ahead m ahead) (behind_operand op want m final))
+      (operand_wrapped (is_prefix (wording f listed z lefts before n o).words) (wording f listed z lefts before n o) m ∙ operand_same on_written m (ahead_front (mentions_in on) (mentions_given args) ahead) (behind_operand op want m final))
       (ap (λ n. (given (arguments_wording f listed z lefts mid n values all).words 1).part (before_given m)) (sym (given_taken op want m ahead final)) ∙ args_written.part (before_given m) (given_ahead m ahead) (given_final op want m final))
       (args_written.counts (behind_name n))
 

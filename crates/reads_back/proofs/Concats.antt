@@ -19,7 +19,7 @@ use Rattle.scheme_stands.specs.Expressions.{Rel, NextAt, SpineAt, ConcatAt}
 use Rattle.scheme_stands.specs.Words.{Fn, Spot, Stretch, WordAt}
 use Rattle.reads_back.specs.Cores.{IsConcat, IsFirst, IsOnly, Counted, only, first_and, concat_by}
 use Rattle.reads_back.proofs.Comes.{AreEntries, Begins, Comes, Made, Reads, ReadsSpine, SpineComes, comes_next}
-use Rattle.reads_back.proofs.BehindWords.{HasLocals, behind_words, quiet_same, same_then}
+use Rattle.reads_back.proofs.BehindWords.{HasLocals, behind_words, quiet_same, same_then, locals_then}
 use Rattle.reads_back.proofs.Reaches.{Reaches, reaches_on, reaches_then}
 use Rattle.reads_back.proofs.TakenEntries.{behind_taken, count_of_entries, more_entries}
 use Rattle.reads_back.proofs.Tests.{both_hold}
@@ -172,7 +172,7 @@ module _ {f : Function} {g : Fn} {active : List Active} {listed : List ℕ} wher
         SpineComes f (Rest at.mid.functions q.functions) deep (behind_value one) (free + 1) free1 at.mid.pc q.pc
     rest_of free free1 p q s locals is quiet at one =
         let behind = behind_value one in
-        let there : HasLocals active listed behind = record { base = locals.base; places = one.same.active ∙ locals.places } in
+        let there : HasLocals active listed behind = locals_then one.same locals in
         let next : free + 1 ≡ next_free behind = omega (arith, is, length-append s.entries (one.entry ∷ [])) in
         let some : 0 < length behind.entries = omega (arith, length-append s.entries (one.entry ∷ [])) in
         rest.comes (free + 1) free1 at.mid q behind there next (quiet_same one.same (quiet_from at.mid.pc (first.forward free free p at.mid at.first) quiet)) (wanted_above f behind q.pc some) at.rest

@@ -1,8 +1,7 @@
 -- The numbers of constants where a function is made and in the end, how many are taken with one, and what is written of a constant.
-use Rattle.std.proofs.Common.{◌≡◌, ℕ, zero, suc, ◌+◌, ◌<◌, ◌≤◌, ◌^◌, ◌-◌, max, Bool, true, false, nat_le, ℤ, pos, negsuc, List, [], ◌∷◌, ◌++◌, cond, length, Some, is_some, refl, sym, ap, ◌∙◌, arith, true≢false, not}
+use Rattle.std.proofs.Common.{◌≡◌, ℕ, zero, suc, ◌+◌, ◌<◌, ◌≤◌, ◌^◌, ◌-◌, max, Bool, true, false, ℤ, pos, negsuc, List, [], ◌∷◌, ◌++◌, cond, length, Some, is_some, refl, sym, ap, ◌∙◌, arith, true≢false, not}
 use Rattle.std.proofs.Math.IntN.{+ℤ_idl, ◌-ℤ◌}
 use Rattle.std.proofs.lemmas.Bool.{eqb-true}
-use Rattle.std.proofs.lemmas.Bool.Decides.{nat_tests}
 use Rattle.std.proofs.lemmas.List.Sums.{prefix_len_stops}
 use Rattle.std.proofs.lemmas.Option.{same_Some, slice_get-get_or, slice_get_within}
 use Rattle.std.specs.List.{list_any}
@@ -17,7 +16,7 @@ use Rattle.proto.proofs.ConstantPool.{same_constant-Decides}
 use Rattle.proto.specs.Constants.{constant_number, same_constant, with_constant as pool_with_constant}
 use Rattle.proto.specs.declared.parts.Constant.{Constant}
 use Rattle.core_expr.specs.Counting.{with_constant}
-use Rattle.core_expr.specs.Writing.{Wording, number_word, numeral, with_binary, with_unary}
+use Rattle.core_expr.specs.Writing.{Wording, constant_word, literal as literal_word, number_word, numeral, with_binary, with_unary}
 use Rattle.recover_expr.specs.Situation.{Function}
 use Rattle.scheme.specs.Expressions.{binary_value, fold, is_multiple, is_name, is_small, load, load_or, unary_value}
 use Rattle.scheme.specs.Making.{Maker, Part, constant, freeing}
@@ -30,7 +29,7 @@ use Rattle.scheme_stands.specs.Expressions.{IsLarge}
 use Rattle.scheme_stands.specs.Words.{Fn}
 use Rattle.reads_back.specs.Cores.{HasNumber}
 use Rattle.reads_back.proofs.Rewriting.{IsMadeBy, code}
-use Rattle.reads_back.proofs.Tests.{or_second}
+use Rattle.reads_back.proofs.Tests.{not_below, or_second}
 use Rattle.reads_back.proofs.WholeNumbers.{IsWhole, wraps_back}
 use Rattle.reads_back.proofs.WordsSame.{same_fold}
 
@@ -51,6 +50,9 @@ pooled_count k (y ∷ ys) = pooled_front k y ys (list_any (same_constant k) ys) 
 module _ {f : Function} {g : Fn} {active : List Active} {listed : List ℕ} {z : Maker} (made : IsMadeBy f g active listed z) where
   pub constant_is : (k : Constant) (number : ℕ) → HasNumber g k number → slice_get f.of.constants number ≡ Some k
   constant_is k number has = ap (λ constants. slice_get constants number) made.is_function.constants ∙ has.is
+
+  pub constant_word_is : (k : Constant) (number : ℕ) → HasNumber g k number → constant_word (slice_get f.of.constants number) ≡ literal_word k
+  constant_word_is k number has = ap constant_word (constant_is k number has)
 
   pub number_within : (k : Constant) (number : ℕ) → HasNumber g k number → number < 262144
   number_within k number has = omega (arith, slice_get_within g.constants number k has.is, ap length made.constants, made.few)
@@ -84,10 +86,7 @@ module _ {f : Function} {g : Fn} {active : List Active} {listed : List ℕ} {z :
       by true is =
           let number = constant_number k m.constants in
           let more = large number (ap (λ constants. slice_get constants number) made.constants ∙ constant_at k m (final is)) in
-          absurd (true≢false (sym is ∙ not_small number more))
-        where
-          not_small : (number : ℕ) → 255 < number → nat_le number 255 ≡ false
-          not_small number more = grind (arith, nat_tests)
+          absurd (true≢false (sym is ∙ not_below 255 number more))
       by false is = is
 
 -- ---- literals that have no number
@@ -149,6 +148,13 @@ numeral_single = by_words (λ w. is_multiple w.words ≡ false) (λ n. refl) ref
 
 pub numeral_few : (n : ℤ) → (numeral n).levels ≤ 3
 numeral_few = by_words (λ w. w.levels ≤ 3) (λ n. omega arith) (omega arith) (λ n. omega arith)
+
+pub literal_few : (k : Constant) → (literal_word k).levels ≤ 3
+literal_few Constant.Nil = omega arith
+literal_few (Constant.Bool true) = omega arith
+literal_few (Constant.Bool false) = omega arith
+literal_few (Constant.Number n) = numeral_few n
+literal_few (Constant.Text text) = omega arith
 
 numeral_on_one_line : (n : ℤ) → one_line_expression (numeral n).words ≡ (numeral n).words
 numeral_on_one_line = by_words (λ w. one_line_expression w.words ≡ w.words) (λ n. refl) refl (λ n. refl)

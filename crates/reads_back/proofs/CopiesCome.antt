@@ -19,7 +19,7 @@ use Rattle.scheme.specs.declared.making.Piece.{Piece}
 use Rattle.scheme_stands.specs.Statements.{CopiesAt, CopyAt, CopyBy, NoTargetsAt}
 use Rattle.scheme_stands.specs.Words.{Fn, Spot, WordAt}
 use Rattle.reads_back.specs.Acted.{all_named_behind, taken_behind_targets}
-use Rattle.reads_back.proofs.BehindWords.{HasLocals, quiet_same}
+use Rattle.reads_back.proofs.BehindWords.{HasLocals, quiet_same, locals_then}
 use Rattle.reads_back.proofs.BothOperands.{counted}
 use Rattle.reads_back.proofs.HeldOperands.{Kept, in_word, in_local, in_next, counts_none, operand_of}
 use Rattle.reads_back.proofs.NameReads.{local_makes}
@@ -292,7 +292,7 @@ module _ {f : Function} {g : Fn} {active : List Active} {listed : List ℕ} (is_
       let copies = targets_copied f g count listed come.entries x free below few (omega (arith, at.room, is_function.few)) come.counts (length s.entries) to come.ds come.placed in
       let t = record s { scope = come.scope; entries = come.entries; seen = come.seen } in
       let local = clash_listed f g count listed come.entries x (length s.entries) to come.ds come.placed clash in
-      let there : HasLocals active listed t = record { base = locals.base; places = come.same.active ∙ locals.places } in
+      let there : HasLocals active listed t = locals_then come.same locals in
       let reaches = local_reaches is_function x free p q t there (quiet_from p.pc (reaches_on come.reaches) (quiet_same come.same quiet)) below (omega (arith, come.counts, locals.base)) local at.word in
       let last = value_entry (local_value x) ∷ [] in
       record {

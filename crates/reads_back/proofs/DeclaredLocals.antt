@@ -29,17 +29,22 @@ abbrev pub entries_at : List Text → (pc : ℕ) → List LocVar
 entries_at [] pc = []
 entries_at (text ∷ texts) pc = record { name = text; start = pc; end = pc } ∷ entries_at texts pc
 
+pub entries_count : (texts : List Text) (pc : ℕ) → length (entries_at texts pc) ≡ length texts
+entries_count [] pc = refl
+entries_count (text ∷ texts) pc = ap suc (entries_count texts pc)
+
 -- ---- they become active
 
-record ActivatedOver (texts : List Text) (m before behind : Maker) : Type 0 where
-  active : behind.active ≡ before.active ++ actives_of texts m.ahead.captures m.ahead.declarations (length before.locals)
-  locals : behind.locals ≡ before.locals ++ entries_at texts (length before.items)
-  items : behind.items ≡ before.items
-  functions : behind.functions ≡ before.functions
-  upvalues : behind.upvalue_names ≡ before.upvalue_names
-  ahead : behind.ahead ≡ before.ahead
+-- behind a declaration, where the locals become active
+pub record ActivatedOver (texts : List Text) (m before behind : Maker) : Type 0 where
+  pub active : behind.active ≡ before.active ++ actives_of texts m.ahead.captures m.ahead.declarations (length before.locals)
+  pub locals : behind.locals ≡ before.locals ++ entries_at texts (length before.items)
+  pub items : behind.items ≡ before.items
+  pub functions : behind.functions ≡ before.functions
+  pub upvalues : behind.upvalue_names ≡ before.upvalue_names
+  pub ahead : behind.ahead ≡ before.ahead
 
-activated_over : (texts : List Text) (m before : Maker) → ActivatedOver texts m before (activate (declare texts m).value before)
+pub activated_over : (texts : List Text) (m before : Maker) → ActivatedOver texts m before (activate (declare texts m).value before)
 activated_over [] m before = record { active = sym (append-nil before.active); locals = sym (append-nil before.locals); items = refl; functions = refl; upvalues = refl; ahead = refl }
 activated_over (text ∷ texts) m before =
     let later = record m { ahead = record (m.ahead) { captures = drop 1 m.ahead.captures; declarations = suc m.ahead.declarations } } in

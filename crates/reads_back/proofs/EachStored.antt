@@ -1,24 +1,22 @@
 -- Where the words of an assignment stand: behind what is evaluated of its targets the values, and for each target the word of its store, the last one first.
-use Rattle.std.proofs.Common.{◌≡◌, ◌∙◌, ℕ, suc, ◌+◌, ◌<◌, ◌≤◌, List, [], ◌∷◌, ◌++◌, length, refl, sym, ap, ap₂, subst, subst₂, arith}
+use Rattle.std.proofs.Common.{◌≡◌, ◌∙◌, ℕ, suc, ◌+◌, ◌<◌, List, [], ◌∷◌, ◌++◌, length, refl, sym, ap, ap₂, subst, subst₂, arith}
 use Rattle.lua_tree.specs.Syntax as syntax
 use Rattle.lua_tree.specs.Syntax.{Expression, Expressions, no_expressions}
-use Rattle.lua_tree.specs.WellFormed.{depth_of_expression, depth_of_expressions}
 use Rattle.opcode.specs.declared.op.Op.{Op}
 use Rattle.proto.specs.Constants.{constant_number}
 use Rattle.proto.specs.declared.parts.Constant.{Constant}
-use Rattle.core_expr.specs.Values.{OperandValue, Value, Values, no_values}
-use Rattle.recover_expr.specs.Entries.{and_last_value}
+use Rattle.core_expr.specs.Values.{OperandValue, Values}
 use Rattle.scheme.specs.Expressions.{Target, name_target, part_target}
 use Rattle.scheme.specs.Making.{Ahead, in_globals, in_register, in_upvalue}
 use Rattle.scheme.specs.declared.making.Active.{Active}
 use Rattle.scheme.specs.declared.making.Piece.{Piece}
-use Rattle.scheme_stands.specs.Lists.{AllNextAt}
 use Rattle.scheme_stands.specs.Relation.{all_related, related}
 use Rattle.scheme_stands.specs.Statements.{EachStoredAt, StoreAt, StoreRegisterAt, StoredFromAt}
 use Rattle.scheme_stands.specs.Words.{Fn, Same, Spot, WordAt}
 use Rattle.reads_back.specs.Acted.{EndWithOperand}
-use Rattle.reads_back.specs.Cores.{AllHaveCores, AreCores, HasCore, IsCore, IsOperand}
+use Rattle.reads_back.specs.Cores.{AllHaveCores, AreCores, HasCore, IsOperand}
 use Rattle.reads_back.proofs.HeldOperands.{in_word}
+use Rattle.reads_back.proofs.LastOfList.{FrontAndLast, last_alone, last_behind}
 use Rattle.reads_back.proofs.StoredTargets.{Destination, StoreWordAt, StoreWordsAt, to_global, to_local, to_part, to_upvalue}
 use Rattle.reads_back.proofs.TargetsCome.{AllFit, AreSaid, Fits, IsSaid}
 
@@ -84,17 +82,11 @@ pub record EachAt (g : Fn) (active : List Active) (ds : List Destination) (es : 
   pub fits : Fits place to
   pub mid : Spot
   pub stored : Spot
-  pub front_at : AllNextAt g (all_related g front) active free p mid
+  pub parts : FrontAndLast g active es free p mid front last
   pub last_at : StoreAt g place (related g last) active (free + length (all_related g front)) mid stored
   pub others_at : StoreWordsAt g free vs stored q
   pub counts : length (all_related g front) ≡ length vs
-  pub alone : length (all_related g front) ≡ 0 → es ≡ syntax.expression last no_expressions
-  pub cores : (before between behind : ℕ) (values : Values) (v : Value) → AreCores g active front before between values → IsCore g active last between behind v → AreCores g active es before behind (and_last_value values v)
   pub operand : (before between behind : ℕ) (values : Values) (o : OperandValue) → AreCores g active front before between values → IsOperand g active last between behind o → EndWithOperand g active es o before behind values
-  pub has_front : AllHaveCores front
-  pub has_last : HasCore last
-  pub shallow_front : depth_of_expressions front ≤ depth_of_expressions es
-  pub shallow_last : depth_of_expression last ≤ depth_of_expressions es
 
 -- a value and its store around the others
 each_more : (g : Fn) (active : List Active) (place : Target) (d : Destination) → IsSaid g place d → (e e2 : Expression) (es : Expressions) → HasCore e → (free : ℕ) (p mid stored q : Spot) → free < g.size → (related g e).to_reg active free free p mid → StoreRegisterAt g place free stored q →
@@ -113,17 +105,11 @@ each_more g active place d said e e2 es has free p mid stored q room first at ds
       fits = rest.fits;
       mid = rest.mid;
       stored = rest.stored;
-      front_at = record { mid = mid; room = room; first = first; others = rest.front_at };
+      parts = last_behind g active e has free p (syntax.expression e2 es) rest.front rest.last mid rest.mid room first rest.parts;
       last_at = subst (λ (free : ℕ). StoreAt g rest.place (related g rest.last) active free rest.mid rest.stored) next rest.last_at;
       others_at = record { mid = stored; first_at = subst (λ (r : ℕ). StoreWordsAt g r rest.vs rest.stored stored) above rest.others_at; second_at = said free stored q at };
       counts = ap suc rest.counts;
-      alone = λ none. cc;
-      cores = λ before between behind values v are is. let on = are.1 in (are.0, (on.0, and_last_value on.1 v, on.2, rest.cores are.0 between behind on.1 v on.3 is, ap (λ values. and_last_value values v) on.4));
       operand = λ before between behind values o are is. let on = are.1 in (are.0, (on.0, on.1, on.2, rest.operand are.0 between behind on.1 o on.3 is, on.4));
-      has_front = (has, rest.has_front);
-      has_last = rest.has_last;
-      shallow_front = omega (arith, rest.shallow_front);
-      shallow_last = omega (arith, rest.shallow_last);
     }
 
 module _ (g : Fn) where
@@ -169,17 +155,11 @@ module _ (g : Fn) where
         fits = fit.0;
         mid = p;
         stored = q;
-        front_at = record { pc = refl; ahead = refl; functions = refl };
+        parts = last_alone g active e has.0 free p;
         last_at = subst (λ (free : ℕ). StoreAt g place (related g e) active free p q) here at;
         others_at = record { pc = refl; ahead = refl; functions = refl };
         counts = refl;
-        alone = λ none. refl;
-        cores = λ before between behind values v are is. (behind, (v, no_values, subst (λ (before : ℕ). IsCore g active e before behind v) are.0 is, (refl, refl), ap (λ values. and_last_value values v) are.1));
         operand = λ before between behind values o are is. (are.1, subst (λ (before : ℕ). IsOperand g active e before behind o) are.0 is);
-        has_front = tt;
-        has_last = has.0;
-        shallow_front = omega arith;
-        shallow_last = omega arith;
       }
   each_at active (place ∷ other ∷ places) (d ∷ b ∷ ds) (syntax.expression e (syntax.expression e2 es)) said fit has some same free p q at =
       let words = at.others in

@@ -16,7 +16,7 @@ use Rattle.scheme.specs.declared.making.Active.{Active}
 use Rattle.scheme.specs.declared.making.Piece.{Piece}
 use Rattle.scheme_stands.specs.Words.{Fn}
 use Rattle.reads_back.specs.Coming.{Coming, IsMadeNext, captured_names}
-use Rattle.reads_back.specs.Cores.{IsClosure, IsOnOneLine}
+use Rattle.reads_back.specs.Cores.{IsClosure, IsPlainBody}
 use Rattle.reads_back.proofs.Mentions.{IsAhead, coming, function_mention}
 use Rattle.reads_back.proofs.OperatorsSame.{few_more}
 use Rattle.reads_back.proofs.PassedMentions.{sources_named}
@@ -35,21 +35,21 @@ abbrev behind_function : (r : ℕ) → Maker → Finished → Maker
 behind_function r m made = free_from m.free (further_words 1 (next_sources m) (put 1 (Piece.Abx Op.Closure r (length m.functions)) (with_function made m)))
 
 -- the code of a body on one line
-code_is : (line : ℕ) (body : FunctionBody) (r : ℕ) (m : Maker) → IsOnOneLine body → (code (function_expression line body)).to_reg r m ≡ (coded (function_expression 1 body)).to_reg r m
-code_is line body r m one_line = ap (λ body. (coded (function_expression 1 body)).to_reg r m) one_line
+code_is : (line : ℕ) (body : FunctionBody) (r : ℕ) (m : Maker) → IsPlainBody body → (code (function_expression line body)).to_reg r m ≡ (coded (function_expression 1 body)).to_reg r m
+code_is line body r m plain = ap (λ body. (coded (function_expression 1 body)).to_reg r m) plain.on_line
 
 -- ---- the function that is left
 
-module _ {f : Function} {g : Fn} {active : List Active} {listed : List ℕ} {z : Maker} {lefts : ℕ → List (Option Inner)} (made : IsMadeBy f g active listed z) (again : AreAgain g lefts) where
+module _ {f : Function} {g : Fn} {active : List Active} {listed : List ℕ} {z : Maker} {lefts : ℕ → List (Option Inner)} (made : IsMadeBy f g active listed z) (again : AreAgain f g lefts) where
   -- what is found where so many functions were made
   abbrev IsFound : FunctionBody → (before : ℕ) → Coming → Type 0
   IsFound body before c = (found : Inner) × (function_left (lefts before) before ≡ Some found) × IsAgain g active body false c found
 
-  found_at : (body : FunctionBody) (before : ℕ) (c : Coming) → c.functions ≡ before → IsMadeNext g active body false c → IsFound body before c
-  found_at body before c as_many next = subst (λ before. IsFound body before c) as_many (again.next active body false c next)
+  found_at : (body : FunctionBody) (before : ℕ) (c : Coming) → IsPlainBody body → c.functions ≡ before → IsMadeNext g active body false c → IsFound body before c
+  found_at body before c plain as_many next = subst (λ before. IsFound body before c) as_many (again.next active listed made.all body false c plain next)
 
-  others_left : (body : FunctionBody) (before : ℕ) (c : Coming) → c.functions ≡ before → IsMadeNext g active body false c → slice_set (lefts before) before None ≡ lefts (suc before)
-  others_left body before c as_many next = subst (λ before. slice_set (lefts before) before None ≡ lefts (suc before)) as_many (again.others active body false c next)
+  others_left : (body : FunctionBody) (before : ℕ) (c : Coming) → IsPlainBody body → c.functions ≡ before → IsMadeNext g active body false c → slice_set (lefts before) before None ≡ lefts (suc before)
+  others_left body before c plain as_many next = subst (λ before. slice_set (lefts before) before None ≡ lefts (suc before)) as_many (again.others active body false c plain next)
 
   word_is : (body : FunctionBody) (before n : ℕ) (c : Coming) (is : IsFound body before c) → wording f listed z lefts before n (function_value before false) ≡ over is.0.levels (function_expression 1 is.0.body)
   word_is body before n c is = ap function_word is.1
@@ -64,18 +64,18 @@ module _ {f : Function} {g : Fn} {active : List Active} {listed : List ℕ} {z :
       let names = names_are body m ahead in
       ap (λ names. inner is.0.body false names (without_sources m.ahead)) names ∙ is.2.same ∙ ap (λ names. inner body false names (without_sources m.ahead)) (sym names)
 
-  function_same : (line : ℕ) (body : FunctionBody) (before r : ℕ) (m : Maker) → IsOnOneLine body → IsAhead g active before (function_mention body false ∷ []) m →
+  function_same : (line : ℕ) (body : FunctionBody) (before r : ℕ) (m : Maker) → IsPlainBody body → IsAhead g active before (function_mention body false ∷ []) m →
       (coded (wording f listed z lefts before (length m.constants) (function_value before false)).words).to_reg r m ≡ (code (function_expression line body)).to_reg r m
-  function_same line body before r m one_line ahead =
-      let is = found_at body before (coming m) ahead.made_are ahead.meant.0 in
+  function_same line body before r m plain ahead =
+      let is = found_at body before (coming m) plain ahead.made_are ahead.meant.0 in
       ap (λ (w : Wording). (coded w.words).to_reg r m) (word_is body before (length m.constants) (coming m) is)
       ∙ ap (behind_function r m) (same_function body m ahead is)
-      ∙ sym (code_is line body r m one_line)
+      ∙ sym (code_is line body r m plain)
 
-  pub function_rewritten : (line : ℕ) (body : FunctionBody) (before behind : ℕ) (v : Value) → IsOnOneLine body → IsClosure g active body false before behind v → Rewritten f g active listed z lefts before behind (function_expression line body) v
-  function_rewritten line body before behind v one_line (counts, is, c, as_many, next) = subst₂ (λ behind v. Rewritten f g active listed z lefts before behind (function_expression line body) v) (sym counts) (sym is) (record {
+  pub function_rewritten : (line : ℕ) (body : FunctionBody) (before behind : ℕ) (v : Value) → IsPlainBody body → IsClosure g active body false before behind v → Rewritten f g active listed z lefts before behind (function_expression line body) v
+  function_rewritten line body before behind v plain (counts, is, c, as_many, next) = subst₂ (λ behind v. Rewritten f g active listed z lefts before behind (function_expression line body) v) (sym counts) (sym is) (record {
     can = ap is_some found.1;
-    leaves = others_left body before c as_many next;
+    leaves = others_left body before c plain as_many next;
     makes = refl;
     named = λ n. ap (λ (w : Wording). is_name w.words) (word_is body before n c found);
     folded = λ n. ap (λ (w : Wording). fold w.words) (word_is body before n c found);
@@ -84,11 +84,11 @@ module _ {f : Function} {g : Fn} {active : List Active} {listed : List ℕ} {z :
     few = λ n. let few = few_more found.0.levels in omega (arith, ap (λ (w : Wording). w.levels) (word_is body before n c found), few, found.2.few);
     keys = omega arith;
     as_local = λ n r m ahead local. no_local (function_expression line body) r m refl local;
-    to_reg = λ r m ahead final. function_same line body before r m one_line ahead;
-    taken = λ r m ahead final. ap (λ (n : Maker). length n.constants) (code_is line body r m one_line) ∙ ap (λ ks. length ks) (further_constants (next_sources m) _);
+    to_reg = λ r m ahead final. function_same line body before r m plain ahead;
+    taken = λ r m ahead final. ap (λ (n : Maker). length n.constants) (code_is line body r m plain) ∙ ap (λ ks. length ks) (further_constants (next_sources m) _);
     multi = λ several. cc;
     multi_taken = λ several. cc;
   })
     where
       found : IsFound body before c
-      found = found_at body before c as_many next
+      found = found_at body before c plain as_many next

@@ -23,7 +23,7 @@ use Rattle.scheme_stands.specs.Relation.{all_related, given_rel, ItemsAt}
 use Rattle.scheme_stands.specs.Words.{Fn, Spot, ConstantWord}
 use Rattle.reads_back.specs.Cores.{IsOnly, IsConstant, AreCores, AreGiven, AreItems, ends_open, Counted, IsCore, still, first_and}
 use Rattle.reads_back.proofs.Comes.{AreEntries, Begins, IsElementRead, IsWanted, Comes, Reads, ReadsTable, comes_next, GivenComes, ReadsGiven}
-use Rattle.reads_back.proofs.BehindWords.{HasLocals, SameLocals, same_locals, same_then, quiet_same, behind_words}
+use Rattle.reads_back.proofs.BehindWords.{HasLocals, SameLocals, same_locals, same_then, quiet_same, behind_words, locals_then}
 use Rattle.reads_back.proofs.LiteralReads.{constant_reads}
 use Rattle.reads_back.proofs.Reaches.{Reaches, here, reaches_then}
 use Rattle.reads_back.proofs.TakenEntries.{open_taken, behind_taken, list_taken, more_entries}
@@ -75,9 +75,6 @@ next_behind {s = s} free one is = omega (arith, length-append s.entries (one.ent
 
 some_behind : {f : Function} {Is : Value → Type 0} {deep first last : ℕ} {s : Situation} (one : Comes f Is deep s first last) → 0 < length (behind_one one).entries
 some_behind {s = s} one = omega (arith, length-append s.entries (one.entry ∷ []))
-
-locals_behind : {f : Function} {Is : Value → Type 0} {deep first last : ℕ} {s : Situation} {active : List Active} {listed : List ℕ} (one : Comes f Is deep s first last) → HasLocals active listed s → HasLocals active listed (behind_one one)
-locals_behind one locals = record { base = locals.base; places = one.same.active ∙ locals.places }
 
 -- ---- values in the next registers
 
@@ -176,7 +173,7 @@ module _ (f : Function) (g : Fn) (active : List Active) (listed : List ℕ) (dee
       let back = all_forward es reads.1 (free + 1) at.mid q at.others in
       let wanted_there = wanted_by (all_begin es reads.1 (free + 1) at.mid q quiet.within at.others) in
       let one = comes_next reads.0.one free p at.mid s locals is (quiet_before at.mid.pc back quiet) wanted_there at.first in
-      more_come (IsCore g active e) (AreCores g active es) one (all_come es reads.1 (free + 1) at.mid q (behind_one one) (locals_behind one locals) (next_behind free one is) (quiet_same one.same (quiet_from at.mid.pc on quiet)) (inl (some_behind one)) at.others)
+      more_come (IsCore g active e) (AreCores g active es) one (all_come es reads.1 (free + 1) at.mid q (behind_one one) (locals_then one.same locals) (next_behind free one is) (quiet_same one.same (quiet_from at.mid.pc on quiet)) (inl (some_behind one)) at.others)
     where
       wanted_by : (at.mid.pc ≡ q.pc) ⊎ Begins f (free + 1) at.mid.pc → IsWanted f s at.mid.pc
       wanted_by (inl same) = subst (IsWanted f s) (sym same) wanted
@@ -218,7 +215,7 @@ module _ (f : Function) (g : Fn) (active : List Active) (listed : List ℕ) (dee
       let back = open_forward (syntax.expression d es) ends reads.1 (free + 1) at.mid q at.others in
       let wanted = begins_wants s (open_begins (syntax.expression d es) ends reads.1 (free + 1) at.mid q quiet.within at.others) (omega (arith, is)) in
       let one = comes_next reads.0.one free p at.mid s locals is (quiet_before at.mid.pc back quiet) wanted at.first in
-      more_open (IsCore g active e) (AreCores g active (syntax.expression d es)) one (open_comes (syntax.expression d es) ends reads.1 (free + 1) at.mid q (behind_one one) (locals_behind one locals) (next_behind free one is) (quiet_same one.same (quiet_from at.mid.pc on quiet)) at.others)
+      more_open (IsCore g active e) (AreCores g active (syntax.expression d es)) one (open_comes (syntax.expression d es) ends reads.1 (free + 1) at.mid q (behind_one one) (locals_then one.same locals) (next_behind free one is) (quiet_same one.same (quiet_from at.mid.pc on quiet)) at.others)
 
   pub list_forward : (es : Expressions) (all : Bool) → all ≡ ends_open es → AllRead f g active listed deep es → (free : ℕ) (p q : Spot) → OpenBy all g (all_related g es) active free p q → p.pc ≤ q.pc
   list_forward es true ends reads free p q at = open_forward es ends reads free p q at

@@ -120,14 +120,10 @@ small_or false text m = refl
 text_asks : (text : Text) (m : Maker) → rk (coded (text_literal 1 text)) m ≡ rk_text 1 text m
 text_asks text m = small_or (is_small (Constant.Text text) m) text m
 
-good_name : (b : Bool) (text name : Text) → (if b then Some text else None) ≡ Some name → text ≡ name
-good_name true text name is = cc
-good_name false text name is = cc
-
 -- a constant that is a name is a string
 name_is : (k : Option Constant) (name : Text) → as_name (as_text k) ≡ Some name → (constant_word k).words ≡ text_literal 1 name
 name_is None name is = cc
-name_is (Some (Constant.Text text)) name is = ap (text_literal 1) (good_name (is_good text) text name is)
+name_is (Some (Constant.Text text)) name is = ap (text_literal 1) (given_is (is_good text) text name is)
 name_is (Some Constant.Nil) name is = cc
 name_is (Some (Constant.Bool b)) name is = cc
 name_is (Some (Constant.Number n)) name is = cc
@@ -178,26 +174,20 @@ pub key_few : (name : Option Text) (on key : Wording) (deep more : ℕ) → on.l
 key_few None on key deep more first second = let all = few_more (max on.levels key.levels) in omega (arith, first, second, all)
 key_few (Some name) on key deep more first second = let all = few_more on.levels in omega (arith, first, all)
 
--- what is known of a key that asks so
-pub record KeySame (f : Function) (g : Fn) (active : List Active) (listed : List ℕ) (z : Maker) (lefts : ℕ → List (Option Inner)) (before behind : ℕ) (asked : Asks ℕ) (mentions : List Mention) (key : OperandValue) (deep : ℕ) : Type 0 where
+-- what is known of a key that asks so, where no names come behind it
+pub record KeyWritten (f : Function) (g : Fn) (active : List Active) (listed : List ℕ) (z : Maker) (lefts : ℕ → List (Option Inner)) (before behind : ℕ) (asked : Asks ℕ) (mentions : List Mention) (key : OperandValue) (deep : ℕ) : Type 0 where
   pub can : can_write_operand (place f.of listed f.short) (lefts before) key ≡ true
   pub leaves : left_by_operand key (lefts before) ≡ lefts behind
   pub makes : behind ≡ made_behind mentions before
   pub few : (n : ℕ) → (operand_wording f listed z lefts before n key).levels ≤ 3 * deep + 3
-  pub passes : AskingPasses mentions asked
   pub grown : (m : Maker) → Grown calm m (asked m).after
   pub as_rk : (m : Maker) → IsAhead g active before mentions m → Final (length m.labels) (asked m).after z → rk (coded (operand_wording f listed z lefts before (length m.constants) key).words) m ≡ asked m
   pub taken : (m : Maker) → IsAhead g active before mentions m → Final (length m.labels) (asked m).after z → length (asked m).after.constants ≡ taken_behind_operand key (length m.constants)
 
--- as much of it as an index asks for, which has no names to come behind its key
-record KeyWritten (f : Function) (g : Fn) (active : List Active) (listed : List ℕ) (z : Maker) (lefts : ℕ → List (Option Inner)) (before behind : ℕ) (asked : Asks ℕ) (mentions : List Mention) (key : OperandValue) (deep : ℕ) : Type 0 where
-  can : can_write_operand (place f.of listed f.short) (lefts before) key ≡ true
-  leaves : left_by_operand key (lefts before) ≡ lefts behind
-  makes : behind ≡ made_behind mentions before
-  few : (n : ℕ) → (operand_wording f listed z lefts before n key).levels ≤ 3 * deep + 3
-  grown : (m : Maker) → Grown calm m (asked m).after
-  as_rk : (m : Maker) → IsAhead g active before mentions m → Final (length m.labels) (asked m).after z → rk (coded (operand_wording f listed z lefts before (length m.constants) key).words) m ≡ asked m
-  taken : (m : Maker) → IsAhead g active before mentions m → Final (length m.labels) (asked m).after z → length (asked m).after.constants ≡ taken_behind_operand key (length m.constants)
+-- and where names come behind it: what asks for it passes those that are in it
+pub record KeySame (f : Function) (g : Fn) (active : List Active) (listed : List ℕ) (z : Maker) (lefts : ℕ → List (Option Inner)) (before behind : ℕ) (asked : Asks ℕ) (mentions : List Mention) (key : OperandValue) (deep : ℕ) : Type 0 where
+  pub written : KeyWritten f g active listed z lefts before behind asked mentions key deep
+  pub passes : AskingPasses mentions asked
 
 -- the word behind both
 abbrev behind_key : (to : ℕ) → Maker → ℕ → Got ℕ → Maker
@@ -292,56 +282,53 @@ module _ {f : Function} {g : Fn} {active : List Active} {listed : List ℕ} {z :
 
 -- ---- expressions that are indexed
 
-module _ {f : Function} {g : Fn} {active : List Active} {listed : List ℕ} {z : Maker} {lefts : ℕ → List (Option Inner)} {before mid behind : ℕ} where
-  -- a tree is no deeper than 200, so it has no more keys one behind the other
-  pub index_rewritten : (line : ℕ) (on key : Expression) (o : Value) (k : OperandValue) (v : Value) → depth_of_expression (index_expression line on key) ≤ 200 → PassesMentions (mentions_in on) (code on) →
-      Rewritten f g active listed z lefts before mid on o → RewrittenOperand f g active listed z lefts mid behind key k → made_index o k ≡ Some v → Rewritten f g active listed z lefts before behind (index_expression line on key) v
-  index_rewritten line on key o k v shallow kept first second made =
-      let asks : KeyWritten f g active listed z lefts mid behind (rk (code key)) (mentions_in key) k (depth_of_expression key) = record {
-        can = second.can;
-        leaves = second.leaves;
-        makes = second.makes;
-        few = second.few;
-        grown = grows_rk (code key) (grows calm (one_line_expression key));
-        as_rk = second.as_rk;
-        taken = second.taken;
-      } in
-      indexed_rewritten first asks made (index_expression line on key) refl (omega arith) shallow refl refl refl (λ to m. refl) kept
-
-  pub field_rewritten : (line : ℕ) (on : Expression) (text : Text) (o : Value) (k : OperandValue) (v : Value) → depth_of_expression (field_expression line on text) ≤ 200 → PassesMentions (mentions_in on) (code on) →
-      Rewritten f g active listed z lefts before mid on o → KeySame f g active listed z lefts mid behind (rk_text 1 text) [] k 1 → made_index o k ≡ Some v → Rewritten f g active listed z lefts before behind (field_expression line on text) v
-  field_rewritten line on text o k v shallow kept first key made =
-      let asks : KeyWritten f g active listed z lefts mid behind (rk_text 1 text) [] k 1 = record { can = key.can; leaves = key.leaves; makes = key.makes; few = key.few; grown = key.grown; as_rk = key.as_rk; taken = key.taken } in
-      indexed_rewritten first asks made (field_expression line on text) (sym (append-nil (mentions_in on))) (omega (arith, some_depth on)) shallow refl refl refl (λ to m. refl) kept
-
 module _ {f : Function} {g : Fn} {active : List Active} {listed : List ℕ} {z : Maker} {lefts : ℕ → List (Option Inner)} {before behind : ℕ} where
   -- a key that is an expression
-  pub expression_key : (key : Expression) (k : OperandValue) → PassesMentions (mentions_in key) (code key) → RewrittenOperand f g active listed z lefts before behind key k → KeySame f g active listed z lefts before behind (rk (code key)) (mentions_in key) k (depth_of_expression key)
-  expression_key key k passed operand = record {
+  operand_key : (key : Expression) (k : OperandValue) → RewrittenOperand f g active listed z lefts before behind key k → KeyWritten f g active listed z lefts before behind (rk (code key)) (mentions_in key) k (depth_of_expression key)
+  operand_key key k operand = record {
     can = operand.can;
     leaves = operand.leaves;
     makes = operand.makes;
     few = operand.few;
-    passes = rk_passes (mentions_in key) (code key) passed;
     grown = grows_rk (code key) (grows calm (one_line_expression key));
     as_rk = operand.as_rk;
     taken = operand.taken;
   }
 
+module _ {f : Function} {g : Fn} {active : List Active} {listed : List ℕ} {z : Maker} {lefts : ℕ → List (Option Inner)} {before mid behind : ℕ} where
+  -- a tree is no deeper than 200, so it has no more keys one behind the other
+  pub index_rewritten : (line : ℕ) (on key : Expression) (o : Value) (k : OperandValue) (v : Value) → depth_of_expression (index_expression line on key) ≤ 200 → PassesMentions (mentions_in on) (code on) →
+      Rewritten f g active listed z lefts before mid on o → RewrittenOperand f g active listed z lefts mid behind key k → made_index o k ≡ Some v → Rewritten f g active listed z lefts before behind (index_expression line on key) v
+  index_rewritten line on key o k v shallow kept first second made =
+      indexed_rewritten first (operand_key key k second) made (index_expression line on key) refl (omega arith) shallow refl refl refl (λ to m. refl) kept
+
+  pub field_rewritten : (line : ℕ) (on : Expression) (text : Text) (o : Value) (k : OperandValue) (v : Value) → depth_of_expression (field_expression line on text) ≤ 200 → PassesMentions (mentions_in on) (code on) →
+      Rewritten f g active listed z lefts before mid on o → KeySame f g active listed z lefts mid behind (rk_text 1 text) [] k 1 → made_index o k ≡ Some v → Rewritten f g active listed z lefts before behind (field_expression line on text) v
+  field_rewritten line on text o k v shallow kept first key made =
+      indexed_rewritten first key.written made (field_expression line on text) (sym (append-nil (mentions_in on))) (omega (arith, some_depth on)) shallow refl refl refl (λ to m. refl) kept
+
+module _ {f : Function} {g : Fn} {active : List Active} {listed : List ℕ} {z : Maker} {lefts : ℕ → List (Option Inner)} {before behind : ℕ} where
+  pub expression_key : (key : Expression) (k : OperandValue) → PassesMentions (mentions_in key) (code key) → RewrittenOperand f g active listed z lefts before behind key k → KeySame f g active listed z lefts before behind (rk (code key)) (mentions_in key) k (depth_of_expression key)
+  expression_key key k passed operand = record { written = operand_key key k operand; passes = rk_passes (mentions_in key) (code key) passed }
+
   pub key_deeper : {asked : Asks ℕ} {mentions : List Mention} {k : OperandValue} {deep more : ℕ} → deep ≤ more → KeySame f g active listed z lefts before behind asked mentions k deep → KeySame f g active listed z lefts before behind asked mentions k more
-  key_deeper deeper key = record { can = key.can; leaves = key.leaves; makes = key.makes; few = λ n. omega (arith, key.few n, deeper); passes = key.passes; grown = key.grown; as_rk = key.as_rk; taken = key.taken }
+  key_deeper deeper key =
+      let written = key.written in
+      record { written = record { can = written.can; leaves = written.leaves; makes = written.makes; few = λ n. omega (arith, written.few n, deeper); grown = written.grown; as_rk = written.as_rk; taken = written.taken }; passes = key.passes }
 
   -- the name of a field is a string, which is an operand as one that is an expression of its own
   pub text_key : (line : ℕ) (text : Text) (k : OperandValue) → RewrittenOperand f g active listed z lefts before behind (text_literal line text) k → KeySame f g active listed z lefts before behind (rk_text 1 text) [] k 1
   text_key line text k operand =
       let asked = text_asks text in
       record {
-        can = operand.can;
-        leaves = operand.leaves;
-        makes = operand.makes;
-        few = operand.few;
+        written = record {
+          can = operand.can;
+          leaves = operand.leaves;
+          makes = operand.makes;
+          few = operand.few;
+          grown = grows_rk_text 1 text;
+          as_rk = λ m ahead final. operand.as_rk m ahead (subst (λ got. Final (length m.labels) got.after z) (sym (asked m)) final) ∙ asked m;
+          taken = λ m ahead final. ap (λ got. length got.after.constants) (sym (asked m)) ∙ operand.taken m ahead (subst (λ got. Final (length m.labels) got.after z) (sym (asked m)) final);
+        };
         passes = rk_text_passes 1 text;
-        grown = grows_rk_text 1 text;
-        as_rk = λ m ahead final. operand.as_rk m ahead (subst (λ got. Final (length m.labels) got.after z) (sym (asked m)) final) ∙ asked m;
-        taken = λ m ahead final. ap (λ got. length got.after.constants) (sym (asked m)) ∙ operand.taken m ahead (subst (λ got. Final (length m.labels) got.after z) (sym (asked m)) final);
       }

@@ -5,12 +5,12 @@ use Rattle.std.proofs.lemmas.Option.{slice_get_within}
 use Rattle.std.specs.Prelude.{option_map}
 use Rattle.lua_tree.specs.Syntax.{Expression}
 use Rattle.core_expr.specs.Counting.{one_more, taken_behind, taken_behind_operand, taken_behind_values}
-use Rattle.core_expr.specs.Values.{Value, Values, OperandValue, constant_operand, local_value, nil_value, value_operand}
-use Rattle.recover_expr.specs.Assigning.{assigned_from, stored_function}
+use Rattle.core_expr.specs.Values.{Value, Values, OperandValue, constant_operand, local_value, value_operand, and_value, no_values}
+use Rattle.recover_expr.specs.Assigning.{assigned_from, function_number, stored_function}
 use Rattle.recover_expr.specs.Effects.{is_from, reads_from}
 use Rattle.recover_expr.specs.Entries.{Entries, EntryValue, and_last_value, single_of}
 use Rattle.recover_expr.specs.Items.{is_so}
-use Rattle.recover_expr.specs.Lists.{Straight, is_last, is_nil, straight_value}
+use Rattle.recover_expr.specs.Lists.{Straight, is_last, is_nil, straight_value, value_count}
 use Rattle.recover_expr.specs.Locals.{Scope}
 use Rattle.recover_expr.specs.Reading.{Turn, as_over, turn_at}
 use Rattle.recover_expr.specs.Situation.{Function, Situation, instr_at}
@@ -21,24 +21,23 @@ use Rattle.scheme_stands.specs.Expressions.{OneAt, OperandAt, RkAt}
 use Rattle.scheme_stands.specs.Relation.{related}
 use Rattle.scheme_stands.specs.Statements.{StoreAt}
 use Rattle.scheme_stands.specs.Words.{Fn, Spot, Stretch, WordAt}
-use Rattle.reads_back.specs.Acted.{Assigned, is_part, taken_behind_last}
+use Rattle.reads_back.specs.Acted.{Assigned, function_in, is_part, taken_behind_last}
 use Rattle.reads_back.specs.Cores.{Counted, IsCore, IsOperand}
 use Rattle.reads_back.proofs.AdjustedEntries.{count_last, last_split, taken_end}
 use Rattle.reads_back.proofs.AssignedValues.{last_written, local_written, operand_written, singles_written, straight_written}
-use Rattle.reads_back.proofs.BehindWords.{HasLocals, SameLocals, behind_words, quiet_same, same_then}
+use Rattle.reads_back.proofs.BehindWords.{HasLocals, SameLocals, behind_words, quiet_same, same_then, locals_then}
 use Rattle.reads_back.proofs.BothOperands.{counted}
 use Rattle.reads_back.proofs.Comes.{Arrives, IsOperandWanted, Made, Moved, ReadsCore}
 use Rattle.reads_back.proofs.GivenLists.{AllCome}
 use Rattle.reads_back.proofs.HeldOperands.{Kept, StandsIn, counts_none, entries_in, in_local, in_next, in_word, operand_held, operand_of, rk_held}
 use Rattle.reads_back.proofs.NameReads.{AreListed}
-use Rattle.reads_back.proofs.NoFunctions.{IsNoFunction, IsNoFunctionExpression, IsNoFunctionOperand, no_function, operand_none}
 use Rattle.reads_back.proofs.OneTarget.{core_of}
 use Rattle.reads_back.proofs.PartsRead.{value_of}
 use Rattle.reads_back.proofs.PartsUsed.{get_front}
 use Rattle.reads_back.proofs.Reaches.{Reaches, reaches_on, reaches_then}
 use Rattle.reads_back.proofs.SeveralValues.{behind_all}
 use Rattle.reads_back.proofs.StoredTargets.{Destination, IsThere, StoreWordAt, WritesValues, first_stored, parts_used, seen_with, store_piece, target_to, to_global, to_local, to_part, to_upvalue}
-use Rattle.reads_back.proofs.StoresRead.{IsInStep, IsValueKept, is_value_kept, no_function_in, straight_of}
+use Rattle.reads_back.proofs.StoresRead.{IsInStep, IsValueKept, is_value_kept, only_entry, straight_of}
 use Rattle.reads_back.proofs.TableWords.{and_last_entry}
 use Rattle.reads_back.proofs.TakenEntries.{count_of_entries}
 use Rattle.reads_back.proofs.Taking.{max_swap}
@@ -65,7 +64,7 @@ pub record Begun (f : Function) (count : ℕ) (s : Situation) (others : ℕ) (d 
       (record s { scope = scope; entries = s.entries ++ values; seen = seen_with d (taken_behind_last to.last (taken_behind_values to.values s.seen)) }) (first_stored pc d (parts_used count (length s.entries) d) others used))
   pub enough : others ≤ length values
   pub writes : WritesValues f values straight d (suc others) to
-  pub plain : others ≡ 0 → stored_function straight values ≡ None
+  pub function : others ≡ 0 → stored_function straight values ≡ function_in to.values to.last
 
 -- the value goes to a name; or an operand goes to a part of a table
 abbrev pub GoesTo : Fn → List Active → Expression → Destination → Values → Counted Assigned
@@ -101,7 +100,7 @@ part_takes (to_part on key x y) kept part = tt
 part_takes d kept part = not_so part
 
 -- the word of its store reads what it stores
-store_reads : {f : Function} {g : Fn} (base : ℕ) (d : Destination) (r : ℕ) (p q : Spot) → IsFunction f g → base ≤ r → r < 256 → StoreWordAt g d r p q → is_so (λ i. reads_from i base) (instr_at f p.pc) ≡ true
+pub store_reads : {f : Function} {g : Fn} (base : ℕ) (d : Destination) (r : ℕ) (p q : Spot) → IsFunction f g → base ≤ r → r < 256 → StoreWordAt g d r p q → is_so (λ i. reads_from i base) (instr_at f p.pc) ≡ true
 store_reads base (to_local x) r p q is_function above small at = ap (is_so (λ i. reads_from i base)) (instr_is is_function at (abc_is_read is_function at)) ∙ le-leb base r above
 store_reads base (to_upvalue slot) r p q is_function above small at = ap (is_so (λ i. reads_from i base)) (instr_is is_function at (abc_is_read is_function at)) ∙ le-leb base r above
 store_reads base (to_global number) r p q is_function above small at = ap (is_so (λ i. reads_from i base)) (instr_is is_function at (abx_is_read is_function at)) ∙ le-leb base r above
@@ -114,14 +113,24 @@ store_next {g} d r p q at = let word : WordAt g (store_piece d r) p q = at in wo
 
 -- ---- the value
 
-abbrev value_in : OperandValue → Value
-value_in (value_operand v) = v
-value_in (constant_operand k) = nil_value
+-- the number of a function that it is
+abbrev operand_number : OperandValue → Option ℕ
+operand_number (value_operand v) = function_number v
+operand_number (constant_operand k) = None
 
--- the only entry is no function
-only_plain : (entries : Entries) (entry : EntryValue) (v : Value) → single_of entry ≡ Some v → IsNoFunction v → length entries ≡ 0 → stored_function None (entries ++ entry ∷ []) ≡ None
-only_plain [] entry v single plain none = no_function_in entry v single plain
-only_plain (other ∷ entries) entry v single plain none = absurd (omega (arith, none))
+-- where no entry stands before the last one, and no value before the last one, both are the same function
+only_read : (entries : Entries) (entry : EntryValue) (v : Value) → single_of entry ≡ Some v → length entries ≡ 0 → stored_function None (entries ++ entry ∷ []) ≡ function_number v
+only_read [] entry v single none = only_entry entry v single
+only_read (other ∷ entries) entry v single none = absurd (omega (arith, none))
+
+only_named : (front : Values) (v : Value) → value_count front ≡ 0 → function_number v ≡ function_in (and_last_value front v) None
+only_named no_values v none = refl
+only_named (and_value w ws) v none = absurd (omega (arith, none))
+
+only_part : (front : Values) (o : OperandValue) → value_count front ≡ 0 → operand_number o ≡ function_in front (Some o)
+only_part no_values (value_operand v) none = refl
+only_part no_values (constant_operand k) none = refl
+only_part (and_value w ws) o none = absurd (omega (arith, none))
 
 abbrev to_name : Values → Value → Assigned
 to_name front v = record { values = and_last_value front v; all = true; last = None }
@@ -152,9 +161,9 @@ module _ {f : Function} {g : Fn} {active : List Active} {listed : List ℕ} (is_
   taken_all v seen taken = sym (taken_end front.values v s.seen ∙ ap (taken_behind v) front.taken ∙ taken)
 
   -- the last word makes it, for a local
-  made_begins : (e : Expression) → (others ≡ 0 → IsNoFunctionExpression e) → (made_before made_behind r : ℕ) {low last : ℕ} → IsThere f (length active) listed entries (to_local r) behind → (made : Made f (IsCore g active e made_before made_behind) low (behind_all front) r begun last) →
+  made_begins : (e : Expression) (made_before made_behind r : ℕ) {low last : ℕ} → IsThere f (length active) listed entries (to_local r) behind → (made : Made f (IsCore g active e made_before made_behind) low (behind_all front) r begun last) →
       Begun f (length active) s others (to_local r) (to_name front.values made.value) first last
-  made_begins e plain made_before made_behind r {last = last} there made =
+  made_begins e made_before made_behind r {last = last} there made =
       let v = made.value in
       let all = s.entries ++ front.entries in
       let straight = Some (straight_value v) in
@@ -174,7 +183,7 @@ module _ {f : Function} {g : Fn} {active : List Active} {listed : List ℕ} (is_
             ∙ ap (λ (seen : ℕ). stored (to_local r) straight [] made.word.pc last made.scope all seen (length s.entries)) (taken_all v made.seen made.taken);
         enough = omega (arith, size);
         writes = straight_written f front.entries (to_local r) (suc others) front.values v front.singles;
-        plain = λ none. no_function g active e (plain none) made_before made_behind v made.is;
+        function = λ none. only_named front.values v (front.counts ∙ none);
       }
 
   -- it comes to the next register
@@ -191,8 +200,8 @@ module _ {f : Function} {g : Fn} {active : List Active} {listed : List ℕ} (is_
       Reaches f first s last (record s { scope = scope; entries = s.entries ++ (front.entries ++ entry ∷ []); seen = seen })
   next_reached scope seen last entry reaches = reaches_then front.reaches (subst (λ (entries : Entries). Reaches f begun (behind_all front) last (record s { scope = scope; entries = entries; seen = seen })) (sym (next_there entry)) reaches)
 
-  next_plain : (entry : EntryValue) (v : Value) → single_of entry ≡ Some v → (others ≡ 0 → IsNoFunction v) → others ≡ 0 → stored_function None (front.entries ++ entry ∷ []) ≡ None
-  next_plain entry v single plain none = only_plain front.entries entry v single (plain none) (omega (arith, size, none))
+  next_read : (entry : EntryValue) (v : Value) → single_of entry ≡ Some v → others ≡ 0 → stored_function None (front.entries ++ entry ∷ []) ≡ function_number v
+  next_read entry v single none = only_read front.entries entry v single (omega (arith, size, none))
 
   next_written : (d : Destination) (entry : EntryValue) (v : Value) → single_of entry ≡ Some v → is_part (Some (target_to d)) ≡ false → ((r : ℕ) → d ≡ to_local r → is_nil v ≡ false) →
       WritesValues f (front.entries ++ entry ∷ []) None d (suc others) (to_name front.values v)
@@ -204,9 +213,9 @@ module _ {f : Function} {g : Fn} {active : List Active} {listed : List ℕ} (is_
   part_written d entry v single part = last_written f (front.entries ++ entry ∷ []) d (suc others) front.values v (and_last_entry front.entries front.values entry v front.singles single) (ap suc front.counts) part
 
   -- it moves on from there to a local
-  moved_begins : (e : Expression) → (others ≡ 0 → IsNoFunctionExpression e) → (made_before made_behind r : ℕ) {low last : ℕ} → IsThere f (length active) listed entries (to_local r) behind → next_free (behind_all front) ≤ 250 →
+  moved_begins : (e : Expression) (made_before made_behind r : ℕ) {low last : ℕ} → IsThere f (length active) listed entries (to_local r) behind → next_free (behind_all front) ≤ 250 →
       (moved : Moved f (IsCore g active e made_before made_behind) low (behind_all front) r begun last) → Begun f (length active) s others (to_local r) (to_name front.values moved.comes.value) first last
-  moved_begins e plain made_before made_behind r {last = last} there few moved =
+  moved_begins e made_before made_behind r {last = last} there few moved =
       let come = moved.comes in
       let v = come.value in
       let all = s.entries ++ front.entries in
@@ -230,7 +239,7 @@ module _ {f : Function} {g : Fn} {active : List Active} {listed : List ℕ} (is_
             ∙ ap₂ (λ (entries : Entries) (seen : ℕ). stored (to_local r) None (true ∷ []) moved.mid last come.scope entries seen (length s.entries)) (sym (next_there come.entry)) (taken_all v come.seen come.taken);
         enough = next_enough come.entry;
         writes = next_written (to_local r) come.entry v come.single refl (λ r local. moved.no_nil);
-        plain = next_plain come.entry v come.single (λ none. no_function g active e (plain none) made_before made_behind v come.is);
+        function = λ none. next_read come.entry v come.single none ∙ only_named front.values v (front.counts ∙ none);
       }
 
   -- an operand x of the word of the store comes to this situation
@@ -246,9 +255,9 @@ module _ {f : Function} {g : Fn} {active : List Active} {listed : List ℕ} (is_
     seen_all to taken = seen_before d seen (counted x) ∙ ap (seen_with d) taken
 
     -- it stands in the next register
-    next_begins : (to : Assigned) (entry : EntryValue) (v : Value) → StandsIn f (length active) listed free x free1 (in_next entry v) → (others ≡ 0 → IsNoFunction v) → Reaches f begun (behind_all front) p.pc (behind_words scope seen (entry ∷ []) (behind_all front)) →
+    next_begins : (to : Assigned) (entry : EntryValue) (v : Value) → StandsIn f (length active) listed free x free1 (in_next entry v) → (others ≡ 0 → function_number v ≡ function_in to.values to.last) → Reaches f begun (behind_all front) p.pc (behind_words scope seen (entry ∷ []) (behind_all front)) →
         max seen (counted x) ≡ taken_by to s.seen → WritesValues f (front.entries ++ entry ∷ []) None d (suc others) to → Begun f (length active) s others d to first q.pc
-    next_begins to entry v stands plain reaches taken writes =
+    next_begins to entry v stands function reaches taken writes =
         let all = s.entries ++ (front.entries ++ entry ∷ []) in
         let t = record s { scope = scope; entries = all; seen = seen } in
         let few : x < 250 = omega (arith, stands.0, stands.1) in
@@ -270,13 +279,13 @@ module _ {f : Function} {g : Fn} {active : List Active} {listed : List ℕ} (is_
               ∙ ap₂ (λ (parts seen : ℕ). stored d None (true ∷ []) p.pc q.pc scope all seen parts) height is_seen;
           enough = next_enough entry;
           writes = writes;
-          plain = next_plain entry v stands.3 plain;
+          function = λ none. next_read entry v stands.3 none ∙ function none;
         }
 
     -- it is a local or a constant
-    straight_begins : (to : Assigned) (kept : Kept) → StandsIn f (length active) listed free x free1 kept → entries_in kept ≡ [] → CanTake d kept → stored_function (straight_of kept) front.entries ≡ None →
+    straight_begins : (to : Assigned) (kept : Kept) → StandsIn f (length active) listed free x free1 kept → entries_in kept ≡ [] → CanTake d kept → (others ≡ 0 → stored_function (straight_of kept) front.entries ≡ function_in to.values to.last) →
         Reaches f begun (behind_all front) p.pc (behind_words scope seen [] (behind_all front)) → max seen (counted x) ≡ taken_by to s.seen → WritesValues f front.entries (straight_of kept) d (suc others) to → Begun f (length active) s others d to first q.pc
-    straight_begins to kept stands straight_kept can plain reaches taken writes =
+    straight_begins to kept stands straight_kept can function reaches taken writes =
         let all = s.entries ++ front.entries in
         let t = record s { scope = scope; entries = all; seen = seen } in
         let counts : length all ≡ length entries + others = omega (arith, length-append s.entries front.entries, size, height) in
@@ -296,30 +305,30 @@ module _ {f : Function} {g : Fn} {active : List Active} {listed : List ℕ} (is_
               ∙ ap₂ (λ (parts seen : ℕ). stored d (straight_of kept) [] p.pc q.pc scope all seen parts) height (seen_all to taken);
           enough = omega (arith, size);
           writes = writes;
-          plain = λ none. plain;
+          function = function;
         }
 
     -- it goes to a name that is no local
-    name_begins : (kept : Kept) → is_part (Some (target_to d)) ≡ false → ((r : ℕ) → d ≡ to_local r → ⊥) → IsValueKept kept → (others ≡ 0 → IsNoFunction (value_of kept)) → max seen (counted x) ≡ taken_behind_operand (operand_of kept) front.seen →
+    name_begins : (kept : Kept) → is_part (Some (target_to d)) ≡ false → ((r : ℕ) → d ≡ to_local r → ⊥) → IsValueKept kept → max seen (counted x) ≡ taken_behind_operand (operand_of kept) front.seen →
         StandsIn f (length active) listed free x free1 kept → Reaches f begun (behind_all front) p.pc (behind_words scope seen (entries_in kept) (behind_all front)) → Begun f (length active) s others d (to_name front.values (value_of kept)) first q.pc
-    name_begins (in_word number) named far value plain taken stands reaches = absurd value
-    name_begins (in_local r) named far value plain taken stands reaches =
-        straight_begins (to_name front.values (local_value r)) (in_local r) stands refl (name_takes d (in_local r) far tt) refl reaches (taken_all (local_value r) (max seen (counted x)) (sym taken)) (local_written f front.entries d (suc others) front.values r front.singles)
-    name_begins (in_next entry v) named far value plain taken stands reaches =
-        next_begins (to_name front.values v) entry v stands plain reaches (taken_all v (max seen (counted x)) (sym taken)) (next_written d entry v stands.3 named (λ r local. absurd (far r local)))
+    name_begins (in_word number) named far value taken stands reaches = absurd value
+    name_begins (in_local r) named far value taken stands reaches =
+        straight_begins (to_name front.values (local_value r)) (in_local r) stands refl (name_takes d (in_local r) far tt) (λ none. only_named front.values (local_value r) (front.counts ∙ none)) reaches (taken_all (local_value r) (max seen (counted x)) (sym taken)) (local_written f front.entries d (suc others) front.values r front.singles)
+    name_begins (in_next entry v) named far value taken stands reaches =
+        next_begins (to_name front.values v) entry v stands (λ none. only_named front.values v (front.counts ∙ none)) reaches (taken_all v (max seen (counted x)) (sym taken)) (next_written d entry v stands.3 named (λ r local. absurd (far r local)))
 
     -- it goes to a part of a table
-    part_begins : (kept : Kept) → is_part (Some (target_to d)) ≡ true → (others ≡ 0 → IsNoFunctionOperand (operand_of kept)) → max seen (counted x) ≡ taken_behind_operand (operand_of kept) front.seen →
+    part_begins : (kept : Kept) → is_part (Some (target_to d)) ≡ true → max seen (counted x) ≡ taken_behind_operand (operand_of kept) front.seen →
         StandsIn f (length active) listed free x free1 kept → Reaches f begun (behind_all front) p.pc (behind_words scope seen (entries_in kept) (behind_all front)) → Begun f (length active) s others d (with_operand front.values (operand_of kept)) first q.pc
-    part_begins kept part plain taken stands reaches = by kept plain (taken ∙ ap (taken_behind_operand (operand_of kept)) (sym front.taken)) stands reaches
+    part_begins kept part taken stands reaches = by kept (taken ∙ ap (taken_behind_operand (operand_of kept)) (sym front.taken)) stands reaches
       where
-        by : (kept : Kept) → (others ≡ 0 → IsNoFunctionOperand (operand_of kept)) → max seen (counted x) ≡ taken_behind_operand (operand_of kept) (taken_behind_values front.values s.seen) → StandsIn f (length active) listed free x free1 kept →
+        by : (kept : Kept) → max seen (counted x) ≡ taken_behind_operand (operand_of kept) (taken_behind_values front.values s.seen) → StandsIn f (length active) listed free x free1 kept →
             Reaches f begun (behind_all front) p.pc (behind_words scope seen (entries_in kept) (behind_all front)) → Begun f (length active) s others d (with_operand front.values (operand_of kept)) first q.pc
-        by (in_word number) plain taken stands reaches =
-            straight_begins (with_operand front.values (constant_operand number)) (in_word number) stands refl (part_takes d (in_word number) part) refl reaches taken (operand_written f front.entries d (suc others) front.values (constant_operand number) front.singles)
-        by (in_local r) plain taken stands reaches =
-            straight_begins (with_operand front.values (value_operand (local_value r))) (in_local r) stands refl (part_takes d (in_local r) part) refl reaches taken (operand_written f front.entries d (suc others) front.values (value_operand (local_value r)) front.singles)
-        by (in_next entry v) plain taken stands reaches = next_begins (with_operand front.values (value_operand v)) entry v stands plain reaches taken (part_written d entry v stands.3 part)
+        by (in_word number) taken stands reaches =
+            straight_begins (with_operand front.values (constant_operand number)) (in_word number) stands refl (part_takes d (in_word number) part) (λ none. only_part front.values (constant_operand number) (front.counts ∙ none)) reaches taken (operand_written f front.entries d (suc others) front.values (constant_operand number) front.singles)
+        by (in_local r) taken stands reaches =
+            straight_begins (with_operand front.values (value_operand (local_value r))) (in_local r) stands refl (part_takes d (in_local r) part) (λ none. only_part front.values (value_operand (local_value r)) (front.counts ∙ none)) reaches taken (operand_written f front.entries d (suc others) front.values (value_operand (local_value r)) front.singles)
+        by (in_next entry v) taken stands reaches = next_begins (with_operand front.values (value_operand v)) entry v stands (λ none. only_part front.values (value_operand v) (front.counts ∙ none)) reaches taken (part_written d entry v stands.3 part)
 
 -- ---- the last value goes to its target by its own words
 
@@ -329,9 +338,9 @@ store_said d {q = q} said at = record { x = at.x; free1 = at.free1; mid = at.mid
 
 module _ {f : Function} {g : Fn} {active : List Active} {listed : List ℕ} (is_function : IsFunction f g) (all : AreListed f g active listed) (d : Destination) (e : Expression) (reads : ReadsCore f g active listed e) where
   module _ (s : Situation) (entries behind : Entries) {Front : Values → Type 0} {deep others first : ℕ} (free : ℕ) (p q : Spot) (locals : HasLocals active listed s) (there : IsThere f (length active) listed entries d behind) (height : length entries ≡ length s.entries)
-      (none : IsNoItem (length active) s.entries d) (front : AllCome f Front deep s others first p.pc) (next : free ≡ next_free (behind_all front)) (few : free ≤ 250) (quiet : IsQuiet f s.scope p.pc q.pc) (plain : others ≡ 0 → IsNoFunctionExpression e) where
+      (none : IsNoItem (length active) s.entries d) (front : AllCome f Front deep s others first p.pc) (next : free ≡ next_free (behind_all front)) (few : free ≤ 250) (quiet : IsQuiet f s.scope p.pc q.pc) where
     locals_there : HasLocals active listed (behind_all front)
-    locals_there = record { base = locals.base; places = front.same.active ∙ locals.places }
+    locals_there = locals_then front.same locals
 
     quiet_there : IsQuiet f front.scope p.pc q.pc
     quiet_there = quiet_same front.same quiet
@@ -343,13 +352,13 @@ module _ {f : Function} {g : Fn} {active : List Active} {listed : List ℕ} (is_
     arrived r there (inl made) = record {
       to = to_name front.values made.value;
       goes = inl (refl, made.value, made.is, refl);
-      begun = made_begins is_function s locals entries behind height front e plain p.functions q.functions r there made;
+      begun = made_begins is_function s locals entries behind height front e p.functions q.functions r there made;
     }
     arrived r there (inr (inl (same, comes))) = absurd (omega (arith, same, locals.base, there.0))
     arrived r there (inr (inr moved)) = record {
       to = to_name front.values moved.comes.value;
       goes = inl (refl, moved.comes.value, moved.comes.is, refl);
-      begun = moved_begins is_function s locals entries behind height front e plain p.functions q.functions r there (omega (arith, next, few)) moved;
+      begun = moved_begins is_function s locals entries behind height front e p.functions q.functions r there (omega (arith, next, few)) moved;
     }
 
     local_stored : (r : ℕ) → IsThere f (length active) listed entries (to_local r) behind → (related g e).to_reg active free r p q → Gives (to_local r)
@@ -374,8 +383,7 @@ module _ {f : Function} {g : Fn} {active : List Active} {listed : List ℕ} (is_
           to = to_name front.values (value_of held.kept);
           goes = inl (named, value_of held.kept, is, refl);
           begun =
-              name_begins is_function s locals entries behind height front d there none free at.x at.free1 next at.mid q held.scope held.same held.seen (quiet_from at.mid.pc (reaches_on held.reaches) quiet) at.words_at held.kept named far value
-              (λ none. no_function g active e (plain none) p.functions q.functions (value_of held.kept) is) held.taken held.stands held.reaches;
+              name_begins is_function s locals entries behind height front d there none free at.x at.free1 next at.mid q held.scope held.same held.seen (quiet_from at.mid.pc (reaches_on held.reaches) quiet) at.words_at held.kept named far value held.taken held.stands held.reaches;
         }
 
     part_stored : is_part (Some (target_to d)) ≡ true → OneAt (RkAt g active (related g e)) free (StoreWordAt g d) p q → Gives d
@@ -386,8 +394,7 @@ module _ {f : Function} {g : Fn} {active : List Active} {listed : List ℕ} (is_
           to = with_operand front.values (operand_of held.kept);
           goes = inr (part, operand_of held.kept, is, refl);
           begun =
-              part_begins is_function s locals entries behind height front d there none free at.x at.free1 next at.mid q held.scope held.same held.seen (quiet_from at.mid.pc (reaches_on held.reaches) quiet) at.words_at held.kept part
-              (λ none. operand_none g active e (plain none) p.functions q.functions (operand_of held.kept) is) held.taken held.stands held.reaches;
+              part_begins is_function s locals entries behind height front d there none free at.x at.free1 next at.mid q held.scope held.same held.seen (quiet_from at.mid.pc (reaches_on held.reaches) quiet) at.words_at held.kept part held.taken held.stands held.reaches;
         }
 
     -- by what the place says
@@ -411,9 +418,9 @@ module _ {f : Function} {g : Fn} {active : List Active} {listed : List ℕ} (is_
   pub last_forward : (free : ℕ) (p q : Spot) → StoreAt g place (related g e) active free p q → p.pc ≤ q.pc
   last_forward free p q at = forward_by is_function all d e reads place said free p q at
 
-  -- the parts stand in these entries, where the target's are taken behind those of the others; an only value is no function
+  -- the parts stand in these entries, where the target's are taken behind those of the others
   pub last_stored : {Front : Values → Type 0} (s : Situation) (entries behind : Entries) {deep others first : ℕ} (free : ℕ) (p q : Spot) → HasLocals active listed s → IsThere f (length active) listed entries d behind → length entries ≡ length s.entries → IsNoItem (length active) s.entries d →
-      (front : AllCome f Front deep s others first p.pc) → free ≡ length active + (length s.entries + others) → free ≤ 250 → IsQuiet f s.scope p.pc q.pc → (others ≡ 0 → IsNoFunctionExpression e) → StoreAt g place (related g e) active free p q → LastStored f g active e p.functions q.functions d s others front.values first q.pc
-  last_stored s entries behind free p q locals there height none front is few quiet plain at =
+      (front : AllCome f Front deep s others first p.pc) → free ≡ length active + (length s.entries + others) → free ≤ 250 → IsQuiet f s.scope p.pc q.pc → StoreAt g place (related g e) active free p q → LastStored f g active e p.functions q.functions d s others front.values first q.pc
+  last_stored s entries behind free p q locals there height none front is few quiet at =
       let next : free ≡ next_free (behind_all front) = omega (arith, is, locals.base, length-append s.entries front.entries, count_of_entries front.entries front.values front.singles, front.counts) in
-      by_place is_function all d e reads s entries behind free p q locals there height none front next few quiet plain place said fits at
+      by_place is_function all d e reads s entries behind free p q locals there height none front next few quiet place said fits at

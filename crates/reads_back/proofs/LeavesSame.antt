@@ -21,7 +21,7 @@ use Rattle.scheme.specs.declared.making.Piece.{Piece}
 use Rattle.scheme_stands.proofs.Growth.{Final, before_free, before_put}
 use Rattle.scheme_stands.specs.Words.{Fn, Means}
 use Rattle.reads_back.specs.Cores.{HasNumber, IsConstant, IsNamed, IsVariable}
-use Rattle.reads_back.proofs.ConstantsSame.{before_load, constant_is, constant_taken, fold_numeral, loads, number_loads, number_no_name, number_single, numeral_few, numeral_loads, numeral_plain, numeral_single}
+use Rattle.reads_back.proofs.ConstantsSame.{before_load, constant_is, constant_word_is, constant_taken, fold_numeral, loads, number_loads, number_no_name, number_single, numeral_few, numeral_loads, numeral_plain, numeral_single}
 use Rattle.reads_back.proofs.Deeper.{some_depth}
 use Rattle.reads_back.proofs.Rewriting.{IsMadeBy, Rewritten, code, keys_of}
 use Rattle.reads_back.proofs.WholeNumbers.{IsWhole}
@@ -56,7 +56,7 @@ record LoadsIt (k : Constant) (e : Expression) : Type 0 where
 module _ {f : Function} {g : Fn} {active : List Active} {listed : List ℕ} {z : Maker} {lefts : ℕ → List (Option Inner)} {before : ℕ} (made : IsMadeBy f g active listed z) where
   loaded_rewritten : (e : Expression) (k : Constant) (number : ℕ) → HasNumber g k number → IsLoaded k → LoadsIt k e → Rewritten f g active listed z lefts before before e (constant_value number)
   loaded_rewritten e k number has loaded it = record {
-    can = ap is_some there;
+    can = ap is_some (constant_is made k number has);
     leaves = refl;
     makes = ap (λ mentions. made_behind mentions before) (sym it.nameless);
     named = λ n. ap (λ (w : Wording). is_name w.words) word_is ∙ loaded.named ∙ sym it.named;
@@ -72,11 +72,8 @@ module _ {f : Function} {g : Fn} {active : List Active} {listed : List ℕ} {z :
     multi_taken = λ several. never_several e it.single several;
   }
     where
-      there : slice_get f.of.constants number ≡ Some k
-      there = constant_is made k number has
-
       word_is : constant_word (slice_get f.of.constants number) ≡ literal_word k
-      word_is = ap constant_word there
+      word_is = constant_word_is made k number has
 
   -- a folded number is the numeral of it
   pub number_rewritten : (e : Expression) (n : ℤ) (v : Value) → IsWhole n → fold e ≡ Some n → IsConstant g (Constant.Number n) v → Rewritten f g active listed z lefts before before e v

@@ -30,7 +30,6 @@ pub mod WrittenFormed
 pub mod Marks
 pub mod MarksSame
 pub mod Mentions
-pub mod NoneMade
 pub mod FunctionsLeft
 pub mod PassedMentions
 pub mod WordsSame
@@ -41,7 +40,8 @@ pub mod GivenSame
 pub mod CallsSame
 pub mod ActsRead
 pub mod HeldOperands
-pub mod NoFunctions
+pub mod Paths
+pub mod FunctionSteps
 pub mod StoresRead
 pub mod PartsRead
 pub mod AssignmentsRead
@@ -72,8 +72,10 @@ pub mod ActsSame
 pub mod DeclaredSame
 pub mod TargetsSame
 pub mod EachStoredSame
+pub mod NamedSame
 pub mod AssignedSame
 pub mod ActsRewritten
+pub mod NamedActs
 pub mod ActsFormed
 pub mod DeclaredLocals
 pub mod ListedLocals
@@ -82,6 +84,7 @@ pub mod StraightScopes
 pub mod DeclaredValues
 pub mod WordsLater
 pub mod AdjustedEntries
+pub mod LastOfList
 pub mod SeveralValues
 pub mod AdjustedComes
 pub mod DeclaredComes
@@ -103,4 +106,16 @@ pub mod StraightActs
 pub mod BlockReads
 pub mod FlatStraight
 pub mod StepsPlaced
+pub mod ParametersRead
+pub mod StraightFunctions
+pub mod EachMade
+pub mod LeftFunctions
+pub mod ReadOnce
+pub mod NamesInside
+pub mod PlainBodies
+pub mod SameFunctions
+pub mod InnerReads
+pub mod FunctionsRead
 pub mod StraightSources
+pub mod FunctionStatements
+pub mod SameStatements

@@ -1,7 +1,6 @@
 -- The value of an expression has the names that the expression mentions, in the same order, where each function that is made is the part of the source that has its number.
 use Rattle.std.proofs.Common.{◌≡◌, ℕ, suc, Bool, true, false, ◌&&◌, List, length, max, Option, Some, None, refl, sym, ap, ◌∙◌, inl, inr}
 use Rattle.std.specs.Prelude.{ℤ, nat_lt, if◌then◌else◌}
-use Rattle.std.proofs.lemmas.Option.{same_Some}
 use Rattle.lua_num.specs.declared.arith.ArithOp.{ArithOp}
 use Rattle.lua_num.specs.Bytes.{Text}
 use Rattle.lua_tree.specs.OneLine.{one_line_arguments, one_line_body, one_line_expression, one_line_expressions, one_line_fields}
@@ -22,21 +21,17 @@ use Rattle.scheme.specs.declared.making.Active.{Active}
 use Rattle.scheme_stands.specs.Lists.{is_last_item}
 use Rattle.scheme_stands.specs.Words.{Fn}
 use Rattle.reads_back.specs.Coming.{Coming, IsMadeNext}
-use Rattle.reads_back.specs.Cores.{HasNumber, IsKey, IsSmall, IsVariable, AllHaveCores, AreCores, AreGiven, HasCore, HaveCores, IsClosure, IsConstant, IsCore, IsFoldedOr, IsItem, IsKeyedItem, AreItems, HaveItems, IsOperandBy, IsOperator, core, only, first_and, Counted, CountedItems}
+use Rattle.reads_back.specs.Cores.{HasNumber, IsKey, IsSmall, IsVariable, AllHaveCores, AreCores, AreGiven, HasCore, HaveCores, IsClosure, IsConstant, IsCore, IsFoldedOr, IsItem, IsKeyedItem, AreItems, HaveItems, IsOperandBy, IsOperator, core, only, first_and, Counted, CountedItems, IsPlainBody}
 use Rattle.reads_back.proofs.LiteralReads.{constant_there}
 use Rattle.reads_back.proofs.Marks.{SamePart, both_assoc, both_same, name_mentioned, nothing_behind, part_back, part_of, part_of_operand, part_then, parts_of, parts_of_items, parts_of_operands, same_part}
 use Rattle.reads_back.proofs.NameReads.{AreListed, IsListed}
-use Rattle.reads_back.proofs.Tests.{not_so}
+use Rattle.reads_back.proofs.Tests.{given_is, not_so}
 use Rattle.reads_back.proofs.WordsRead.{IsFunction}
 
 -- ---- values from their parts
 
 pub over_made : (depth : ℕ) (make : ℕ → Value) (v : Value) → made_over depth make ≡ Some v → v ≡ make (suc depth)
-over_made depth make v is = by (nat_lt depth 400) is
-  where
-    by : (few : Bool) → (if few then Some (make (suc depth)) else None) ≡ Some v → v ≡ make (suc depth)
-    by true is = sym (same_Some _ v is)
-    by false is = cc
+over_made depth make v is = sym (given_is (nat_lt depth 400) (make (suc depth)) v is)
 
 module _ (at : Place) (of : ℕ → Part) where
   last_part : (keys : OperandList) (key : OperandValue) → SamePart (parts_of_operands at of (and_last keys key)) (both (parts_of_operands at of keys) (part_of_operand at of key))
@@ -75,7 +70,7 @@ folded_part e n is = cc
 
 -- a function that is made is the part of the source that has its number
 abbrev pub ArePartsMade : (g : Fn) (active : List Active) (of : ℕ → Part) → Type 0
-ArePartsMade g active of = (body : FunctionBody) (c : Coming) → IsMadeNext g active body false c → SamePart (of c.functions) (body_part false body)
+ArePartsMade g active of = (body : FunctionBody) (c : Coming) → IsPlainBody body → IsMadeNext g active body false c → SamePart (of c.functions) (body_part false body)
 
 module _ {f : Function} {g : Fn} {active : List Active} {listed : List ℕ} (is_function : IsFunction f g) (all : AreListed f g active listed) (of : ℕ → Part) (parts_made : ArePartsMade g active of) where
   abbrev at : Place
@@ -198,9 +193,9 @@ module _ {f : Function} {g : Fn} {active : List Active} {listed : List ℕ} (is_
 
   -- ---- functions
 
-  closure_part : (body : FunctionBody) → one_line_body body ≡ body → (before behind : ℕ) (v : Value) → IsClosure g active body false before behind v → SamePart (part_of at of v) (body_part false (one_line_body body))
-  closure_part body on_line before behind v is =
-      let same = part_then (parts_made body is.2 is.4) (λ place. ap (λ body. body_part false body place) (sym on_line)) in
+  closure_part : (body : FunctionBody) → IsPlainBody body → (before behind : ℕ) (v : Value) → IsClosure g active body false before behind v → SamePart (part_of at of v) (body_part false (one_line_body body))
+  closure_part body plain before behind v is =
+      let same = part_then (parts_made body is.2 plain is.4) (λ place. ap (λ body. body_part false body place) (sym plain.on_line)) in
       part_then (is_part at of v _ is.1) (part_then (λ place. ap (λ number. of number place) (sym is.3)) same)
 
   mutual

@@ -22,7 +22,8 @@ use Rattle.scheme_stands.specs.Lists.{GivenRel, MethodAt}
 use Rattle.scheme_stands.specs.Words.{Fn, Spot, WordAt}
 use Rattle.reads_back.proofs.CallWords.{method_of, method_is_made, method_called}
 use Rattle.reads_back.proofs.Comes.{Begins, IsWanted, CallComes, ReadsCall, GivenComes, ReadsGiven, OperandComes, ReadsOperand}
-use Rattle.reads_back.proofs.BehindWords.{HasLocals, SameLocals, same_then, quiet_same, behind_words}
+use Rattle.reads_back.proofs.BehindWords.{HasLocals, SameLocals, same_then, quiet_same, behind_words, locals_then}
+use Rattle.reads_back.proofs.OperandReads.{text_forward}
 use Rattle.reads_back.proofs.Operators.{on_is_read}
 use Rattle.reads_back.proofs.Reaches.{Reaches, here, word, reaches_on, reaches_then}
 use Rattle.reads_back.proofs.ValueWords.{entry_next, next_free, place_of_next}
@@ -260,10 +261,6 @@ both_called {deep = deep} {last = last} {q = q} {count = count} {s = s} op free 
       makes = method_called w (behind_both one args) s.entries args.more one.value one.number count list refl is refl under (args.listed (s.entries ++ method) (length s.entries + 2) (count_field 1 count) place refl);
     }
 
-name_forward : {g : Fn} {name : Text} (free y free2 : ℕ) (p q : Spot) → RkTextAt g name free y free2 p q → p.pc ≤ q.pc
-name_forward free y free2 p q (inl small) = omega (arith, small.same.pc)
-name_forward free y free2 p q (inr (large, far)) = omega (arith, far.value_at.word.next)
-
 name_keeps : {g : Fn} {name : Text} (free y free2 : ℕ) (p q : Spot) → RkTextAt g name free y free2 p q → q.functions ≡ p.functions
 name_keeps free y free2 p q (inl small) = small.same.functions
 name_keeps free y free2 p q (inr (large, far)) = far.value_at.word.functions
@@ -287,13 +284,13 @@ module _ {f : Function} {g : Fn} {active : List Active} {listed : List ℕ} {On 
   method_forward : (free : ℕ) (op : Op) (want : Want) (p q : Spot) → MethodAt g on_part name given active free op want p q → p.pc ≤ q.pc
   method_forward free op want p q at =
       let on_first = on_reads.forward free at.x at.free1 p at.mid at.on_at in
-      let named = name_forward (free + 2) at.y at.free2 at.mid at.named at.name_at in
+      let named = text_forward _ _ (free + 2) at.y at.free2 at.mid at.named at.name_at in
       omega (arith, on_first, named, at.self_at.next, given_reads.forward (free + 2) at.begun at.last at.given_at, at.word.next)
 
   -- the first word of the object, of the load of the name, or SELF
   method_begins : (free : ℕ) (op : Op) (want : Want) (p q : Spot) → q.pc ≤ f.last → MethodAt g on_part name given active free op want p q → Begins f free p.pc
   method_begins free op want p q within at =
-      let named = name_forward (free + 2) at.y at.free2 at.mid at.named at.name_at in
+      let named = text_forward _ _ (free + 2) at.y at.free2 at.mid at.named at.name_at in
       let begun : at.begun.pc ≤ f.last = omega (arith, within, given_reads.forward (free + 2) at.begun at.last at.given_at, at.word.next) in
       by_object (on_reads.begins free at.x at.free1 p at.mid (omega (arith, named, at.self_at.next, begun)) at.on_at)
     where
@@ -305,7 +302,7 @@ module _ {f : Function} {g : Fn} {active : List Active} {listed : List ℕ} {On 
       CallComes f (method_called_by g name On Given p.functions q.functions) (suc deep) s op free (count_field 1 want) p.pc q.pc
   method_comes_to free op want p q s locals is quiet at =
       let on_first = on_reads.forward free at.x at.free1 p at.mid at.on_at in
-      let named = name_forward (free + 2) at.y at.free2 at.mid at.named at.name_at in
+      let named = text_forward _ _ (free + 2) at.y at.free2 at.mid at.named at.name_at in
       let given_first = given_reads.forward (free + 2) at.begun at.last at.given_at in
       let before = quiet_before at.last.pc (omega (arith, at.word.next)) quiet in
       let begun = quiet_before at.begun.pc given_first before in
@@ -314,7 +311,7 @@ module _ {f : Function} {g : Fn} {active : List Active} {listed : List ℕ} {On 
       let on = on_comes is fits (on_reads.comes free at.x at.free1 p at.mid s locals is (quiet_before at.mid.pc (omega (arith, named, at.self_at.next)) begun) wanted at.on_at) in
       let one = named_comes on is_function is begun at.name_at at.self_at in
       let next : free + 2 ≡ next_free (behind_method one) = omega (arith, is, length-append s.entries (method_entry one.value one.number ∷ more_entry ∷ [])) in
-      let there : HasLocals active listed (behind_method one) = record { base = locals.base; places = one.same.active ∙ locals.places } in
+      let there : HasLocals active listed (behind_method one) = locals_then one.same locals in
       let first : p.pc ≤ at.begun.pc = omega (arith, on_first, named, at.self_at.next) in
       let some : 0 < length (behind_method one).entries = omega (arith, length-append s.entries (method_entry one.value one.number ∷ more_entry ∷ [])) in
       let args = given_reads.comes (free + 2) at.begun at.last (behind_method one) there next (quiet_same one.same (quiet_from at.begun.pc first before)) some at.given_at in

@@ -1,5 +1,5 @@
 -- A name is read as what it means: a local, an upvalue or a global. As an operand a local needs no word.
-use Rattle.std.proofs.Common.{◌≡◌, ℕ, ◌-◌, ◌<◌, ◌≤◌, Bool, true, false, cond, List, length, Option, Some, None, is_some, refl, sym, ap, ◌∙◌, subst, subst₂, arith, if◌then◌else◌}
+use Rattle.std.proofs.Common.{◌≡◌, ℕ, ◌-◌, ◌<◌, ◌≤◌, true, cond, List, length, Option, Some, None, is_some, refl, sym, ap, ◌∙◌, subst, subst₂, arith, if◌then◌else◌}
 use Rattle.std.specs.Prelude.{option_and_then, option_map, slice_get}
 use Rattle.lua_num.specs.Bytes.{Text}
 use Rattle.lua_tree.specs.Names.{is_name}
@@ -25,7 +25,7 @@ use Rattle.reads_back.specs.Cores.{IsCore, IsNamed, still}
 use Rattle.reads_back.proofs.Comes.{Arrives, Begins, Reads}
 use Rattle.reads_back.proofs.BehindWords.{HasLocals}
 use Rattle.reads_back.proofs.LiteralReads.{MakesValue, constant_there, word_made}
-use Rattle.reads_back.proofs.Tests.{not_below}
+use Rattle.reads_back.proofs.Tests.{not_below, test_holds}
 use Rattle.reads_back.proofs.WordsBegin.{word_begins}
 use Rattle.reads_back.proofs.WordsRead.{abx_is_read, IsFunction, IsQuiet, abc_is_read, word_of}
 
@@ -40,10 +40,6 @@ IsListed f count listed text in_globals = Unit {0}
 pub record AreListed (f : Function) (g : Fn) (active : List Active) (listed : List ℕ) : Type 0 where
   pub listed_as : (text : Text) (w : Where) → Means g.law active text w → IsListed f (length active) listed text w
   pub few : length active ≤ 250
-
--- every name that is used means a global
-pub record OnlyGlobals (g : Fn) (active : List Active) : Type 0 where
-  pub globals : (text : Text) (w : Where) → Means g.law active text w → w ≡ in_globals
 
 -- ---- words
 
@@ -61,13 +57,9 @@ local_makes f pc to r text s below is =
           ∙ ap (λ name. option_map (made w s) (if has_name name then Some (local_value r) else None)) (entry_named (place_in_step f s) text (slice_get s.scope.active r) is);
     }
 
-good_by : (good : Bool) (name text : Text) → (if good then Some name else None) ≡ Some text → good ≡ true
-good_by true name text is = refl
-good_by false name text is = cc
-
 pub good_text : (name : Option Text) (text : Text) → as_name name ≡ Some text → is_good_text name ≡ true
 good_text None text is = cc
-good_text (Some name) text is = good_by (is_name name) name text is
+good_text (Some name) text is = test_holds (is_name name) name text is
 
 upvalue_makes : (f : Function) (pc to slot : ℕ) (text : Text) (s : Situation) → upvalue_name (place_in_step f s) slot ≡ Some text → MakesValue f pc (Piece.Abc Op.GetUpval to slot 0) s (upvalue_value slot)
 upvalue_makes f pc to slot text s is =
@@ -84,10 +76,10 @@ global_makes f pc to number text s there named =
 
 -- ---- names
 
-name_forward : (g : Fn) (text : Text) (w : Where) (r : ℕ) (p q : Spot) → NameBy g text w r p q → p.pc ≤ q.pc
-name_forward g text (in_register x) r p q at = omega (arith, at.next)
-name_forward g text (in_upvalue slot) r p q at = omega (arith, at.next)
-name_forward g text in_globals r p q at = omega (arith, at.word.next)
+pub name_later : (g : Fn) (text : Text) (w : Where) (r : ℕ) (p q : Spot) → NameBy g text w r p q → p.pc < q.pc
+name_later g text (in_register x) r p q at = omega (arith, at.next)
+name_later g text (in_upvalue slot) r p q at = omega (arith, at.next)
+name_later g text in_globals r p q at = omega (arith, at.word.next)
 
 name_begins : {f : Function} {g : Fn} (text : Text) (w : Where) (free : ℕ) (p q : Spot) → IsFunction f g → NameBy g text w free p q → Begins f free p.pc
 name_begins text (in_register x) free p q is_function at = word_begins free is_function at (abc_is_read is_function at) refl (omega arith)
@@ -108,7 +100,7 @@ module _ {f : Function} {g : Fn} {active : List Active} {listed : List ℕ} (is_
 
   pub name_reads : (text : Text) → is_name text ≡ true → Reads f g active listed (still (IsNamed g active text)) 1 (NameAt g text active)
   name_reads text named = record {
-    forward = λ free r p q at. omega (arith, at.1.first_at.pc, name_forward g text (meaning active p) r at.1.mid q at.1.second_at);
+    forward = λ free r p q at. omega (arith, at.1.first_at.pc, name_later g text (meaning active p) r at.1.mid q at.1.second_at);
     begins = λ free p q within at. subst (λ (pc : ℕ). Begins f free pc) at.1.first_at.pc (name_begins text (meaning active p) free at.1.mid q is_function at.1.second_at);
     arrives = λ free r p q s locals is goal quiet wanted at.
         let same = at.1.first_at.pc in

@@ -22,7 +22,7 @@ use Rattle.scheme_stands.specs.Relation.{related}
 use Rattle.scheme_stands.specs.Words.{Fn, Means, Spot, Stretch}
 use Rattle.reads_back.specs.Acted.{IsTarget, named_behind}
 use Rattle.reads_back.specs.Cores.{Counted, IsCore, IsValueOperand, valued}
-use Rattle.reads_back.proofs.BehindWords.{HasLocals, SameLocals, behind_words, quiet_same, same_locals, same_then}
+use Rattle.reads_back.proofs.BehindWords.{HasLocals, SameLocals, behind_words, quiet_same, same_locals, same_then, locals_then}
 use Rattle.reads_back.proofs.BothOperands.{counted}
 use Rattle.reads_back.proofs.Comes.{IsOperandWanted, IsWanted, ReadsCore}
 use Rattle.reads_back.proofs.GlobalTargets.{HasGlobal}
@@ -84,10 +84,6 @@ kept_no_maker (in_local r) is none = tt
 -- what is known behind the words of an operand
 abbrev behind_held : {f : Function} {active : List Active} {listed : List ℕ} {Is : OperandValue → Type 0} {free x free1 first last : ℕ} {s : Situation} → HeldComes f active listed Is s free x free1 first last → Situation
 behind_held {s = s} one = behind_words one.scope one.seen (entries_in one.kept) s
-
-locals_behind : {f : Function} {active : List Active} {listed : List ℕ} {Is : OperandValue → Type 0} {free x free1 first last : ℕ} {s : Situation} (one : HeldComes f active listed Is s free x free1 first last) →
-    HasLocals active listed s → HasLocals active listed (behind_held one)
-locals_behind one locals = record { base = locals.base; places = one.same.active ∙ locals.places }
 
 next_behind : {f : Function} {active : List Active} {listed : List ℕ} {Is : OperandValue → Type 0} {free x free1 first last : ℕ} {s : Situation} (one : HeldComes f active listed Is s free x free1 first last) → free ≡ next_free s →
     free1 ≡ next_free (behind_held one)
@@ -174,7 +170,7 @@ module _ {f : Function} {g : Fn} {active : List Active} {listed : List ℕ} (is_
       let one = tables.comes free at.t at.free1 p at.mid s locals next (quiet_before at.mid.pc key_leads.forward quiet) on_wanted at.on_at in
       let key_wanted : IsOperandWanted f (behind_held one) at.free1 at.k free2 q.pc = λ is more.
       wanted_later f q.pc s one.scope (s.entries ++ entries_in one.kept) one.seen one.same (omega (arith, length-append s.entries (entries_in one.kept))) (wanted (omega (arith, more, on_leads.up))) in
-      let two = keys.comes at.free1 at.k free2 at.mid q (behind_held one) (locals_behind one locals) (next_behind one next) (quiet_same one.same (quiet_from at.mid.pc on_leads.forward quiet)) key_wanted at.key_at in
+      let two = keys.comes at.free1 at.k free2 at.mid q (behind_held one) (locals_then one.same locals) (next_behind one next) (quiet_same one.same (quiet_from at.mid.pc on_leads.forward quiet)) key_wanted at.key_at in
       subst (λ (to : Target). TargetComes f g (length active) listed (Is p.functions q.functions) to s free2 p.pc q.pc) (sym at.is)
       (part_held p.functions at.mid.functions q.functions (Is p.functions q.functions) (is p.functions at.mid.functions q.functions) (is_some (local_at (related g on).form active p)) (key_local active at.mid) free at.t at.free1 at.k free2 p.pc at.mid.pc q.pc s (omega (arith, next, locals.base)) one two)
 

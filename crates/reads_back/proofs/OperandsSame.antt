@@ -21,13 +21,13 @@ use Rattle.scheme_stands.proofs.Parts.{grows, grows_operand, grows_rk}
 use Rattle.scheme_stands.specs.Expressions.{IsLarge}
 use Rattle.scheme_stands.specs.Words.{Fn}
 use Rattle.reads_back.specs.Cores.{HasCore, HasNumber, IsConstant, IsCore, IsKey, IsOperand, IsOperandBy}
-use Rattle.reads_back.proofs.ConstantsSame.{before_load, constant_is, constant_taken, fold_numeral, large_there, loads, number_is, number_stands, numeral_few, numeral_folds, passes_among, small_there}
+use Rattle.reads_back.proofs.ConstantsSame.{before_load, constant_is, constant_taken, constant_word_is, literal_few, fold_numeral, large_there, loads, number_is, number_stands, numeral_folds, passes_among, small_there}
 use Rattle.reads_back.proofs.Deeper.{some_depth}
 use Rattle.reads_back.proofs.LeavesSame.{text_rewritten}
 use Rattle.reads_back.proofs.PlainWords.{IsLoadable, IsShown, is_constant, is_nil, is_no_literal, is_truth, shown}
 use Rattle.reads_back.proofs.Mentions.{IsAhead, mentions_in, made_behind}
 use Rattle.reads_back.proofs.Rewriting.{IsMadeBy, Rewritten, RewrittenOperand, code, operand_wording, wording}
-use Rattle.reads_back.proofs.Tests.{first_of_both, second_of_both}
+use Rattle.reads_back.proofs.Tests.{first_of_both, not_below, second_of_both}
 use Rattle.reads_back.proofs.WholeNumbers.{IsWhole, folded_whole}
 use Rattle.reads_back.proofs.WordsSame.{fold_wrapped, levels_wrapped, operand_final, operand_same, operand_taken, operand_wrapped, rk_large, rk_plain, rk_small, same_literal}
 use Rattle.reads_back.proofs.MentionsMeant.{literal_nameless}
@@ -69,13 +69,6 @@ word_is_literal (Constant.Bool false) whole = refl
 word_is_literal (Constant.Number n) whole = ap (λ folded. number_or folded (plain_literal (numeral n).words)) (fold_numeral n (whole n refl))
 word_is_literal (Constant.Text text) whole = refl
 
-word_few : (k : Constant) → (literal_word k).levels ≤ 3
-word_few Constant.Nil = omega arith
-word_few (Constant.Bool true) = omega arith
-word_few (Constant.Bool false) = omega arith
-word_few (Constant.Number n) = numeral_few n
-word_few (Constant.Text text) = omega arith
-
 -- in parentheses only a number is a literal
 wrapped_literal : (bare : Bool) (w : Wording) (k other : Constant) → literal w.words ≡ Some k → literal (unless bare w).words ≡ Some other → other ≡ k
 wrapped_literal true w k other is wrapped = same_Some other k (sym wrapped ∙ is)
@@ -104,9 +97,6 @@ below_255 n is = grind (arith, nat_tests)
 
 up_to_255 : (n : ℕ) → nat_le n 255 ≡ true → n ≤ 255
 up_to_255 n is = grind (arith, nat_tests)
-
-not_up_to : (n : ℕ) → 255 < n → nat_le n 255 ≡ false
-not_up_to n more = grind (arith, nat_tests)
 
 -- whether a value is written without parentheses
 abbrev bare_at : Function → List ℕ → ℕ → Value → Bool
@@ -153,20 +143,17 @@ module _ {f : Function} {g : Fn} {active : List Active} {listed : List ℕ} {z :
 
   small_rewritten : (e : Expression) (k : Constant) (number : ℕ) → HasCore e → literal e ≡ Some k → HasNumber g k number → number ≤ 255 → behind ≡ before → RewrittenOperand f g active listed z lefts before behind e (constant_operand number)
   small_rewritten e k number cored is has small same = record {
-    can = ap is_some there;
+    can = ap is_some (constant_is made k number has);
     leaves = ap lefts (sym same);
     makes = same ∙ ap (λ mentions. made_behind mentions before) (sym (literal_nameless e k is));
     folded = λ n. fold_by (constant_word (slice_get f.of.constants number)).words ∙ ap number_in (word_literal ∙ sym is) ∙ sym (fold_by e);
-    few = λ n. omega (arith, ap (λ (w : Wording). w.levels) word_is, word_few k, some_depth e);
+    few = λ n. omega (arith, ap (λ (w : Wording). w.levels) word_is, literal_few k, some_depth e);
     as_rk = λ m ahead final. rk_small (constant_word (slice_get f.of.constants number)).words k m word_literal (small_now m final) ∙ sym (is_small_constant m final);
     taken = λ m ahead final. ap (λ (got : Got ℕ). length got.after.constants) (is_small_constant m final) ∙ constant_taken made k number m has (subst (λ (got : Got ℕ). Final (length m.labels) got.after z) (is_small_constant m final) final);
   }
     where
-      there : slice_get f.of.constants number ≡ Some k
-      there = constant_is made k number has
-
       word_is : constant_word (slice_get f.of.constants number) ≡ literal_word k
-      word_is = ap constant_word there
+      word_is = constant_word_is made k number has
 
       word_literal : literal (constant_word (slice_get f.of.constants number)).words ≡ Some k
       word_literal = ap (λ (w : Wording). literal w.words) word_is ∙ word_is_literal k (literal_whole e k cored is)
@@ -239,7 +226,7 @@ module _ {f : Function} {g : Fn} {active : List Active} {listed : List ℕ} {z :
   text_large : (e : Expression) (text : Text) (number : ℕ) (m : Maker) → HasNumber g (Constant.Text text) number → Rewritten f g active listed z lefts before behind e (constant_value number) → IsAhead g active before (mentions_in e) m → Final (length m.labels) (operand (code e) m).after z →
       is_bare (place f.of listed f.short) (length m.constants) (constant_value number) ≡ true → is_small (Constant.Text text) m ≡ false
   text_large e text number m has rewritten ahead final bare =
-      not_up_to (constant_number (Constant.Text text) m.constants) (omega (arith, more, number_is made (Constant.Text text) number m has (before_load m.free (Constant.Text text) m (subst (λ (n : Maker). Final (length m.labels) n z) loaded (operand_final (one_line_expression e) m (constant_no_local e number m rewritten ahead) final)))))
+      not_below 255 (constant_number (Constant.Text text) m.constants) (omega (arith, more, number_is made (Constant.Text text) number m has (before_load m.free (Constant.Text text) m (subst (λ (n : Maker). Final (length m.labels) n z) loaded (operand_final (one_line_expression e) m (constant_no_local e number m rewritten ahead) final)))))
     where
       there : slice_get f.of.constants number ≡ Some (Constant.Text text)
       there = constant_is made (Constant.Text text) number has

@@ -24,7 +24,7 @@ use Rattle.scheme_stands.specs.Expressions.{ArithmeticAt, OneAt, OperandAt, Oper
 use Rattle.scheme_stands.specs.Words.{Fn, Spot, Stretch, WordAt, instr_by}
 use Rattle.reads_back.specs.Cores.{IsArithmetic, IsIndexed, IsUnary, IsValueOperand, Counted, arithmetic_by, valued, unary_by, indexed_by}
 use Rattle.reads_back.proofs.Comes.{Begins, IsOperandWanted, IsWanted, Made, OperandComes, Reads, ReadsOperand}
-use Rattle.reads_back.proofs.BehindWords.{HasLocals, SameLocals, behind_words, quiet_same, same_then}
+use Rattle.reads_back.proofs.BehindWords.{SameLocals, behind_words, quiet_same, same_then, locals_then}
 use Rattle.reads_back.proofs.BothOperands.{behind_operand, both_reach, both_taken, constants_taken, counted, first_popped, next_behind, second_popped, seen_with, seen_with_both, with_seen}
 use Rattle.reads_back.proofs.Reaches.{Reaches, reaches_on}
 use Rattle.reads_back.proofs.ValueWords.{next_free}
@@ -56,10 +56,6 @@ value_popped : (f : Function) (x : ℕ) (t behind : Situation) (operand : Operan
 value_popped f x t behind operand v is popped = value_by (nat_le 256 x) (constant_in f (x - 256)) (pop f x t) v t behind (popped ∙ ap (λ (operand : OperandValue). Some (operand, behind)) is)
 
 -- ---- operands one behind the other
-
-locals_behind : {f : Function} {Is : OperandValue → Type 0} {deep free x free1 first last : ℕ} {s : Situation} {active : List Active} {listed : List ℕ} (one : OperandComes f Is deep s free x free1 first last) → HasLocals active listed s →
-    HasLocals active listed (behind_operand one)
-locals_behind one locals = record { base = locals.base; places = one.same.active ∙ locals.places }
 
 -- ---- registers of operands
 
@@ -192,7 +188,7 @@ module _ {f : Function} {g : Fn} {active : List Active} {listed : List ℕ} {Lef
         let before = quiet_before at.last.pc (omega (arith, at.words_at.next)) quiet in
         let one = left.comes free at.x at.free1 p at.mid s locals is (quiet_before at.mid.pc back before) (first_wanted free r p q s is quiet.within at) at.left_at in
         let next = next_behind one is in
-        let two = right.comes at.free1 at.y at.free2 at.mid at.last (behind_operand one) (locals_behind one locals) next (quiet_same one.same (quiet_from at.mid.pc on before)) (second_wanted free r p q (behind_operand one) at next) at.right_at in
+        let two = right.comes at.free1 at.y at.free2 at.mid at.last (behind_operand one) (locals_then one.same locals) next (quiet_same one.same (quiet_from at.mid.pc on before)) (second_wanted free r p q (behind_operand one) at next) at.right_at in
         inl (by.made is quiet one two at.words_at);
   }
 

@@ -1,6 +1,6 @@
 -- What is written of an operator on values has the same code as the operator on the expressions.
 use Rattle.std.proofs.Common.{◌≡◌, ℕ, suc, ◌+◌, ◌*◌, ◌≤◌, Bool, true, false, List, ◌++◌, length, max, refl, sym, ap, ◌∙◌, subst, arith, nat_lt}
-use Rattle.std.specs.Prelude.{Option, Some, None, ℤ, pos, negsuc, ◌^◌, ◌-◌, ◌==◌, if◌then◌else◌}
+use Rattle.std.specs.Prelude.{Option, Some, None}
 use Rattle.std.proofs.lemmas.Bool.{and_from}
 use Rattle.lua_num.specs.declared.arith.ArithOp.{ArithOp}
 use Rattle.lua_tree.specs.declared.tree.BinaryOp.{BinaryOp}
@@ -16,7 +16,7 @@ use Rattle.core_expr.specs.Making.{depth_of, depth_of_operand, made_binary, made
 use Rattle.core_expr.specs.Places.{constant_at, place}
 use Rattle.core_expr.specs.Values as values
 use Rattle.core_expr.specs.Values.{Value, OperandValue, constant_operand, value_operand, Inner}
-use Rattle.core_expr.specs.Writing.{Wording, applied, constant_word, number_word, numeral, truth, with_binary, with_unary, can_write_operand, is_power, joined, on_left, on_right, unless, word, word_operand}
+use Rattle.core_expr.specs.Writing.{Wording, applied, constant_word, truth, can_write_operand, is_power, joined, on_left, on_right, unless, word, word_operand}
 use Rattle.recover_expr.specs.Situation.{Function}
 use Rattle.scheme.specs.Making.{Maker, free_from, freeing, put}
 use Rattle.scheme.specs.Expressions.{Coded, arith_op, arithmetic, binary_value, fold, fold_binary, fold_unary, load_or, operand, rk, unary_value, unary_word}
@@ -26,6 +26,7 @@ use Rattle.scheme.specs.declared.making.Piece.{Piece}
 use Rattle.scheme_stands.proofs.Growth.{calm, Final, before as before_part, before_free, before_put, later}
 use Rattle.scheme_stands.proofs.Parts.{grows, grows_rk}
 use Rattle.scheme_stands.specs.Words.{Fn}
+use Rattle.reads_back.proofs.ConstantsSame.{literal_few}
 use Rattle.reads_back.proofs.Deeper.{some_depth}
 use Rattle.reads_back.proofs.Mentions.{IsAhead, ahead_behind, ahead_front, mentions_in, made_behind, made_both}
 use Rattle.reads_back.proofs.PassedMentions.{PassesMentions, rk_passes}
@@ -40,21 +41,9 @@ few_more n = omega arith
 
 -- ---- an operand needs no more levels than a value: what stands in parentheses as an operand has few of its own
 
-numeral_few : (n : ℤ) → (numeral n).levels ≤ 3
-numeral_few (pos n) = omega arith
-numeral_few (negsuc n) = either (n == 2 ^ 63 - 1)
-  where
-    either : (least : Bool) → (if least then with_binary BinaryOp.Sub (with_unary UnaryOp.Neg (number_word (pos (2 ^ 63 - 1)))) (number_word (pos 1)) else with_unary UnaryOp.Neg (number_word (pos (suc n)))).levels ≤ 3
-    either true = omega arith
-    either false = omega arith
-
 constant_few : (k : Option Constant) → (constant_word k).levels ≤ 3
 constant_few None = omega arith
-constant_few (Some Constant.Nil) = omega arith
-constant_few (Some (Constant.Bool true)) = omega arith
-constant_few (Some (Constant.Bool false)) = omega arith
-constant_few (Some (Constant.Number n)) = numeral_few n
-constant_few (Some (Constant.Text text)) = omega arith
+constant_few (Some k) = literal_few k
 
 truth_few : (b : Bool) → (truth b).levels ≤ 3
 truth_few true = omega arith

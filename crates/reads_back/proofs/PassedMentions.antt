@@ -361,7 +361,7 @@ mutual
   }
   mentions_passed (function_expression line body) has =
       value_passes _ (code (function_expression line body))
-      (λ r. freeing_passes _ (subst (λ (body' : FunctionBody). Passes (function_mention body false ∷ []) (closure 1 (inner body' false) r)) (sym has) (closure_passes body false r))) refl refl refl (λ k is. cc)
+      (λ r. freeing_passes _ (subst (λ (body' : FunctionBody). Passes (function_mention body false ∷ []) (closure 1 (inner body' false) r)) (sym has.on_line) (closure_passes body false r))) refl refl refl (λ k is. cc)
   mentions_passed (index_expression line on key) has =
       let value = indexed_passes (mentions_in on) (mentions_in key) 1 (code on) (rk (code key)) (mentions_passed on has.0) (rk_passes (mentions_in key) (code key) (mentions_passed key has.1)) in
       value_passes _ (code (index_expression line on key)) (λ r. freeing_passes _ (value r)) refl refl refl (λ k is. cc)

@@ -1,9 +1,9 @@
 -- What is written of the value of an expression has the same code as the expression, where so many constants were taken before it, and its names come next: the records in which this is said.
-use Rattle.std.proofs.Common.{◌∷◌, ◌≡◌, ℕ, ◌*◌, ◌+◌, ◌≤◌, Bool, true, List, [], ◌++◌, length, None, Some, Option, sym, ap, ◌∙◌, suc, false}
+use Rattle.std.proofs.Common.{◌∷◌, ◌≡◌, ℕ, ◌*◌, ◌+◌, ◌≤◌, Bool, true, List, [], ◌++◌, length, None, Some, Option, suc, false}
 use Rattle.lua_num.specs.Bytes.{Text}
 use Rattle.lua_tree.specs.OneLine.{one_line_expression, one_line_arguments, one_line_statement}
 use Rattle.lua_tree.specs.Syntax.{Arguments, Expression, Statement, assignment, call_statement, local_statement, return_statement, FunctionBody}
-use Rattle.lua_tree.specs.WellFormed.{depth_of_expression, depth_of_statement, depth_of_body}
+use Rattle.lua_tree.specs.WellFormed.{depth_of_expression, depth_of_body}
 use Rattle.opcode.specs.declared.op.Op.{Op}
 use Rattle.core_expr.specs.Counting.{taken_behind, taken_behind_operand, taken_behind_values, left_by, left_by_operand, left_by_values}
 use Rattle.core_expr.specs.Places.{place}
@@ -16,12 +16,11 @@ use Rattle.scheme.specs.Scheme.{coded, given, statement_made, inner}
 use Rattle.scheme.specs.declared.making.Active.{Active}
 use Rattle.scheme_stands.proofs.Growth.{Final}
 use Rattle.scheme_stands.specs.Words.{Fn, Means}
-use Rattle.reads_back.specs.Acted.{Acted, act_levels, act_statement, can_act, left_by_act, taken_behind_act}
+use Rattle.reads_back.specs.Acted.{Acted, act_levels, act_statement, can_act, left_by_act, taken_behind_act, lean_depth}
 use Rattle.reads_back.proofs.NameReads.{AreListed}
 use Rattle.reads_back.proofs.Mentions.{IsAhead, mentions_in, mentions_given, mentions_in_all, Mention, locals_mention, made_behind}
 use Rattle.reads_back.proofs.WordsRead.{IsFunction}
-use Rattle.std.proofs.lemmas.Option.{none-some}
-use Rattle.proto.specs.Chunk.{function_at, no_functions}
+use Rattle.reads_back.specs.Cores.{IsPlainBody}
 use Rattle.reads_back.specs.Coming.{Coming, IsMadeNext, captured_names}
 use Rattle.std.specs.Prelude.{slice_set}
 use Rattle.scheme.specs.Functions.{without_sources}
@@ -35,25 +34,15 @@ pub record IsMadeBy (f : Function) (g : Fn) (active : List Active) (listed : Lis
   -- the scope finds one meaning by a name
   pub certain : (text : Text) (one other : Where) → Means g.law active text one → Means g.law active text other → one ≡ other
 
-pub none_next : {g : Fn} (active : List Active) (body : FunctionBody) (method : Bool) (c : Coming) → g.functions ≡ no_functions → IsMadeNext g active body method c → ⊥
-none_next active body method c alone next = none-some next.chunk (sym (ap (λ functions. function_at functions c.functions) alone) ∙ next.is)
-
 -- a function that is written where the next one is made has the same code, and so few levels
 pub record IsAgain (g : Fn) (active : List Active) (body : FunctionBody) (method : Bool) (c : Coming) (found : Inner) : Type 0 where
   pub same : inner found.body false (captured_names active g.upvalue_names c.ahead) (without_sources c.ahead) ≡ inner body method (captured_names active g.upvalue_names c.ahead) (without_sources c.ahead)
   pub few : found.levels ≤ 3 * depth_of_body body + 4
 
 -- the functions that are left where so many were made: the next one is there, and behind it the others are left
-pub record AreAgain (g : Fn) (lefts : ℕ → List (Option Inner)) : Type 0 where
-  pub next : (active : List Active) (body : FunctionBody) (method : Bool) (c : Coming) → IsMadeNext g active body method c → (found : Inner) × (function_left (lefts c.functions) c.functions ≡ Some found) × IsAgain g active body method c found
-  pub others : (active : List Active) (body : FunctionBody) (method : Bool) (c : Coming) → IsMadeNext g active body method c → slice_set (lefts c.functions) c.functions None ≡ lefts (suc c.functions)
-
--- where none is made
-pub none_again : (g : Fn) (lefts : ℕ → List (Option Inner)) → g.functions ≡ no_functions → AreAgain g lefts
-none_again g lefts alone = record {
-  next = λ active body method c made. absurd (none_next active body method c alone made);
-  others = λ active body method c made. absurd (none_next active body method c alone made);
-}
+pub record AreAgain (f : Function) (g : Fn) (lefts : ℕ → List (Option Inner)) : Type 0 where
+  pub next : (active : List Active) (listed : List ℕ) → AreListed f g active listed → (body : FunctionBody) (method : Bool) (c : Coming) → IsPlainBody body → IsMadeNext g active body method c → (found : Inner) × (function_left (lefts c.functions) c.functions ≡ Some found) × IsAgain g active body method c found
+  pub others : (active : List Active) (body : FunctionBody) (method : Bool) (c : Coming) → IsPlainBody body → IsMadeNext g active body method c → slice_set (lefts c.functions) c.functions None ≡ lefts (suc c.functions)
 
 -- the code of an expression on one line
 abbrev pub code : Expression → Coded
@@ -137,6 +126,6 @@ module _ (f : Function) (g : Fn) (active : List Active) (listed : List ℕ) (z :
     pub can : can_act (place f.of listed f.short) (lefts before) acted ≡ true
     pub leaves : left_by_act acted (lefts before) ≡ lefts behind
     pub makes : behind ≡ made_behind (mentions_of_statement s) before
-    pub few : (n : ℕ) → act_levels (place f.of listed f.short) n (lefts before) acted ≤ 3 * depth_of_statement s + 4
+    pub few : (n : ℕ) → act_levels (place f.of listed f.short) n (lefts before) acted ≤ 3 * lean_depth s + 4
     pub made : (m : Maker) → IsAhead g active before (mentions_of_statement s) m → Final (length m.labels) (statement_made (one_line_statement s) 1 None m) z → statement_made (act_statement (place f.of listed f.short) (length m.constants) (lefts before) acted) 1 None m ≡ statement_made (one_line_statement s) 1 None m
     pub taken : (m : Maker) → IsAhead g active before (mentions_of_statement s) m → Final (length m.labels) (statement_made (one_line_statement s) 1 None m) z → length (statement_made (one_line_statement s) 1 None m).constants ≡ taken_behind_act acted (length m.constants)

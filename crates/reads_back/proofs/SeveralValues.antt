@@ -9,7 +9,7 @@ use Rattle.lua_tree.specs.WellFormed.{depth_of_expression, depth_of_expressions,
 use Rattle.opcode.specs.declared.op.Op.{Op}
 use Rattle.core_expr.specs.Counting.{taken_behind, taken_behind_values}
 use Rattle.core_expr.specs.Making.{depth_of, deepest}
-use Rattle.core_expr.specs.Values.{Value, Values, no_values, call_value, method_value, vararg_value}
+use Rattle.core_expr.specs.Values.{Value, Values, call_value, method_value, vararg_value}
 use Rattle.core_expr.specs.Writing.{is_multiple as can_be_several}
 use Rattle.recover_expr.specs.Drafts.{goes, makes}
 use Rattle.recover_expr.specs.Entries.{Entries, EntryValue, value_entry, more_entry, open_entry, and_last_value, more}
@@ -27,11 +27,12 @@ use Rattle.scheme_stands.specs.Relation.{all_related, related}
 use Rattle.scheme_stands.specs.Words.{Fn, Spot, WordAt}
 use Rattle.reads_back.specs.Cores.{AllHaveCores, AreCores, HasCore, IsCore, ends_open, still}
 use Rattle.reads_back.proofs.AdjustedEntries.{count_last, entries_end, several_last, taken_end}
-use Rattle.reads_back.proofs.BehindWords.{HasLocals, SameLocals, behind_words, quiet_same, same_locals, same_then}
+use Rattle.reads_back.proofs.BehindWords.{HasLocals, SameLocals, behind_words, quiet_same, same_locals, same_then, locals_then}
 use Rattle.reads_back.proofs.Comes.{AreEntries, Begins, CallComes, IsWanted}
 use Rattle.reads_back.proofs.GivenLists.{AllCome, AllRead, all_begin, all_come, all_forward, none_come}
 use Rattle.reads_back.proofs.NameReads.{AreListed}
 use Rattle.reads_back.proofs.Operators.{begins_lower}
+use Rattle.reads_back.proofs.LastOfList.{FrontAndLast, last_alone, last_behind}
 use Rattle.reads_back.proofs.Reaches.{Reaches, here, reaches_then, word}
 use Rattle.reads_back.proofs.TakenEntries.{count_of_entries}
 use Rattle.reads_back.proofs.Tests.{not_so}
@@ -177,14 +178,9 @@ record LastAt (g : Fn) (active : List Active) (op : Op) (want : Want) (es : Expr
   front : Expressions
   last : Expression
   mid : Spot
+  parts : FrontAndLast g active es free p mid front last
   counts : length (all_related g es) ≡ suc (length (all_related g front))
-  front_at : AllNextAt g (all_related g front) active free p mid
   last_at : (related g last).multi active (free + length (all_related g front)) op want mid q
-  are : (before between behind : ℕ) (vs : Values) (v : Value) → AreCores g active front before between vs → IsCore g active last between behind v → AreCores g active es before behind (and_last_value vs v)
-  has_front : AllHaveCores front
-  has_last : HasCore last
-  shallow_front : depth_of_expressions front ≤ depth_of_expressions es
-  shallow_last : depth_of_expression last ≤ depth_of_expressions es
   several : is_multiple last ≡ true
 
 last_one : (g : Fn) (active : List Active) (op : Op) (want : Want) (es : Expressions) → AllHaveCores es → true ≡ ends_open es → (free : ℕ) (p q : Spot) → AllMultiAt g op want (all_related g es) active free p q →
@@ -196,14 +192,9 @@ last_one g active op want (syntax.expression e no_expressions) has ends free p q
       front = no_expressions;
       last = e;
       mid = p;
+      parts = last_alone g active e has.0 free p;
       counts = refl;
-      front_at = record { pc = refl; ahead = refl; functions = refl };
       last_at = subst (λ (free : ℕ). (related g e).multi active free op want p q) here at;
-      are = λ before between behind vs v are is. (behind, (v, no_values, subst (λ (before : ℕ). IsCore g active e before behind v) are.0 is, (refl, refl), ap (λ vs. and_last_value vs v) are.1));
-      has_front = tt;
-      has_last = has.0;
-      shallow_front = omega arith;
-      shallow_last = omega arith;
       several = sym ends;
     }
 last_one g active op want (syntax.expression e (syntax.expression d es)) has ends free p q at =
@@ -213,14 +204,9 @@ last_one g active op want (syntax.expression e (syntax.expression d es)) has end
       front = syntax.expression e rest.front;
       last = rest.last;
       mid = rest.mid;
+      parts = last_behind g active e has.0 free p (syntax.expression d es) rest.front rest.last at.mid rest.mid at.room at.first rest.parts;
       counts = ap suc rest.counts;
-      front_at = record { mid = at.mid; room = at.room; first = at.first; others = rest.front_at };
       last_at = subst (λ (free : ℕ). (related g rest.last).multi active free op want rest.mid q) next rest.last_at;
-      are = λ before between behind vs v are is. let on = are.1 in (are.0, (on.0, and_last_value on.1 v, on.2, rest.are are.0 between behind on.1 v on.3 is, ap (λ vs. and_last_value vs v) on.4));
-      has_front = (has.0, rest.has_front);
-      has_last = rest.has_last;
-      shallow_front = omega (arith, rest.shallow_front);
-      shallow_last = omega (arith, rest.shallow_last);
       several = rest.several;
     }
 
@@ -293,25 +279,25 @@ module _ {f : Function} {g : Fn} {active : List Active} {listed : List ℕ} (is_
     cut = last_one g active Op.Call (Some (n + 1)) es has ends free p q at
 
     reads : ReadsLast f g active listed cut.last n
-    reads = reads_last is_function all n some cut.last cut.has_last (omega (arith, few, cut.shallow_last)) cut.several
+    reads = reads_last is_function all n some cut.last cut.parts.has_last (omega (arith, few, cut.parts.shallow_last)) cut.several
 
     fronts : AllRead f g active listed 200 cut.front
-    fronts = each_read is_function all cut.front cut.has_front (omega arith) (omega (arith, few, cut.shallow_front))
+    fronts = each_read is_function all cut.front cut.parts.has_front (omega arith) (omega (arith, few, cut.parts.shallow_front))
 
     abbrev above : ℕ
     above = free + length (all_related g cut.front)
 
     to_front : p.pc ≤ cut.mid.pc
-    to_front = all_forward f g active listed 200 cut.front fronts free p cut.mid cut.front_at
+    to_front = all_forward f g active listed 200 cut.front fronts free p cut.mid cut.parts.front_at
 
     pub several_later : p.pc < q.pc
-    several_later = omega (arith, to_front, multi_later is_function all cut.last cut.has_last (omega (arith, few, cut.shallow_last)) cut.several above Op.Call (Some (n + 1)) cut.mid q cut.last_at)
+    several_later = omega (arith, to_front, multi_later is_function all cut.last cut.parts.has_last (omega (arith, few, cut.parts.shallow_last)) cut.several above Op.Call (Some (n + 1)) cut.mid q cut.last_at)
 
     -- the first word begins a value for a free register
     pub several_begins : q.pc ≤ f.last → Begins f free p.pc
     several_begins within =
         let last = reads.begins above cut.mid q within cut.last_at in
-        by_front (all_begin f g active listed 200 cut.front fronts free p cut.mid (omega (arith, reads.forward above cut.mid q cut.last_at, within)) cut.front_at) last
+        by_front (all_begin f g active listed 200 cut.front fronts free p cut.mid (omega (arith, reads.forward above cut.mid q cut.last_at, within)) cut.parts.front_at) last
       where
         by_front : (p.pc ≡ cut.mid.pc) ⊎ Begins f free p.pc → Begins f above cut.mid.pc → Begins f free p.pc
         by_front (inr begins) last = begins
@@ -321,13 +307,13 @@ module _ {f : Function} {g : Fn} {active : List Active} {listed : List ℕ} (is_
         AllCome f (AreCores g active cut.front p.functions cut.mid.functions) 200 s (length (all_related g cut.front)) p.pc cut.mid.pc
     front_comes s locals is quiet =
         singles_come f g active listed 200 cut.front fronts free p cut.mid s locals is (quiet_before cut.mid.pc (reads.forward above cut.mid q cut.last_at) quiet)
-        (reads.begins above cut.mid q quiet.within cut.last_at) cut.front_at
+        (reads.begins above cut.mid q quiet.within cut.last_at) cut.parts.front_at
 
     pub several_come : (s : Situation) → HasLocals active listed s → free ≡ next_free s → IsQuiet f s.scope p.pc q.pc → SeveralCome f (AreCores g active es p.functions q.functions) s (length (all_related g es)) n p.pc q.pc
     several_come s locals is quiet =
         let front = front_comes s locals is quiet in
         let next : above ≡ next_free (behind_all front) = omega (arith, is, length-append s.entries front.entries, count_of_entries front.entries front.values front.singles, front.counts) in
-        let there : HasLocals active listed (behind_all front) = record { base = locals.base; places = front.same.active ∙ locals.places } in
+        let there : HasLocals active listed (behind_all front) = locals_then front.same locals in
         let last = reads.comes above cut.mid q (behind_all front) there next (quiet_same front.same (quiet_from cut.mid.pc to_front quiet)) cut.last_at in
         subst (λ (count : ℕ). SeveralCome f (AreCores g active es p.functions q.functions) s count n p.pc q.pc) (sym cut.counts)
-        (several_behind (cut.are p.functions cut.mid.functions q.functions) (reads.several cut.mid.functions q.functions) front last)
+        (several_behind (cut.parts.cores p.functions cut.mid.functions q.functions) (reads.several cut.mid.functions q.functions) front last)

@@ -5,6 +5,7 @@ use Rattle.std.proofs.lemmas.Option.{slice_get-get_or}
 use Rattle.std.specs.Prelude.{option_and_then, option_map, slice_set}
 use Rattle.lua_num.specs.Bytes.{Text}
 use Rattle.lua_tree.specs.Syntax.{Statement, Statements, local_statement, no_statements, return_statement, statement}
+use Rattle.lua_tree.specs.WellFormed.{depth_of_statement}
 use Rattle.proto.specs.declared.parts.LocVar.{LocVar}
 use Rattle.recover_expr.specs.Drafts.{Drafted, Part}
 use Rattle.recover_expr.specs.Locals.{Scope, all_end, end_of, highest_captured, up_to, any_captured}
@@ -25,17 +26,18 @@ KindIs listed (local_statement names es) kind = (first : ℕ) × (kind ≡ Draft
 KindIs listed (return_statement es) kind = kind ≡ DraftKind.Return
 KindIs listed s kind = kind ≡ DraftKind.Act
 
--- a step that is read of a statement, where so many locals are listed
-pub record IsDraftOf (listed : ℕ) (s : Statement) (draft : Drafted) : Type 0 where
+-- a step that is read of a statement, where so many locals are listed, with no more than so many levels
+pub record IsDraftOf (listed most : ℕ) (s : Statement) (draft : Drafted) : Type 0 where
   pub kind : KindIs listed s draft.kind
   pub part : draft.part ≡ part_of s
-  pub few : draft.levels ≤ 200
+  pub enough : suc (depth_of_statement s) ≤ draft.levels
+  pub few : draft.levels ≤ most
 
 -- the steps of a block, one for each statement
-abbrev pub AreDraftsOf : (listed : ℕ) → Statements → List Drafted → Type 0
-AreDraftsOf listed no_statements drafts = drafts ≡ []
-AreDraftsOf listed (statement line semi s rest) [] = ⊥
-AreDraftsOf listed (statement line semi s rest) (draft ∷ drafts) = IsDraftOf listed s draft × AreDraftsOf listed rest drafts
+abbrev pub AreDraftsOf : (listed most : ℕ) → Statements → List Drafted → Type 0
+AreDraftsOf listed most no_statements drafts = drafts ≡ []
+AreDraftsOf listed most (statement line semi s rest) [] = ⊥
+AreDraftsOf listed most (statement line semi s rest) (draft ∷ drafts) = IsDraftOf listed most s draft × AreDraftsOf listed most rest drafts
 
 -- what is known where all steps are read: every listed local ends at the last word
 pub record AreEnding (f : Function) : Type 0 where
@@ -68,7 +70,7 @@ last_number f drafts within =
 
 -- ---- all locals end there
 
-all_ended : (end count : ℕ) (entries : List LocVar) → all_end (map (ended end) entries) count end ≡ true
+pub all_ended : (end count : ℕ) (entries : List LocVar) → all_end (map (ended end) entries) count end ≡ true
 all_ended end zero entries = refl
 all_ended end (suc count) [] = refl
 all_ended end (suc count) (entry ∷ entries) =
@@ -109,14 +111,14 @@ module _ (f : Function) (scope : Scope) (ending : AreEnding f) (numbers : Number
   kind_is_placed s kind are = (StepKind.Act, ap (kind_placed f scope numbers) are, refl)
 
   -- behind steps that are placed, those of a block
-  record ArePlaced (highest : List ℕ) (sofar : Steps) (block : Statements) (drafts : List Drafted) : Type 0 where
+  record ArePlaced (most : ℕ) (highest : List ℕ) (sofar : Steps) (block : Statements) (drafts : List Drafted) : Type 0 where
     steps : List Step
     placed : steps_placed f scope numbers highest drafts sofar ≡ Some (record sofar { steps = sofar.steps ++ steps; parts = sofar.parts ++ parts_of block })
     as_many : length steps ≡ length drafts
-    are : AreStepsOf number block steps
+    are : AreStepsOf number most block steps
 
-  block_placed : (highest : List ℕ) (sofar : Steps) (block : Statements) (drafts : List Drafted) → AreDraftsOf (length f.of.locals) block drafts → ArePlaced highest sofar block drafts
-  block_placed highest sofar no_statements drafts are = record {
+  block_placed : (most : ℕ) (highest : List ℕ) (sofar : Steps) (block : Statements) (drafts : List Drafted) → AreDraftsOf (length f.of.locals) most block drafts → ArePlaced most highest sofar block drafts
+  block_placed most highest sofar no_statements drafts are = record {
     steps = [];
     placed =
         ap (λ (drafts : List Drafted). steps_placed f scope numbers highest drafts sofar) are
@@ -124,11 +126,11 @@ module _ (f : Function) (scope : Scope) (ending : AreEnding f) (numbers : Number
     as_many = sym (ap length are);
     are = refl;
   }
-  block_placed highest sofar (statement line semi s rest) [] are = absurd are
-  block_placed highest sofar (statement line semi s rest) (draft ∷ drafts) are =
+  block_placed most highest sofar (statement line semi s rest) [] are = absurd are
+  block_placed most highest sofar (statement line semi s rest) (draft ∷ drafts) are =
       let one = kind_is_placed s draft.kind are.0.kind in
       let step : Step = step_of_kind one.0 (up_to highest draft.innermost) draft in
-      let others : ArePlaced highest (and_step draft step sofar) rest drafts = block_placed highest (and_step draft step sofar) rest drafts are.1 in
+      let others : ArePlaced most highest (and_step draft step sofar) rest drafts = block_placed most highest (and_step draft step sofar) rest drafts are.1 in
       record {
         steps = step ∷ others.steps;
         placed =
@@ -137,11 +139,11 @@ module _ (f : Function) (scope : Scope) (ending : AreEnding f) (numbers : Number
             ∙ ap₂ (λ (steps : List Step) (parts : List Part). Some (record sofar { steps = steps; parts = parts })) (append_assoc sofar.steps (step ∷ []) others.steps)
             (append_assoc sofar.parts (draft.part ∷ []) (parts_of rest) ∙ ap (λ part. sofar.parts ++ part ∷ parts_of rest) are.0.part);
         as_many = ap suc others.as_many;
-        are = (record { kind = one.2; levels = are.0.few }, others.are);
+        are = (record { kind = one.2; enough = are.0.enough; levels = are.0.few }, others.are);
       }
 
-pub steps_are_placed : (f : Function) (scope : Scope) → AreEnding f → (params : List Text) (block : Statements) (drafts : List Drafted) → AreDraftsOf (length f.of.locals) block drafts →
-    (steps : List Step) × (placed f scope params drafts ≡ Some (record { params = params; steps = steps; parts = parts_of block })) × AreStepsOf (length steps) block steps
-steps_are_placed f scope ending params block drafts are =
-    let all = block_placed f scope ending (numbers_of f drafts) (length drafts) (last_number f drafts ending.within) (highest_captured scope) (record { params = params; steps = []; parts = [] }) block drafts are in
-    (all.steps, all.placed, subst (λ (count : ℕ). AreStepsOf count block all.steps) (sym all.as_many) all.are)
+pub steps_are_placed : (f : Function) (scope : Scope) → AreEnding f → (most : ℕ) (params : List Text) (block : Statements) (drafts : List Drafted) → AreDraftsOf (length f.of.locals) most block drafts →
+    (steps : List Step) × (placed f scope params drafts ≡ Some (record { params = params; steps = steps; parts = parts_of block })) × AreStepsOf (length steps) most block steps
+steps_are_placed f scope ending most params block drafts are =
+    let all = block_placed f scope ending (numbers_of f drafts) (length drafts) (last_number f drafts ending.within) most (highest_captured scope) (record { params = params; steps = []; parts = [] }) block drafts are in
+    (all.steps, all.placed, subst (λ (count : ℕ). AreStepsOf count most block all.steps) (sym all.as_many) all.are)

@@ -1,20 +1,20 @@
 -- What a word stores: a register of the step, a local or a constant.
-use Rattle.std.proofs.Common.{◌≡◌, ℕ, ◌+◌, ◌-◌, ◌<◌, List, [], ◌∷◌, length, Option, Some, None, refl, ap, ◌∙◌, arith, le-leb, lt-ltb}
+use Rattle.std.proofs.Common.{◌≡◌, ℕ, ◌+◌, ◌-◌, ◌<◌, List, [], ◌∷◌, length, Option, Some, None, ap, ◌∙◌, arith, le-leb, lt-ltb, nat_lt}
 use Rattle.std.proofs.lemmas.Option.{same_Some}
 use Rattle.std.specs.Prelude.{slice_get, option_and_then, option_map, if◌then◌else◌}
 use Rattle.lua_num.specs.Bytes.{Text}
+use Rattle.core_expr.specs.Making.{deepest_item}
 use Rattle.core_expr.specs.Places.{local_name, place}
 use Rattle.core_expr.specs.Values.{Value, value_operand, constant_operand, local_value}
 use Rattle.recover_expr.specs.Assigning.{function_number, stored_function}
-use Rattle.recover_expr.specs.Entries.{EntryValue, value_entry, single_of, place_in}
+use Rattle.recover_expr.specs.Entries.{EntryValue, value_entry, single_of, place_in, maker_entry}
 use Rattle.recover_expr.specs.Lists.{Straight, straight_operand}
 use Rattle.recover_expr.specs.Locals.{has_name, name_of}
 use Rattle.recover_expr.specs.Situation.{Function, Situation, constant_in, local_in}
 use Rattle.recover_expr.specs.Stores.{StoredValue, operand_stored, register_stored, register_of, stored_operand, stored_register}
 use Rattle.reads_back.proofs.HeldOperands.{Kept, in_word, in_local, in_next, operand_of, StandsIn}
 use Rattle.reads_back.proofs.NameReads.{entry_named}
-use Rattle.reads_back.proofs.NoFunctions.{IsNoFunction}
-use Rattle.reads_back.proofs.Tests.{not_below}
+use Rattle.reads_back.proofs.Tests.{not_below, given_is}
 use Rattle.reads_back.proofs.ValueWords.{place_of_next}
 use Rattle.reads_back.specs.Cores.{IsValueOperand}
 
@@ -77,10 +77,11 @@ module _ {f : Function} {count : ℕ} {listed : List ℕ} {s : Situation} (step 
       ap (λ far. if far then option_map (λ k. operand_stored (constant_operand k)) (constant_in f (x - 256)) else stored_register f s x) (not_below x 256 (omega (arith, stands.0, stands.1)))
       ∙ register_there place free x free1 (in_next entry v) tt stands next
 
--- a constructor is no function
-pub no_function_in : (entry : EntryValue) (v : Value) → single_of entry ≡ Some v → IsNoFunction v → stored_function None (entry ∷ []) ≡ None
-no_function_in (value_entry w) v is plain = ap function_number (same_Some w v is) ∙ plain
-no_function_in entry v is plain = refl
+-- the only entry is the function that its value is, where it is one; a constructor is none
+pub only_entry : (entry : EntryValue) (v : Value) → single_of entry ≡ Some v → stored_function None (entry ∷ []) ≡ function_number v
+only_entry (value_entry w) v is = ap function_number (same_Some w v is)
+only_entry (maker_entry items all) v is = ap function_number (given_is (nat_lt (deepest_item items) 400) _ v is)
+only_entry entry v is = cc
 
 -- the entry in a register is the value that is kept
 abbrev pub IsEntry : Kept → Type 0

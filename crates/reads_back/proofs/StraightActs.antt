@@ -1,9 +1,9 @@
 -- What is known of each statement of a straight block where it is made: it is read as what it is, and what is written of it is well formed, has the same names and makes the same code.
-use Rattle.std.proofs.Common.{◌≡◌, ℕ, suc, ◌≤◌, false, true, List, [], length, None, arith, Option}
+use Rattle.std.proofs.Common.{◌≡◌, ℕ, suc, ◌≤◌, false, true, List, [], length, None, arith, Option, ◌*◌, ◌+◌}
 use Rattle.lua_tree.specs.OneLine.{one_line_statement}
-use Rattle.lua_tree.specs.Outline.{Part, statement_part, nothing}
+use Rattle.lua_tree.specs.Outline.{Part, statement_part}
 use Rattle.lua_tree.specs.Syntax as syntax
-use Rattle.lua_tree.specs.Syntax.{Expression, Expressions, Statement, assignment, call_statement, field_expression, index_expression, name_expression, local_statement, no_expressions, return_statement}
+use Rattle.lua_tree.specs.Syntax.{Expression, Expressions, Statement, assignment, call_statement, field_expression, index_expression, name_expression, local_statement, no_expressions, return_statement, function_expression}
 use Rattle.lua_tree.specs.WellFormed.{depth_of_expression, depth_of_expressions, depth_of_statement, ends_block, formed_statement, statement_begins_with_paren}
 use Rattle.core_expr.specs.Places.{Place, place}
 use Rattle.core_expr.specs.Values.{Value, table_value, Inner}
@@ -13,7 +13,7 @@ use Rattle.scheme.specs.declared.making.Active.{Active}
 use Rattle.scheme_stands.specs.Relation.{StatementAt}
 use Rattle.scheme_stands.specs.Words.{Fn, Spot}
 use Rattle.reads_back.specs.Cores.{IsCore}
-use Rattle.reads_back.specs.Acted.{Acted, AreActTargets, IsAct, IsActTarget, IsActed, act_levels, act_statement}
+use Rattle.reads_back.specs.Acted.{Acted, AreActTargets, IsAct, IsActTarget, IsActed, act_levels, act_statement, lean_depth}
 use Rattle.reads_back.specs.Straight.{AllBeginWithName, BeginsWithName, StatementBeginsWithName}
 use Rattle.reads_back.proofs.ActsFormed.{BeginsWithVariable, act_closed, act_ends, act_formed, act_shallow, name_begins}
 use Rattle.reads_back.proofs.ActsMarks.{act_marks}
@@ -21,18 +21,27 @@ use Rattle.reads_back.proofs.ActsRead.{ActRead, CanAct, call_statement_read}
 use Rattle.reads_back.proofs.ActsRewritten.{AllWritten, act_rewritten}
 use Rattle.reads_back.proofs.BehindWords.{HasLocals}
 use Rattle.reads_back.proofs.DeclarationsRead.{StartHere, local_forward, local_read}
+use Rattle.reads_back.proofs.FunctionStatements.{lean_is_less}
 use Rattle.reads_back.proofs.Marks.{SamePart, ArePartsLeft}
 use Rattle.reads_back.proofs.MarksSame.{ArePartsMade}
 use Rattle.reads_back.proofs.AssignmentStands.{assignment_forward, assignment_read}
 use Rattle.reads_back.proofs.PartsRead.{IsNoTable}
 use Rattle.reads_back.proofs.ReturnsRead.{return_forward, return_read}
-use Rattle.reads_back.proofs.Rewriting.{IsMadeBy, RewrittenAct, none_again, AreAgain, none_next}
+use Rattle.reads_back.proofs.NameReads.{AreListed}
+use Rattle.reads_back.proofs.Rewriting.{IsMadeBy, RewrittenAct, AreAgain}
 use Rattle.reads_back.proofs.TargetsCome.{ReadsTarget, ReadsTargets}
 use Rattle.reads_back.proofs.ValueReads.{call_read, reads_all}
 use Rattle.reads_back.proofs.WordsRead.{IsQuiet}
 use Rattle.reads_back.proofs.WrittenSame.{rewritten_all}
-use Rattle.proto.specs.Chunk.{no_functions}
 use Rattle.reads_back.proofs.WrittenFormed.{AreFineLeft}
+
+-- ---- how deep they are
+
+pub lean_low : (s : Statement) → lean_depth s ≤ depth_of_statement s
+lean_low (assignment targets es) = lean_is_less targets es
+lean_low s = omega arith
+
+-- ---- what begins with a name
 
 begun_none : (v : Value) → BeginsWithVariable v → IsNoTable v
 begun_none (table_value items all depth) begins = begins
@@ -44,20 +53,13 @@ StartsWith f (local_statement names es) s last = StartHere f s.scope names last
 StartsWith f statement s last = Unit {0}
 
 -- what is known of the functions that are left where so many were made, and of the parts of the source that they are
-pub record AreLeft (g : Fn) (lefts : ℕ → List (Option Inner)) (of : ℕ → Part) : Type 0 where
-  pub again : AreAgain g lefts
+pub record AreLeft (f : Function) (g : Fn) (lefts : ℕ → List (Option Inner)) (of : ℕ → Part) : Type 0 where
+  pub again : AreAgain f g lefts
   pub fine : (made : ℕ) → AreFineLeft (lefts made)
   pub parts : (made : ℕ) → ArePartsLeft of (lefts made)
-  pub made : (active : List Active) → ArePartsMade g active of
+  pub made : (active : List Active) (listed : List ℕ) → AreListed f g active listed → ArePartsMade g active of
 
--- where none is made none is left
-abbrev pub none_left : ℕ → List (Option Inner)
-none_left made = []
-
-pub none_are_left : (g : Fn) → g.functions ≡ no_functions → AreLeft g none_left (λ number. nothing)
-none_are_left g alone = record { again = none_again g none_left alone; fine = λ made. tt; parts = λ made. tt; made = λ active body c next. absurd (none_next active body false c alone next) }
-
-module _ {f : Function} {g : Fn} {active : List Active} {listed : List ℕ} {z : Maker} (made : IsMadeBy f g active listed z) {lefts : ℕ → List (Option Inner)} {of : ℕ → Part} (left : AreLeft g lefts of) where
+module _ {f : Function} {g : Fn} {active : List Active} {listed : List ℕ} {z : Maker} (made : IsMadeBy f g active listed z) {lefts : ℕ → List (Option Inner)} {of : ℕ → Part} (left : AreLeft f g lefts of) where
   abbrev at : Place
   at = place f.of listed f.short
 
@@ -73,20 +75,20 @@ module _ {f : Function} {g : Fn} {active : List Active} {listed : List ℕ} {z :
     can : CanAct f g active listed lefts s
     can = record { can = λ before behind acted acts. (written before behind acted acts).can }
 
-    pub few_levels : (before behind : ℕ) (acted : Acted) (n : ℕ) → IsActed g active s before behind acted → act_levels at n (lefts before) acted ≤ 200
-    few_levels before behind acted n acts = let levels = (written before behind acted acts).few n in omega (arith, few, levels)
+    pub few_levels : (before behind : ℕ) (acted : Acted) (n : ℕ) → IsActed g active s before behind acted → act_levels at n (lefts before) acted ≤ 3 * lean_depth s + 4
+    few_levels before behind acted n acts = (written before behind acted acts).few n
 
     pub written_formed : (before behind : ℕ) (acted : Acted) (n : ℕ) → IsActed g active s before behind acted → formed_statement (act_statement at n (lefts before) acted) ≡ true
     written_formed before behind acted n acts = act_formed at g active s before behind acted n (lefts before) (left.fine before) is acts (written before behind acted acts).can
 
-    pub written_shallow : (before behind : ℕ) (acted : Acted) (n : ℕ) → IsActed g active s before behind acted → suc (depth_of_statement (act_statement at n (lefts before) acted)) ≤ 200
+    -- its levels are enough for it
+    pub written_shallow : (before behind : ℕ) (acted : Acted) (n : ℕ) → IsActed g active s before behind acted → suc (depth_of_statement (act_statement at n (lefts before) acted)) ≤ act_levels at n (lefts before) acted
     written_shallow before behind acted n acts =
         let levels = few_levels before behind acted n acts in
-        let low = act_shallow at g active s before behind acted n (lefts before) (left.fine before) is acts (written before behind acted acts).can (omega (arith, levels)) in
-        omega (arith, levels, low)
+        act_shallow at g active s before behind acted n (lefts before) (left.fine before) is acts (written before behind acted acts).can (omega (arith, levels, few, lean_low s))
 
     pub written_marks : (before behind : ℕ) (acted : Acted) (n : ℕ) → IsActed g active s before behind acted → SamePart (statement_part 1 (act_statement at n (lefts before) acted)) (statement_part 1 (one_line_statement s))
-    written_marks before behind acted n acts = act_marks made.is_function made.all of (left.made active) s before behind acted n 1 (lefts before) (left.parts before) is acts (written before behind acted acts).can
+    written_marks before behind acted n acts = act_marks made.is_function made.all of (left.made active listed made.all) s before behind acted n (lefts before) (left.parts before) is acts (written before behind acted acts).can
 
     pub written_closed : StatementBeginsWithName s → (before behind : ℕ) (acted : Acted) (n : ℕ) → IsActed g active s before behind acted → statement_begins_with_paren (act_statement at n (lefts before) acted) ≡ false
     written_closed begins before behind acted n acts = act_closed at g active s before behind acted n (lefts before) begins is acts (written before behind acted acts).can

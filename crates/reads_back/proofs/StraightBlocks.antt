@@ -4,7 +4,7 @@ use Rattle.std.specs.Prelude.{Bool, Option}
 use Rattle.lua_tree.specs.OneLine.{one_line_statement}
 use Rattle.lua_tree.specs.Outline.{Part, statement_part, statements_part}
 use Rattle.lua_tree.specs.Syntax as syntax
-use Rattle.lua_tree.specs.Syntax.{Statement, Statements, no_statements}
+use Rattle.lua_tree.specs.Syntax.{Statement, Statements, no_statements, Expressions, assignment}
 use Rattle.lua_tree.specs.WellFormed.{depth_of_statement, depth_of_statements, ends_block, formed_statement, formed_statements, may_follow, statement_begins_with_paren, statement_takes_arguments}
 use Rattle.core_expr.specs.Places.{place}
 use Rattle.recover_expr.specs.Situation.{Function}
@@ -16,9 +16,8 @@ use Rattle.scheme_stands.proofs.Growth.{Final, Grown, before, before_free, later
 use Rattle.scheme_stands.proofs.Standing.{statements_room}
 use Rattle.scheme_stands.proofs.Statements.{grow_statement}
 use Rattle.scheme_stands.specs.Words.{Fn, Names}
-use Rattle.reads_back.specs.Acted.{Acted, IsActed, act_statement, taken_behind_act}
+use Rattle.reads_back.specs.Acted.{Acted, IsActed, act_statement, taken_behind_act, AreActs, lean_depth_of}
 use Rattle.reads_back.specs.ReadAs.{ArePlain}
-use Rattle.reads_back.specs.Straight.{AreStraightBy}
 use Rattle.reads_back.proofs.ActsRead.{numbers_from}
 use Rattle.reads_back.proofs.BlockMakers.{AllStand, AreAllActs, all_made, entries_by, entries_from, made_by, statement_listed, statement_moves}
 use Rattle.reads_back.proofs.ListedLocals.{ended}
@@ -27,31 +26,38 @@ use Rattle.reads_back.proofs.Mentions.{IsAhead}
 use Rattle.reads_back.proofs.StatementsMeant.{statement_meant}
 use Rattle.reads_back.proofs.PlainStraight.{AreOnLine}
 use Rattle.reads_back.proofs.Rewriting.{IsMadeBy, mentions_of_statement}
-use Rattle.reads_back.proofs.StraightActs.{written, written_closed, written_ends, written_formed, written_marks, written_shallow, AreLeft}
+use Rattle.reads_back.proofs.StraightActs.{few_levels, lean_low, written, written_closed, written_ends, written_formed, written_marks, written_shallow, AreLeft}
 use Rattle.reads_back.proofs.StraightScopes.{IsListing, are_listed, is_certain, AreNamed}
 use Rattle.reads_back.proofs.Tests.{and_not, both_hold, first_of_both, second_of_both}
 use Rattle.reads_back.proofs.WordsRead.{IsFunction}
-use Rattle.reads_back.specs.Cores.{IsOnOneLine}
 use Rattle.reads_back.proofs.InnerNames.{AreKnown}
 use Rattle.core_expr.specs.Values.{Inner}
 
-pub all_acts : (block : Statements) → AreStraightBy IsOnOneLine block → AreAllActs block
+pub all_lean_low : (block : Statements) → lean_depth_of block ≤ depth_of_statements block
+all_lean_low no_statements = omega arith
+all_lean_low (syntax.statement line semi s rest) = omega (arith, lean_low s, all_lean_low rest)
+
+pub all_acts : (block : Statements) → AreActs block → AreAllActs block
 all_acts no_statements are = tt
 all_acts (syntax.statement line semi s rest) are = (are.0.0, all_acts rest are.1)
 
 -- ---- what is known of a function that is made whole, and before some of its statements
 
--- the function that is read is the one that is made in the end, with these functions left where so many were made
-pub record IsWhole (f : Function) (g : Fn) (z : Maker) (lefts : ℕ → List (Option Inner)) (of : ℕ → Part) : Type 0 where
+-- the function that is read is the one that is made in the end
+pub record IsMadeWhole (f : Function) (g : Fn) (z : Maker) : Type 0 where
   pub is_function : IsFunction f g
   pub names : Names
   pub law : g.law ≡ Some names
   pub known : AreKnown names
   pub named : AreNamed f names
-  pub left : AreLeft g lefts of
   pub constants : g.constants ≡ z.constants
   pub upvalues : g.upvalue_names ≡ z.upvalue_names
   pub few : length z.constants ≤ 262144
+
+-- and these functions are left where so many were made
+pub record IsWhole (f : Function) (g : Fn) (z : Maker) (lefts : ℕ → List (Option Inner)) (of : ℕ → Part) : Type 0 where
+  pub made : IsMadeWhole f g z
+  pub left : AreLeft f g lefts of
 
 -- these statements are made behind the others
 pub record ComesNext (f : Function) (g : Fn) (z : Maker) (block : Statements) (m : Maker) : Type 0 where
@@ -60,7 +66,7 @@ pub record ComesNext (f : Function) (g : Fn) (z : Maker) (block : Statements) (m
   pub room : length m.active ≤ g.size
   pub final : Final (length m.labels) (all_made block m) z
   pub stand : AllStand g block m
-  pub straight : AreStraightBy IsOnOneLine block
+  pub straight : AreActs block
   pub shallow : depth_of_statements block ≤ 66
   pub on_line : AreOnLine block
 
@@ -72,7 +78,7 @@ all_grow : (block : Statements) (m : Maker) → Settled m → Grown loose m (all
 all_grow no_statements m settled = start m
 all_grow (syntax.statement line semi s rest) m settled = on_part (all_grow rest (settle (made_by s m)) refl) (on_free (active_count (made_by s m)) (grow_statement (one_line_statement s) 1 None m settled))
 
-module _ {f : Function} {g : Fn} {z : Maker} {lefts : ℕ → List (Option Inner)} {of : ℕ → Part} (whole : IsWhole f g z lefts of) where
+module _ {f : Function} {g : Fn} {z : Maker} (whole : IsMadeWhole f g z) where
   pub made_there : {block : Statements} {m : Maker} → ComesNext f g z block m → IsMadeBy f g m.active (listed_by m) z
   made_there {m = m} next = record {
     is_function = whole.is_function;
@@ -135,13 +141,13 @@ module _ {f : Function} {g : Fn} {z : Maker} {lefts : ℕ → List (Option Inner
   block_same no_statements tree taken m next are count = ap (λ block. statements_made block None m) are
   block_same (syntax.statement line semi s rest) tree taken m next are count =
       let acted = are.0 in
-      let one = written (made_there whole next) whole.left s next.straight.0.0 (low whole next) (length m.functions) (length (made_by s m).functions) acted are.2 in
+      let one = written (made_there whole.made next) whole.left s next.straight.0.0 (low whole.made next) (length m.functions) (length (made_by s m).functions) acted are.2 in
       let later_on = settle (made_by s m) in
-      let counted : taken_behind_act acted taken ≡ length later_on.constants = ap (taken_behind_act acted) count ∙ sym (one.taken m (names_next whole next) (here_final whole next)) in
+      let counted : taken_behind_act acted taken ≡ length later_on.constants = ap (taken_behind_act acted) count ∙ sym (one.taken m (names_next whole.made next) (here_final whole.made next)) in
       ap (λ block. statements_made block None m) are.4
       ∙ ap (λ taken. statements_made are.1 None (settle (statement_made (act_statement (place f.of (listed_by m) f.short) taken (lefts (length m.functions)) acted) 1 None m))) count
-      ∙ ap (λ m. statements_made are.1 None (settle m)) (one.made m (names_next whole next) (here_final whole next))
-      ∙ block_same rest are.1 (taken_behind_act acted taken) later_on (comes_behind whole next) are.3 counted
+      ∙ ap (λ m. statements_made are.1 None (settle m)) (one.made m (names_next whole.made next) (here_final whole.made next))
+      ∙ block_same rest are.1 (taken_behind_act acted taken) later_on (comes_behind whole.made next) are.3 counted
 
   -- ---- the rules of form
 
@@ -160,16 +166,16 @@ module _ {f : Function} {g : Fn} {z : Maker} {lefts : ℕ → List (Option Inner
   pub block_formed : (block tree : Statements) (taken : ℕ) (m : Maker) → ComesNext f g z block m → formed_statements block ≡ true → AreWritten f g lefts taken block tree m → formed_statements tree ≡ true
   block_formed no_statements tree taken m next formed are = ap formed_statements are
   block_formed (syntax.statement line semi s no_statements) tree taken m next formed are =
-      let one = written_formed (made_there whole next) whole.left s next.straight.0.0 (low whole next) (length m.functions) (length (made_by s m).functions) are.0 taken are.2 in
+      let one = written_formed (made_there whole.made next) whole.left s next.straight.0.0 (low whole.made next) (length m.functions) (length (made_by s m).functions) are.0 taken are.2 in
       ap formed_statements (are.4 ∙ ap (syntax.statement 1 false (act_statement (place f.of (listed_by m) f.short) taken (lefts (length m.functions)) are.0)) are.3) ∙ both_hold _ true one refl
   block_formed (syntax.statement line semi s (syntax.statement line' semi' s' rest)) tree taken m next formed are =
-      let more = comes_behind whole next in
-      let made = made_there whole next in
+      let more = comes_behind whole.made next in
+      let made = made_there whole.made next in
       let others = second_of_both _ _ (second_of_both (formed_statement s) _ formed) in
-      let one = written_formed made whole.left s next.straight.0.0 (low whole next) (length m.functions) (length (made_by s m).functions) are.0 taken are.2 in
-      let on = written_ends made whole.left s next.straight.0.0 (low whole next) (length m.functions) (length (made_by s m).functions) are.0 taken are.2 ∙ goes_on s s' line' semi semi' rest (first_of_both _ _ (second_of_both (formed_statement s) _ formed)) in
+      let one = written_formed made whole.left s next.straight.0.0 (low whole.made next) (length m.functions) (length (made_by s m).functions) are.0 taken are.2 in
+      let on = written_ends made whole.left s next.straight.0.0 (low whole.made next) (length m.functions) (length (made_by s m).functions) are.0 taken are.2 ∙ goes_on s s' line' semi semi' rest (first_of_both _ _ (second_of_both (formed_statement s) _ formed)) in
       let behind_taken = taken_behind_act are.0 taken in
-      let closed = written_closed (made_there whole more) whole.left s' more.straight.0.0 (low whole more) more.straight.0.1 (length (made_by s m).functions) (length (made_by s' (settle (made_by s m))).functions) are.3.0 behind_taken are.3.2 in
+      let closed = written_closed (made_there whole.made more) whole.left s' more.straight.0.0 (low whole.made more) more.straight.0.1 (length (made_by s m).functions) (length (made_by s' (settle (made_by s m))).functions) are.3.0 behind_taken are.3.2 in
       let first = act_statement (place f.of (listed_by m) f.short) taken (lefts (length m.functions)) are.0 in
       ap formed_statements are.4
       ∙ both_hold _ _ one
@@ -179,9 +185,12 @@ module _ {f : Function} {g : Fn} {z : Maker} {lefts : ℕ → List (Option Inner
   pub block_shallow : (block tree : Statements) (taken : ℕ) (m : Maker) → ComesNext f g z block m → AreWritten f g lefts taken block tree m → depth_of_statements tree ≤ 200
   block_shallow no_statements tree taken m next are = omega (arith, ap depth_of_statements are)
   block_shallow (syntax.statement line semi s rest) tree taken m next are =
-      let one = written_shallow (made_there whole next) whole.left s next.straight.0.0 (low whole next) (length m.functions) (length (made_by s m).functions) are.0 taken are.2 in
-      let others = block_shallow rest are.1 (taken_behind_act are.0 taken) (settle (made_by s m)) (comes_behind whole next) are.3 in
-      omega (arith, ap depth_of_statements are.4, one, others)
+      let levels = few_levels (made_there whole.made next) whole.left s next.straight.0.0 (low whole.made next) (length m.functions) (length (made_by s m).functions) are.0 taken are.2 in
+      let deep = low whole.made next in
+      let lean = lean_low s in
+      let one = written_shallow (made_there whole.made next) whole.left s next.straight.0.0 (low whole.made next) (length m.functions) (length (made_by s m).functions) are.0 taken are.2 in
+      let others = block_shallow rest are.1 (taken_behind_act are.0 taken) (settle (made_by s m)) (comes_behind whole.made next) are.3 in
+      omega (arith, ap depth_of_statements are.4, one, levels, lean, deep, others)
 
   -- ---- the names
 
@@ -190,8 +199,8 @@ module _ {f : Function} {g : Fn} {z : Maker} {lefts : ℕ → List (Option Inner
   block_marks no_statements tree taken m next are = λ here. ap (λ block. statements_part block here) are
   block_marks (syntax.statement line semi s rest) tree taken m next are =
       let on : SamePart (statement_part 1 (one_line_statement s)) (statement_part line s) = λ here. ap (λ s. statement_part 1 s here) next.on_line.1 ∙ ap (λ line. statement_part line s here) (sym next.on_line.0) in
-      let one = part_then (written_marks (made_there whole next) whole.left s next.straight.0.0 (low whole next) (length m.functions) (length (made_by s m).functions) are.0 taken are.2) on in
-      let others = block_marks rest are.1 (taken_behind_act are.0 taken) (settle (made_by s m)) (comes_behind whole next) are.3 in
+      let one = part_then (written_marks (made_there whole.made next) whole.left s next.straight.0.0 (low whole.made next) (length m.functions) (length (made_by s m).functions) are.0 taken are.2) on in
+      let others = block_marks rest are.1 (taken_behind_act are.0 taken) (settle (made_by s m)) (comes_behind whole.made next) are.3 in
       part_then (λ here. ap (λ block. statements_part block here) are.4) (both_same one others)
 
   -- ---- lines and semicolons
@@ -199,5 +208,5 @@ module _ {f : Function} {g : Fn} {z : Maker} {lefts : ℕ → List (Option Inner
   pub block_plain : (block tree : Statements) (taken : ℕ) (m : Maker) → ComesNext f g z block m → AreWritten f g lefts taken block tree m → ArePlain tree
   block_plain no_statements tree taken m next are = subst ArePlain (sym are) tt
   block_plain (syntax.statement line semi s rest) tree taken m next are =
-      let closed = written_closed (made_there whole next) whole.left s next.straight.0.0 (low whole next) next.straight.0.1 (length m.functions) (length (made_by s m).functions) are.0 taken are.2 in
-      subst ArePlain (sym are.4) (refl, refl, closed, block_plain rest are.1 (taken_behind_act are.0 taken) (settle (made_by s m)) (comes_behind whole next) are.3)
+      let closed = written_closed (made_there whole.made next) whole.left s next.straight.0.0 (low whole.made next) next.straight.0.1 (length m.functions) (length (made_by s m).functions) are.0 taken are.2 in
+      subst ArePlain (sym are.4) (refl, refl, closed, block_plain rest are.1 (taken_behind_act are.0 taken) (settle (made_by s m)) (comes_behind whole.made next) are.3)

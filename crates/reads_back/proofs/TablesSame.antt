@@ -277,12 +277,12 @@ module _ {f : Function} {g : Fn} {active : List Active} {listed : List ℕ} {z :
   written_is n =
       let n1 = taken_behind_operand k n in
       let n2 = taken_behind_operand o n1 in
-      ap (λ fs. and_keyed_item (field_name at k) (key_words n) (word_operand at n1 fs o) (separator_before items) (word_items at n2 (left_by_operand o fs) items all)) key_same.leaves
+      ap (λ fs. and_keyed_item (field_name at k) (key_words n) (word_operand at n1 fs o) (separator_before items) (word_items at n2 (left_by_operand o fs) items all)) key_same.written.leaves
       ∙ ap (λ fs. and_keyed_item (field_name at k) (key_words n) (e_words n1) (separator_before items) (word_items at n2 fs items all)) e_same.leaves
 
   -- behind its key and its value
   item_makes : last ≡ made_behind (mentions ++ mentions_in e) before
-  item_makes = e_same.makes ∙ ap (made_behind (mentions_in e)) key_same.makes ∙ sym (made_both mentions (mentions_in e) before)
+  item_makes = e_same.makes ∙ ap (made_behind (mentions_in e)) key_same.written.makes ∙ sym (made_both mentions (mentions_in e) before)
 
   module _ (t done pending : ℕ) (m : Maker) (ahead : IsAhead g active before (mentions_of_fields fields) m) (final : Final (length m.labels) (entries_from 1 t done pending (entries (one_line_fields fields)) m) z) where
     -- behind the key, the item, and its word
@@ -305,7 +305,7 @@ module _ {f : Function} {g : Fn} {active : List Active} {listed : List ℕ} {z :
     key_ahead = ahead_front mentions (mentions_in e) both_ahead
 
     e_ahead : IsAhead g active mid (mentions_in e) key_got.after
-    e_ahead = ahead_behind mentions (mentions_in e) key_same.makes (key_same.passes m) both_ahead
+    e_ahead = ahead_behind mentions (mentions_in e) key_same.written.makes (key_same.passes m) both_ahead
 
     rest_ahead : IsAhead g active last (mentions_of_fields rest) behind_it
     rest_ahead = ahead_behind (mentions ++ mentions_in e) (mentions_of_fields rest) item_makes (item_passes t mentions (mentions_in e) asked (code e) key_same.passes e_passes m) item_ahead
@@ -323,16 +323,16 @@ module _ {f : Function} {g : Fn} {active : List Active} {listed : List ℕ} {z :
     key_final = before_part (grows_rk {v = calm} (code e) (grows calm (one_line_expression e)) key_got.after) e_final
 
     e_later : Final (length key_got.after.labels) e_got.after z
-    e_later = let grown = key_same.grown m in later grown.more e_final
+    e_later = let grown = key_same.written.grown m in later grown.more e_final
 
     rest_later : Final (length behind_it.labels) (entries_from 1 t done pending (entries (one_line_fields rest)) behind_it) z
     rest_later =
-        let grown = key_same.grown m in
+        let grown = key_same.written.grown m in
         let more = grows_rk {v = calm} (code e) (grows calm (one_line_expression e)) key_got.after in
         later (omega (arith, grown.more, more.more)) whole
 
     key_count : length key_got.after.constants ≡ taken_behind_operand k (length m.constants)
-    key_count = key_same.taken m key_ahead key_final
+    key_count = key_same.written.taken m key_ahead key_final
 
     e_count : length behind_it.constants ≡ taken_behind_operand o (taken_behind_operand k (length m.constants))
     e_count = e_same.taken key_got.after e_ahead e_later ∙ ap (taken_behind_operand o) key_count
@@ -344,7 +344,7 @@ module _ {f : Function} {g : Fn} {active : List Active} {listed : List ℕ} {z :
         let n2 = taken_behind_operand o n1 in
         ap (λ (w : FieldWording). entries_from 1 t done pending (entries w.words) m) (written_is n)
         ∙ written_keyed (field_name at k) (key_words n) (e_words n1) (separator_before items) (rest_words n2) t done pending m
-        ∙ ap (λ (got : Got ℕ). behind_key got (coded (e_words n1).words) (entries (rest_words n2).words)) (key_asks_same at n (lefts before) k m ∙ key_same.as_rk m key_ahead key_final)
+        ∙ ap (λ (got : Got ℕ). behind_key got (coded (e_words n1).words) (entries (rest_words n2).words)) (key_asks_same at n (lefts before) k m ∙ key_same.written.as_rk m key_ahead key_final)
         ∙ ap (λ n1. behind_key key_got (coded (e_words n1).words) (entries (rest_words n2).words)) (sym key_count)
         ∙ ap (λ (got : Got ℕ). behind_item key_got got (entries (rest_words n2).words)) (e_same.as_rk key_got.after e_ahead e_later)
         ∙ ap (λ n2. entries_from 1 t done pending (entries (rest_words n2).words) behind_it) (sym e_count)
@@ -362,13 +362,13 @@ module _ {f : Function} {g : Fn} {active : List Active} {listed : List ℕ} {z :
 
   pub keyed_rewritten : RewrittenItems f g active listed z lefts before behind fields deep (and_keyed k o items) all
   keyed_rewritten = record {
-    can = both_hold _ _ key_same.can (both_hold _ _ (ap (λ fs. can_write_operand at fs o) key_same.leaves ∙ e_same.can) (ap (λ fs. can_write_items at (left_by_operand o fs) items) key_same.leaves ∙ ap (λ fs. can_write_items at fs items) e_same.leaves ∙ rest_same.can));
-    leaves = ap (λ fs. left_by_items items (left_by_operand o fs)) key_same.leaves ∙ ap (left_by_items items) e_same.leaves ∙ rest_same.leaves;
+    can = both_hold _ _ key_same.written.can (both_hold _ _ (ap (λ fs. can_write_operand at fs o) key_same.written.leaves ∙ e_same.can) (ap (λ fs. can_write_items at (left_by_operand o fs) items) key_same.written.leaves ∙ ap (λ fs. can_write_items at fs items) e_same.leaves ∙ rest_same.can));
+    leaves = ap (λ fs. left_by_items items (left_by_operand o fs)) key_same.written.leaves ∙ ap (left_by_items items) e_same.leaves ∙ rest_same.leaves;
     makes = rest_same.makes ∙ ap (made_behind (mentions_of_fields rest)) item_makes ∙ sym (made_both (mentions ++ mentions_in e) (mentions_of_fields rest) before) ∙ ap (λ mentions. made_behind mentions before) (sym is.names);
     few = λ n.
         let n1 = taken_behind_operand k n in
         let same = ap (λ (w : FieldWording). w.levels) (written_is n) in
-        let low = keyed_few (field_name at k) (key_words n) (e_words n1) (separator_before items) (rest_words (taken_behind_operand o n1)) (3 * deep + 3) (key_same.few n) (omega (arith, e_same.few n1, deeper)) (rest_same.few (taken_behind_operand o n1)) in
+        let low = keyed_few (field_name at k) (key_words n) (e_words n1) (separator_before items) (rest_words (taken_behind_operand o n1)) (3 * deep + 3) (key_same.written.few n) (omega (arith, e_same.few n1, deeper)) (rest_same.few (taken_behind_operand o n1)) in
         omega (arith, same, low);
     last = λ n. ap (λ (w : FieldWording). is_last (entries w.words)) (written_is n) ∙ keyed_last (field_name at k) _ _ _ _ ∙ sym is.last;
     positions = λ n. ap (λ (w : FieldWording). positional_count (entries w.words)) (written_is n) ∙ keyed_positions (field_name at k) _ _ _ _ ∙ rest_same.positions (taken_behind_operand o (taken_behind_operand k n)) ∙ sym is.positions;

@@ -21,7 +21,7 @@ use Rattle.scheme_stands.specs.Statements.{CopiesAt, StoreRegisterAt, TargetsAt}
 use Rattle.scheme_stands.specs.Words.{Fn, Spot, WordAt, meaning}
 use Rattle.reads_back.specs.Acted.{AreActTargets, AreTargets, IsActTarget, IsTarget, all_named_behind, is_part, named_behind, taken_behind_targets}
 use Rattle.reads_back.specs.Cores.{IsCore, IsKey, IsOperand}
-use Rattle.reads_back.proofs.BehindWords.{HasLocals, SameLocals, behind_words, quiet_same, same_locals, same_then}
+use Rattle.reads_back.proofs.BehindWords.{HasLocals, SameLocals, behind_words, quiet_same, same_locals, same_then, locals_then}
 use Rattle.reads_back.proofs.Comes.{IsWanted, ReadsCore}
 use Rattle.reads_back.proofs.CopiesCome.{copies_come, copies_lead}
 use Rattle.reads_back.proofs.GlobalTargets.{HasGlobal, HaveGlobals, globals_before}
@@ -200,7 +200,7 @@ module _ {f : Function} {g : Fn} {active : List Active} {listed : List ℕ} (is_
       let on = targets_lead is_function all es are.1 reads.1 at.others at.free1 free1 at.mid q at.others_at in
       let wanted_mid : free < at.free1 → IsWanted f s at.mid.pc = λ more. leads_wanted s on quiet.within (omega (arith, more, next)) (wanted (omega (arith, more, on.up))) in
       let one = target_comes is_function all e are.0 reads.0 at.target free at.free1 p at.mid s locals next (quiet_before at.mid.pc on.forward quiet) wanted_mid has.0 at.target_at in
-      let behind : HasLocals active listed (record s { scope = one.scope; entries = one.entries; seen = one.seen }) = record { base = locals.base; places = one.same.active ∙ locals.places } in
+      let behind : HasLocals active listed (record s { scope = one.scope; entries = one.entries; seen = one.seen }) = locals_then one.same locals in
       let rest = parts_come es are.1 reads.1 at.others at.free1 free1 at.mid q (record s { scope = one.scope; entries = one.entries; seen = one.seen }) behind (omega (arith, one.counts, locals.base)) (quiet_same one.same (quiet_from at.mid.pc to_mid.forward quiet))
       (λ more. wanted_later f q.pc s one.scope one.entries one.seen one.same (omega (arith, one.counts, next, locals.base, to_mid.up)) (wanted (omega (arith, more, to_mid.up)))) has.1 at.others_at in
       subst (λ (to : List Target). PartsCome f g (length active) listed (AreTargets g active (syntax.expression e es) p.functions q.functions) to s free1 p.pc q.pc) (sym at.is)

@@ -215,7 +215,7 @@ module _ {f : Function} {g : Fn} {active : List Active} {listed : List ℕ} {z :
       let w = wording f listed z lefts before n x in
       let u = operand_wording f listed z lefts mid (taken_behind x n) k in
       let one = levels_wrapped (is_prefix w.words) w in
-      let all = key_few (field_name (place f.of listed f.short) k) (as_prefix w) u (3 * depth_of_expression on + 3) (3 * deep + 3) (omega (arith, first.few n, one)) (second.few (taken_behind x n)) in
+      let all = key_few (field_name (place f.of listed f.short) k) (as_prefix w) u (3 * depth_of_expression on + 3) (3 * deep + 3) (omega (arith, first.few n, one)) (second.written.few (taken_behind x n)) in
       omega (arith, all, ap (λ (w : Wording). w.levels) (words_are n), deeper)
 
   part_passes : AskingPasses (mentions_in target) (code target).target
@@ -252,7 +252,7 @@ module _ {f : Function} {g : Fn} {active : List Active} {listed : List ℕ} {z :
     key_final = subst (λ (to : Got Target). Final (length m.labels) to.after z) (target_is m) final
 
     on_final : Final (length m.labels) on_at.after z
-    on_final = before_part (second.grown on_at.after) key_final
+    on_final = before_part (second.written.grown on_at.after) key_final
 
     key_later : Final (length on_at.after.labels) (asked on_at.after).after z
     key_later = let grown = grows_operand {v = calm} (code on) (grows calm (one_line_expression on)) m in later grown.more key_final
@@ -276,17 +276,17 @@ module _ {f : Function} {g : Fn} {active : List Active} {listed : List ℕ} {z :
         ∙ ap (λ (t : Got ℕ). part_there t (key_asks (field_name at k) u) (is_name (code on).e) key_named) (operand_wrapped (is_prefix w.words) w m ∙ operand_same first m on_ahead on_final)
         ∙ ap (λ n. part_there on_at (key_asks (field_name at k) (operand_wording f listed z lefts mid n k)) (is_name (code on).e) key_named) (sym on_taken)
         ∙ ap (λ (k : Got ℕ). record { value = part_target on_at.value k.value (local_by (is_name (code on).e) m) (local_by key_named on_at.after); after = k.after })
-        (key_asks_same at (length on_at.after.constants) (lefts mid) k on_at.after ∙ second.as_rk on_at.after key_ahead key_later)
+        (key_asks_same at (length on_at.after.constants) (lefts mid) k on_at.after ∙ second.written.as_rk on_at.after key_ahead key_later)
         ∙ sym (target_is m)
 
     part_taken : length ((code target).target m).after.constants ≡ taken_behind_target (index_target x k) (length m.constants)
-    part_taken = ap (λ (to : Got Target). length to.after.constants) (target_is m) ∙ second.taken on_at.after key_ahead key_later ∙ ap (taken_behind_operand k) on_taken
+    part_taken = ap (λ (to : Got Target). length to.after.constants) (target_is m) ∙ second.written.taken on_at.after key_ahead key_later ∙ ap (taken_behind_operand k) on_taken
 
   part_target_same : TargetSame f g active listed z lefts before behind target (index_target x k)
   part_target_same = record {
-    can = both_hold _ _ first.can (ap (λ fs. can_write_operand (place f.of listed f.short) fs k) first.leaves ∙ second.can);
-    leaves = ap (left_by_operand k) first.leaves ∙ second.leaves;
-    makes = second.makes ∙ ap (made_behind mentions) first.makes ∙ sym (made_both (mentions_in on) mentions before) ∙ ap (λ mentions. made_behind mentions before) (sym mentioned);
+    can = both_hold _ _ first.can (ap (λ fs. can_write_operand (place f.of listed f.short) fs k) first.leaves ∙ second.written.can);
+    leaves = ap (left_by_operand k) first.leaves ∙ second.written.leaves;
+    makes = second.written.makes ∙ ap (made_behind mentions) first.makes ∙ sym (made_both (mentions_in on) mentions before) ∙ ap (λ mentions. made_behind mentions before) (sym mentioned);
     few = part_few;
     passes = part_passes;
     same = part_same;

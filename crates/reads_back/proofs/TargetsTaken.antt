@@ -3,6 +3,7 @@ use Rattle.std.proofs.Common.{◌≡◌, ℕ, ◌+◌, ◌-◌, ◌<◌, max, tr
 use Rattle.std.proofs.lemmas.List.{reverse-append}
 use Rattle.std.proofs.lemmas.Option.{same_Some, slice_get_within}
 use Rattle.std.specs.Prelude.{option_map, option_and_then, slice_get, slice_set, if◌then◌else◌}
+use Rattle.lua_num.specs.Bytes.{Text}
 use Rattle.lua_tree.specs.Joins.{join_expressions}
 use Rattle.lua_tree.specs.Syntax.{Expressions, no_expressions, expression, Expression}
 use Rattle.core_expr.specs.Counting.{left_by_values, taken_behind_values}
@@ -17,8 +18,9 @@ use Rattle.recover_expr.specs.Lists.{Straight, assigned_values}
 use Rattle.recover_expr.specs.Situation.{Function, Situation, constant_in, place_in_step, with_entries, with_left}
 use Rattle.recover_expr.specs.Writing.{WroteList}
 use Rattle.recover_expr.specs.declared.stores.Store.{Store}
-use Rattle.reads_back.specs.Acted.{Assigned, assigned, can_act, can_write_targets, left_by_last, left_by_targets, taken_behind_last, taken_behind_targets, words_assigned, words_targets}
+use Rattle.reads_back.specs.Acted.{Assigned, assigned, can_act, can_write_targets, left_by_last, left_by_targets, taken_behind_last, taken_behind_targets, words_assigned, words_targets, function_in, named_by}
 use Rattle.reads_back.proofs.ActsRead.{act_draft, after_act}
+use Rattle.reads_back.proofs.FunctionSteps.{assignment_step_is, function_ends, one_named, several_named}
 use Rattle.reads_back.proofs.HeldOperands.{Kept, in_next, in_word, in_local, operand_of}
 use Rattle.reads_back.proofs.PartsRead.{left_of, value_of}
 use Rattle.reads_back.proofs.PartsUsed.{all_there_length, get_front, held_length, set_again, set_front, there_length}
@@ -132,11 +134,12 @@ module _ {f : Function} {count : ℕ} {listed : List ℕ} {s : Situation} (step 
 
 -- ---- what is written
 
--- several targets are no statement of a function
-pub no_function_named : (f : Function) (ds : List Destination) (d : Destination) (s : Situation) (made : Option ℕ) → (ds ≡ [] → made ≡ None) → named_as f s (targets_to (ds ++ d ∷ [])) made ≡ Some None
-no_function_named f [] d s made none = ap (named_as f s (target_to d ∷ [])) (none refl)
-no_function_named f (e ∷ []) d s made none = refl
-no_function_named f (e ∷ e1 ∷ ds) d s made none = refl
+-- a function that goes alone to one target is named by it, and several targets are no statement of a function
+pub function_named : (f : Function) (ds : List Destination) (d : Destination) (s : Situation) (read : Option ℕ) (to : Assigned) → (ds ≡ [] → read ≡ function_in to.values to.last) → can_write_targets (place_in_step f s) s.left (targets_to (ds ++ d ∷ [])) ≡ true →
+    named_as f s (targets_to (ds ++ d ∷ [])) read ≡ Some (named_by (place_in_step f s) (targets_to (ds ++ d ∷ [])) to.values to.last)
+function_named f [] d s read to function can = ap (named_as f s (target_to d ∷ [])) (function refl) ∙ one_named f s (target_to d) (function_in to.values to.last) (first_of_both _ _ can)
+function_named f (e ∷ []) d s read to function can = several_named f s (target_to e) (target_to d) [] read (function_in to.values to.last)
+function_named f (e ∷ e1 ∷ ds) d s read to function can = several_named f s (target_to e) (target_to e1) (targets_to (ds ++ d ∷ [])) read (function_in to.values to.last)
 
 -- what is written so far, and more behind it
 abbrev joined : Wordings → Wordings → Wordings
@@ -175,12 +178,12 @@ module _ (f : Function) where
       ∙ targets_are_written ts (wordings_with sofar w) m (with_left fs s) (second_of_both (can_write_target at s.left t) _ can)
       ∙ ap (λ (all : Wordings). Some (all, taken_behind_targets ts m, with_left (left_by_targets ts fs) s)) (joined_with sofar (words_targets at m fs ts) w)
 
-  -- the statement, where of what stands in the registers these values are written
-  pub statement_ends : (stores : List Store) (straight : Option Straight) (next : ℕ) (ts : List TargetValue) (entries : Entries) (to : Assigned) (s : Situation) → can_act (place_in_step f s) s.left (assigned ts to.values to.all to.last) ≡ true →
+  -- an assignment, where no names say it
+  assignment_ends : (stores : List Store) (straight : Option Straight) (next : ℕ) (ts : List TargetValue) (entries : Entries) (to : Assigned) (s : Situation) → named_by (place_in_step f s) ts to.values to.last ≡ None → can_act (place_in_step f s) s.left (assigned ts to.values to.all to.last) ≡ true →
       assigned_values f stores (taken_behind_targets ts s.taken) entries straight (with_left (left_by_targets ts s.left) s)
       ≡ assigned_written f (taken_behind_targets ts s.taken) to (with_left (left_by_targets ts s.left) s) →
       as_statement f stores straight next ts entries s None ≡ Some (act_draft f next (assigned ts to.values to.all to.last) s, after_act (assigned ts to.values to.all to.last) s)
-  statement_ends stores straight next ts entries to s can writes =
+  assignment_ends stores straight next ts entries to s none can writes =
       let at = place_in_step f s in
       let n = taken_behind_targets ts s.taken in
       let fs = left_by_targets ts s.left in
@@ -190,3 +193,15 @@ module _ (f : Function) where
       ap (option_and_then (assignment_step f stores straight next entries)) (targets_are_written ts no_targets s.taken s (first_of_both _ _ can))
       ∙ ap (option_map ending) writes
       ∙ ap (λ can. option_map ending (if can then Some wrote else None)) (second_of_both _ _ can)
+      ∙ assignment_step_is f next ts to s none
+
+  -- the statement, where of what stands in the registers these values are written: an assignment, or what the names of a function say
+  pub statement_ends : (stores : List Store) (straight : Option Straight) (next : ℕ) (ts : List TargetValue) (entries : Entries) (to : Assigned) (s : Situation) → can_act (place_in_step f s) s.left (assigned ts to.values to.all to.last) ≡ true →
+      assigned_values f stores (taken_behind_targets ts s.taken) entries straight (with_left (left_by_targets ts s.left) s)
+      ≡ assigned_written f (taken_behind_targets ts s.taken) to (with_left (left_by_targets ts s.left) s) →
+      as_statement f stores straight next ts entries s (named_by (place_in_step f s) ts to.values to.last) ≡ Some (act_draft f next (assigned ts to.values to.all to.last) s, after_act (assigned ts to.values to.all to.last) s)
+  statement_ends stores straight next ts entries to s can writes = by (named_by (place_in_step f s) ts to.values to.last) refl
+    where
+      by : (named : Option (List Text × ℕ)) → named_by (place_in_step f s) ts to.values to.last ≡ named → as_statement f stores straight next ts entries s named ≡ Some (act_draft f next (assigned ts to.values to.all to.last) s, after_act (assigned ts to.values to.all to.last) s)
+      by None is = assignment_ends stores straight next ts entries to s is can writes
+      by (Some named) is = function_ends f next ts to s named.0 named.1 is can

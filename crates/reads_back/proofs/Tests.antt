@@ -41,3 +41,7 @@ not_so is = absurd cc
 pub given_is : {A : Type 0} (holds : Bool) (given some : A) → (if holds then Some given else None) ≡ Some some → given ≡ some
 given_is true given some is = same_Some given some is
 given_is false given some is = cc
+
+pub test_holds : {A : Type 0} (holds : Bool) (given some : A) → (if holds then Some given else None) ≡ Some some → holds ≡ true
+test_holds true given some is = refl
+test_holds false given some is = cc

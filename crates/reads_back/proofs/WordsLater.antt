@@ -9,15 +9,14 @@ use Rattle.opcode.specs.declared.op.Op.{Op}
 use Rattle.recover_expr.specs.Situation.{Function}
 use Rattle.scheme.specs.Expressions.{Want, fold, is_comparison, is_multiple}
 use Rattle.scheme.specs.Lists.{pending_after}
-use Rattle.scheme.specs.Making.{Where, in_register, in_upvalue, in_globals}
 use Rattle.scheme.specs.declared.making.Active.{Active}
-use Rattle.scheme_stands.specs.Expressions.{ArithmeticAt, BinaryAt, LoadOr, NameBy, RkAt, RkTextAt, UnaryAt}
+use Rattle.scheme_stands.specs.Expressions.{ArithmeticAt, BinaryAt, LoadOr, RkAt, RkTextAt, UnaryAt}
 use Rattle.scheme_stands.specs.Lists.{CallAt, ItemBy, KeyedAt, MethodAt, MovedFrom, is_last_item}
 use Rattle.scheme_stands.specs.Relation.{ItemsAt, given_rel, related}
 use Rattle.scheme_stands.specs.Words.{Fn, Spot, Stretch, meaning}
 use Rattle.reads_back.specs.Cores.{HasCore, HaveCores, HaveItems}
 use Rattle.reads_back.proofs.ClosureReads.{closure_later}
-use Rattle.reads_back.proofs.NameReads.{AreListed}
+use Rattle.reads_back.proofs.NameReads.{AreListed, name_later}
 use Rattle.reads_back.proofs.OperandReads.{operand_reads, rk_reads, text_forward}
 use Rattle.reads_back.proofs.TableWords.{list_later, list_if_forward}
 use Rattle.reads_back.proofs.Tests.{not_so, second_of_both}
@@ -27,11 +26,6 @@ use Rattle.reads_back.proofs.WordsRead.{IsFunction}
 moved_later : {g : Fn} {part : Stretch} (free r : ℕ) (p q : Spot) → ((p q : Spot) → part p q → p.pc < q.pc) → MovedFrom g part free r p q → p.pc < q.pc
 moved_later free r p q later (inl (same, at)) = later p q at
 moved_later free r p q later (inr (other, at)) = omega (arith, later p at.mid at.first_at, at.second_at.next)
-
-name_later : (g : Fn) (text : Text) (w : Where) (r : ℕ) (p q : Spot) → NameBy g text w r p q → p.pc < q.pc
-name_later g text (in_register x) r p q at = omega (arith, at.next)
-name_later g text (in_upvalue slot) r p q at = omega (arith, at.next)
-name_later g text in_globals r p q at = omega (arith, at.word.next)
 
 module _ {f : Function} {g : Fn} {active : List Active} {listed : List ℕ} (is_function : IsFunction f g) (all : AreListed f g active listed) where
   -- ---- calls

@@ -1,5 +1,5 @@
 -- What is written of a value is well formed, and no deeper than its levels tell, where the functions that are left are so.
-use Rattle.std.proofs.Common.{◌≡◌, ℕ, ◌≤◌, Bool, true, false, not, ◌&&◌, ◌||◌, List, [], ◌∷◌, Option, Some, None, is_some, refl, ap, subst, arith, le-leb}
+use Rattle.std.proofs.Common.{◌≡◌, ℕ, ◌≤◌, Bool, true, false, not, ◌&&◌, ◌||◌, List, [], ◌∷◌, Option, Some, None, is_some, refl, sym, ap, ◌∙◌, subst, arith, le-leb}
 use Rattle.std.specs.Prelude.{ℤ, pos, negsuc, ◌==◌, ◌-◌, ◌^◌, suc, slice_get, if◌then◌else◌}
 use Rattle.std.proofs.lemmas.Bool.{leb-true}
 use Rattle.std.proofs.lemmas.Option.{same_Some}
@@ -18,7 +18,7 @@ use Rattle.core_expr.specs.Places.{Place, as_name, constant_at, constant_name, f
 use Rattle.core_expr.specs.Values.{Inner, ItemList, OperandList, OperandValue, Value, Values, and_keyed, and_operand, and_positional, and_value, binary_value, bool_value, call_value, concat_value, constant_operand, constant_value, function_value, global_value, index_value, local_value, method_value, nil_value, no_items, no_operands, no_values, table_value, unary_value, upvalue_value, value_operand, vararg_value}
 use Rattle.core_expr.specs.Writing.{function_left, function_word, ArgumentWording, FieldWording, Wording, Wordings, and_item, and_keyed_item, and_wording, applied, as_arguments, as_list, as_prefix, as_text_argument, can_write, can_write_items, can_write_operand, can_write_operands, can_write_values, chained, constant_word, ends_items, ends_values, in_parentheses, is_bare, is_multiple, is_power, joined, literal, name_word, number_word, numeral, on_left, on_right, separator_before, single, text_or_empty, truth, unless, with_arguments, with_binary, with_field, with_index, with_items, with_key, with_method, with_unary, word, word_each, word_items, word_keys, word_only, word_operand, word_short, word_values}
 use Rattle.reads_back.proofs.FunctionsLeft.{EachLeft, each_by, each_by_operand, left_there}
-use Rattle.reads_back.proofs.Tests.{both_hold, first_of_both, not_so, second_of_both}
+use Rattle.reads_back.proofs.Tests.{both_hold, first_of_both, given_is, not_so, second_of_both, test_holds}
 
 -- ---- functions that are left
 
@@ -216,13 +216,9 @@ constant_fine None = single_fine _ refl refl
 constant_fine (Some k) = literal_fine k
 
 -- a name that a source can write
-named_by : (b : Bool) (name text : Text) → is_name name ≡ b → (if b then Some name else None) ≡ Some text → is_name text ≡ true
-named_by true name text is same = subst (λ (t : Text). is_name t ≡ true) (same_Some name text same) is
-named_by false name text is same = cc
-
-as_named : (name : Option Text) (text : Text) → as_name name ≡ Some text → is_name text ≡ true
+pub as_named : (name : Option Text) (text : Text) → as_name name ≡ Some text → is_name text ≡ true
 as_named None text is = cc
-as_named (Some name) text is = named_by (is_name name) name text refl is
+as_named (Some name) text is = ap is_name (sym (given_is (is_name name) name text is)) ∙ test_holds (is_name name) name text is
 
 name_fine : (name : Option Text) → (known : (text : Text) → name ≡ Some text → is_name text ≡ true) → IsFine (name_word name)
 name_fine None known = single_fine _ refl refl
@@ -240,7 +236,7 @@ some_text : (name : Option Text) → is_some name ≡ true → name ≡ Some (te
 some_text None some = cc
 some_text (Some text) some = refl
 
-entry_as_name : (at : Place) (entry : Option ℕ) (text : Text) → name_of_entry at entry ≡ Some text → is_name text ≡ true
+pub entry_as_name : (at : Place) (entry : Option ℕ) (text : Text) → name_of_entry at entry ≡ Some text → is_name text ≡ true
 entry_as_name at None text is = cc
 entry_as_name at (Some entry) text is = local_as_name (slice_get at.of.locals entry) is
   where

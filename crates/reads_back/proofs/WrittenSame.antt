@@ -52,7 +52,7 @@ spine_some : (g : Fn) (active : List Active) (e : Expression) (before behind : �
 spine_some g active (binary_expression line op left right) before behind vs is = some_by _ _ _ op before behind vs is
 spine_some g active e before behind vs is = some_only vs is
 
-module _ (lefts : ℕ → List (Option Inner)) {f : Function} {g : Fn} {active : List Active} {listed : List ℕ} {z : Maker} (made : IsMadeBy f g active listed z) (again : AreAgain g lefts) where
+module _ (lefts : ℕ → List (Option Inner)) {f : Function} {g : Fn} {active : List Active} {listed : List ℕ} {z : Maker} (made : IsMadeBy f g active listed z) (again : AreAgain f g lefts) where
   -- a value, and the values from it on in a `..`
   pub record RewrittenAll (e : Expression) : Type 0 where
     pub value : (before behind : ℕ) (v : Value) → IsCore g active e before behind v → Rewritten f g active listed z lefts before behind e v

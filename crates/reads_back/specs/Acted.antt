@@ -1,23 +1,25 @@
--- Serves the laws; which statements are such (`IsAct`, at the end) is to be believed. What a call, an assignment, a declaration of locals or a return does, from the words of its parts, and how it is written.
-use Rattle.std.specs.Prelude.{◌≡◌, ◌⊎◌, ◌&&◌, ◌==◌, nat_lt, not, ℕ, suc, max, Bool, true, false, List, [], ◌∷◌, length, Option, Some, None, if◌then◌else◌}
+-- Serves the laws. What a call, an assignment, a declaration of locals or a return does, from the words of its parts, and how it is written.
+use Rattle.std.specs.Prelude.{◌≡◌, ◌⊎◌, ◌&&◌, ◌==◌, nat_lt, not, ℕ, suc, max, Bool, true, false, List, [], ◌∷◌, length, Option, Some, None, option_and_then, if◌then◌else◌}
 use Rattle.lua_num.specs.Bytes.{Text}
-use Rattle.lua_tree.specs.Names.{are_some_names, is_name}
+use Rattle.lua_tree.specs.Names.{is_name}
 use Rattle.lua_tree.specs.Syntax as syntax
-use Rattle.lua_tree.specs.Syntax.{FunctionBody, Expressions, no_expressions, Expression, function_expression, parenthesized, name_expression, index_expression, field_expression, Statement, assignment, call_statement, local_statement, return_statement}
-use Rattle.lua_tree.specs.WellFormed.{has_expressions, is_call}
+use Rattle.lua_tree.specs.Syntax.{FunctionBody, Statements, no_statements, Expressions, no_expressions, Expression, function_expression, parenthesized, name_expression, index_expression, field_expression, Statement, assignment, call_statement, local_statement, return_statement, Statements}
+use Rattle.lua_tree.specs.WellFormed.{depth_of_body, depth_of_expression, depth_of_expressions, depth_of_statement}
 use Rattle.proto.specs.declared.parts.Constant.{Constant}
 use Rattle.core_expr.specs.Counting.{one_more, taken_behind, taken_behind_operand, taken_behind_values, left_by, left_by_operand, left_by_values, with_constant}
 use Rattle.core_expr.specs.Held.{wordings_with}
 use Rattle.core_expr.specs.Places.{Place}
-use Rattle.core_expr.specs.Targets.{TargetValue, global_target, index_target, local_target, upvalue_target, word_target, taken_behind_target, left_by_target, can_write_target}
+use Rattle.core_expr.specs.Targets.{TargetValue, global_target, index_target, local_target, upvalue_target, path_of, word_target, taken_behind_target, left_by_target, can_write_target}
 use Rattle.core_expr.specs.Values.{Value, nil_value, Values, no_values, and_value, OperandValue, value_operand, Inner}
-use Rattle.core_expr.specs.Writing.{Wordings, and_wording, no_wordings, is_multiple, word, word_operand, word_values, can_write, can_write_operand, can_write_values}
+use Rattle.core_expr.specs.Writing.{Wordings, and_wording, no_wordings, function_left, is_multiple, word, word_operand, word_values, can_write, can_write_operand, can_write_values}
+use Rattle.recover_expr.specs.Assigning.{function_as, function_number, with_number}
 use Rattle.recover_expr.specs.Entries.{Listed, and_last_value}
 use Rattle.recover_expr.specs.Lists.{before_last, is_nil, split_last, value_count}
 use Rattle.scheme.specs.Making.{Where, in_register, in_upvalue, in_globals}
 use Rattle.scheme.specs.declared.making.Active.{Active}
 use Rattle.scheme_stands.specs.Words.{Fn, Means}
-use Rattle.reads_back.specs.Cores.{Counted, HasNumber, core, IsCore, first_and, AreCores, IsOperand, IsKey, ends_open, HasCoreBy, AllHaveCoresBy, IsOnOneLine}
+use Rattle.reads_back.specs.Cores.{Counted, HasNumber, core, IsCore, first_and, AreCores, IsOperand, IsKey, ends_open, IsPlainBody}
+use Rattle.reads_back.specs.Straight.{IsActTargetBy, AreActTargetsBy, AssignsBy, IsActBy, StatementBeginsWithName}
 
 -- a call as a statement; values that go to targets, locals that are declared with values, or a return of values, where the last one gives all its values or one; behind the values that go to targets an operand may stand that goes to the last target, a part of a table
 pub data Acted : Type 0 where
@@ -161,15 +163,51 @@ abbrev pub can_write_last : Place → List (Option Inner) → Option OperandValu
 can_write_last at fs None = true
 can_write_last at fs (Some o) = can_write_operand at fs o
 
+-- the number of a function that is all of these values
+abbrev pub function_in : Values → (last : Option OperandValue) → Option ℕ
+function_in (and_value v no_values) None = function_number v
+function_in no_values (Some (value_operand v)) = function_number v
+function_in vs last = None
+
+abbrev pub path_to : Place → List TargetValue → Option (List Text)
+path_to at (t ∷ []) = path_of at t
+path_to at ts = None
+
+-- a function that goes alone to one target with a path is said by it
+abbrev pub named_by : Place → List TargetValue → Values → (last : Option OperandValue) → Option (List Text × ℕ)
+named_by at ts vs last = option_and_then (λ number. with_number number (path_to at ts)) (function_in vs last)
+
+abbrev pub said_by : Option Inner → List Text → (otherwise : Statement) → Statement
+said_by None path otherwise = otherwise
+said_by (Some found) path otherwise = function_as path found.body
+
+abbrev pub levels_by : Option Inner → (otherwise : ℕ) → ℕ
+levels_by None otherwise = otherwise
+levels_by (Some found) otherwise = one_more (one_more found.levels)
+
+abbrev pub named_or : List (Option Inner) → Option (List Text × ℕ) → (otherwise : Statement) → Statement
+named_or fs None otherwise = otherwise
+named_or fs (Some named) otherwise = said_by (function_left fs named.1) named.0 otherwise
+
+abbrev pub levels_or : List (Option Inner) → Option (List Text × ℕ) → (otherwise : ℕ) → ℕ
+levels_or fs None otherwise = otherwise
+levels_or fs (Some named) otherwise = levels_by (function_left fs named.1) otherwise
+
+abbrev pub assigned_statement : Place → ℕ → List (Option Inner) → List TargetValue → Values → (all : Bool) → (last : Option OperandValue) → Statement
+assigned_statement at n fs ts vs all last = assignment (words_targets at n fs ts).words (words_assigned at (taken_behind_targets ts n) (left_by_targets ts fs) vs all last).words
+
+abbrev pub assigned_levels : Place → ℕ → List (Option Inner) → List TargetValue → Values → (all : Bool) → (last : Option OperandValue) → ℕ
+assigned_levels at n fs ts vs all last = one_more (max (max 1 (words_targets at n fs ts).levels) (words_assigned at (taken_behind_targets ts n) (left_by_targets ts fs) vs all last).levels)
+
 abbrev pub act_statement : Place → ℕ → List (Option Inner) → Acted → Statement
 act_statement at n fs (called v) = call_statement (word at n fs v).words
-act_statement at n fs (assigned ts vs all last) = assignment (words_targets at n fs ts).words (words_assigned at (taken_behind_targets ts n) (left_by_targets ts fs) vs all last).words
+act_statement at n fs (assigned ts vs all last) = named_or fs (named_by at ts vs last) (assigned_statement at n fs ts vs all last)
 act_statement at n fs (declared names vs all) = local_statement names (word_values at n fs vs all).words
 act_statement at n fs (returned vs all) = return_statement (word_values at n fs vs all).words
 
 abbrev pub act_levels : Place → ℕ → List (Option Inner) → Acted → ℕ
 act_levels at n fs (called v) = one_more (word at n fs v).levels
-act_levels at n fs (assigned ts vs all last) = one_more (max (max 1 (words_targets at n fs ts).levels) (words_assigned at (taken_behind_targets ts n) (left_by_targets ts fs) vs all last).levels)
+act_levels at n fs (assigned ts vs all last) = levels_or fs (named_by at ts vs last) (assigned_levels at n fs ts vs all last)
 act_levels at n fs (declared names vs all) = one_more (word_values at n fs vs all).levels
 act_levels at n fs (returned vs all) = one_more (word_values at n fs vs all).levels
 
@@ -203,50 +241,43 @@ taken_behind_act (returned vs all) n = taken_behind_values vs n
 
 -- ---- statements that are such
 
-abbrev pub IsActTargetBy : (FunctionBody → Type 0) → Expression → Type 0
-IsActTargetBy P (name_expression line text) = is_name text ≡ true
-IsActTargetBy P (index_expression line on key) = HasCoreBy P on × HasCoreBy P key
-IsActTargetBy P (field_expression line on text) = HasCoreBy P on
-IsActTargetBy P e = ⊥
-
-abbrev pub AreActTargetsBy : (FunctionBody → Type 0) → Expressions → Type 0
-AreActTargetsBy P no_expressions = Unit {0}
-AreActTargetsBy P (syntax.expression e es) = IsActTargetBy P e × AreActTargetsBy P es
-
--- a function, in parentheses or not
-abbrev pub is_function : Expression → Bool
-is_function (function_expression line body) = true
-is_function (parenthesized line e) = is_function e
-is_function e = false
-
--- it goes alone to one target, as a function statement can say it
-abbrev pub stores_function : (to from : Expressions) → Bool
-stores_function (syntax.expression target no_expressions) (syntax.expression e no_expressions) = is_function e
-stores_function to from = false
-
--- any values go to any targets
-pub record AssignsBy (P : FunctionBody → Type 0) (to from : Expressions) : Type 0 where
-  pub some : has_expressions to ≡ true
-  pub targets : AreActTargetsBy P to
-  pub given : has_expressions from ≡ true
-  pub values : AllHaveCoresBy P from
-  pub plain : stores_function to from ≡ false
-
-abbrev pub IsActBy : (FunctionBody → Type 0) → Statement → Type 0
-IsActBy P (call_statement e) = (is_call e ≡ true) × HasCoreBy P e
-IsActBy P (assignment targets es) = AssignsBy P targets es
-IsActBy P (local_statement names es) = (are_some_names names ≡ true) × AllHaveCoresBy P es
-IsActBy P (return_statement es) = AllHaveCoresBy P es
-IsActBy P statement = ⊥
-
 abbrev pub IsActTarget : Expression → Type 0
-IsActTarget e = IsActTargetBy IsOnOneLine e
+IsActTarget e = IsActTargetBy IsPlainBody e
 
 abbrev pub AreActTargets : Expressions → Type 0
-AreActTargets es = AreActTargetsBy IsOnOneLine es
+AreActTargets es = AreActTargetsBy IsPlainBody es
 
 abbrev pub Assigns : (to from : Expressions) → Type 0
-Assigns to from = AssignsBy IsOnOneLine to from
+Assigns to from = AssignsBy IsPlainBody to from
 
 abbrev pub IsAct : Statement → Type 0
-IsAct s = IsActBy IsOnOneLine s
+IsAct s = IsActBy IsPlainBody s
+
+-- statements that are acts, with no function statements
+abbrev pub AreActsBy : (FunctionBody → Type 0) → Statements → Type 0
+AreActsBy P no_statements = Unit {0}
+AreActsBy P (syntax.statement line semi s rest) = (IsActBy P s × StatementBeginsWithName s) × AreActsBy P rest
+
+abbrev pub AreActs : Statements → Type 0
+AreActs block = AreActsBy IsPlainBody block
+
+-- ---- how deep they are
+
+-- a name with fields behind it, that are named
+abbrev pub is_path : Expression → Bool
+is_path (name_expression line text) = is_name text
+is_path (field_expression line on text) = is_path on && is_name text
+is_path e = false
+
+-- a path that a function goes to does not count
+abbrev pub lean_assignment : (targets es : Expressions) → ℕ
+lean_assignment (syntax.expression target no_expressions) (syntax.expression (function_expression line body) no_expressions) = if is_path target then suc (depth_of_body body) else max (depth_of_expression target) (suc (depth_of_body body))
+lean_assignment targets es = max (depth_of_expressions targets) (depth_of_expressions es)
+
+abbrev pub lean_depth : Statement → ℕ
+lean_depth (assignment targets es) = lean_assignment targets es
+lean_depth s = depth_of_statement s
+
+abbrev pub lean_depth_of : Statements → ℕ
+lean_depth_of no_statements = 0
+lean_depth_of (syntax.statement line semi s rest) = max (suc (lean_depth s)) (lean_depth_of rest)

@@ -1,11 +1,10 @@
--- Serves the laws; which expressions have one (`HasCore`, at the end) is to be believed. Which value the words of an expression make, where they stand in a function: locals by their registers, and constants and upvalues by their numbers; and how many functions were made before them, and behind them. `and`, `or` and comparisons have none here.
+-- Serves the laws. Which value the words of an expression make, where they stand in a function: locals by their registers, and constants and upvalues by their numbers; and how many functions were made before them, and behind them. `and`, `or` and comparisons have none here.
 use Rattle.std.specs.Prelude.{◌≡◌, ◌≤◌, ◌⊎◌, ◌&&◌, ℕ, suc, ℤ, Bool, true, false, List, slice_get, Option, Some, None}
 use Rattle.lua_num.specs.Bytes.{Text}
-use Rattle.lua_tree.specs.Names.{is_name}
 use Rattle.lua_tree.specs.Syntax as syntax
 use Rattle.lua_tree.specs.OneLine.{one_line_body}
 use Rattle.lua_tree.specs.Syntax.{FunctionBody, Expressions, no_expressions, Arguments, argument_list, text_argument, table_argument, Expression, nil_literal, true_literal, false_literal, vararg_expression, number_literal, text_literal, name_expression, function_expression, index_expression, field_expression, call_expression, method_call, and_expression, or_expression, binary_expression, unary_expression, constructor, parenthesized, Fields, no_fields, positional, named, keyed}
-use Rattle.lua_tree.specs.WellFormed.{is_numeral_value}
+use Rattle.lua_tree.specs.WellFormed.{depth_of_body, formed_body}
 use Rattle.lua_tree.specs.declared.tree.BinaryOp.{BinaryOp}
 use Rattle.lua_tree.specs.declared.tree.UnaryOp.{UnaryOp}
 use Rattle.proto.specs.Constants.{constant_number}
@@ -19,6 +18,7 @@ use Rattle.scheme_stands.specs.Expressions.{IsLarge}
 use Rattle.scheme_stands.specs.Lists.{is_last_item}
 use Rattle.scheme_stands.specs.Words.{Fn, Means}
 use Rattle.reads_back.specs.Coming.{Coming, IsMadeNext}
+use Rattle.reads_back.specs.Straight.{AllHaveCoresBy, HasCoreBy, HaveCoresBy, HaveItemsBy, IsStraightBody}
 
 -- ---- functions that are made
 
@@ -265,54 +265,22 @@ IsOperand g active e = IsOperandBy (literal e) g (IsCore g active e)
 
 -- ---- expressions that have one
 
--- where the functions in it are such
-abbrev mutual
-  pub HasCoreBy : (FunctionBody → Type 0) → Expression → Type 0
-  HasCoreBy P (nil_literal line) = Unit {0}
-  HasCoreBy P (true_literal line) = Unit {0}
-  HasCoreBy P (false_literal line) = Unit {0}
-  HasCoreBy P (vararg_expression line) = Unit {0}
-  HasCoreBy P (number_literal line n) = is_numeral_value n ≡ true
-  HasCoreBy P (text_literal line text) = Unit {0}
-  HasCoreBy P (name_expression line text) = is_name text ≡ true
-  HasCoreBy P (function_expression line body) = P body
-  HasCoreBy P (index_expression line on key) = HasCoreBy P on × HasCoreBy P key
-  HasCoreBy P (field_expression line on text) = HasCoreBy P on
-  HasCoreBy P (call_expression line on args on_line) = HasCoreBy P on × HaveCoresBy P args
-  HasCoreBy P (method_call line on name args on_line) = (is_name name ≡ true) × HasCoreBy P on × HaveCoresBy P args
-  HasCoreBy P (binary_expression line op left right) = (is_comparison op ≡ false) × HasCoreBy P left × HasCoreBy P right
-  HasCoreBy P (unary_expression line op e) = HasCoreBy P e
-  HasCoreBy P (constructor line fields) = HaveItemsBy P fields
-  HasCoreBy P (parenthesized line e) = HasCoreBy P e
-  HasCoreBy P e = ⊥
-
-  pub HaveCoresBy : (FunctionBody → Type 0) → Arguments → Type 0
-  HaveCoresBy P (argument_list es) = AllHaveCoresBy P es
-  HaveCoresBy P (text_argument text) = Unit {0}
-  HaveCoresBy P (table_argument fields) = HaveItemsBy P fields
-
-  pub AllHaveCoresBy : (FunctionBody → Type 0) → Expressions → Type 0
-  AllHaveCoresBy P no_expressions = Unit {0}
-  AllHaveCoresBy P (syntax.expression e es) = HasCoreBy P e × AllHaveCoresBy P es
-
-  pub HaveItemsBy : (FunctionBody → Type 0) → Fields → Type 0
-  HaveItemsBy P no_fields = Unit {0}
-  HaveItemsBy P (positional e separator rest) = HasCoreBy P e × HaveItemsBy P rest
-  HaveItemsBy P (named text e separator rest) = HasCoreBy P e × HaveItemsBy P rest
-  HaveItemsBy P (keyed key e separator rest) = HasCoreBy P key × HasCoreBy P e × HaveItemsBy P rest
-
--- on one line all of it
-abbrev pub IsOnOneLine : FunctionBody → Type 0
-IsOnOneLine body = one_line_body body ≡ body
+-- a function as it is read: straight, well formed and on one line, with few levels
+pub record IsPlainBody (body : FunctionBody) : Type 0 where
+  pub deep : ℕ
+  pub straight : IsStraightBody deep body
+  pub formed : formed_body body ≡ true
+  pub on_line : one_line_body body ≡ body
+  pub shallow : depth_of_body body ≤ 65
 
 abbrev pub HasCore : Expression → Type 0
-HasCore e = HasCoreBy IsOnOneLine e
+HasCore e = HasCoreBy IsPlainBody e
 
 abbrev pub HaveCores : Arguments → Type 0
-HaveCores args = HaveCoresBy IsOnOneLine args
+HaveCores args = HaveCoresBy IsPlainBody args
 
 abbrev pub AllHaveCores : Expressions → Type 0
-AllHaveCores es = AllHaveCoresBy IsOnOneLine es
+AllHaveCores es = AllHaveCoresBy IsPlainBody es
 
 abbrev pub HaveItems : Fields → Type 0
-HaveItems fields = HaveItemsBy IsOnOneLine fields
+HaveItems fields = HaveItemsBy IsPlainBody fields

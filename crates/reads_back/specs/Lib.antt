@@ -1,5 +1,5 @@
+pub mod Straight
 pub mod Coming
 pub mod Cores
 pub mod Acted
-pub mod Straight
 pub mod ReadAs

@@ -1,13 +1,15 @@
--- To be believed. What the words of the chunk of a straight source are read as: one step for each statement, and these statements are a source with the same chunk.
-use Rattle.std.specs.Prelude.{◌≡◌, ◌≤◌, ◌<◌, ◌^◌, ℕ, Bool, false, List, [], ◌∷◌, length, Some, IsSome}
+-- To be believed. What the words of the chunk of a straight source are read as: in each function one step for each statement, and these statements are a source with the same chunk.
+use Rattle.std.specs.Prelude.{◌≡◌, ◌==◌, ◌≤◌, ℕ, zero, suc, max, not, Bool, true, false, List, [], ◌∷◌, length, Option, Some, IsSome}
 use Rattle.lua_num.specs.Bytes.{Text}
 use Rattle.lua_tree.specs.Scoping.{Scoped}
-use Rattle.lua_tree.specs.Syntax.{Statement, Statements, local_statement, no_statements, return_statement, statement, Source}
-use Rattle.lua_tree.specs.WellFormed.{WellFormed, statement_begins_with_paren}
-use Rattle.proto.specs.Chunk.{Chunk, SameButLines, functions, no_functions, own}
+use Rattle.lua_tree.specs.Syntax.{Statement, Statements, function_body, local_statement, no_statements, return_statement, statement, Source}
+use Rattle.lua_tree.specs.WellFormed.{WellFormed, depth_of_statement, formed_statements, statement_begins_with_paren}
+use Rattle.proto.specs.Chunk.{Chunk, Functions, Own, SameButLines, and_function, function, no_functions, own}
+use Rattle.proto.specs.Short.{IsShort}
 use Rattle.scheme.specs.Scheme.{scheme, Fits}
 use Rattle.scheme.specs.Shapes.{Flat}
 use Rattle.scheme_lines.specs.Alike.{AreAlike}
+use Rattle.core_expr.specs.Values.{Inner}
 use Rattle.recover_expr.specs.Drafts.{Part, statement_part, values_part}
 use Rattle.recover_expr.specs.Placing.{Steps}
 use Rattle.recover_expr.specs.Reading.{read_steps}
@@ -42,53 +44,76 @@ abbrev pub parts_of : Statements → List Part
 parts_of no_statements = []
 parts_of (statement line semi s rest) = part_of s ∷ parts_of rest
 
--- with no more levels than a tree may have
-pub record IsStepOf (count : ℕ) (s : Statement) (step : Step) : Type 0 where
+-- its levels are enough for the statement, and no more than so many
+pub record IsStepOf (count most : ℕ) (s : Statement) (step : Step) : Type 0 where
   pub kind : IsKindOf count s step.kind
-  pub levels : step.levels ≤ 200
+  pub enough : suc (depth_of_statement s) ≤ step.levels
+  pub levels : step.levels ≤ most
 
-abbrev pub AreStepsOf : (count : ℕ) → Statements → List Step → Type 0
-AreStepsOf count no_statements steps = steps ≡ []
-AreStepsOf count (statement line semi s rest) [] = ⊥
-AreStepsOf count (statement line semi s rest) (step ∷ steps) = IsStepOf count s step × AreStepsOf count rest steps
+abbrev pub AreStepsOf : (count most : ℕ) → Statements → List Step → Type 0
+AreStepsOf count most no_statements steps = steps ≡ []
+AreStepsOf count most (statement line semi s rest) [] = ⊥
+AreStepsOf count most (statement line semi s rest) (step ∷ steps) = IsStepOf count most s step × AreStepsOf count most rest steps
 
--- the statements of a tree, one step each
-pub record IsReadAs (tree : Source) (steps : Steps) : Type 0 where
-  pub params : steps.params ≡ []
-  pub parts : steps.parts ≡ parts_of tree.body
-  pub are : AreStepsOf (length steps.steps) tree.body steps.steps
+-- the levels of the step that needs most
+abbrev pub most_levels : List Step → ℕ
+most_levels [] = 0
+most_levels (step ∷ steps) = max step.levels (most_levels steps)
 
--- ---- what is read
+-- ---- functions
 
 -- statements on line 1, without semicolons, of which none begins with a parenthesis
 abbrev pub ArePlain : Statements → Type 0
 ArePlain no_statements = Unit {0}
 ArePlain (statement line semi s rest) = (line ≡ 1) × (semi ≡ false) × (statement_begins_with_paren s ≡ false) × ArePlain rest
 
--- the tree that is read keeps the rules of form, and is alike to the source in all else
-pub record IsReadBack (source : Source) (steps : Steps) : Type 0 where
+-- the line of each word and the name of each upvalue are told
+pub record IsTold (f : Own) : Type 0 where
+  pub lines : length f.lines ≡ length f.code
+  pub names : length f.upvalue_names ≡ f.upvalues
+
+-- it takes further arguments
+abbrev pub is_vararg : Own → Bool
+is_vararg f = not (f.flags == 0)
+
+-- the words of a function are read, where these functions are left to it, as the statements of a body, one step each, with no more levels than a tree may have
+pub record IsReadFrom (chunk : Chunk) (left : List (Option Inner)) (found : Inner) : Type 0 where
+  pub told : IsTold (own chunk)
+  pub steps : Steps
+  pub written : Statements
+  pub read : read_steps chunk left false ≡ Some steps
+  pub parts : steps.parts ≡ parts_of written
+  pub are : AreStepsOf (length steps.steps) 200 written steps.steps
+  pub plain : ArePlain written
+  pub formed : formed_statements written ≡ true
+  pub body : found.body ≡ function_body steps.params (is_vararg (own chunk)) written 1 1
+  pub levels : found.levels ≡ most_levels steps.steps
+
+-- and those of each function in it, which are left to it by their numbers, where no more than so many stand in one another
+abbrev mutual
+  pub IsRead : (deep : ℕ) → Chunk → Inner → Type 0
+  IsRead zero chunk found = ⊥
+  IsRead (suc deep) (function f inner) found = (left : List (Option Inner)) × AreRead deep inner left × IsReadFrom (function f inner) left found
+
+  pub AreRead : (deep : ℕ) → Functions → List (Option Inner) → Type 0
+  AreRead deep no_functions left = left ≡ []
+  AreRead deep (and_function c rest) left = (found : Inner) × (others : List (Option Inner)) × IsRead deep c found × AreRead deep rest others × (left ≡ Some found ∷ others)
+
+-- ---- sources
+
+-- the chunk tells the name of its source; and what its words are read as is a tree that keeps the rules of form, and is alike to the source in all else
+pub record IsSourceRead (source : Source) (chunk : Chunk) : Type 0 where
+  pub named : IsSome (own chunk).source
+  pub found : Inner
+  pub read : IsRead 67 chunk found
   pub tree : Source
-  pub read : IsReadAs tree steps
-  pub plain : ArePlain tree.body
+  pub body : found.body ≡ function_body [] true tree.body 1 1
   pub formed : WellFormed tree
   pub alike : AreAlike source tree
 
--- 32 bits count the words, as they do in every chunk that is short (`IsShort`): no pc is read that is a greater number
+-- 32 bits count the entries of each list, as they do in every chunk that is built: no pc is read that is a greater number
 abbrev pub StraightSourcesAreRead : Type 0
-StraightSourcesAreRead =
-    (chunk : Chunk) (of : IsStraightChunk chunk) → length (own chunk).code < 2 ^ 32 → (steps : Steps) × (read_steps chunk [] false ≡ Some steps) × IsReadBack of.source steps
-
--- ---- what a source is recovered by
-
--- no function is in it, and it tells its source name, the line of each word and the name of each upvalue
-pub record IsAlone (chunk : Chunk) : Type 0 where
-  pub none : functions chunk ≡ no_functions
-  pub named : IsSome (own chunk).source
-  pub lines : length (own chunk).lines ≡ length (own chunk).code
-  pub names : length (own chunk).upvalue_names ≡ (own chunk).upvalues
-
-abbrev pub StraightChunksAreAlone : Type 0
-StraightChunksAreAlone = (chunk : Chunk) → IsStraightChunk chunk → IsAlone chunk
+StraightSourcesAreRead = (chunk : Chunk) (of : IsStraightChunk chunk) → IsShort chunk → IsSourceRead of.source chunk
 
 -- ---- flat sources
 

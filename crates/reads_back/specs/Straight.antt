@@ -1,9 +1,74 @@
--- To be believed. Straight sources: calls, assignments and declarations of locals, one after the other, and maybe a return at the end.
-use Rattle.std.specs.Prelude.{◌≤◌}
+-- To be believed. Straight sources: calls, assignments, function statements and declarations of locals, one after the other, and maybe a return at the end; and so in each function that stands in one.
+use Rattle.std.specs.Prelude.{◌≡◌, ◌≤◌, ℕ, zero, suc, true, length, false}
+use Rattle.lua_tree.specs.Names.{are_some_names, is_name}
 use Rattle.lua_tree.specs.Syntax as syntax
-use Rattle.lua_tree.specs.Syntax.{FunctionBody, Expression, Expressions, no_expressions, Source, Statement, Statements, assignment, call_expression, call_statement, field_expression, index_expression, local_statement, method_call, name_expression, no_statements, parenthesized, return_statement}
-use Rattle.lua_tree.specs.WellFormed.{depth_of_statements}
-use Rattle.reads_back.specs.Acted.{IsActBy}
+use Rattle.lua_tree.specs.Syntax.{FunctionBody, function_body, Expression, Expressions, no_expressions, Source, Statement, Statements, Arguments, argument_list, text_argument, table_argument, Fields, no_fields, positional, named, keyed, nil_literal, true_literal, false_literal, vararg_expression, number_literal, text_literal, name_expression, function_expression, index_expression, field_expression, call_expression, method_call, binary_expression, unary_expression, constructor, parenthesized, assignment, call_statement, function_statement, local_statement, no_statements, return_statement}
+use Rattle.lua_tree.specs.WellFormed.{depth_of_statements, has_expressions, is_call, is_numeral_value}
+use Rattle.scheme.specs.Expressions.{is_comparison}
+
+-- ---- expressions: no `and`, `or` and comparisons
+
+-- where the functions in it are such
+abbrev mutual
+  pub HasCoreBy : (FunctionBody → Type 0) → Expression → Type 0
+  HasCoreBy P (nil_literal line) = Unit {0}
+  HasCoreBy P (true_literal line) = Unit {0}
+  HasCoreBy P (false_literal line) = Unit {0}
+  HasCoreBy P (vararg_expression line) = Unit {0}
+  HasCoreBy P (number_literal line n) = is_numeral_value n ≡ true
+  HasCoreBy P (text_literal line text) = Unit {0}
+  HasCoreBy P (name_expression line text) = is_name text ≡ true
+  HasCoreBy P (function_expression line body) = P body
+  HasCoreBy P (index_expression line on key) = HasCoreBy P on × HasCoreBy P key
+  HasCoreBy P (field_expression line on text) = HasCoreBy P on
+  HasCoreBy P (call_expression line on args on_line) = HasCoreBy P on × HaveCoresBy P args
+  HasCoreBy P (method_call line on name args on_line) = (is_name name ≡ true) × HasCoreBy P on × HaveCoresBy P args
+  HasCoreBy P (binary_expression line op left right) = (is_comparison op ≡ false) × HasCoreBy P left × HasCoreBy P right
+  HasCoreBy P (unary_expression line op e) = HasCoreBy P e
+  HasCoreBy P (constructor line fields) = HaveItemsBy P fields
+  HasCoreBy P (parenthesized line e) = HasCoreBy P e
+  HasCoreBy P e = ⊥
+
+  pub HaveCoresBy : (FunctionBody → Type 0) → Arguments → Type 0
+  HaveCoresBy P (argument_list es) = AllHaveCoresBy P es
+  HaveCoresBy P (text_argument text) = Unit {0}
+  HaveCoresBy P (table_argument fields) = HaveItemsBy P fields
+
+  pub AllHaveCoresBy : (FunctionBody → Type 0) → Expressions → Type 0
+  AllHaveCoresBy P no_expressions = Unit {0}
+  AllHaveCoresBy P (syntax.expression e es) = HasCoreBy P e × AllHaveCoresBy P es
+
+  pub HaveItemsBy : (FunctionBody → Type 0) → Fields → Type 0
+  HaveItemsBy P no_fields = Unit {0}
+  HaveItemsBy P (positional e separator rest) = HasCoreBy P e × HaveItemsBy P rest
+  HaveItemsBy P (named text e separator rest) = HasCoreBy P e × HaveItemsBy P rest
+  HaveItemsBy P (keyed key e separator rest) = HasCoreBy P key × HasCoreBy P e × HaveItemsBy P rest
+
+-- ---- statements
+
+abbrev pub IsActTargetBy : (FunctionBody → Type 0) → Expression → Type 0
+IsActTargetBy P (name_expression line text) = is_name text ≡ true
+IsActTargetBy P (index_expression line on key) = HasCoreBy P on × HasCoreBy P key
+IsActTargetBy P (field_expression line on text) = HasCoreBy P on
+IsActTargetBy P e = ⊥
+
+abbrev pub AreActTargetsBy : (FunctionBody → Type 0) → Expressions → Type 0
+AreActTargetsBy P no_expressions = Unit {0}
+AreActTargetsBy P (syntax.expression e es) = IsActTargetBy P e × AreActTargetsBy P es
+
+-- any values go to any targets
+pub record AssignsBy (P : FunctionBody → Type 0) (to from : Expressions) : Type 0 where
+  pub some : has_expressions to ≡ true
+  pub targets : AreActTargetsBy P to
+  pub given : has_expressions from ≡ true
+  pub values : AllHaveCoresBy P from
+
+abbrev pub IsActBy : (FunctionBody → Type 0) → Statement → Type 0
+IsActBy P (call_statement e) = (is_call e ≡ true) × HasCoreBy P e
+IsActBy P (assignment targets es) = AssignsBy P targets es
+IsActBy P (local_statement names es) = (are_some_names names ≡ true) × AllHaveCoresBy P es
+IsActBy P (return_statement es) = AllHaveCoresBy P es
+IsActBy P statement = ⊥
 
 -- what is called, indexed or assigned to begins with a name, in parentheses or not
 abbrev pub BeginsWithName : Expression → Type 0
@@ -24,21 +89,28 @@ StatementBeginsWithName (call_statement e) = BeginsWithName e
 StatementBeginsWithName (assignment targets es) = AllBeginWithName targets
 StatementBeginsWithName (local_statement names es) = Unit {0}
 StatementBeginsWithName (return_statement es) = Unit {0}
+StatementBeginsWithName (function_statement path method body) = Unit {0}
 StatementBeginsWithName statement = ⊥
 
--- no function stands in it
-abbrev pub NoFunction : FunctionBody → Type 0
-NoFunction body = ⊥
+-- ---- blocks, functions and sources
 
--- such statements, where the functions in them are such
+-- or it gives a function to a path of at most so many names
+abbrev pub IsStraightStatementBy : (FunctionBody → Type 0) → Statement → Type 0
+IsStraightStatementBy P (function_statement path method body) = (length path ≤ 64) × P body
+IsStraightStatementBy P s = IsActBy P s
+
+-- each is such and begins with a name, where the functions in them are such
 abbrev pub AreStraightBy : (FunctionBody → Type 0) → Statements → Type 0
 AreStraightBy P no_statements = Unit {0}
-AreStraightBy P (syntax.statement line semi s rest) = (IsActBy P s × StatementBeginsWithName s) × AreStraightBy P rest
+AreStraightBy P (syntax.statement line semi s rest) = (IsStraightStatementBy P s × StatementBeginsWithName s) × AreStraightBy P rest
 
-abbrev pub AreStraight : Statements → Type 0
-AreStraight block = AreStraightBy NoFunction block
+-- a function with a straight block, where no more than so many stand in one another
+abbrev pub IsStraightBody : (deep : ℕ) → FunctionBody → Type 0
+IsStraightBody zero body = ⊥
+IsStraightBody (suc deep) (function_body params vararg block first last) = AreStraightBy (IsStraightBody deep) block
 
 -- with fewer than a third of the levels that a tree may have
 pub record Straight (source : Source) : Type 0 where
-  pub acts : AreStraight source.body
+  pub deep : ℕ
+  pub acts : AreStraightBy (IsStraightBody deep) source.body
   pub shallow : depth_of_statements source.body ≤ 66

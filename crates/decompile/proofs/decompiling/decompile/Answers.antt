@@ -8,12 +8,12 @@ use Rattle.decompile.proofs.decompiling.decompile.Goals as goal
 pub returns-in_err-tree-clause-recoverable : goal.returns-in_err-tree-clause-recoverable
 returns-in_err-tree-clause-recoverable c =
     let read = c.straight_sources_are_read.ensures in
-    let laws = laws_of read.read read.alone c.acts_are_found.ensures.found c.acts_are_found.ensures.built c.acts_are_found.ensures.levels c.lines_do_not_matter.ensures.semicolons in
+    let laws = laws_of read.read c.acts_are_found.ensures.found c.acts_are_found.ensures.built c.lines_do_not_matter.ensures.semicolons in
     let p = err_from_is_err_and c.from_residual.result c.from_residual.ensures.1 in
     λ is. rw (p.1, p.2) (straight_lost laws (view_proto c.args.proto.now) c.requires.short (as_straight read.flat is) _ c.in_err-tree.ensures.only)
 
 pub returns-clause-recoverable : goal.returns-clause-recoverable
 returns-clause-recoverable c =
     let read = c.straight_sources_are_read.ensures in
-    let laws = laws_of read.read read.alone c.acts_are_found.ensures.found c.acts_are_found.ensures.built c.acts_are_found.ensures.levels c.lines_do_not_matter.ensures.semicolons in
+    let laws = laws_of read.read c.acts_are_found.ensures.found c.acts_are_found.ensures.built c.lines_do_not_matter.ensures.semicolons in
     λ is. c.printed.ensures.given (straight_given laws (view_proto c.args.proto.now) c.requires.short (as_straight read.flat is) (view_tree c.in_ok-tree.tree) c.in_ok-tree.ensures.formed c.in_ok-tree.ensures.found)

@@ -1,0 +1,160 @@
+-- Each function of a function is made where it comes next: it is one that stands in its statements.
+use Rattle.std.proofs.Common.{◌≡◌, ℕ, max, ◌≤◌, ◌<◌, ◌⊎◌, inl, inr, Bool, List, [], ◌∷◌, ◌++◌, length, ap, ◌∙◌, arith, true, if◌then◌else◌, suc, false, refl}
+use Rattle.std.proofs.lemmas.Bool.{cases_lt}
+use Rattle.lua_tree.specs.Syntax as syntax
+use Rattle.lua_tree.specs.Syntax.{Arguments, Expression, Expressions, FunctionBody, Statement, Statements, argument_list, assignment, binary_expression, call_expression, call_statement, constructor, Fields, no_fields, positional, named, keyed, table_argument, field_expression, function_expression, index_expression, local_statement, method_call, name_expression, no_expressions, no_statements, parenthesized, return_statement, text_argument, unary_expression, nil_literal, true_literal, false_literal, vararg_expression, number_literal, text_literal}
+use Rattle.lua_tree.specs.WellFormed.{depth_of_arguments, depth_of_body, depth_of_expression, depth_of_expressions, depth_of_fields}
+use Rattle.recover_expr.specs.Situation.{Function}
+use Rattle.scheme.specs.Making.{Maker}
+use Rattle.scheme.specs.Statements.{settle}
+use Rattle.scheme.specs.declared.making.Active.{Active}
+use Rattle.scheme_stands.specs.Words.{Fn}
+use Rattle.reads_back.specs.Acted.{IsAct, is_path, lean_assignment, lean_depth, lean_depth_of}
+use Rattle.reads_back.specs.Coming.{Coming, IsMadeNext}
+use Rattle.reads_back.specs.Cores.{AllHaveCores, HasCore, HaveCores, HaveItems, IsPlainBody}
+use Rattle.reads_back.proofs.BlockMakers.{all_made, made_by, statement_moves}
+use Rattle.reads_back.proofs.Mentions.{AreMeant, IsAhead, Mention, behind_mention, coming, coming_behind, function_mention, locals_mention, mentions_given, mentions_in, mentions_in_all, mentions_of_fields, name_mention}
+use Rattle.reads_back.proofs.NameReads.{AreListed}
+use Rattle.reads_back.proofs.OneLineActs.{targets_have_cores}
+use Rattle.reads_back.proofs.Rewriting.{mentions_of_statement}
+use Rattle.reads_back.proofs.Tests.{first_of_both}
+use Rattle.reads_back.proofs.StraightBlocks.{ComesNext, IsMadeWhole, comes_behind, made_there, names_next}
+
+-- ---- the levels of what is mentioned
+
+-- each function that is mentioned is plain, and has fewer levels than so many
+abbrev pub AreLowMentions : (high : ℕ) → List Mention → Type 0
+AreLowMentions high [] = Unit {0}
+AreLowMentions high (name_mention text ∷ mentions) = AreLowMentions high mentions
+AreLowMentions high (function_mention body method ∷ mentions) = (IsPlainBody body × (depth_of_body body < high)) × AreLowMentions high mentions
+AreLowMentions high (locals_mention texts ∷ mentions) = AreLowMentions high mentions
+
+lower : (high higher : ℕ) (mentions : List Mention) → high ≤ higher → AreLowMentions high mentions → AreLowMentions higher mentions
+lower high higher [] up are = tt
+lower high higher (name_mention text ∷ mentions) up are = lower high higher mentions up are
+lower high higher (function_mention body method ∷ mentions) up are = ((are.0.0, omega (arith, are.0.1, up)), lower high higher mentions up are.1)
+lower high higher (locals_mention texts ∷ mentions) up are = lower high higher mentions up are
+
+low_then : (high : ℕ) (mentions others : List Mention) → AreLowMentions high mentions → AreLowMentions high others → AreLowMentions high (mentions ++ others)
+low_then high [] others first second = second
+low_then high (name_mention text ∷ mentions) others first second = low_then high mentions others first second
+low_then high (function_mention body method ∷ mentions) others first second = (first.0, low_then high mentions others first.1 second)
+low_then high (locals_mention texts ∷ mentions) others first second = low_then high mentions others first second
+
+-- what two parts mention, where both have no more levels than so many
+both_low : (one other high : ℕ) (mentions others : List Mention) → one ≤ high → other ≤ high → AreLowMentions one mentions → AreLowMentions other others → AreLowMentions high (mentions ++ others)
+both_low one other high mentions others up up_too first second = low_then high mentions others (lower one high mentions up first) (lower other high others up_too second)
+
+mutual
+  low_in : (e : Expression) → HasCore e → AreLowMentions (depth_of_expression e) (mentions_in e)
+  low_in (nil_literal line) has = tt
+  low_in (true_literal line) has = tt
+  low_in (false_literal line) has = tt
+  low_in (vararg_expression line) has = tt
+  low_in (number_literal line n) has = tt
+  low_in (text_literal line text) has = tt
+  low_in (name_expression line text) has = tt
+  low_in (function_expression line body) has = ((has, omega arith), tt)
+  low_in (index_expression line on key) has = both_low (depth_of_expression on) (depth_of_expression key) _ (mentions_in on) (mentions_in key) (omega arith) (omega arith) (low_in on has.0) (low_in key has.1)
+  low_in (field_expression line on text) has = lower (depth_of_expression on) _ (mentions_in on) (omega arith) (low_in on has)
+  low_in (call_expression line on args on_line) has = both_low (depth_of_expression on) (depth_of_arguments args) _ (mentions_in on) (mentions_given args) (omega arith) (omega arith) (low_in on has.0) (low_given args has.1)
+  low_in (method_call line on name args on_line) has = both_low (depth_of_expression on) (depth_of_arguments args) _ (mentions_in on) (mentions_given args) (omega arith) (omega arith) (low_in on has.1) (low_given args has.2)
+  low_in (binary_expression line op left right) has = both_low (depth_of_expression left) (depth_of_expression right) _ (mentions_in left) (mentions_in right) (omega arith) (omega arith) (low_in left has.1) (low_in right has.2)
+  low_in (unary_expression line op e) has = lower (depth_of_expression e) _ (mentions_in e) (omega arith) (low_in e has)
+  low_in (constructor line fields) has = lower (depth_of_fields fields) _ (mentions_of_fields fields) (omega arith) (low_of_fields fields has)
+  low_in (parenthesized line e) has = lower (depth_of_expression e) _ (mentions_in e) (omega arith) (low_in e has)
+  low_in e has = absurd has
+
+  low_given : (args : Arguments) → HaveCores args → AreLowMentions (depth_of_arguments args) (mentions_given args)
+  low_given (argument_list es) have = low_in_all es have
+  low_given (text_argument text) have = tt
+  low_given (table_argument fields) have = low_of_fields fields have
+
+  low_of_fields : (fields : Fields) → HaveItems fields → AreLowMentions (depth_of_fields fields) (mentions_of_fields fields)
+  low_of_fields no_fields have = tt
+  low_of_fields (positional e separator rest) have = both_low (depth_of_expression e) (depth_of_fields rest) _ (mentions_in e) (mentions_of_fields rest) (omega arith) (omega arith) (low_in e have.0) (low_of_fields rest have.1)
+  low_of_fields (named text e separator rest) have = both_low (depth_of_expression e) (depth_of_fields rest) _ (mentions_in e) (mentions_of_fields rest) (omega arith) (omega arith) (low_in e have.0) (low_of_fields rest have.1)
+  low_of_fields (keyed key e separator rest) have =
+      let item = both_low (depth_of_expression key) (depth_of_expression e) (max (depth_of_expression key) (depth_of_expression e)) (mentions_in key) (mentions_in e) (omega arith) (omega arith) (low_in key have.0) (low_in e have.1) in
+      both_low (max (depth_of_expression key) (depth_of_expression e)) (depth_of_fields rest) _ (mentions_in key ++ mentions_in e) (mentions_of_fields rest) (omega arith) (omega arith) item (low_of_fields rest have.2)
+
+  low_in_all : (es : Expressions) → AllHaveCores es → AreLowMentions (depth_of_expressions es) (mentions_in_all es)
+  low_in_all no_expressions have = tt
+  low_in_all (syntax.expression e es) have = both_low (depth_of_expression e) (depth_of_expressions es) _ (mentions_in e) (mentions_in_all es) (omega arith) (omega arith) (low_in e have.0) (low_in_all es have.1)
+
+-- a path mentions none
+path_low : (target : Expression) (high : ℕ) → is_path target ≡ true → AreLowMentions high (mentions_in target)
+path_low (name_expression line text) high is = tt
+path_low (field_expression line on text) high is = path_low on high (first_of_both _ _ is)
+path_low target high is = cc
+
+-- of an assignment
+assigned_low : (targets es : Expressions) → AllHaveCores targets → AllHaveCores es → AreLowMentions (lean_assignment targets es) (mentions_in_all targets ++ mentions_in_all es)
+assigned_low (syntax.expression target no_expressions) (syntax.expression (function_expression line body) no_expressions) to from = by (is_path target) refl
+  where
+    by : (path : Bool) → is_path target ≡ path → AreLowMentions (if path then suc (depth_of_body body) else max (depth_of_expression target) (suc (depth_of_body body))) ((mentions_in target ++ []) ++ (function_mention body false ∷ []))
+    by true is = low_then (suc (depth_of_body body)) (mentions_in target ++ []) (function_mention body false ∷ []) (low_then (suc (depth_of_body body)) (mentions_in target) [] (path_low target (suc (depth_of_body body)) is) tt) ((from.0, omega arith), tt)
+    by false is =
+        let high = max (depth_of_expression target) (suc (depth_of_body body)) in
+        both_low (depth_of_expressions (syntax.expression target no_expressions)) (suc (depth_of_body body)) high (mentions_in target ++ []) (function_mention body false ∷ []) (omega arith) (omega arith) (low_in_all (syntax.expression target no_expressions) to) ((from.0, omega arith), tt)
+assigned_low targets es to from = both_low (depth_of_expressions targets) (depth_of_expressions es) _ (mentions_in_all targets) (mentions_in_all es) (omega arith) (omega arith) (low_in_all targets to) (low_in_all es from)
+
+pub mentions_low : (s : Statement) → IsAct s → AreLowMentions (lean_depth s) (mentions_of_statement s)
+mentions_low (call_statement e) is = low_in e is.1
+mentions_low (assignment targets es) is = assigned_low targets es (targets_have_cores IsPlainBody targets is.targets) is.values
+mentions_low (local_statement names es) is = low_in_all es is.1
+mentions_low (return_statement es) is = low_in_all es is
+mentions_low s is = absurd is
+
+-- ---- where a function is made
+
+-- the function of a number is made where so many were made, with fewer levels than so many
+pub record IsMadeAt (f : Function) (g : Fn) (high number : ℕ) : Type 0 where
+  pub active : List Active
+  -- the places in the list of the locals that are active there
+  pub listed : List ℕ
+  pub all : AreListed f g active listed
+  pub body : FunctionBody
+  pub method : Bool
+  pub c : Coming
+  pub is : IsMadeNext g active body method c
+  pub number_is : c.functions ≡ number
+  pub plain : IsPlainBody body
+  pub low : depth_of_body body < high
+
+-- and so with fewer levels than more
+made_lower : {f : Function} {g : Fn} (high higher number : ℕ) → high ≤ higher → IsMadeAt f g high number → IsMadeAt f g higher number
+made_lower high higher number up made =
+    record { active = made.active; listed = made.listed; all = made.all; body = made.body; method = made.method; c = made.c; is = made.is; number_is = made.number_is; plain = made.plain; low = omega (arith, made.low, up) }
+
+-- each function of what is mentioned is made
+pub mentioned_made : {f : Function} (g : Fn) (active : List Active) {listed : List ℕ} → AreListed f g active listed → (high : ℕ) (mentions : List Mention) (c : Coming) → AreMeant g active mentions c → AreLowMentions high mentions →
+    (number : ℕ) → c.functions ≤ number → number < (coming_behind active g.upvalue_names mentions c).functions → IsMadeAt f g high number
+mentioned_made g active all high [] c meant low number from below = absurd (omega (arith, from, below))
+mentioned_made g active all high (name_mention text ∷ mentions) c meant low number from below = mentioned_made g active all high mentions (behind_mention active g.upvalue_names (name_mention text) c) meant.1 low number from below
+mentioned_made {f} g active {listed} all high (function_mention body method ∷ mentions) c meant low number from below =
+    by (cases_lt c.functions number) (λ later. mentioned_made g active all high mentions (behind_mention active g.upvalue_names (function_mention body method) c) meant.1 low.1 number (omega (arith, later)) below)
+  where
+    by : (c.functions < number) ⊎ (number ≤ c.functions) → (c.functions < number → IsMadeAt f g high number) → IsMadeAt f g high number
+    by (inl later) others = others later
+    by (inr here) others = record { active = active; listed = listed; all = all; body = body; method = method; c = c; is = meant.0; number_is = omega (arith, from, here); plain = low.0.0; low = low.0.1 }
+mentioned_made g active all high (locals_mention texts ∷ mentions) c meant low number from below = mentioned_made g active all high mentions (behind_mention active g.upvalue_names (locals_mention texts) c) meant.1 low number from below
+
+-- each function that a block makes is one that stands in its statements
+pub each_made : {f : Function} {g : Fn} {z : Maker} (whole : IsMadeWhole f g z) (block : Statements) (m : Maker) → ComesNext f g z block m → (number : ℕ) → length m.functions ≤ number → number < length (all_made block m).functions → IsMadeAt f g (lean_depth_of block) number
+each_made whole no_statements m next number from below = absurd (omega (arith, from, below))
+each_made {f} {g} whole (syntax.statement line semi s rest) m next number from below =
+    by (cases_lt number (length (made_by s m).functions)) (λ later. each_made whole rest (settle (made_by s m)) (comes_behind whole next) number later below)
+  where
+    ahead : IsAhead g m.active (length m.functions) (mentions_of_statement s) m
+    ahead = names_next whole next
+
+    behind : coming (made_by s m) ≡ coming_behind m.active g.upvalue_names (mentions_of_statement s) (coming m)
+    behind = (statement_moves s next.straight.0.0 m).behind ∙ ap (λ names. coming_behind m.active names (mentions_of_statement s) (coming m)) ahead.upvalues_are
+
+    by : (number < length (made_by s m).functions) ⊎ (length (made_by s m).functions ≤ number) → (length (made_by s m).functions ≤ number → IsMadeAt f g (lean_depth_of rest) number) → IsMadeAt f g (lean_depth_of (syntax.statement line semi s rest)) number
+    by (inl here) others =
+        let high = lean_depth s in
+        let one = mentioned_made g m.active (made_there whole next).all high (mentions_of_statement s) (coming m) ahead.meant (mentions_low s next.straight.0.0) number from (omega (arith, here, ap (λ (c : Coming). c.functions) behind)) in
+        made_lower high _ number (omega arith) one
+    by (inr later) others = made_lower (lean_depth_of rest) _ number (omega arith) (others later)

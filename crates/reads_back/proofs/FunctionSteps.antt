@@ -1,0 +1,143 @@
+-- A function that goes alone to a target with a path is read as a function statement: what can be written has its path, and the step is the statement that is written.
+use Rattle.std.proofs.Common.{◌≡◌, ℕ, nat_le, true, List, [], ◌∷◌, Option, Some, None, is_some, refl, sym, ap, ◌∙◌, subst}
+use Rattle.std.proofs.lemmas.Option.{same_Some}
+use Rattle.std.specs.Prelude.{◌&&◌, not, slice_get, slice_set, option_map, option_and_then, if◌then◌else◌}
+use Rattle.lua_num.specs.Bytes.{Text}
+use Rattle.lua_tree.specs.Syntax.{FunctionBody, Statement, function_statement}
+use Rattle.core_expr.specs.Counting.{left_by_values, one_more}
+use Rattle.core_expr.specs.Places.{Place}
+use Rattle.core_expr.specs.Targets.{TargetValue, local_target, upvalue_target, global_target, index_target, can_have_path, can_write_target, has_long_path, is_long_path, path_of}
+use Rattle.core_expr.specs.Values.{Value, local_value, upvalue_value, global_value, index_value, Values, OperandValue, OperandList, no_operands, Inner}
+use Rattle.core_expr.specs.Writing.{can_write, can_write_values, function_left, function_there, operand_count}
+use Rattle.recover_expr.specs.Assigning.{function_as, function_ended, function_step, last_name, named_as, names_before_last, with_number, without_self}
+use Rattle.recover_expr.specs.Drafts.{Drafted, drafted, statement_part}
+use Rattle.recover_expr.specs.Situation.{Function, Situation, body_at, place_in_step, take_body, with_left}
+use Rattle.recover_expr.specs.declared.draft.DraftKind.{DraftKind}
+use Rattle.reads_back.specs.Acted.{Acted, Assigned, assigned, assigned_levels, assigned_statement, can_act, can_write_last, can_write_targets, function_in, left_by_act, left_by_last, left_by_targets, levels_by, levels_or, named_by, named_or, path_to, said_by}
+use Rattle.reads_back.specs.ReadAs.{part_of}
+use Rattle.reads_back.proofs.ActsRead.{act_draft, after_act}
+use Rattle.reads_back.proofs.Paths.{function_alone, function_as_holds, function_there_yet, path_to_leaves}
+use Rattle.reads_back.proofs.Tests.{first_of_both, not_so, or_second, second_of_both}
+
+-- ---- what can be written has its path
+
+has_long : (at : Place) (fs : List (Option Inner)) (on : Value) (keys : OperandList) (key : OperandValue) → can_write at fs on ≡ true → has_long_path at on keys key ≡ true
+has_long at fs (local_value r) keys key can = or_second (not (is_long_path at (local_value r) keys key)) _ can
+has_long at fs (upvalue_value u) keys key can = or_second (not (is_long_path at (upvalue_value u) keys key)) _ can
+has_long at fs (global_value k) keys key can = or_second (not (is_long_path at (global_value k) keys key)) _ can
+has_long at fs on keys key can = refl
+
+-- a target that can be written has a path or surely none
+can_path : (at : Place) (fs : List (Option Inner)) (t : TargetValue) → can_write_target at fs t ≡ true → can_have_path at t ≡ true
+can_path at fs (local_target r) can = can
+can_path at fs (upvalue_target u) can = can
+can_path at fs (global_target k) can = can
+can_path at fs (index_target (index_value on keys depth) key) can = has_long at fs on keys key (first_of_both _ _ (second_of_both (nat_le (operand_count keys) 200) _ (first_of_both _ _ can)))
+can_path at fs (index_target on key) can = has_long at fs on no_operands key (first_of_both _ _ can)
+
+-- ---- a function that is all of the values
+
+function_goes : (fs : List (Option Inner)) (number : ℕ) (vs : Values) (last : Option OperandValue) → function_in vs last ≡ Some number → left_by_last last (left_by_values vs fs) ≡ slice_set fs number None
+function_goes fs number = function_alone (λ vs last. left_by_last last (left_by_values vs fs) ≡ slice_set fs number None) number refl refl
+
+-- ---- which statement it is
+
+-- what holds of function statements holds of what a path says
+as_function : (P : Statement → Type 0) (path : List Text) (body : FunctionBody) → ((path : List Text) (method : Option Text) (body : FunctionBody) → P (function_statement path method body)) → P (function_as path body)
+as_function P path body holds = function_as_holds P path body (holds path None body) (λ long takes. holds (names_before_last path) (last_name path) (without_self body))
+
+-- and so of an assignment, whichever statement says it, if it holds of assignments too
+pub as_assigned : (P : Statement → Type 0) (fs : List (Option Inner)) (named : Option (List Text × ℕ)) (otherwise : Statement) → ((path : List Text) (method : Option Text) (body : FunctionBody) → P (function_statement path method body)) → P otherwise → P (named_or fs named otherwise)
+as_assigned P fs None otherwise functions holds = holds
+as_assigned P fs (Some named) otherwise functions holds = by (function_left fs named.1)
+  where
+    by : (found : Option Inner) → P (said_by found named.0 otherwise)
+    by None = holds
+    by (Some found) = as_function P named.0 found.body functions
+
+-- ---- the names of an assignment, as they are read
+
+module _ (f : Function) (s : Situation) where
+  abbrev at : Place
+  at = place_in_step f s
+
+  pub one_named : (t : TargetValue) (made : Option ℕ) → can_write_target at s.left t ≡ true → named_as f s (t ∷ []) made ≡ Some (option_and_then (λ number. with_number number (path_of at t)) made)
+  one_named t None can = refl
+  one_named t (Some number) can = ap (λ can. option_map (with_number number) (if can then Some (path_of at t) else None)) (can_path at s.left t can)
+
+  pub several_named : (t u : TargetValue) (ts : List TargetValue) (read made : Option ℕ) → named_as f s (t ∷ u ∷ ts) read ≡ Some (option_and_then (λ number. with_number number None) made)
+  several_named t u ts read None = refl
+  several_named t u ts read (Some number) = refl
+
+-- ---- the step
+
+-- a name with a number is made of both
+named_parts : (made : Option ℕ) (path : Option (List Text)) (names : List Text) (number : ℕ) → option_and_then (λ number. with_number number path) made ≡ Some (names, number) → (made ≡ Some number) × (path ≡ Some names)
+named_parts None path names number is = cc
+named_parts (Some n) None names number is = cc
+named_parts (Some n) (Some some) names number is =
+    let same = same_Some (some, n) (names, number) is in
+    (ap (λ (p : List Text × ℕ). Some p.1) same, ap (λ (p : List Text × ℕ). Some p.0) same)
+
+function_part : (path : List Text) (body : FunctionBody) → statement_part (function_as path body) ≡ part_of (function_as path body)
+function_part path body = as_function (λ s. statement_part s ≡ part_of s) path body (λ path method body. refl)
+
+body_taken : (s : Situation) (number : ℕ) (found : Inner) → function_left s.left number ≡ Some found → take_body number s ≡ Some (found, with_left (slice_set s.left number None) s)
+body_taken s number found is = by (slice_get s.left number) is
+  where
+    by : (there : Option (Option Inner)) → function_there there ≡ Some found → body_at number s there ≡ Some (found, with_left (slice_set s.left number None) s)
+    by None is = cc
+    by (Some None) is = cc
+    by (Some (Some one)) is = ap (λ (found : Inner). Some (found, with_left (slice_set s.left number None) s)) (same_Some one found is)
+
+module _ (f : Function) (next : ℕ) (ts : List TargetValue) (to : Assigned) (s : Situation) where
+  abbrev act : Acted
+  act = assigned ts to.values to.all to.last
+
+  abbrev names : Option (List Text × ℕ)
+  names = named_by (place_in_step f s) ts to.values to.last
+
+  -- the step of a statement with these levels, where these functions are left
+  abbrev step : (levels : ℕ) → Statement → List (Option Inner) → Option (Drafted × Situation)
+  step levels statement left = Some (drafted DraftKind.Act next levels (part_of statement) s, with_left left s)
+
+  abbrev otherwise : Statement
+  otherwise = assigned_statement (place_in_step f s) s.taken s.left ts to.values to.all to.last
+
+  abbrev levels : ℕ
+  levels = assigned_levels (place_in_step f s) s.taken s.left ts to.values to.all to.last
+
+  -- no names say it
+  pub assignment_step_is : names ≡ None → step levels otherwise (left_by_act act s.left) ≡ Some (act_draft f next act s, after_act act s)
+  assignment_step_is none = ap (λ named. step (levels_or s.left named levels) (named_or s.left named otherwise) (left_by_act act s.left)) (sym none)
+
+  function_step_is : (path : List Text) (number : ℕ) (found : Inner) → names ≡ Some (path, number) → function_left s.left number ≡ Some found → left_by_act act s.left ≡ slice_set s.left number None → function_step next s (path, number) ≡ Some (act_draft f next act s, after_act act s)
+  function_step_is path number found named there left =
+      let mine = slice_set s.left number None in
+      ap (option_map (function_ended path next)) (body_taken s number found there)
+      ∙ ap (λ part. Some (drafted DraftKind.Act next (one_more (one_more found.levels)) part s, with_left mine s)) (function_part path found.body)
+      ∙ ap (λ found. step (levels_by found levels) (said_by found path otherwise) mine) (sym there)
+      ∙ ap (λ named. step (levels_or s.left named levels) (named_or s.left named otherwise) mine) (sym named)
+      ∙ ap (step (levels_or s.left names levels) (named_or s.left names otherwise)) (sym left)
+
+  -- a path and a number say it, where it can be written
+  pub function_ends : (path : List Text) (number : ℕ) → names ≡ Some (path, number) → can_act (place_in_step f s) s.left act ≡ true → function_step next s (path, number) ≡ Some (act_draft f next act s, after_act act s)
+  function_ends path number named can = by (function_left s.left number) refl there
+    where
+      is : (function_in to.values to.last ≡ Some number) × (path_to (place_in_step f s) ts ≡ Some path)
+      is = named_parts (function_in to.values to.last) (path_to (place_in_step f s) ts) path number named
+
+      keeps : left_by_targets ts s.left ≡ s.left
+      keeps = path_to_leaves (place_in_step f s) ts path s.left is.1
+
+      there : is_some (function_left s.left number) ≡ true
+      there =
+          function_there_yet (place_in_step f s) s.left number to.values to.last is.0
+          (subst (λ fs. (can_write_values (place_in_step f s) fs to.values && can_write_last (place_in_step f s) (left_by_values to.values fs) to.last) ≡ true) keeps (second_of_both (can_write_targets (place_in_step f s) s.left ts) _ can))
+
+      left : left_by_act act s.left ≡ slice_set s.left number None
+      left = ap (λ fs. left_by_last to.last (left_by_values to.values fs)) keeps ∙ function_goes s.left number to.values to.last is.0
+
+      by : (found : Option Inner) → function_left s.left number ≡ found → is_some found ≡ true → function_step next s (path, number) ≡ Some (act_draft f next act s, after_act act s)
+      by None found some = not_so some
+      by (Some one) found some = function_step_is path number one named found left

@@ -1,0 +1,124 @@
+-- A function statement stands, makes and mentions what its assignment does.
+use Rattle.std.proofs.Common.{◌≡◌, ℕ, Bool, true, false, List, [], ◌∷◌, Option, Some, None, refl, sym, ap, ap₂, ◌∙◌, subst}
+use Rattle.std.specs.Prelude.{is_some}
+use Rattle.lua_num.specs.Bytes.{Text}
+use Rattle.lua_tree.specs.Outline.{Part, both, body_part, expression_part, nothing, path_part, statement_part, statements_part}
+use Rattle.lua_tree.specs.Syntax as syntax
+use Rattle.lua_tree.specs.Syntax.{Expression, FunctionBody, Statement, Statements, assignment, field_expression, function_body, function_expression, function_statement, name_expression, no_statements}
+use Rattle.lua_tree.specs.WellFormed.{formed_statement, formed_statements, may_follow}
+use Rattle.scheme.specs.Expressions.{Coded, coded_field}
+use Rattle.scheme.specs.Functions.{coded_function, Inner}
+use Rattle.scheme.specs.Making.{Maker}
+use Rattle.scheme.specs.Scheme.{coded, inner, statement_made, statements_made}
+use Rattle.scheme.specs.Statements.{Loop, assign_part, path_from, settle, with_method}
+use Rattle.scheme_stands.proofs.Growth.{spot}
+use Rattle.scheme_stands.proofs.Makers.{StandFrom}
+use Rattle.scheme_stands.specs.Expressions.{Rel}
+use Rattle.scheme_stands.specs.Functions.{rel_function, Step}
+use Rattle.scheme_stands.specs.Relation.{FunctionOf, StatementAt, related}
+use Rattle.scheme_stands.specs.Statements.{AssignAt, LoopAt, StaysAt, rel_fields, rel_method, rel_path}
+use Rattle.scheme_stands.specs.Words.{Fn}
+use Rattle.reads_back.proofs.FunctionStatements.{as_assignment, as_assignments, path_target, with_method_name, with_self}
+use Rattle.reads_back.proofs.Marks.{SamePart, both_same, nothing_behind, part_then, same_part}
+use Rattle.reads_back.proofs.Paths.{assign_same, coded_fields, fields_behind}
+use Rattle.reads_back.proofs.PlainStraight.{AreOnLine}
+use Rattle.reads_back.proofs.Tests.{first_of_both, not_so, second_of_both}
+
+-- ---- it stands
+
+fields_related : (g : Fn) (on : Expression) (texts : List Text) → related g (fields_behind on texts) ≡ rel_fields g (related g on) texts
+fields_related g on [] = refl
+fields_related g on (text ∷ texts) = fields_related g (field_expression 1 on text) texts
+
+method_related : (g : Fn) (on : Expression) (method : Option Text) → related g (with_method_name on method) ≡ rel_method g (related g on) method
+method_related g on None = refl
+method_related g on (Some text) = refl
+
+path_related : (g : Fn) (name : Text) (names : List Text) (method : Option Text) → related g (path_target (name ∷ names) method) ≡ rel_method g (rel_path g (name ∷ names)) method
+path_related g name names method = method_related g _ method ∙ ap (λ (on : Rel). rel_method g on method) (fields_related g (name_expression 1 name) names)
+
+-- `self` is among the parameters
+self_related : (g : Fn) (method : Bool) (body : FunctionBody) → related g (function_expression 1 (with_self method body)) ≡ rel_function g (FunctionOf body method)
+self_related g method (function_body params vararg block first last) = refl
+
+pub statement_stands : (g : Fn) (loop : Option LoopAt) (s : Statement) → formed_statement s ≡ true → StatementAt g loop s ≡ StatementAt g loop (as_assignment s)
+statement_stands g loop (function_statement [] method body) formed = absurd (not_so formed)
+statement_stands g loop (function_statement (name ∷ names) method body) formed =
+    sym (ap₂ (λ (target value : Rel). StaysAt (AssignAt g (target ∷ []) (value ∷ []))) (path_related g name names method) (self_related g (is_some method) body))
+statement_stands g loop s formed = refl
+
+-- ---- it is made
+
+fields_themselves : (on : Expression) (texts : List Text) → (coded on).e ≡ on → (coded (fields_behind on texts)).e ≡ fields_behind on texts
+fields_themselves on [] itself = itself
+fields_themselves on (text ∷ texts) itself = fields_themselves (field_expression 1 on text) texts refl
+
+method_coded : (on : Expression) (method : Option Text) → (coded on).e ≡ on → coded (with_method_name on method) ≡ with_method 1 (coded on) method
+method_coded on None itself = refl
+method_coded on (Some text) itself = ap (λ (e : Expression). coded_field 1 (field_expression 1 e text) (coded on) text) (sym itself)
+
+path_coded : (name : Text) (names : List Text) (method : Option Text) → coded (path_target (name ∷ names) method) ≡ with_method 1 (path_from 1 (name ∷ names)) method
+path_coded name names method =
+    method_coded (fields_behind (name_expression 1 name) names) method (fields_themselves (name_expression 1 name) names refl)
+    ∙ ap (λ (on : Coded). with_method 1 on method) (coded_fields (name_expression 1 name) names refl)
+
+inner_self : (method : Bool) (body : FunctionBody) → inner (with_self method body) false ≡ inner body method
+inner_self method (function_body params vararg block first last) = refl
+
+pub made_same : (s : Statement) (line : ℕ) (loop : Option Loop) (m : Maker) → formed_statement s ≡ true → line ≡ 1 → statement_made (as_assignment s) line loop m ≡ statement_made s line loop m
+made_same (function_statement [] method body) line loop m formed first = not_so formed
+made_same (function_statement (name ∷ names) method body) line loop m formed first =
+    let own = with_self (is_some method) body in
+    let path = with_method 1 (path_from 1 (name ∷ names)) method in
+    ap (λ (line : ℕ). statement_made (as_assignment (function_statement (name ∷ names) method body)) line loop m) first
+    ∙ ap₂ (λ (target : Coded) (made : Inner). assign_part 1 (target ∷ []) (coded_function 1 own made ∷ []) m) (path_coded name names method) (inner_self (is_some method) body)
+    ∙ assign_same path own body (inner body (is_some method)) m
+    ∙ ap (λ (line : ℕ). statement_made (function_statement (name ∷ names) method body) line loop m) (sym first)
+made_same s line loop m formed first = refl
+
+pub block_made_same : (block : Statements) (m : Maker) → formed_statements block ≡ true → AreOnLine block → statements_made (as_assignments block) None m ≡ statements_made block None m
+block_made_same no_statements m formed on = refl
+block_made_same (syntax.statement line semi s rest) m formed on =
+    let behind = second_of_both (may_follow s semi rest) _ (second_of_both (formed_statement s) _ formed) in
+    ap (λ (n : Maker). statements_made (as_assignments rest) None (settle n)) (made_same s line None m (first_of_both _ _ formed) on.0)
+    ∙ block_made_same rest (settle (statement_made s line None m)) behind on.2
+
+-- ---- a block stands
+
+pub block_stands : (g : Fn) (block : Statements) (m : Maker) → formed_statements block ≡ true → AreOnLine block → StandFrom g block m → StandFrom g (as_assignments block) m
+block_stands g no_statements m formed on stand = tt
+block_stands g (syntax.statement line semi s rest) m formed on stand =
+    let first = first_of_both (formed_statement s) _ formed in
+    let behind = second_of_both (may_follow s semi rest) _ (second_of_both (formed_statement s) _ formed) in
+    let n = statement_made s line None m in
+    subst (λ (n : Maker). StatementAt g None (as_assignment s) m.active n.active (spot m) (spot n) × StandFrom g (as_assignments rest) (settle n)) (sym (made_same s line None m first on.0))
+    (subst (λ (step : Step). step m.active n.active (spot m) (spot n)) (statement_stands g None s first) stand.0, block_stands g rest (settle n) behind on.2 stand.1)
+
+-- ---- it mentions the same
+
+fields_part_same : (on : Expression) (texts : List Text) → expression_part (fields_behind on texts) ≡ expression_part on
+fields_part_same on [] = refl
+fields_part_same on (text ∷ texts) = fields_part_same (field_expression 1 on text) texts
+
+method_part_same : (on : Expression) (method : Option Text) → expression_part (with_method_name on method) ≡ expression_part on
+method_part_same on None = refl
+method_part_same on (Some text) = refl
+
+self_part : (method : Bool) (body : FunctionBody) → SamePart (body_part false (with_self method body)) (body_part method body)
+self_part method (function_body params vararg block first last) place = refl
+
+path_mentioned : (name : Text) (names : List Text) (method : Option Text) → SamePart (expression_part (path_target (name ∷ names) method)) (path_part 1 (name ∷ names))
+path_mentioned name names method place = ap (λ (part : Part). part place) (method_part_same (fields_behind (name_expression 1 name) names) method ∙ fields_part_same (name_expression 1 name) names)
+
+statement_part_same : (line : ℕ) (s : Statement) → formed_statement s ≡ true → line ≡ 1 → SamePart (statement_part line (as_assignment s)) (statement_part line s)
+statement_part_same line (function_statement [] method body) formed first place = not_so formed
+statement_part_same line (function_statement (name ∷ names) method body) formed first place =
+    both_same (part_then (nothing_behind _) (path_mentioned name names method)) (part_then (nothing_behind _) (self_part (is_some method) body)) place
+    ∙ ap (λ (line : ℕ). both (path_part line (name ∷ names)) (body_part (is_some method) body) place) (sym first)
+statement_part_same line s formed first place = refl
+
+pub block_part_same : (block : Statements) → formed_statements block ≡ true → AreOnLine block → SamePart (statements_part (as_assignments block)) (statements_part block)
+block_part_same no_statements formed on = same_part nothing
+block_part_same (syntax.statement line semi s rest) formed on =
+    let behind = second_of_both (may_follow s semi rest) _ (second_of_both (formed_statement s) _ formed) in
+    both_same (statement_part_same line s (first_of_both _ _ formed) on.0) (block_part_same rest behind on.2)
