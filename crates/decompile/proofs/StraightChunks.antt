@@ -8,7 +8,7 @@ use Rattle.core_expr.specs.Values.{Inner}
 use Rattle.lua_num.specs.Bytes.{Text}
 use Rattle.lua_tree.specs.Syntax as syntax
 use Rattle.lua_tree.specs.WellFormed.{WellFormed, formed_statement, formed_statements, may_follow, ends_block, depth_of_statements, begins_with_paren, statement_begins_with_paren}
-use Rattle.lua_tree.specs.Syntax.{Statements, no_statements, Statement, assignment, call_statement, local_statement, return_statement, no_expressions, Expression, index_expression, field_expression, call_expression, method_call, function_body, Source}
+use Rattle.lua_tree.specs.Syntax.{Statements, no_statements, Statement, assignment, call_statement, local_function, local_statement, return_statement, no_expressions, Expression, index_expression, field_expression, call_expression, method_call, function_body, Source}
 use Rattle.proto.specs.Short.{IsShort}
 use Rattle.proto.specs.Chunk.{Chunk, Functions, Own, function, and_function, own, each, no_lines, no_functions, SameButLines}
 use Rattle.recover_expr.specs.Drafts.{Part}
@@ -79,12 +79,14 @@ parts_are (syntax.statement line semi s rest) = ap₂ (λ part (others : List Pa
 -- the step of a statement that does not end its block is an act or a declaration
 goes_on : (count : ℕ) (s : Statement) (kind : StepKind) → ends_block s ≡ false → IsKindOf count s kind → IsPlain count kind
 goes_on count (local_statement names es) kind on is = inr is
+goes_on count (local_function text body) kind on is = inr is
 goes_on count (return_statement es) kind on is = cc
 goes_on count s kind on is = inl is
 
 -- and the step of any straight statement is so, or a return
 is_last : (count : ℕ) (s : Statement) (kind : StepKind) → IsKindOf count s kind → IsPlain count kind ⊎ (kind ≡ StepKind.Return)
 is_last count (local_statement names es) kind is = inl (inr is)
+is_last count (local_function text body) kind is = inl (inr is)
 is_last count (return_statement es) kind is = inr is
 is_last count s kind is = inl (inl is)
 
@@ -104,6 +106,7 @@ all_plain count most (syntax.statement line semi s (syntax.statement line' semi'
 -- a step returns where its statement does
 returns_is : (count : ℕ) (s : Statement) (kind : StepKind) → IsKindOf count s kind → is_return_step kind ≡ is_return s
 returns_is count (local_statement names es) kind is = ap is_return_step is.1
+returns_is count (local_function text body) kind is = ap is_return_step is.1
 returns_is count (return_statement es) kind is = ap is_return_step is
 returns_is count s kind is = ap is_return_step is
 

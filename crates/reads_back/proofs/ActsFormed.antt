@@ -3,31 +3,31 @@ use Rattle.std.proofs.Common.{◌≡◌, ℕ, ◌≤◌, Bool, true, false, ◌&
 use Rattle.std.specs.Prelude.{suc, length, nat_lt, not, ◌==◌, if◌then◌else◌}
 use Rattle.lua_num.specs.Bytes.{Text}
 use Rattle.lua_tree.specs.Joins.{join_expressions}
-use Rattle.lua_tree.specs.Names.{are_some_names}
+use Rattle.lua_tree.specs.Names.{are_some_names, is_name}
 use Rattle.lua_tree.specs.Syntax as syntax
-use Rattle.lua_tree.specs.Syntax.{Expression, Expressions, Statement, assignment, call_expression, call_statement, field_expression, index_expression, local_statement, method_call, name_expression, no_expressions, parenthesized, return_statement}
+use Rattle.lua_tree.specs.Syntax.{Expression, Expressions, Statement, assignment, call_expression, call_statement, field_expression, index_expression, local_statement, method_call, name_expression, no_expressions, parenthesized, return_statement, local_function}
 use Rattle.lua_tree.specs.WellFormed.{are_targets, begins_with_paren, depth_of_expression, depth_of_expressions, depth_of_statement, ends_block, formed_expression, formed_expressions, formed_statement, has_expressions, is_call, is_prefix, is_target, statement_begins_with_paren}
 use Rattle.core_expr.specs.Counting.{one_more, left_by, left_by_operand, left_by_values, taken_behind, taken_behind_operand, taken_behind_values}
 use Rattle.core_expr.specs.Making.{and_last, deepest, depth_of, depth_of_operand, made_index}
 use Rattle.core_expr.specs.Places.{Place, constant_name, field_name, local_name, upvalue_name}
 use Rattle.core_expr.specs.Targets.{TargetValue, can_write_target, global_target, index_target, left_by_target, local_target, taken_behind_target, upvalue_target, word_target}
 use Rattle.core_expr.specs.Values.{Inner, OperandList, OperandValue, Value, Values, and_operand, and_value, nil_value, no_values, call_value, global_value, index_value, local_value, method_value, no_operands, upvalue_value}
-use Rattle.core_expr.specs.Writing.{Wording, as_prefix, can_write, can_write_values, name_word, unless, with_key, word, word_keys, word_operand, word_values}
+use Rattle.core_expr.specs.Writing.{Wording, as_prefix, can_write, can_write_values, name_word, unless, with_key, word, word_keys, word_operand, word_values, function_left}
 use Rattle.recover_expr.specs.Assigning.{function_as}
 use Rattle.recover_expr.specs.Entries.{and_last_value}
 use Rattle.recover_expr.specs.Lists.{value_count}
 use Rattle.scheme.specs.Making.{Where, in_globals, in_register, in_upvalue}
 use Rattle.scheme.specs.declared.making.Active.{Active}
 use Rattle.scheme_stands.specs.Words.{Fn}
-use Rattle.reads_back.specs.Acted.{Acted, AreAssigned, AreTargets, AreValues, AreWithOperand, Assigned, Assigns, IsAct, IsActed, IsTarget, IsVariableTarget, act_levels, act_statement, assigned, assigned_levels, assigned_statement, called, can_act, can_write_last, can_write_targets, declared, last_target, left_by_targets, returned, some_missing, taken_behind_targets, with_last_nil, words_assigned, words_targets}
+use Rattle.reads_back.specs.Acted.{Acted, AreAssigned, AreTargets, AreValues, AreWithOperand, Assigned, Assigns, IsAct, IsActed, IsTarget, IsVariableTarget, act_levels, act_statement, assigned, assigned_levels, assigned_statement, called, can_act, can_write_last, can_write_targets, declared, last_target, left_by_targets, returned, some_missing, taken_behind_targets, with_last_nil, words_assigned, words_targets, local_by, declared_function, levels_by}
 use Rattle.reads_back.specs.Cores.{AreCores, IsCore, IsVariable, ends_open}
 use Rattle.reads_back.specs.Straight.{BeginsWithName, StatementBeginsWithName}
-use Rattle.reads_back.proofs.FunctionsLeft.{each_by_target, each_by_targets, each_by_values}
+use Rattle.reads_back.proofs.FunctionsLeft.{each_by_target, each_by_targets, each_by_values, left_there}
 use Rattle.reads_back.proofs.MarksSame.{over_made}
 use Rattle.reads_back.proofs.NamedActs.{function_as_closed, function_as_depth, function_as_ends, function_as_formed, named_can, named_fine, path_names}
 use Rattle.reads_back.proofs.Paths.{IsNamed, named_or_holds}
 use Rattle.reads_back.proofs.Tests.{both_hold, first_of_both, not_so, or_first, or_second, second_of_both}
-use Rattle.reads_back.proofs.WrittenFormed.{AreFine, AreFineLeft, IsFine, operand_fine, values_fine, word_fine}
+use Rattle.reads_back.proofs.WrittenFormed.{AreFine, AreFineLeft, IsFine, operand_fine, values_fine, word_fine, IsFineFunction}
 
 -- ---- a target is written as the value that is read there
 
@@ -197,6 +197,24 @@ keyed_open : (name : Option Text) (on key : Wording) → IsOpen on → IsOpen (w
 keyed_open None on key is = record { prefix = refl; bare = is.bare }
 keyed_open (Some name) on key is = record { prefix = refl; bare = is.bare }
 
+-- ---- a local function that captures itself
+
+own_formed : (name : Text) (found : Option Inner) → is_name name ≡ true → ((one : Inner) → found ≡ Some one → IsFineFunction one) → is_some found ≡ true → formed_statement (local_by name found) ≡ true
+own_formed name None good fine some = not_so some
+own_formed name (Some found) good fine some = both_hold _ _ good (fine found refl).formed
+
+own_shallow : (name : Text) (found : Option Inner) → ((one : Inner) → found ≡ Some one → IsFineFunction one) → is_some found ≡ true → levels_by found 1 ≤ 400 → suc (depth_of_statement (local_by name found)) ≤ levels_by found 1
+own_shallow name None fine some few = not_so some
+own_shallow name (Some found) fine some few = let low = (fine found refl).shallow (omega (arith, few)) in omega (arith, few, low)
+
+own_closed : (name : Text) (found : Option Inner) → statement_begins_with_paren (local_by name found) ≡ false
+own_closed name None = refl
+own_closed name (Some found) = refl
+
+own_ends : (name : Text) (found : Option Inner) → ends_block (local_by name found) ≡ false
+own_ends name None = refl
+own_ends name (Some found) = refl
+
 module _ (at : Place) where
   keys_open : (keys : OperandList) (n : ℕ) (fs : List (Option Inner)) (on : Wording) → IsOpen on → IsOpen (word_keys at n fs on keys)
   keys_open no_operands n fs on is = is
@@ -304,6 +322,12 @@ module _ (at : Place) (g : Fn) (active : List Active) where
   act_formed (local_statement names es) before behind (declared others vs all) n left fine_left has is can =
       let fine = values_fine at vs all n left fine_left can in
       both_hold _ _ (ap are_some_names is.0 ∙ has.0) fine.formed
+  act_formed (local_function text body) before behind (declared others vs all) n left fine_left has is can =
+      let fine = values_fine at vs all n left fine_left can in
+      let names = is.4.1 in
+      both_hold _ _ (ap are_some_names names ∙ both_hold _ _ has.0 refl) fine.formed
+  act_formed (local_function text body) before behind (declared_function name number) n left fine_left has is can =
+      own_formed name (function_left left number) (ap is_name is.4.1 ∙ has.0) (λ found there. left_there (λ number found. IsFineFunction found) number left found fine_left there) can
   act_formed (return_statement es) before behind (returned vs all) n left fine_left has is can = let fine = values_fine at vs all n left fine_left can in fine.formed
   act_formed s before behind acted n left fine_left has is can = absurd is
 
@@ -316,6 +340,7 @@ module _ (at : Place) (g : Fn) (active : List Active) where
       omega (arith, few, low, function_as_depth path found.body) in
       named_or_holds (λ s levels. levels ≤ 400 → suc (depth_of_statement s) ≤ levels) at left ts vs last (assigned_statement at n left ts vs all last) (assigned_levels at n left ts vs all last) (assigned_shallow ts vs all last n left fine_left can) named few
   act_shallow s before behind (declared names vs all) n left fine_left has is can few = let fine = values_fine at vs all n left fine_left can in let low = fine.shallow (omega (arith, few)) in omega (arith, few, low)
+  act_shallow s before behind (declared_function name number) n left fine_left has is can few = own_shallow name (function_left left number) (λ found there. left_there (λ number found. IsFineFunction found) number left found fine_left there) can few
   act_shallow s before behind (returned vs all) n left fine_left has is can few = let fine = values_fine at vs all n left fine_left can in let low = fine.shallow (omega (arith, few)) in omega (arith, few, low)
 
   pub act_closed : (s : Statement) (before behind : ℕ) (acted : Acted) (n : ℕ) (left : List (Option Inner)) → StatementBeginsWithName s → IsAct s → IsActed g active s before behind acted → can_act at left acted ≡ true → statement_begins_with_paren (act_statement at n left acted) ≡ false
@@ -325,6 +350,8 @@ module _ (at : Place) (g : Fn) (active : List Active) where
       (λ path found named. function_as_closed path found.body)
   act_closed (local_statement names es) before behind (declared others vs all) n left begins has is can = refl
   act_closed (return_statement es) before behind (returned vs all) n left begins has is can = refl
+  act_closed (local_function text body) before behind (declared others vs all) n left begins has is can = refl
+  act_closed (local_function text body) before behind (declared_function name number) n left begins has is can = own_closed name (function_left left number)
   act_closed s before behind acted n left begins has is can = absurd is
 
 -- a return ends its block, and nothing else does
@@ -334,4 +361,6 @@ act_ends at g active (assignment targets es) before behind (assigned ts vs all l
     named_or_holds (λ s levels. ends_block s ≡ false) at left ts vs last (assigned_statement at n left ts vs all last) (assigned_levels at n left ts vs all last) refl (λ path found named. function_as_ends path found.body)
 act_ends at g active (local_statement names es) before behind (declared others vs all) n left is = refl
 act_ends at g active (return_statement es) before behind (returned vs all) n left is = refl
+act_ends at g active (local_function text body) before behind (declared others vs all) n left is = refl
+act_ends at g active (local_function text body) before behind (declared_function name number) n left is = own_ends name (function_left left number)
 act_ends at g active s before behind acted n left is = absurd is

@@ -1,33 +1,35 @@
 -- What is written of an act mentions the same names as the act, in the same order.
-use Rattle.std.proofs.Common.{◌≡◌, ℕ, ◌⊎◌, inl, inr, Bool, false, List, [], ◌∷◌, length, Option, Some, None, refl, ap, subst, ◌∙◌, true}
+use Rattle.std.proofs.Common.{◌≡◌, ℕ, ◌⊎◌, inl, inr, Bool, false, List, [], ◌∷◌, length, Option, Some, None, refl, ap, subst, ◌∙◌, true, sym, is_some}
 use Rattle.lua_num.specs.Bytes.{Text}
 use Rattle.lua_tree.specs.Joins.{join_expressions}
 use Rattle.lua_tree.specs.OneLine.{one_line_expression, one_line_expressions, one_line_statement}
-use Rattle.lua_tree.specs.Outline.{Part, both, come, declares, expression_part, expressions_part, nothing, path_part, statement_part}
+use Rattle.lua_tree.specs.Outline.{Part, both, come, declares, expression_part, expressions_part, nothing, path_part, statement_part, body_part}
 use Rattle.lua_tree.specs.Syntax as syntax
-use Rattle.lua_tree.specs.Syntax.{Expression, Expressions, Statement, assignment, call_statement, field_expression, index_expression, local_statement, name_expression, no_expressions, return_statement}
+use Rattle.lua_tree.specs.Syntax.{Expression, Expressions, Statement, assignment, call_statement, field_expression, index_expression, local_statement, name_expression, no_expressions, return_statement, local_function}
 use Rattle.core_expr.specs.Counting.{left_by_values, taken_behind_values}
 use Rattle.core_expr.specs.Places.{Place, constant_name, local_name, place, upvalue_name}
 use Rattle.core_expr.specs.Targets.{TargetValue, can_write_target, global_target, index_target, left_by_target, local_target, path_of, upvalue_target, taken_behind_target, word_target}
 use Rattle.core_expr.specs.Values.{Inner, OperandValue, Values}
-use Rattle.core_expr.specs.Writing.{can_write_values, word_operand, word_values}
+use Rattle.core_expr.specs.Writing.{can_write_values, word_operand, word_values, function_left}
 use Rattle.recover_expr.specs.Assigning.{function_as}
 use Rattle.recover_expr.specs.Situation.{Function}
 use Rattle.scheme.specs.Expressions.{literal}
 use Rattle.scheme.specs.Making.{Where, in_globals, in_register, in_upvalue}
 use Rattle.scheme.specs.declared.making.Active.{Active}
 use Rattle.scheme_stands.specs.Words.{Fn}
-use Rattle.reads_back.specs.Acted.{Acted, AreActTargets, AreAssigned, Assigns, assigned_levels, assigned_statement, function_in, AreTargets, AreValues, AreWithOperand, Assigned, EndWithOperand, IsAct, IsActTarget, IsActed, IsTarget, IsVariableTarget, act_statement, assigned, called, can_act, can_write_last, can_write_targets, declared, last_target, left_by_targets, returned, taken_behind_targets, words_assigned, words_targets}
+use Rattle.reads_back.specs.Acted.{Acted, AreActTargets, AreAssigned, Assigns, assigned_levels, assigned_statement, function_in, AreTargets, AreValues, AreWithOperand, Assigned, EndWithOperand, IsAct, IsActTarget, IsActed, IsTarget, IsVariableTarget, act_statement, assigned, called, can_act, can_write_last, can_write_targets, declared, last_target, left_by_targets, returned, taken_behind_targets, words_assigned, words_targets, declared_function, local_by}
 use Rattle.reads_back.specs.Cores.{AllHaveCores, IsVariable, ends_open}
 use Rattle.reads_back.proofs.ActsFormed.{can_be_read, value_of_target, written_as_value}
 use Rattle.reads_back.proofs.Marks.{ArePartsLeft, IsPartLeft, SamePart, both_assoc, both_same, nothing_behind, operand_part, part_back, part_of, part_of_operand, part_then, parts_of, same_part, values_part, word_part}
 use Rattle.reads_back.proofs.FunctionsLeft.{each_by_target, each_by_targets, each_by_values, left_there}
 use Rattle.reads_back.proofs.DeclaredValues.{assigned_part, assigned_parts, declared_parts, last_part}
-use Rattle.reads_back.proofs.MarksSame.{ArePartsMade, key_part, list_part, marks_of, of_operand}
+use Rattle.reads_back.proofs.MarksSame.{ArePartsMade, key_part, list_part, marks_of, of_operand, OwnPartsMade}
+use Rattle.reads_back.proofs.LocalFunctionMarks.{given_marks, own_marks}
+use Rattle.reads_back.proofs.Rewriting.{OwnListed}
 use Rattle.reads_back.proofs.NameReads.{AreListed}
 use Rattle.reads_back.proofs.NamedActs.{field_path_part, function_as_part, named_can, single_path_part}
 use Rattle.reads_back.proofs.Paths.{IsNamed, function_alone, named_or_holds}
-use Rattle.reads_back.proofs.Tests.{first_of_both, second_of_both}
+use Rattle.reads_back.proofs.Tests.{first_of_both, second_of_both, not_so}
 use Rattle.reads_back.proofs.WordsRead.{IsFunction}
 
 module _ (at : Place) (of : ℕ → Part) (natural : at.short ≡ false) where
@@ -141,15 +143,30 @@ module _ {f : Function} {g : Fn} {active : List Active} {listed : List ℕ} (is_
       (part_then function (values_marks es ts is.0 behind (record { values = vs; all = all; last = last }) has.values is.2)))
 
   -- on the line 1, which every path has that is written as a target
-  pub act_marks : (s : Statement) (before behind : ℕ) (acted : Acted) (n : ℕ) (left : List (Option Inner)) → ArePartsLeft of left → IsAct s → IsActed g active s before behind acted → can_act at left acted ≡ true → SamePart (statement_part 1 (act_statement at n left acted)) (statement_part 1 (one_line_statement s))
-  act_marks (call_statement e) before behind (called v) n left parts_left has is can = part_then (word_part at of is_function.natural v n left parts_left can) ((marks_of is_function listed_names of parts_made e has.1).one before behind v is)
-  act_marks (assignment targets es) before behind (assigned ts vs all last) n left parts_left has is can =
+  pub act_marks : (s : Statement) → OwnListed f g active s → OwnPartsMade g active of s → (before behind : ℕ) (acted : Acted) (n : ℕ) (left : List (Option Inner)) → ArePartsLeft of left → IsAct s → IsActed g active s before behind acted → can_act at left acted ≡ true → SamePart (statement_part 1 (act_statement at n left acted)) (statement_part 1 (one_line_statement s))
+  act_marks (call_statement e) own parts before behind (called v) n left parts_left has is can = part_then (word_part at of is_function.natural v n left parts_left can) ((marks_of is_function listed_names of parts_made e has.1).one before behind v is)
+  act_marks (assignment targets es) own parts before behind (assigned ts vs all last) n left parts_left has is can =
       named_or_holds (λ s levels. SamePart (statement_part 1 s) (statement_part 1 (one_line_statement (assignment targets es)))) at left ts vs last (assigned_statement at n left ts vs all last) (assigned_levels at n left ts vs all last)
       (assigned_marks targets es before behind ts vs all last n left parts_left has is can) (named_marks targets es before behind ts vs all last left parts_left has is can)
-  act_marks (local_statement names es) before behind (declared others vs all) n left parts_left has is can =
+  act_marks (local_statement names es) own parts before behind (declared others vs all) n left parts_left has is can =
       let made = part_then (declared_parts at of (length names) (ends_open es) is.1 vs all is.3) (list_part is_function listed_names of parts_made es has.1 before behind is.1 is.2) in
       let values = part_then (values_part at of is_function.natural vs all n left parts_left can) made in
       λ here. ap (λ names. both (declares 1 0 names) (both (expressions_part (word_values at n left vs all).words) (come 0 names here.declarations)) here) is.0
       ∙ both_same (same_part (declares 1 0 names)) (both_same values (same_part (come 0 names here.declarations))) here
-  act_marks (return_statement es) before behind (returned vs all) n left parts_left has is can = part_then (values_part at of is_function.natural vs all n left parts_left can) (list_part is_function listed_names of parts_made es has before behind vs is.0)
-  act_marks s before behind acted n left parts_left has is can = absurd is
+  act_marks (return_statement es) own parts before behind (returned vs all) n left parts_left has is can = part_then (values_part at of is_function.natural vs all n left parts_left can) (list_part is_function listed_names of parts_made es has before behind vs is.0)
+  act_marks (local_function text body) own parts before behind (declared others vs all) n left parts_left has (counts, c, as_many, next, other) can =
+      let values = part_then (values_part at of is_function.natural vs all n left parts_left can) (part_then (λ here. ap (λ vs. parts_of at of vs here) other.2) (nothing_behind (of before))) in
+      let given = part_then values (λ here. ap (λ number. of number here) (sym as_many)) in
+      part_then
+      (λ here. ap (λ names. both (declares 1 0 names) (both (expressions_part (word_values at n left vs all).words) (come 0 names here.declarations)) here) other.1
+      ∙ both_same (same_part (declares 1 0 (text ∷ []))) (both_same given (same_part (come 0 (text ∷ []) here.declarations))) here)
+      (given_marks is_function of text body own parts has.1 c next other.0)
+  act_marks (local_function text body) own parts before behind (declared_function name number) n left parts_left has (counts, c, as_many, next, same) can =
+      by (function_left left number) (λ found there. left_there (IsPartLeft of) number left found parts_left there) can
+    where
+      by : (found : Option Inner) → ((one : Inner) → found ≡ Some one → SamePart (body_part false one.body) (of number)) → is_some found ≡ true → SamePart (statement_part 1 (local_by name found)) (statement_part 1 (one_line_statement (local_function text body)))
+      by None part some = not_so some
+      by (Some found) part some =
+          part_then (λ here. ap (λ name. statement_part 1 (local_function name found.body) here) same.1)
+          (own_marks is_function of text body own parts has.1 c next found (part_then (part found refl) (λ here. ap (λ number. of number here) (same.2 ∙ sym as_many))))
+  act_marks s own parts before behind acted n left parts_left has is can = absurd is

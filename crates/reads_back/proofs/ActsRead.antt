@@ -20,7 +20,7 @@ use Rattle.scheme.specs.declared.making.Active.{Active}
 use Rattle.scheme.specs.declared.making.Piece.{Piece}
 use Rattle.scheme_stands.specs.Relation.{related}
 use Rattle.scheme_stands.specs.Words.{Fn, Spot, WordAt, IsRead}
-use Rattle.reads_back.specs.Acted.{Acted, called, declared, returned, IsActed, act_levels, act_statement, can_act, left_by_act, taken_behind_act}
+use Rattle.reads_back.specs.Acted.{Acted, called, declared, returned, IsActed, act_levels, act_statement, can_act, left_by_act, taken_behind_act, declared_function}
 use Rattle.reads_back.specs.Cores.{IsCore}
 use Rattle.reads_back.specs.ReadAs.{part_of}
 use Rattle.reads_back.proofs.Comes.{CallComes, ReadsCall}
@@ -34,12 +34,14 @@ use Rattle.reads_back.proofs.WordsRead.{IsFunction, IsQuiet, word_of, word_there
 -- what the step is, where so many locals are declared before it
 abbrev pub kind_of_act : (first : ℕ) → Acted → DraftKind
 kind_of_act first (declared names vs all) = DraftKind.Declaration first (length names)
+kind_of_act first (declared_function text number) = DraftKind.Declaration first 1
 kind_of_act first (returned vs all) = DraftKind.Return
 kind_of_act first acted = DraftKind.Act
 
 -- how many locals it declares
 abbrev pub locals_of : Acted → ℕ
 locals_of (declared names vs all) = length names
+locals_of (declared_function text number) = 1
 locals_of acted = 0
 
 -- so many numbers from one on

@@ -2,7 +2,7 @@
 use Rattle.std.proofs.Common.{◌≡◌, ℕ, true, List, Option, Some, None, ap, ◌∙◌, arith}
 use Rattle.std.specs.Prelude.{◌||◌}
 use Rattle.lua_tree.specs.OneLine.{one_line_expression, one_line_expressions, one_line_statement}
-use Rattle.lua_tree.specs.Syntax.{Expression, Statement, assignment, call_statement, local_statement, return_statement}
+use Rattle.lua_tree.specs.Syntax.{Expression, Statement, assignment, call_statement, local_statement, return_statement, local_function}
 use Rattle.lua_tree.specs.WellFormed.{is_call}
 use Rattle.opcode.specs.declared.op.Op.{Op}
 use Rattle.core_expr.specs.Values.{Value, Inner}
@@ -29,6 +29,7 @@ use Rattle.reads_back.proofs.WordsSame.{coded_is, same_multiple}
 
 abbrev pub DeclaresNothing : Statement → Type 0
 DeclaresNothing (local_statement names es) = ⊥
+DeclaresNothing (local_function text body) = ⊥
 DeclaresNothing s = Unit {0}
 
 -- what is made stays, and the same locals are active
@@ -38,6 +39,7 @@ act_grows (assignment targets es) is nothing m =
     grows_assign 1 (all_coded (one_line_expressions targets)) (all_coded (one_line_expressions es)) (grow_all calm (one_line_expressions targets)) (grow_all calm (one_line_expressions es)) m
 act_grows (return_statement es) is nothing m = grows_return 1 (all_coded (one_line_expressions es)) (grow_all calm (one_line_expressions es)) m
 act_grows (local_statement names es) is nothing m = absurd nothing
+act_grows (local_function text body) is nothing m = absurd nothing
 act_grows s is nothing m = absurd is
 
 -- ---- the names that it passes
@@ -50,6 +52,7 @@ act_passes (call_statement e) is nothing m = (mentions_passed e is.1).multi (cal
 act_passes (assignment targets es) is nothing m = assignment_passes targets es is m
 act_passes (return_statement es) is nothing m = return_passes es is m
 act_passes (local_statement names es) is nothing m = absurd nothing
+act_passes (local_function text body) is nothing m = absurd nothing
 act_passes s is nothing m = absurd is
 
 -- ---- calls

@@ -4,7 +4,7 @@ use Rattle.lua_num.specs.Bytes.{Text}
 use Rattle.lua_tree.specs.Names.{are_names, are_some_names}
 use Rattle.lua_tree.specs.OneLine.{one_line_statement}
 use Rattle.lua_tree.specs.Syntax as syntax
-use Rattle.lua_tree.specs.Syntax.{Statement, Statements, assignment, call_statement, local_statement, no_statements, return_statement}
+use Rattle.lua_tree.specs.Syntax.{Statement, Statements, assignment, call_statement, local_statement, no_statements, return_statement, local_function}
 use Rattle.proto.specs.declared.parts.LocVar.{LocVar}
 use Rattle.scheme.specs.Making.{Maker}
 use Rattle.scheme.specs.Scheme.{statement_made, statements_made}
@@ -16,10 +16,11 @@ use Rattle.scheme_stands.specs.Relation.{StatementAt}
 use Rattle.scheme_stands.specs.Words.{Fn}
 use Rattle.reads_back.specs.Acted.{IsAct}
 use Rattle.reads_back.proofs.ActsSame.{act_passes}
-use Rattle.reads_back.proofs.DeclaredLocals.{actives_of, entries_at, local_declares}
+use Rattle.reads_back.proofs.DeclaredLocals.{actives_of, entries_at, local_declares, own_declares}
 use Rattle.reads_back.proofs.ListedLocals.{AreListedAs, as_many_listed, declared_listed, listed_behind}
 use Rattle.reads_back.proofs.Mentions.{Passed, coming, coming_behind}
 use Rattle.reads_back.proofs.PlainStraight.{AreOnLine}
+use Rattle.reads_back.proofs.Tests.{both_hold}
 use Rattle.reads_back.proofs.Rewriting.{mentions_of_statement}
 
 -- all are acts
@@ -61,10 +62,12 @@ all_stand g (syntax.statement line semi s rest) on m stand =
 -- the locals that it declares, and what is listed of them where all its words are made
 abbrev pub actives_by : Statement → Maker → List Active
 actives_by (local_statement names es) m = actives_of names m.ahead.captures m.ahead.declarations (length m.locals)
+actives_by (local_function text body) m = actives_of (text ∷ []) m.ahead.captures m.ahead.declarations (length m.locals)
 actives_by s m = []
 
 abbrev pub entries_by : Statement → Maker → List LocVar
 entries_by (local_statement names es) n = entries_at names (length n.items)
+entries_by (local_function text body) n = entries_at (text ∷ []) (length n.items)
 entries_by s n = []
 
 pub record Moves (s : Statement) (m n : Maker) : Type 0 where
@@ -83,6 +86,7 @@ stays_moved s m n none no_entries passed = record {
 
 pub statement_moves : (s : Statement) → IsAct s → (m : Maker) → Moves s m (made_by s m)
 statement_moves (local_statement names es) is m = let declares = local_declares names es is.1 m in record { active = declares.active; locals = declares.locals; upvalues = declares.upvalues; behind = declares.behind }
+statement_moves (local_function text body) is m = let declares = own_declares text body is.1.on_line m in record { active = declares.active; locals = declares.locals; upvalues = declares.upvalues; behind = declares.behind }
 statement_moves (call_statement e) is m = stays_moved (call_statement e) m (made_by (call_statement e) m) refl refl (act_passes (call_statement e) is tt m)
 statement_moves (assignment targets es) is m = stays_moved (assignment targets es) m (made_by (assignment targets es) m) refl refl (act_passes (assignment targets es) is tt m)
 statement_moves (return_statement es) is m = stays_moved (return_statement es) m (made_by (return_statement es) m) refl refl (act_passes (return_statement es) is tt m)
@@ -96,6 +100,9 @@ more_listed : (s : Statement) → IsAct s → (m n : Maker) → length m.active 
 more_listed (local_statement names es) is m n as_many =
     subst (λ place. AreListedAs place (actives_of names m.ahead.captures m.ahead.declarations (length m.locals)) (entries_at names (length n.items))) (sym as_many)
     (declared_listed names m.ahead.captures m.ahead.declarations (length m.locals) (length n.items) (good_names names is.0))
+more_listed (local_function text body) is m n as_many =
+    subst (λ place. AreListedAs place (actives_of (text ∷ []) m.ahead.captures m.ahead.declarations (length m.locals)) (entries_at (text ∷ []) (length n.items))) (sym as_many)
+    (declared_listed (text ∷ []) m.ahead.captures m.ahead.declarations (length m.locals) (length n.items) (both_hold _ _ is.0 refl))
 more_listed (call_statement e) is m n as_many = refl
 more_listed (assignment targets es) is m n as_many = refl
 more_listed (return_statement es) is m n as_many = refl

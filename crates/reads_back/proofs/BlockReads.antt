@@ -7,7 +7,7 @@ use Rattle.lua_num.specs.Bytes.{Text}
 use Rattle.lua_tree.specs.WellFormed.{depth_of_statement}
 use Rattle.lua_tree.specs.Names.{are_names, are_some_names, is_name}
 use Rattle.lua_tree.specs.Syntax as syntax
-use Rattle.lua_tree.specs.Syntax.{Statement, Statements, assignment, call_statement, local_statement, no_statements, return_statement}
+use Rattle.lua_tree.specs.Syntax.{Statement, Statements, assignment, call_statement, local_statement, no_statements, return_statement, local_function}
 use Rattle.proto.specs.declared.parts.LocVar.{LocVar}
 use Rattle.core_expr.specs.Places.{place}
 use Rattle.core_expr.specs.Values.{Inner}
@@ -21,20 +21,21 @@ use Rattle.scheme.specs.Making.{Maker}
 use Rattle.scheme.specs.Statements.{settle}
 use Rattle.scheme_stands.proofs.Growth.{spot}
 use Rattle.scheme_stands.specs.Words.{Fn}
-use Rattle.reads_back.specs.Acted.{Acted, IsAct, IsActed, act_levels, act_statement, assigned, called, declared, left_by_act, returned, lean_depth, lean_depth_of, named_by, assigned_statement}
+use Rattle.reads_back.specs.Acted.{Acted, IsAct, IsActed, act_levels, act_statement, assigned, called, declared, left_by_act, returned, lean_depth, lean_depth_of, named_by, assigned_statement, local_by, declared_function}
 use Rattle.reads_back.specs.ReadAs.{part_of}
 use Rattle.reads_back.proofs.ActsRead.{ActRead, Declares, kind_of_act, locals_of, numbers_from}
 use Rattle.reads_back.proofs.BehindWords.{HasLocals}
 use Rattle.reads_back.proofs.BlockMakers.{actives_by, all_made, entries_by, entries_from, good_names, made_by, statement_moves}
 use Rattle.reads_back.proofs.DeclarationsRead.{StartHere}
 use Rattle.reads_back.proofs.DeclaredLocals.{actives_of, entries_at, entries_count}
+use Rattle.core_expr.specs.Writing.{function_left}
 use Rattle.reads_back.proofs.FunctionSteps.{as_assigned}
 use Rattle.reads_back.proofs.ListedLocals.{as_many_listed, ended}
 use Rattle.reads_back.proofs.StartingLocals.{StartFrom, all_left, all_start, are_declared, at_front, behind_front, entries_start, names_listed, none_start, numbers_length, shown_name, start_both, start_later}
 use Rattle.reads_back.proofs.StepsPlaced.{AreDraftsOf, KindIs}
 use Rattle.reads_back.proofs.StraightActs.{StartsWith, act_forward, act_read, few_levels, written, written_shallow}
-use Rattle.reads_back.proofs.StraightBlocks.{AreWritten, ComesNext, IsWhole, comes_behind, listed_by, low, made_there}
-use Rattle.reads_back.proofs.Tests.{first_of_both, not_below}
+use Rattle.reads_back.proofs.StraightBlocks.{AreWritten, ComesNext, IsWhole, comes_behind, listed_by, low, made_there, own_listed}
+use Rattle.reads_back.proofs.Tests.{first_of_both, not_below, both_hold}
 use Rattle.reads_back.proofs.WordsRead.{IsQuiet}
 use Rattle.lua_tree.specs.Outline.{Part}
 
@@ -61,6 +62,11 @@ numbers_both first (suc count) more =
     let same : suc first + count ≡ first + suc count = omega arith in
     let all : suc count + more ≡ suc (count + more) = omega arith in
     ap (numbers_from first) all ∙ ap (λ rest. first ∷ rest) (numbers_both (suc first) count more ∙ ap (λ next. numbers_from (suc first) count ++ numbers_from next more) same)
+
+-- a local function declares one local
+own_kind : (name : Text) (found : Option Inner) (listed first : ℕ) (kind : DraftKind) → kind ≡ DraftKind.Declaration first 1 → first + 1 ≤ listed → KindIs listed (local_by name found) kind
+own_kind name None listed first kind is room = (first, is, omega arith, omega (arith, room))
+own_kind name (Some found) listed first kind is room = (first, is, omega (arith, room))
 
 -- ---- what is known where a statement is read
 
@@ -115,6 +121,7 @@ module _ {f : Function} {g : Fn} {z : Maker} {lefts : ℕ → List (Option Inner
     own_entries (local_statement names es) is n = entries_start names (length n.items)
     own_entries (call_statement e) is n = tt
     own_entries (assignment targets es) is n = tt
+    own_entries (local_function text body) is n = entries_start (text ∷ []) (length n.items)
     own_entries (return_statement es) is n = tt
     own_entries s is n = absurd is
 
@@ -129,31 +136,35 @@ module _ {f : Function} {g : Fn} {z : Maker} {lefts : ℕ → List (Option Inner
         within = within;
       }
 
-      local_starts : (names : List Text) (es : syntax.Expressions) → s ≡ local_statement names es → (scope : Scope) → length scope.declared ≡ length m.active → scope.active ≡ listed_by m → last_pc ≤ f.last → StartHere f scope names last_pc
-      local_starts names es is scope as_many active within =
-          let acts = subst IsAct is next.straight.0.0 in
-          let good = good_names names acts.0 in
+      local_starts : (names : List Text) → are_some_names names ≡ true → entries_by s behind ≡ entries_at names last_pc → actives_by s m ≡ actives_of names m.ahead.captures m.ahead.declarations (length m.locals) → (scope : Scope) → length scope.declared ≡ length m.active → scope.active ≡ listed_by m → last_pc ≤ f.last → StartHere f scope names last_pc
+      local_starts names some entries_are activated scope as_many active within =
+          let good = good_names names some in
           let others = entries_from rest (settle behind) in
-          let entries : entries_from (syntax.statement line semi s rest) m ≡ entries_at names last_pc ++ others = ap (λ s. entries_by s behind ++ others) is in
+          let entries : entries_from (syntax.statement line semi s rest) m ≡ entries_at names last_pc ++ others = ap (λ entries. entries ++ others) entries_are in
           let listed : f.of.locals ≡ map (ended f.last) (m.locals ++ (entries_at names last_pc ++ others)) = next.listing.listed ∙ ap (λ entries. map (ended f.last) (m.locals ++ entries)) entries in
           let count : length scope.declared ≡ length m.locals = as_many ∙ count_same next in
           let moves = statement_moves s next.straight.0.0 m in
-          let added : length behind.active ≡ length m.active + length names = ap length moves.active ∙ length-append m.active (actives_by s m) ∙ ap (λ s. length m.active + length (actives_by s m)) is ∙ ap (λ n. length m.active + n) (actives_count names m.ahead.captures m.ahead.declarations (length m.locals)) in
+          let added : length behind.active ≡ length m.active + length names = ap length moves.active ∙ length-append m.active (actives_by s m) ∙ ap (λ actives. length m.active + length actives) activated ∙ ap (λ n. length m.active + n) (actives_count names m.ahead.captures m.ahead.declarations (length m.locals)) in
           let room = (comes_behind whole.made next).room in
           let few : length m.locals + length names ≤ 250 = omega (arith, added, room, whole.made.is_function.few, count_same next) in
           let named = names_listed f.last last_pc m.locals names others (length scope.declared) count good in
           record {
-            some = some_names names acts.0;
+            some = some_names names some;
             starts = starts_next next last_pc scope as_many ∙ ap (λ entries. prefix_len (λ (entry : LocVar). entry.start == last_pc) (map (ended f.last) entries)) entries ∙ all_start f.last last_pc names others rest_later;
             named = ap (λ locals. names_from locals (length scope.declared) (length names)) listed ∙ named;
-            shown = ap (λ locals. is_hidden locals (length scope.declared)) listed ∙ first_shown f.last m.locals names last_pc others (length scope.declared) count acts.0;
+            shown = ap (λ locals. is_hidden locals (length scope.declared)) listed ∙ first_shown f.last m.locals names last_pc others (length scope.declared) count some;
             declares = λ step.
                 let found = are_declared f.last last_pc m.locals names others step scope within count (active ∙ ap (numbers_from 0) (count_same next)) few in
                 subst (λ locals. (behind : Scope) × (declare locals (length names) last_pc step scope ≡ Some behind) × Declares (length names) scope behind) (sym listed) found;
           }
 
       starts_with : (statement : Statement) → s ≡ statement → (now : Situation) → length now.scope.declared ≡ length m.active → now.scope.active ≡ listed_by m → last_pc ≤ f.last → StartsWith f statement now last_pc
-      starts_with (local_statement names es) is now as_many active within = local_starts names es is now.scope as_many active within
+      starts_with (local_statement names es) is now as_many active within =
+          let acts = subst IsAct is next.straight.0.0 in
+          local_starts names acts.0 (ap (λ s. entries_by s behind) is) (ap (λ s. actives_by s m) is) now.scope as_many active within
+      starts_with (local_function text body) is now as_many active within =
+          let acts = subst IsAct is next.straight.0.0 in
+          local_starts (text ∷ []) (both_hold _ _ acts.0 refl) (ap (λ s. entries_by s behind) is) (ap (λ s. actives_by s m) is) now.scope as_many active within
       starts_with (call_statement e) is now as_many active within = tt
       starts_with (assignment targets es) is now as_many active within = tt
       starts_with (return_statement es) is now as_many active within = tt
@@ -162,7 +173,7 @@ module _ {f : Function} {g : Fn} {z : Maker} {lefts : ℕ → List (Option Inner
       -- its words are read
       act_there : last_pc ≤ f.last → (now : Situation) → length now.scope.declared ≡ length m.active → HasLocals m.active (listed_by m) now → now.left ≡ lefts (length m.functions) → now.entries ≡ [] → now.taken ≡ now.seen → ActRead f g m.active s (length m.functions) (length behind.functions) now first_pc last_pc
       act_there within now as_many locals left_is empty taken =
-          act_read (made_there whole.made next) whole.left s next.straight.0.0 next.straight.0.1 (low whole.made next) behind.active (spot m) (spot behind) next.stand.0 now locals left_is empty taken (is_quiet now.scope as_many within) (starts_with s refl now as_many locals.places within)
+          act_read (made_there whole.made next) whole.left s next.straight.0.0 next.straight.0.1 (low whole.made next) (own_listed whole.made next) (numbers_length 0 (length m.active)) behind.active (spot m) (spot behind) next.stand.0 now locals left_is empty taken (is_quiet now.scope as_many within) (starts_with s refl now as_many locals.places within)
 
       -- and they are some
       is_later : last_pc ≤ f.last → first_pc < last_pc
@@ -198,6 +209,10 @@ module _ {f : Function} {g : Fn} {z : Maker} {lefts : ℕ → List (Option Inner
       let some = some_names names is.0 in
       let as_many = entries_count names (length (made_by (local_statement names es) m).items) in
       (first, same, omega (arith, some, ap length acts.0), omega (arith, room, as_many, ap length acts.0))
+  kind_is (local_function text body) is m (declared others vs all) n first listed kind before after acts same room =
+      let names = acts.4.1 in
+      (first, same, omega (arith, ap length names), omega (arith, room, ap length names))
+  kind_is (local_function text body) is m (declared_function name number) n first listed kind before after acts same room = own_kind name (function_left (lefts before) number) listed first kind same room
   kind_is (return_statement es) is m (returned vs all) n first listed kind before after acts same room = same
   kind_is s is m acted n first listed kind before after acts same room = absurd acts
 
@@ -206,6 +221,8 @@ module _ {f : Function} {g : Fn} {z : Maker} {lefts : ℕ → List (Option Inner
   declares_count (call_statement e) is m before after (called v) acts = refl
   declares_count (assignment targets es) is m before after (assigned ts vs all last) acts = refl
   declares_count (local_statement names es) is m before after (declared others vs all) acts = ap length acts.0 ∙ sym (actives_count names m.ahead.captures m.ahead.declarations (length m.locals))
+  declares_count (local_function text body) is m before after (declared others vs all) acts = ap length acts.4.1
+  declares_count (local_function text body) is m before after (declared_function name number) acts = refl
   declares_count (return_statement es) is m before after (returned vs all) acts = refl
   declares_count s is m before after acted acts = absurd acts
 
@@ -231,7 +248,7 @@ module _ {f : Function} {g : Fn} {z : Maker} {lefts : ℕ → List (Option Inner
             ap (λ locals. (leave locals (length n.items) act.behind.scope).active) more.listing.listed
             ∙ all_left f.last (length n.items) (length n.active) (n.locals ++ entries_from rest (settle n)) act.behind.scope before all_active as_many
             ∙ all_active;
-        left = act.left ∙ ap (left_by_act act.acted) there.left ∙ (written (made_there whole.made next) whole.left s next.straight.0.0 (low whole.made next) (length m.functions) (length n.functions) act.acted act.is).leaves;
+        left = act.left ∙ ap (left_by_act act.acted) there.left ∙ (written (made_there whole.made next) whole.left s next.straight.0.0 (low whole.made next) (own_listed whole.made next) (length m.functions) (length n.functions) act.acted act.is).leaves;
       }
 
   -- ---- steps up to the last word
@@ -304,10 +321,10 @@ module _ {f : Function} {g : Fn} {z : Maker} {lefts : ℕ → List (Option Inner
       levels = act.levels ∙ ap₂ (λ (listed : List ℕ) (left : List (Option Inner)). act_levels (place f.of listed f.short) now.seen left act.acted) active there.left
 
       enough : suc (depth_of_statement here) ≤ act.draft.levels
-      enough = omega (arith, levels, written_shallow (made_there whole.made next) whole.left s next.straight.0.0 (low whole.made next) (length m.functions) (length n.functions) act.acted now.seen act.is)
+      enough = omega (arith, levels, written_shallow (made_there whole.made next) whole.left s next.straight.0.0 (low whole.made next) (own_listed whole.made next) (length m.functions) (length n.functions) act.acted now.seen act.is)
 
       few : act.draft.levels ≤ most
-      few = omega (arith, levels, is_low, few_levels (made_there whole.made next) whole.left s next.straight.0.0 (low whole.made next) (length m.functions) (length n.functions) act.acted now.seen act.is)
+      few = omega (arith, levels, is_low, few_levels (made_there whole.made next) whole.left s next.straight.0.0 (low whole.made next) (own_listed whole.made next) (length m.functions) (length n.functions) act.acted now.seen act.is)
 
       room : length now.scope.declared + length (entries_by s n) ≤ length f.of.locals
       room =

@@ -5,7 +5,7 @@ use Rattle.std.proofs.lemmas.Option.{same_Some}
 use Rattle.std.specs.List.{prefix_len}
 use Rattle.std.specs.Prelude.{◌==◌, option_and_then, option_map, slice_get, if◌then◌else◌, Option}
 use Rattle.lua_num.specs.Bytes.{Text}
-use Rattle.lua_tree.specs.Syntax.{Expressions, local_statement}
+use Rattle.lua_tree.specs.Syntax.{Expressions, local_statement, Statement}
 use Rattle.lua_tree.specs.WellFormed.{depth_of_expressions}
 use Rattle.proto.specs.declared.parts.LocVar.{LocVar}
 use Rattle.core_expr.specs.Counting.{left_by_values, taken_behind_values}
@@ -24,10 +24,10 @@ use Rattle.scheme.specs.declared.making.Active.{Active}
 use Rattle.scheme_stands.specs.Relation.{all_related}
 use Rattle.scheme_stands.specs.Statements.{LocalPartAt}
 use Rattle.scheme_stands.specs.Words.{Fn, Spot}
-use Rattle.reads_back.specs.Acted.{Acted, declared, IsActed, act_levels, act_statement, can_act}
+use Rattle.reads_back.specs.Acted.{Acted, declared, IsActed, act_levels, act_statement, can_act, left_by_act, taken_behind_act}
 use Rattle.reads_back.specs.Cores.{AllHaveCores}
 use Rattle.reads_back.specs.ReadAs.{part_of}
-use Rattle.reads_back.proofs.ActsRead.{ActRead, CanAct, Declares, act_draft, after_act, kind_of_act, can_now}
+use Rattle.reads_back.proofs.ActsRead.{ActRead, CanAct, Declares, act_draft, after_act, kind_of_act, can_now, locals_of}
 use Rattle.reads_back.proofs.AdjustedEntries.{written_not_own}
 use Rattle.reads_back.proofs.BehindWords.{HasLocals, SameLocals}
 use Rattle.reads_back.proofs.Comes.{IsWanted}
@@ -80,13 +80,31 @@ declares_same locals (suc count) pc step before other behind same is =
     on rest true is = rest is
     on rest false is = cc
 
-declared_behind : {f : Function} {before other : Scope} {names : List Text} {pc : ℕ} (step : Option ℕ) → SameLocals before other → StartHere f before names pc →
+pub declared_behind : {f : Function} {before other : Scope} {names : List Text} {pc : ℕ} (step : Option ℕ) → SameLocals before other → StartHere f before names pc →
     (scope : Scope) × (declare f.of.locals (length names) pc step other ≡ Some scope) × Declares (length names) before scope
 declared_behind {f} {before} {other} {names} {pc} step same start =
     let one = start.declares step in
     let more = declares_same f.of.locals (length names) pc step before other one.0 same one.1 in
     let behind = more.2 in
     (more.0, more.1, record { declared_more = behind.declared ∙ one.2.declared_more; active_more = behind.active ∙ one.2.active_more })
+
+-- the turn before the word at a pc, where locals start: the step that declares them
+pub starting_turn : {f : Function} {before : Scope} {names : List Text} {pc : ℕ} (s : Situation) (step : Drafted × Situation) → SameLocals before s.scope → StartHere f before names pc → length names ≤ length s.entries →
+    locals_declared f pc (length names) s ≡ Some step → turn_at f pc s ≡ Some (over step.0, step.1)
+starting_turn {f} {before} {names} {pc} s step same start enough does =
+    let count = length names in
+    let rest = if nat_le f.last pc then None else option_and_then (turn_of f s) (word_at f pc) in
+    let on = λ (some : Bool). if some then option_map as_over (declaration f pc count s) else rest in
+    let starts = λ (n : ℕ). prefix_len (λ (local : LocVar). local.start == pc) (drop n f.of.locals) in
+    let declares_some = λ (n : ℕ). if nat_lt 0 n then option_map as_over (declaration f pc n s) else rest in
+    let shows = λ (hidden few : Bool). if hidden then loop_head f pc count s else (if few then None else locals_declared f pc count s) in
+    ap declares_some (ap starts same.declared ∙ start.starts)
+    ∙ ap on (lt-ltb 0 count start.some)
+    ∙ ap₂ (λ (hidden few : Bool). option_map as_over (shows hidden few)) (ap (is_hidden f.of.locals) same.declared ∙ start.shown) (le-ltb (length s.entries) count enough)
+    ∙ ap (option_map as_over) does
+
+pub named_behind : {f : Function} {before : Scope} {names : List Text} {pc : ℕ} (other : Scope) → SameLocals before other → StartHere f before names pc → names_from f.of.locals (length other.declared) (length names) ≡ Some names
+named_behind {f} {names = names} other same start = ap (λ (n : ℕ). names_from f.of.locals n (length names)) same.declared ∙ start.named
 
 -- ---- the step
 
@@ -122,18 +140,32 @@ module _ (f : Function) (names : List Text) (pc : ℕ) (s : Situation) (values :
         ∙ ap (option_map (λ (scope : Scope). (act_draft f pc (declared names values all) s, record (after_act (declared names values all) emptied) { scope = scope }))) declares
 
     -- the turn before the word at the pc, where these locals start
-    declaring_turn : {before : Scope} → SameLocals before s.scope → StartHere f before names pc → count ≤ length s.entries → captures_itself s.entries ≡ false →
+    pub declaring_turn : {before : Scope} → SameLocals before s.scope → StartHere f before names pc → count ≤ length s.entries → captures_itself s.entries ≡ false →
         declare f.of.locals count pc (Some s.step) s.scope ≡ Some scope → turn_at f pc s ≡ Some (over step.0, step.1)
-    declaring_turn same start enough plain declares =
-        let rest = if nat_le f.last pc then None else option_and_then (turn_of f s) (word_at f pc) in
-        let on = λ (some : Bool). if some then option_map as_over (declaration f pc count s) else rest in
-        let starts = λ (n : ℕ). prefix_len (λ (local : LocVar). local.start == pc) (drop n f.of.locals) in
-        let declares_some = λ (n : ℕ). if nat_lt 0 n then option_map as_over (declaration f pc n s) else rest in
-        let shows = λ (hidden few : Bool). if hidden then loop_head f pc count s else (if few then None else locals_declared f pc count s) in
-        ap declares_some (ap starts same.declared ∙ start.starts)
-        ∙ ap on (lt-ltb 0 count start.some)
-        ∙ ap₂ (λ (hidden few : Bool). option_map as_over (shows hidden few)) (ap (is_hidden f.of.locals) same.declared ∙ start.shown) (le-ltb (length s.entries) count enough)
-        ∙ ap (option_map as_over) (are_declared (ap (λ (n : ℕ). names_from f.of.locals n count) same.declared ∙ start.named) plain declares)
+    declaring_turn same start enough plain declares = starting_turn s step same start enough (are_declared (named_behind s.scope same start) plain declares)
+
+-- words are read, and then locals start, with which the step is over
+pub act_declares : {f : Function} {g : Fn} {active : List Active} {statement : Statement} {made_before made_behind first last : ℕ} (s : Situation) (acted : Acted) → IsActed g active statement made_before made_behind acted → (scope : Scope) (entries : Entries) (seen : ℕ) → SameLocals s.scope scope →
+    Reaches f first s last (record s { scope = scope; entries = entries; seen = seen }) → (behind : Situation) → turn_at f last (record s { scope = scope; entries = entries; seen = seen }) ≡ Some (over (act_draft f last acted (record s { scope = scope; entries = entries; seen = seen })), behind) →
+    Declares (locals_of acted) s.scope behind.scope → behind.left ≡ left_by_act acted s.left → behind.seen ≡ taken_behind_act acted s.seen → first < last → ActRead f g active statement made_before made_behind s first last
+act_declares {f} {last = last} s acted acts scope entries seen same reaches behind turn declares left taken later =
+    let begun = record s { scope = scope; entries = entries; seen = seen } in
+    record {
+      acted = acted;
+      is = acts;
+      draft = act_draft f last acted begun;
+      behind = behind;
+      reads = λ count few. step_ends (act_draft f last acted begun) count reaches turn few;
+      kind = ap (λ first. kind_of_act first acted) same.declared;
+      pc = refl;
+      next = refl;
+      part = ap (λ (listed : List ℕ). part_of (act_statement (place f.of listed f.short) s.taken s.left acted)) same.active;
+      levels = ap (λ (listed : List ℕ). act_levels (place f.of listed f.short) s.taken s.left acted) same.active;
+      declares = declares;
+      left = left;
+      seen = taken;
+      later = later;
+    }
 
 -- the values come, and then the locals start
 module _ {f : Function} {g : Fn} {active : List Active} {listed : List ℕ} {lefts : ℕ → List (Option Inner)} (names : List Text) (es : Expressions) (can : CanAct f g active listed lefts (local_statement names es)) {made_before made_behind first last : ℕ} (s : Situation)
@@ -156,22 +188,7 @@ module _ {f : Function} {g : Fn} {active : List Active} {listed : List ℕ} {lef
       let plain = come.plain (written_not_own (place_in_step f begun) s.left come.values can_be_written) in
       let behind = declared_behind (Some s.step) come.same start in
       let turn = declaring_turn f names last begun come.values come.all behind.0 come.listed can_be_written come.same start come.enough plain behind.1 in
-      record {
-        acted = acted;
-        is = acts;
-        draft = act_draft f last acted begun;
-        behind = record (after_act acted begun) { scope = behind.0; entries = [] };
-        reads = λ count few. step_ends (act_draft f last acted begun) count reaches turn few;
-        kind = ap (λ first. kind_of_act first acted) come.same.declared;
-        pc = refl;
-        next = refl;
-        part = ap (λ (listed : List ℕ). part_of (act_statement (place f.of listed f.short) s.taken s.left acted)) come.same.active;
-        levels = ap (λ (listed : List ℕ). act_levels (place f.of listed f.short) s.taken s.left acted) come.same.active;
-        declares = behind.2;
-        left = refl;
-        seen = sym come.taken;
-        later = later;
-      }
+      act_declares s acted acts come.scope come.entries come.seen come.same reaches (record (after_act acted begun) { scope = behind.0; entries = [] }) turn behind.2 refl (sym come.taken) later
 
 -- ---- `local` statements
 

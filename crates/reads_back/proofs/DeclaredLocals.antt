@@ -1,20 +1,22 @@
 -- What a declaration of locals changes in a function that is being made.
-use Rattle.std.proofs.Common.{◌≡◌, ℕ, suc, ◌+◌, Bool, true, false, cond, List, [], ◌∷◌, ◌++◌, drop, length, append-nil, append_assoc, Some, None, refl, sym, ap, ap₂, ◌∙◌}
+use Rattle.std.proofs.Common.{◌≡◌, ℕ, suc, ◌+◌, Bool, true, false, cond, List, [], ◌∷◌, ◌++◌, drop, length, append-nil, append_assoc, Some, None, refl, sym, ap, ap₂, ◌∙◌, set, subst}
 use Rattle.std.specs.Prelude.{nat_lt, ◌-◌}
 use Rattle.lua_num.specs.Bytes.{Text}
-use Rattle.lua_tree.specs.OneLine.{one_line_expressions, one_line_statement}
-use Rattle.lua_tree.specs.Syntax.{Expressions, local_statement}
+use Rattle.lua_tree.specs.OneLine.{one_line_expressions, one_line_statement, one_line_body}
+use Rattle.lua_tree.specs.Syntax.{Expressions, local_statement, FunctionBody, local_function}
 use Rattle.opcode.specs.declared.op.Op.{Op}
 use Rattle.proto.specs.Chunk.{Chunk}
 use Rattle.proto.specs.declared.parts.LocVar.{LocVar}
 use Rattle.scheme.specs.Lists.{adjust, all_multi, all_next, ends_open, filled, nils}
-use Rattle.scheme.specs.Making.{Maker, activate, declare, head_or}
-use Rattle.scheme.specs.Scheme.{all_coded, statement_made}
+use Rattle.scheme.specs.Functions.{closure, without_sources}
+use Rattle.scheme.specs.Making.{Maker, activate, declare, head_or, entry_at, take_registers}
+use Rattle.scheme.specs.Scheme.{all_coded, statement_made, inner}
 use Rattle.scheme.specs.declared.making.Active.{Active}
 use Rattle.scheme_stands.proofs.Growth.{length_end}
 use Rattle.reads_back.specs.Cores.{AllHaveCores}
-use Rattle.reads_back.proofs.Mentions.{AskingPasses, Mention, Passes, coming, coming_behind, locals_mention, mentions_in_all, passed_then}
-use Rattle.reads_back.proofs.PassedMentions.{all_next_passed, all_multi_passed}
+use Rattle.reads_back.specs.Coming.{declared_local, inside_local}
+use Rattle.reads_back.proofs.Mentions.{AskingPasses, Mention, Passes, coming, coming_behind, locals_mention, mentions_in_all, passed_then, own_mention, Passed, function_mention, captured_same}
+use Rattle.reads_back.proofs.PassedMentions.{all_next_passed, all_multi_passed, closure_passes}
 
 -- ---- the locals
 
@@ -111,4 +113,43 @@ local_declares texts es have m =
       locals = last.locals ∙ ap₂ (λ locals pc. locals ++ entries_at texts pc) locals (ap length (sym last.items));
       upvalues = last.upvalues ∙ ap (λ around. around.upvalue_names) passed.around;
       behind = ap₂ (λ ahead (functions : List Chunk). record { ahead = ahead; functions = length functions }) last.ahead last.functions ∙ passed.behind;
+    }
+
+-- ---- a local function
+
+-- its local is declared and active behind it
+pub record OwnDeclared (text : Text) (body : FunctionBody) (m n : Maker) : Type 0 where
+  pub active : n.active ≡ m.active ++ actives_of (text ∷ []) m.ahead.captures m.ahead.declarations (length m.locals)
+  pub locals : n.locals ≡ m.locals ++ entries_at (text ∷ []) (length n.items)
+  pub upvalues : n.upvalue_names ≡ m.upvalue_names
+  pub behind : coming n ≡ coming_behind m.active m.upvalue_names (own_mention text body ∷ []) (coming m)
+
+last_set : (front : List LocVar) (entry other : LocVar) → set (front ++ entry ∷ []) (length front) other ≡ front ++ other ∷ []
+last_set [] entry other = refl
+last_set (first ∷ front) entry other = ap (λ rest. first ∷ rest) (last_set front entry other)
+
+last_entry : (front : List LocVar) (entry : LocVar) → entry_at (front ++ entry ∷ []) (length front) ≡ entry
+last_entry [] entry = refl
+last_entry (first ∷ front) entry = last_entry front entry
+
+pub own_declares : (text : Text) (body : FunctionBody) → one_line_body body ≡ body → (m : Maker) → OwnDeclared text body m (statement_made (one_line_statement (local_function text body)) 1 None m)
+own_declares text body on_line m =
+    let local = declared_local text m.ahead in
+    let register = m.free in
+    let entry : LocVar = record { name = text; start = length m.items; end = length m.items } in
+    let m2 = (activate (local ∷ []) (take_registers 1 (declare (text ∷ []) m).after)) in
+    let passed = subst (λ (body' : FunctionBody). Passed (function_mention body false ∷ []) m2 (closure 1 (inner body' false) register m2)) (sym on_line) (closure_passes body false register m2) in
+    let m3 = closure 1 (inner (one_line_body body) false) register m2 in
+    let locals : m3.locals ≡ m.locals ++ entry ∷ [] = ap (λ around. around.locals) passed.around in
+    record {
+      active = ap (λ around. around.active) passed.around;
+      locals =
+          ap (λ (locals : List LocVar). set locals (length m.locals) (record { name = (entry_at locals (length m.locals)).name; start = length m3.items; end = length m3.items })) locals
+          ∙ ap (λ (one : LocVar). set (m.locals ++ entry ∷ []) (length m.locals) (record { name = one.name; start = length m3.items; end = length m3.items })) (last_entry m.locals entry)
+          ∙ last_set m.locals entry (record { name = text; start = length m3.items; end = length m3.items });
+      upvalues = ap (λ around. around.upvalue_names) passed.around;
+      behind =
+          passed.behind
+          ∙ ap (λ names. record { ahead = (inner body false names (without_sources (inside_local text (coming m)).ahead)).ahead; functions = suc (length m.functions) })
+          (captured_same m.active (record { local = local; listed = length m.locals }) (record { local = local; listed = length m.active }) refl m.upvalue_names (inside_local text (coming m)).ahead);
     }

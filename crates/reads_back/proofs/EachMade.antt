@@ -1,8 +1,9 @@
 -- Each function of a function is made where it comes next: it is one that stands in its statements.
-use Rattle.std.proofs.Common.{◌≡◌, ℕ, max, ◌≤◌, ◌<◌, ◌⊎◌, inl, inr, Bool, List, [], ◌∷◌, ◌++◌, length, ap, ◌∙◌, arith, true, if◌then◌else◌, suc, false, refl}
+use Rattle.std.proofs.Common.{◌≡◌, ℕ, max, ◌≤◌, ◌<◌, ◌⊎◌, inl, inr, Bool, List, [], ◌∷◌, ◌++◌, length, ap, ◌∙◌, arith, true, if◌then◌else◌, suc, false, refl, ◌+◌}
 use Rattle.std.proofs.lemmas.Bool.{cases_lt}
+use Rattle.lua_num.specs.Bytes.{Text}
 use Rattle.lua_tree.specs.Syntax as syntax
-use Rattle.lua_tree.specs.Syntax.{Arguments, Expression, Expressions, FunctionBody, Statement, Statements, argument_list, assignment, binary_expression, call_expression, call_statement, constructor, Fields, no_fields, positional, named, keyed, table_argument, field_expression, function_expression, index_expression, local_statement, method_call, name_expression, no_expressions, no_statements, parenthesized, return_statement, text_argument, unary_expression, nil_literal, true_literal, false_literal, vararg_expression, number_literal, text_literal}
+use Rattle.lua_tree.specs.Syntax.{Arguments, Expression, Expressions, FunctionBody, Statement, Statements, argument_list, assignment, binary_expression, call_expression, call_statement, constructor, Fields, no_fields, positional, named, keyed, table_argument, field_expression, function_expression, index_expression, local_statement, method_call, name_expression, no_expressions, no_statements, parenthesized, return_statement, text_argument, unary_expression, nil_literal, true_literal, false_literal, vararg_expression, number_literal, text_literal, local_function}
 use Rattle.lua_tree.specs.WellFormed.{depth_of_arguments, depth_of_body, depth_of_expression, depth_of_expressions, depth_of_fields}
 use Rattle.recover_expr.specs.Situation.{Function}
 use Rattle.scheme.specs.Making.{Maker}
@@ -10,15 +11,15 @@ use Rattle.scheme.specs.Statements.{settle}
 use Rattle.scheme.specs.declared.making.Active.{Active}
 use Rattle.scheme_stands.specs.Words.{Fn}
 use Rattle.reads_back.specs.Acted.{IsAct, is_path, lean_assignment, lean_depth, lean_depth_of}
-use Rattle.reads_back.specs.Coming.{Coming, IsMadeNext}
+use Rattle.reads_back.specs.Coming.{Coming, IsMadeNext, IsOwnNext, inside_local}
 use Rattle.reads_back.specs.Cores.{AllHaveCores, HasCore, HaveCores, HaveItems, IsPlainBody}
 use Rattle.reads_back.proofs.BlockMakers.{all_made, made_by, statement_moves}
-use Rattle.reads_back.proofs.Mentions.{AreMeant, IsAhead, Mention, behind_mention, coming, coming_behind, function_mention, locals_mention, mentions_given, mentions_in, mentions_in_all, mentions_of_fields, name_mention}
+use Rattle.reads_back.proofs.Mentions.{AreMeant, IsAhead, Mention, behind_mention, coming, coming_behind, function_mention, locals_mention, mentions_given, mentions_in, mentions_in_all, mentions_of_fields, name_mention, own_mention}
 use Rattle.reads_back.proofs.NameReads.{AreListed}
 use Rattle.reads_back.proofs.OneLineActs.{targets_have_cores}
-use Rattle.reads_back.proofs.Rewriting.{mentions_of_statement}
+use Rattle.reads_back.proofs.Rewriting.{mentions_of_statement, OwnListed}
 use Rattle.reads_back.proofs.Tests.{first_of_both}
-use Rattle.reads_back.proofs.StraightBlocks.{ComesNext, IsMadeWhole, comes_behind, made_there, names_next}
+use Rattle.reads_back.proofs.StraightBlocks.{ComesNext, IsMadeWhole, comes_behind, made_there, names_next, own_listed}
 
 -- ---- the levels of what is mentioned
 
@@ -28,18 +29,21 @@ AreLowMentions high [] = Unit {0}
 AreLowMentions high (name_mention text ∷ mentions) = AreLowMentions high mentions
 AreLowMentions high (function_mention body method ∷ mentions) = (IsPlainBody body × (depth_of_body body < high)) × AreLowMentions high mentions
 AreLowMentions high (locals_mention texts ∷ mentions) = AreLowMentions high mentions
+AreLowMentions high (own_mention text body ∷ mentions) = ⊥
 
 lower : (high higher : ℕ) (mentions : List Mention) → high ≤ higher → AreLowMentions high mentions → AreLowMentions higher mentions
 lower high higher [] up are = tt
 lower high higher (name_mention text ∷ mentions) up are = lower high higher mentions up are
 lower high higher (function_mention body method ∷ mentions) up are = ((are.0.0, omega (arith, are.0.1, up)), lower high higher mentions up are.1)
 lower high higher (locals_mention texts ∷ mentions) up are = lower high higher mentions up are
+lower high higher (own_mention text body ∷ mentions) up are = absurd are
 
 low_then : (high : ℕ) (mentions others : List Mention) → AreLowMentions high mentions → AreLowMentions high others → AreLowMentions high (mentions ++ others)
 low_then high [] others first second = second
 low_then high (name_mention text ∷ mentions) others first second = low_then high mentions others first second
 low_then high (function_mention body method ∷ mentions) others first second = (first.0, low_then high mentions others first.1 second)
 low_then high (locals_mention texts ∷ mentions) others first second = low_then high mentions others first second
+low_then high (own_mention text body ∷ mentions) others first second = absurd first
 
 -- what two parts mention, where both have no more levels than so many
 both_low : (one other high : ℕ) (mentions others : List Mention) → one ≤ high → other ≤ high → AreLowMentions one mentions → AreLowMentions other others → AreLowMentions high (mentions ++ others)
@@ -99,12 +103,18 @@ assigned_low (syntax.expression target no_expressions) (syntax.expression (funct
         both_low (depth_of_expressions (syntax.expression target no_expressions)) (suc (depth_of_body body)) high (mentions_in target ++ []) (function_mention body false ∷ []) (omega arith) (omega arith) (low_in_all (syntax.expression target no_expressions) to) ((from.0, omega arith), tt)
 assigned_low targets es to from = both_low (depth_of_expressions targets) (depth_of_expressions es) _ (mentions_in_all targets) (mentions_in_all es) (omega arith) (omega arith) (low_in_all targets to) (low_in_all es from)
 
-pub mentions_low : (s : Statement) → IsAct s → AreLowMentions (lean_depth s) (mentions_of_statement s)
-mentions_low (call_statement e) is = low_in e is.1
-mentions_low (assignment targets es) is = assigned_low targets es (targets_have_cores IsPlainBody targets is.targets) is.values
-mentions_low (local_statement names es) is = low_in_all es is.1
-mentions_low (return_statement es) is = low_in_all es is
-mentions_low s is = absurd is
+-- no local function, which alone mentions one of its own
+abbrev pub IsNotLocal : Statement → Type 0
+IsNotLocal (local_function text body) = ⊥
+IsNotLocal s = Unit {0}
+
+pub mentions_low : (s : Statement) → IsAct s → IsNotLocal s → AreLowMentions (lean_depth s) (mentions_of_statement s)
+mentions_low (call_statement e) is other = low_in e is.1
+mentions_low (assignment targets es) is other = assigned_low targets es (targets_have_cores IsPlainBody targets is.targets) is.values
+mentions_low (local_statement names es) is other = low_in_all es is.1
+mentions_low (return_statement es) is other = low_in_all es is
+mentions_low (local_function text body) is other = absurd other
+mentions_low s is other = absurd is
 
 -- ---- where a function is made
 
@@ -138,7 +148,23 @@ mentioned_made {f} g active {listed} all high (function_mention body method ∷ 
     by : (c.functions < number) ⊎ (number ≤ c.functions) → (c.functions < number → IsMadeAt f g high number) → IsMadeAt f g high number
     by (inl later) others = others later
     by (inr here) others = record { active = active; listed = listed; all = all; body = body; method = method; c = c; is = meant.0; number_is = omega (arith, from, here); plain = low.0.0; low = low.0.1 }
+mentioned_made g active all high (own_mention text body ∷ mentions) c meant low number from below = absurd low
 mentioned_made g active all high (locals_mention texts ∷ mentions) c meant low number from below = mentioned_made g active all high mentions (behind_mention active g.upvalue_names (locals_mention texts) c) meant.1 low number from below
+
+-- that of a local function
+own_made : {f : Function} (g : Fn) (active : List Active) (text : Text) (body : FunctionBody) (c : Coming) → OwnListed f g active (local_function text body) → IsPlainBody body → IsOwnNext g active text body c → (number : ℕ) → c.functions ≤ number → number < suc c.functions → IsMadeAt f g (1 + depth_of_body body) number
+own_made g active text body c listed plain own number from below =
+    let all = listed own.local c.ahead own.is_local in
+    record { active = active ++ own.local ∷ []; listed = all.0; all = all.1; body = body; method = false; c = inside_local text c; is = own.next; number_is = omega (arith, from, below); plain = plain; low = omega arith }
+
+statement_made_at : {f : Function} (g : Fn) (active : List Active) {listed : List ℕ} → AreListed f g active listed → (s : Statement) → IsAct s → OwnListed f g active s → (c : Coming) → AreMeant g active (mentions_of_statement s) c →
+    (number : ℕ) → c.functions ≤ number → number < (coming_behind active g.upvalue_names (mentions_of_statement s) c).functions → IsMadeAt f g (lean_depth s) number
+statement_made_at g active all (local_function text body) is own c meant number from below = own_made g active text body c own is.1 meant.0 number from below
+statement_made_at g active all (call_statement e) is own c meant number from below = mentioned_made g active all _ (mentions_of_statement (call_statement e)) c meant (mentions_low (call_statement e) is tt) number from below
+statement_made_at g active all (assignment targets es) is own c meant number from below = mentioned_made g active all _ (mentions_of_statement (assignment targets es)) c meant (mentions_low (assignment targets es) is tt) number from below
+statement_made_at g active all (local_statement names es) is own c meant number from below = mentioned_made g active all _ (mentions_of_statement (local_statement names es)) c meant (mentions_low (local_statement names es) is tt) number from below
+statement_made_at g active all (return_statement es) is own c meant number from below = mentioned_made g active all _ (mentions_of_statement (return_statement es)) c meant (mentions_low (return_statement es) is tt) number from below
+statement_made_at g active all s is own c meant number from below = absurd is
 
 -- each function that a block makes is one that stands in its statements
 pub each_made : {f : Function} {g : Fn} {z : Maker} (whole : IsMadeWhole f g z) (block : Statements) (m : Maker) → ComesNext f g z block m → (number : ℕ) → length m.functions ≤ number → number < length (all_made block m).functions → IsMadeAt f g (lean_depth_of block) number
@@ -155,6 +181,6 @@ each_made {f} {g} whole (syntax.statement line semi s rest) m next number from b
     by : (number < length (made_by s m).functions) ⊎ (length (made_by s m).functions ≤ number) → (length (made_by s m).functions ≤ number → IsMadeAt f g (lean_depth_of rest) number) → IsMadeAt f g (lean_depth_of (syntax.statement line semi s rest)) number
     by (inl here) others =
         let high = lean_depth s in
-        let one = mentioned_made g m.active (made_there whole next).all high (mentions_of_statement s) (coming m) ahead.meant (mentions_low s next.straight.0.0) number from (omega (arith, here, ap (λ (c : Coming). c.functions) behind)) in
+        let one = statement_made_at g m.active (made_there whole next).all s next.straight.0.0 (own_listed whole next) (coming m) ahead.meant number from (omega (arith, here, ap (λ (c : Coming). c.functions) behind)) in
         made_lower high _ number (omega arith) one
     by (inr later) others = made_lower (lean_depth_of rest) _ number (omega arith) (others later)

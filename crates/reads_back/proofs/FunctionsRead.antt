@@ -3,9 +3,8 @@ use Rattle.std.proofs.Common.{◌≡◌, ℕ, zero, suc, ◌<◌, ◌≤◌, tru
 use Rattle.std.proofs.lemmas.Option.{same_Some}
 use Rattle.lua_num.specs.Bytes.{Text}
 use Rattle.lua_tree.specs.Names.{are_names}
-use Rattle.lua_tree.specs.OneLine.{one_line_statements}
 use Rattle.lua_tree.specs.Outline.{all_params, body_part, statements_part}
-use Rattle.lua_tree.specs.Syntax.{FunctionBody, Statements, function_body, no_statements, statement}
+use Rattle.lua_tree.specs.Syntax.{FunctionBody, Statements, function_body}
 use Rattle.lua_tree.specs.WellFormed.{depth_of_body, depth_of_statements, formed_body, formed_statements}
 use Rattle.proto.specs.Chunk.{Own, Chunk, function, Functions, function_at, each, SameButLines, no_lines, own, no_functions, and_function}
 use Rattle.proto.specs.Short.{AreShort, HasShortLists, IsShort}
@@ -29,14 +28,10 @@ use Rattle.reads_back.proofs.InnerNames.{placed_known}
 use Rattle.reads_back.proofs.InnerReads.{AreNamedBy, IsEverRead, IsFunctionRead, IsReadAsBody, function_read}
 use Rattle.reads_back.proofs.Marks.{SamePart, part_then}
 use Rattle.reads_back.proofs.PlainBodies.{plain_block}
-use Rattle.reads_back.proofs.PlainStraight.{AreOnLine}
+use Rattle.reads_back.proofs.PlainStraight.{AreOnLine, each_on_line}
 use Rattle.reads_back.proofs.SameFunctions.{good_params, same_function, same_function_part}
 use Rattle.reads_back.proofs.StraightFunctions.{IsStraightFunction, begun_of, maker_of}
 use Rattle.reads_back.proofs.Tests.{both_hold, first_of_both, second_of_both}
-
-on_its_line : (block : Statements) → one_line_statements block ≡ block → AreOnLine block
-on_its_line no_statements same = tt
-on_its_line (statement line semi s rest) same = (cc, cc, on_its_line rest cc)
 
 -- ---- a block whose function statements are assignments
 
@@ -93,7 +88,7 @@ module _ (mine : Own) (functions : Functions) (ever : (number : ℕ) (c : Chunk)
       good = good_params method params (first_of_both _ _ plain.formed)
 
       on_line : AreOnLine block
-      on_line = let same = plain.on_line in on_its_line block cc
+      on_line = let same = plain.on_line in each_on_line block cc
 
       made_is : made ≡ chunk_of heading (maker_of (all_params method params) block names before)
       made_is = sym (ap (λ (made : Finished). made.chunk) at.is)

@@ -91,7 +91,7 @@ seen_at all place active [] uses c slot text is = cc
 seen_at all place active (b ∷ bindings) uses c zero text is = (b, refl, ap place.scope (sym (same_Some c.3.0 text is)) ∙ c.3.1)
 seen_at all place active (b ∷ bindings) uses c (suc slot) text is = seen_at all place active bindings c.1 c.5 slot text is
 
-among_both : (text : Text) (texts others : List Text) → is_among text (texts ++ others) ≡ is_among text texts || is_among text others
+pub among_both : (text : Text) (texts others : List Text) → is_among text (texts ++ others) ≡ is_among text texts || is_among text others
 among_both text [] others = refl
 among_both text (first ∷ texts) others = by (bytes_eq text first) (among_both text texts others)
   where
@@ -99,7 +99,7 @@ among_both text (first ∷ texts) others = by (bytes_eq text first) (among_both 
     by true is = refl
     by false is = is
 
-among_names : (text : Text) (active : List Active) → is_among text (names_in active) ≡ is_some (register_in text active)
+pub among_names : (text : Text) (active : List Active) → is_among text (names_in active) ≡ is_some (register_in text active)
 among_names text [] = refl
 among_names text (x ∷ active) = by (is_some x.local.declaration) (among_names text active)
   where
@@ -111,11 +111,11 @@ among_names text (x ∷ active) = by (is_some x.local.declaration) (among_names 
     by true is = named (bytes_eq text x.local.name) is
     by false is = is
 
-first_or : (one other : Bool) → one ≡ true → one || other ≡ true
+pub first_or : (one other : Bool) → one ≡ true → one || other ≡ true
 first_or true other is = refl
 first_or false other is = cc
 
-second_or : (one other : Bool) → other ≡ true → one || other ≡ true
+pub second_or : (one other : Bool) → other ≡ true → one || other ≡ true
 second_or true other is = refl
 second_or false other is = is
 

@@ -29,6 +29,8 @@ pub mod WholeNumbers
 pub mod WrittenFormed
 pub mod Marks
 pub mod MarksSame
+pub mod FreeNames
+pub mod UnfreeParts
 pub mod Mentions
 pub mod FunctionsLeft
 pub mod PassedMentions
@@ -74,6 +76,7 @@ pub mod TargetsSame
 pub mod EachStoredSame
 pub mod NamedSame
 pub mod AssignedSame
+pub mod LocalFunctionsSame
 pub mod ActsRewritten
 pub mod NamedActs
 pub mod ActsFormed
@@ -96,9 +99,12 @@ pub mod AdjustedWords
 pub mod EachStored
 pub mod AssignmentStands
 pub mod DeclarationsRead
+pub mod LocalFunctionsRead
 pub mod BlockMakers
 pub mod StartingLocals
 pub mod StraightBlocks
+pub mod OwnLocals
+pub mod LocalFunctionMarks
 pub mod ActsMarks
 pub mod OneLineActs
 pub mod PlainStraight
@@ -119,3 +125,4 @@ pub mod FunctionsRead
 pub mod StraightSources
 pub mod FunctionStatements
 pub mod SameStatements
+pub mod FreeCaptured

@@ -1,12 +1,12 @@
 -- The value of an expression has the names that the expression mentions, in the same order, where each function that is made is the part of the source that has its number.
-use Rattle.std.proofs.Common.{◌≡◌, ℕ, suc, Bool, true, false, ◌&&◌, List, length, max, Option, Some, None, refl, sym, ap, ◌∙◌, inl, inr}
+use Rattle.std.proofs.Common.{◌≡◌, ◌++◌, ◌∷◌, [], ℕ, suc, Bool, true, false, ◌&&◌, List, length, max, Option, Some, None, refl, sym, ap, ◌∙◌, inl, inr}
 use Rattle.std.specs.Prelude.{ℤ, nat_lt, if◌then◌else◌}
 use Rattle.lua_num.specs.declared.arith.ArithOp.{ArithOp}
 use Rattle.lua_num.specs.Bytes.{Text}
 use Rattle.lua_tree.specs.OneLine.{one_line_arguments, one_line_body, one_line_expression, one_line_expressions, one_line_fields}
 use Rattle.lua_tree.specs.Outline.{Part, arguments_part, body_part, both, expression_part, expressions_part, fields_part, mentions, nothing}
 use Rattle.lua_tree.specs.Syntax as syntax
-use Rattle.lua_tree.specs.Syntax.{Arguments, Expression, Expressions, FunctionBody, function_expression, argument_list, binary_expression, call_expression, constructor, Fields, no_fields, positional, named, keyed, table_argument, false_literal, field_expression, index_expression, method_call, name_expression, nil_literal, no_expressions, number_literal, parenthesized, text_argument, text_literal, true_literal, unary_expression, vararg_expression}
+use Rattle.lua_tree.specs.Syntax.{Arguments, Expression, Expressions, FunctionBody, function_expression, argument_list, binary_expression, call_expression, constructor, Fields, no_fields, positional, named, keyed, table_argument, false_literal, field_expression, index_expression, method_call, name_expression, nil_literal, no_expressions, number_literal, parenthesized, text_argument, text_literal, true_literal, unary_expression, vararg_expression, Statement, local_function}
 use Rattle.lua_tree.specs.Names.{is_name}
 use Rattle.lua_tree.specs.declared.tree.BinaryOp.{BinaryOp}
 use Rattle.lua_tree.specs.declared.tree.UnaryOp.{UnaryOp}
@@ -16,11 +16,11 @@ use Rattle.core_expr.specs.Places.{Place, as_name, as_text, constant_name, place
 use Rattle.core_expr.specs.Values.{binary_value, call_value, concat_value, method_value, unary_value, table_value, ItemList, no_items, OperandList, OperandValue, Value, Values, and_operand, and_value, global_value, index_value, local_value, no_operands, no_values, upvalue_value, value_operand}
 use Rattle.recover_expr.specs.Situation.{Function}
 use Rattle.scheme.specs.Expressions.{number_or, plain_literal, arith_op, fold, fold_binary, fold_unary, is_multiple, literal}
-use Rattle.scheme.specs.Making.{Where, in_globals, in_register, in_upvalue}
+use Rattle.scheme.specs.Making.{Where, in_globals, in_register, in_upvalue, Ahead}
 use Rattle.scheme.specs.declared.making.Active.{Active}
 use Rattle.scheme_stands.specs.Lists.{is_last_item}
 use Rattle.scheme_stands.specs.Words.{Fn}
-use Rattle.reads_back.specs.Coming.{Coming, IsMadeNext}
+use Rattle.reads_back.specs.Coming.{Coming, IsMadeNext, declared_local}
 use Rattle.reads_back.specs.Cores.{HasNumber, IsKey, IsSmall, IsVariable, AllHaveCores, AreCores, AreGiven, HasCore, HaveCores, IsClosure, IsConstant, IsCore, IsFoldedOr, IsItem, IsKeyedItem, AreItems, HaveItems, IsOperandBy, IsOperator, core, only, first_and, Counted, CountedItems, IsPlainBody}
 use Rattle.reads_back.proofs.LiteralReads.{constant_there}
 use Rattle.reads_back.proofs.Marks.{SamePart, both_assoc, both_same, name_mentioned, nothing_behind, part_back, part_of, part_of_operand, part_then, parts_of, parts_of_items, parts_of_operands, same_part}
@@ -71,6 +71,11 @@ folded_part e n is = cc
 -- a function that is made is the part of the source that has its number
 abbrev pub ArePartsMade : (g : Fn) (active : List Active) (of : ℕ → Part) → Type 0
 ArePartsMade g active of = (body : FunctionBody) (c : Coming) → IsPlainBody body → IsMadeNext g active body false c → SamePart (of c.functions) (body_part false body)
+
+-- each function that is made in it is the part of the source that has its number
+abbrev pub OwnPartsMade : Fn → List Active → (of : ℕ → Part) → Statement → Type 0
+OwnPartsMade g active of (local_function text body) = (x : Active) (ahead : Ahead) → x.local ≡ declared_local text ahead → ArePartsMade g (active ++ x ∷ []) of
+OwnPartsMade g active of s = Unit {0}
 
 module _ {f : Function} {g : Fn} {active : List Active} {listed : List ℕ} (is_function : IsFunction f g) (all : AreListed f g active listed) (of : ℕ → Part) (parts_made : ArePartsMade g active of) where
   abbrev at : Place

@@ -1,16 +1,18 @@
 -- What an expression mentions, in its order: names and functions; that what comes next in a function that is being made means what the scope finds by it; and what a part passes of it.
-use Rattle.std.proofs.Common.{◌≡◌, suc, Bool, false, List, [], ◌∷◌, ◌++◌, refl, sym, ap, ap₂, ◌∙◌, subst, drop, length, ℕ}
+use Rattle.std.proofs.Common.{◌≡◌, suc, Bool, false, List, [], ◌∷◌, ◌++◌, refl, sym, ap, ap₂, ◌∙◌, subst, drop, length, ℕ, map, cond}
 use Rattle.lua_num.specs.Bytes.{Text}
-use Rattle.lua_tree.specs.Scoping.{global_use}
+use Rattle.lua_tree.specs.Scoping.{global_use, Use, local_use, upvalue_use}
 use Rattle.lua_tree.specs.Syntax as syntax
 use Rattle.lua_tree.specs.Syntax.{Expressions, no_expressions, Arguments, argument_list, text_argument, table_argument, Expression, name_expression, index_expression, field_expression, call_expression, method_call, binary_expression, unary_expression, parenthesized, constructor, Fields, no_fields, positional, named, keyed, FunctionBody, function_expression}
 use Rattle.proto.specs.declared.parts.LocVar.{LocVar}
-use Rattle.scheme.specs.Functions.{without_sources}
-use Rattle.scheme.specs.Making.{Ahead, Asks, Maker, Part, head_or, where_is}
+use Rattle.scheme.specs.Functions.{without_sources, name_of}
+use Rattle.scheme.specs.Making.{Ahead, Asks, Maker, Part, head_or, where_is, is_declaration}
 use Rattle.scheme.specs.Scheme.{inner}
 use Rattle.scheme.specs.declared.making.Active.{Active}
+use Rattle.scheme.specs.declared.making.Local.{Local}
+use Rattle.scheme_stands.specs.Functions.{captured_name}
 use Rattle.scheme_stands.specs.Words.{Fn, Means}
-use Rattle.reads_back.specs.Coming.{Coming, IsMadeNext, captured_names}
+use Rattle.reads_back.specs.Coming.{Coming, IsMadeNext, captured_names, behind_locals, IsOwnNext, inside_local, declared_local}
 
 -- ---- what is mentioned
 
@@ -20,6 +22,8 @@ pub data Mention : Type 0 where
   function_mention : FunctionBody → (method : Bool) → Mention
   -- names that are declared
   locals_mention : List Text → Mention
+  -- a local that is declared, and the function in which it is active
+  own_mention : Text → FunctionBody → Mention
 
 abbrev mutual
   pub mentions_in : Expression → List Mention
@@ -55,14 +59,13 @@ abbrev mutual
 abbrev pub coming : Maker → Coming
 coming m = record { ahead = m.ahead; functions = length m.functions }
 
-abbrev pub behind_locals : List Text → Ahead → Ahead
-behind_locals [] ahead = ahead
-behind_locals (text ∷ texts) ahead = behind_locals texts (record ahead { captures = drop 1 ahead.captures; declarations = suc ahead.declarations })
-
 abbrev pub behind_mention : List Active → (upvalue_names : List Text) → Mention → Coming → Coming
 behind_mention active names (name_mention text) c = record c { ahead = record (c.ahead) { names = drop 1 c.ahead.names } }
 behind_mention active names (function_mention body method) c = record { ahead = (inner body method (captured_names active names c.ahead) (without_sources c.ahead)).ahead; functions = suc c.functions }
 behind_mention active names (locals_mention texts) c = record c { ahead = behind_locals texts c.ahead }
+behind_mention active names (own_mention text body) c =
+    let inside = (inside_local text c).ahead in
+    record { ahead = (inner body false (captured_names (active ++ record { local = declared_local text c.ahead; listed = length active } ∷ []) names inside) (without_sources inside)).ahead; functions = suc c.functions }
 
 abbrev pub coming_behind : List Active → (upvalue_names : List Text) → List Mention → Coming → Coming
 coming_behind active names [] c = c
@@ -72,24 +75,44 @@ pub behind_both : (active : List Active) (names : List Text) (mentions others : 
 behind_both active names [] others c = refl
 behind_both active names (mention ∷ mentions) others c = behind_both active names mentions others (behind_mention active names mention c)
 
+-- the names of what a function captures are the same, wherever the last local is listed
+captured_name_same : (active : List Active) (x y : Active) → x.local ≡ y.local → (names : List Text) (one : Use) → captured_name (active ++ x ∷ []) names one ≡ captured_name (active ++ y ∷ []) names one
+captured_name_same active x y same names (local_use d) = among active
+  where
+    among : (others : List Active) → name_of d (others ++ x ∷ []) ≡ name_of d (others ++ y ∷ [])
+    among [] = ap (λ (local : Local). cond (is_declaration d local) local.name []) same
+    among (one ∷ others) = ap (cond (is_declaration d one.local) one.local.name) (among others)
+captured_name_same active x y same names (upvalue_use slot) = refl
+captured_name_same active x y same names global_use = refl
+
+pub captured_same : (active : List Active) (x y : Active) → x.local ≡ y.local → (names : List Text) (ahead : Ahead) → captured_names (active ++ x ∷ []) names ahead ≡ captured_names (active ++ y ∷ []) names ahead
+captured_same active x y same names ahead = all (head_or [] ahead.sources)
+  where
+    all : (uses : List Use) → map (captured_name (active ++ x ∷ []) names) uses ≡ map (captured_name (active ++ y ∷ []) names) uses
+    all [] = refl
+    all (one ∷ uses) = ap₂ (λ (text : Text) (texts : List Text). text ∷ texts) (captured_name_same active x y same names one) (all uses)
+
 -- how many functions were made behind these, where so many were made before
 abbrev pub made_behind : List Mention → ℕ → ℕ
 made_behind [] made = made
 made_behind (name_mention text ∷ mentions) made = made_behind mentions made
 made_behind (function_mention body method ∷ mentions) made = made_behind mentions (suc made)
 made_behind (locals_mention texts ∷ mentions) made = made_behind mentions made
+made_behind (own_mention text body ∷ mentions) made = made_behind mentions (suc made)
 
 pub made_both : (mentions others : List Mention) (made : ℕ) → made_behind (mentions ++ others) made ≡ made_behind others (made_behind mentions made)
 made_both [] others made = refl
 made_both (name_mention text ∷ mentions) others made = made_both mentions others made
 made_both (function_mention body method ∷ mentions) others made = made_both mentions others (suc made)
 made_both (locals_mention texts ∷ mentions) others made = made_both mentions others made
+made_both (own_mention text body ∷ mentions) others made = made_both mentions others (suc made)
 
 made_is : (active : List Active) (names : List Text) (mentions : List Mention) (c : Coming) → (coming_behind active names mentions c).functions ≡ made_behind mentions c.functions
 made_is active names [] c = refl
 made_is active names (name_mention text ∷ mentions) c = made_is active names mentions (behind_mention active names (name_mention text) c)
 made_is active names (function_mention body method ∷ mentions) c = made_is active names mentions (behind_mention active names (function_mention body method) c)
 made_is active names (locals_mention texts ∷ mentions) c = made_is active names mentions (behind_mention active names (locals_mention texts) c)
+made_is active names (own_mention text body ∷ mentions) c = made_is active names mentions (behind_mention active names (own_mention text body) c)
 
 -- ---- what it means
 
@@ -97,6 +120,7 @@ abbrev pub IsMentionMeant : Fn → List Active → Mention → Coming → Type 0
 IsMentionMeant g active (name_mention text) c = Means g.law active text (where_is (head_or global_use c.ahead.names) active)
 IsMentionMeant g active (function_mention body method) c = IsMadeNext g active body method c
 IsMentionMeant g active (locals_mention texts) c = Unit {0}
+IsMentionMeant g active (own_mention text body) c = IsOwnNext g active text body c
 
 -- each of these mentions, which come next, means what the scope finds by it
 abbrev pub AreMeant : Fn → List Active → List Mention → Coming → Type 0

@@ -25,7 +25,7 @@ declared_by : (is : Bool) (one : Active) (others : List Active) (register : ℕ)
 declared_by true one others register name x further there = let same : one ≡ x = cc in ap (λ (x : Active). x.local.name) same
 declared_by false one others register name x further there = further there
 
-declared_name : (declaration : ℕ) (active : List Active) (x : Active) → slice_get active (register_among declaration active) ≡ Some x → name_of declaration active ≡ x.local.name
+pub declared_name : (declaration : ℕ) (active : List Active) (x : Active) → slice_get active (register_among declaration active) ≡ Some x → name_of declaration active ≡ x.local.name
 declared_name declaration [] x there = cc
 declared_name declaration (one ∷ others) x there =
     declared_by (is_declaration declaration one.local) one others (register_among declaration others) (name_of declaration others) x (declared_name declaration others x) there
@@ -33,11 +33,11 @@ declared_name declaration (one ∷ others) x there =
 -- ---- what is listed is a name
 
 -- something has this name, which a source can write
-record IsNameOf (name : Option Text) (text : Text) : Type 0 where
+pub record IsNameOf (name : Option Text) (text : Text) : Type 0 where
   pub is : name ≡ Some text
   pub good : is_name text ≡ true
 
-is_name_of : (name : Option Text) (text : Text) → as_name name ≡ Some text → IsNameOf name text
+pub is_name_of : (name : Option Text) (text : Text) → as_name name ≡ Some text → IsNameOf name text
 is_name_of None text is = cc
 is_name_of (Some name) text is =
     let same = given_is (is_name name) name text is in

@@ -2,7 +2,7 @@
 use Rattle.std.proofs.Common.{◌≡◌, true, refl, ap}
 use Rattle.lua_tree.specs.OneLine.{one_line_arguments, one_line_expression, one_line_expressions, one_line_fields, one_line_statement, one_line_body}
 use Rattle.lua_tree.specs.Syntax as syntax
-use Rattle.lua_tree.specs.Syntax.{Arguments, Expression, Expressions, Statement, argument_list, assignment, binary_expression, call_expression, call_statement, constructor, Fields, no_fields, positional, named, keyed, table_argument, false_literal, field_expression, index_expression, local_statement, method_call, name_expression, nil_literal, no_expressions, number_literal, parenthesized, return_statement, text_argument, text_literal, true_literal, unary_expression, vararg_expression, FunctionBody, function_expression, function_statement}
+use Rattle.lua_tree.specs.Syntax.{Arguments, Expression, Expressions, Statement, argument_list, assignment, binary_expression, call_expression, call_statement, constructor, Fields, no_fields, positional, named, keyed, table_argument, false_literal, field_expression, index_expression, local_statement, method_call, name_expression, nil_literal, no_expressions, number_literal, parenthesized, return_statement, text_argument, text_literal, true_literal, unary_expression, vararg_expression, FunctionBody, function_expression, function_statement, local_function}
 use Rattle.lua_tree.specs.WellFormed.{depth_of_arguments, depth_of_expression, depth_of_expressions, depth_of_fields, depth_of_statement, has_expressions, is_call, depth_of_body, formed_body}
 use Rattle.reads_back.specs.Straight.{IsActBy, IsActTargetBy, AreActTargetsBy, IsStraightStatementBy, HasCoreBy, AllHaveCoresBy, HaveCoresBy, HaveItemsBy}
 
@@ -92,6 +92,7 @@ module _ {P : FunctionBody → Type 0} (kept : StayOnLine P) where
   act_on_line (assignment targets es) is =
       record { some = some_on_line targets is.some; targets = targets_on_line targets is.targets; given = some_on_line es is.given; values = cores_on_line es is.values }
   act_on_line (local_statement names es) is = (is.0, cores_on_line es is.1)
+  act_on_line (local_function text body) is = (is.0, kept.stays body is.1)
   act_on_line (return_statement es) is = cores_on_line es is
   act_on_line s is = absurd is
 
@@ -141,6 +142,7 @@ module _ {P : FunctionBody → Type 0} (kept : StayOnLine P) where
   again_on_line (call_statement e) is = ap call_statement (again e is.1)
   again_on_line (assignment targets es) is = cc (all_again targets (targets_have_cores P targets is.targets), all_again es is.values)
   again_on_line (local_statement names es) is = ap (local_statement names) (all_again es is.1)
+  again_on_line (local_function text body) is = ap (local_function text) (kept.again body is.1)
   again_on_line (return_statement es) is = ap return_statement (all_again es is)
   again_on_line s is = absurd is
 
@@ -189,6 +191,7 @@ module _ {P : FunctionBody → Type 0} (kept : StayOnLine P) where
   act_as_deep (call_statement e) is = as_deep e is.1
   act_as_deep (assignment targets es) is = cc (all_as_deep targets (targets_have_cores P targets is.targets), all_as_deep es is.values)
   act_as_deep (local_statement names es) is = all_as_deep es is.1
+  act_as_deep (local_function text body) is = cc (kept.as_deep body is.1)
   act_as_deep (return_statement es) is = all_as_deep es is
   act_as_deep s is = absurd is
 

@@ -4,7 +4,7 @@ use Rattle.lua_tree.specs.Names.{is_name, are_some_names}
 use Rattle.lua_tree.specs.OneLine.{one_line_arguments, one_line_expression, one_line_expressions, one_line_fields, one_line_statement}
 use Rattle.lua_tree.specs.Precedence.{is_right_associative, left_binds, level_of_op, right_binds}
 use Rattle.lua_tree.specs.Syntax as syntax
-use Rattle.lua_tree.specs.Syntax.{Arguments, Expression, Expressions, Statement, Statements, argument_list, assignment, binary_expression, call_expression, call_statement, constructor, Fields, no_fields, positional, named, keyed, table_argument, false_literal, field_expression, function_expression, index_expression, local_statement, method_call, name_expression, nil_literal, no_expressions, no_statements, number_literal, parenthesized, return_statement, text_argument, text_literal, true_literal, unary_expression, vararg_expression}
+use Rattle.lua_tree.specs.Syntax.{Arguments, Expression, Expressions, Statement, Statements, argument_list, assignment, binary_expression, call_expression, call_statement, constructor, Fields, no_fields, positional, named, keyed, table_argument, false_literal, field_expression, function_expression, index_expression, local_statement, method_call, name_expression, nil_literal, no_expressions, no_statements, number_literal, parenthesized, return_statement, text_argument, text_literal, true_literal, unary_expression, vararg_expression, local_function}
 use Rattle.lua_tree.specs.WellFormed.{are_targets, depth_of_arguments, depth_of_expression, depth_of_expressions, depth_of_fields, depth_of_statement, depth_of_statements, ends_item, formed_arguments, formed_expression, formed_expressions, formed_fields, formed_statement, formed_statements, has_expressions, is_call, is_prefix, may_follow, on_its_line}
 use Rattle.reads_back.specs.Cores.{AllHaveCores, HasCore, HaveCores, HaveItems, IsPlainBody}
 use Rattle.reads_back.specs.Acted.{AreActs, AreActsBy}
@@ -135,6 +135,7 @@ module _ (deep : ℕ) where
         values = plain_cores es is.values (second_of_both (has_expressions es) _ values_on) (cc same) (second_within (depth_of_expressions targets) (depth_of_expressions es) 65 shallow);
       }
   plain_act (local_statement names es) is formed same shallow = (is.0, plain_cores es is.1 (second_of_both (are_some_names names) _ formed) (cc same) shallow)
+  plain_act (local_function text body) is formed same shallow = (is.0, record { deep = deep; straight = is.1; formed = second_of_both (is_name text) _ formed; on_line = cc same; shallow = omega (arith, shallow) })
   plain_act (return_statement es) is formed same shallow = plain_cores es is formed (cc same) shallow
   plain_act s is formed same shallow = absurd is
 

@@ -5,7 +5,7 @@ use Rattle.lua_tree.specs.Names.{is_name, are_names, are_some_names}
 use Rattle.lua_tree.specs.OneLine.{on_one_line, one_line_statements, one_line_arguments, one_line_expression, one_line_expressions, one_line_fields, one_line_statement, one_line_body}
 use Rattle.lua_tree.specs.Precedence.{binds, is_right_associative, is_unary, left_binds, level_of, level_of_op, right_binds}
 use Rattle.lua_tree.specs.Syntax as syntax
-use Rattle.lua_tree.specs.Syntax.{Arguments, Expression, Expressions, Source, Statement, Statements, and_expression, argument_list, assignment, binary_expression, call_expression, call_statement, constructor, Fields, no_fields, positional, named, keyed, table_argument, false_literal, field_expression, index_expression, local_statement, method_call, name_expression, nil_literal, no_expressions, no_statements, number_literal, or_expression, parenthesized, repeat_loop, return_statement, text_argument, text_literal, true_literal, unary_expression, vararg_expression, FunctionBody, function_expression, function_body, function_statement}
+use Rattle.lua_tree.specs.Syntax.{Arguments, Expression, Expressions, Source, Statement, Statements, and_expression, argument_list, assignment, binary_expression, call_expression, call_statement, constructor, Fields, no_fields, positional, named, keyed, table_argument, false_literal, field_expression, index_expression, local_statement, method_call, name_expression, nil_literal, no_expressions, no_statements, number_literal, or_expression, parenthesized, repeat_loop, return_statement, text_argument, text_literal, true_literal, unary_expression, vararg_expression, FunctionBody, function_expression, function_body, function_statement, local_function}
 use Rattle.lua_tree.specs.WellFormed.{WellFormed, are_targets, begins_with_paren, depth_of_statements, ends_block, ends_item, formed_arguments, formed_expression, formed_expressions, formed_fields, formed_statement, formed_statements, has_expressions, is_call, is_optional_name, is_prefix, is_target, last_takes_arguments, may_follow, on_its_line, statement_begins_with_paren, statement_takes_arguments, takes_arguments, depth_of_body, formed_body}
 use Rattle.lua_tree.specs.declared.tree.Separator.{Separator}
 use Rattle.reads_back.specs.Straight.{AllBeginWithName, AreStraightBy, BeginsWithName, IsStraightBody, StatementBeginsWithName, Straight, IsActBy, IsStraightStatementBy, HasCoreBy, AllHaveCoresBy, HaveCoresBy, HaveItemsBy}
@@ -31,6 +31,7 @@ statement_begins : (s : Statement) → StatementBeginsWithName s → StatementBe
 statement_begins (call_statement e) begins = name_begins e begins
 statement_begins (assignment targets values) begins = all_begin targets begins
 statement_begins (local_statement names es) begins = begins
+statement_begins (local_function text body) begins = begins
 statement_begins (return_statement es) begins = begins
 statement_begins (function_statement path method body) begins = begins
 statement_begins s begins = absurd begins
@@ -49,6 +50,10 @@ module _ {P : FunctionBody → Type 0} (kept : StayOnLine P) where
 abbrev pub AreOnLine : Statements → Type 0
 AreOnLine no_statements = Unit {0}
 AreOnLine (syntax.statement line semi s rest) = (line ≡ 1) × (one_line_statement s ≡ s) × AreOnLine rest
+
+pub each_on_line : (block : Statements) → one_line_statements block ≡ block → AreOnLine block
+each_on_line no_statements same = tt
+each_on_line (syntax.statement line semi s rest) same = (cc, cc, each_on_line rest cc)
 
 module _ {P : FunctionBody → Type 0} (kept : StayOnLine P) where
   plain_on_line : (block : Statements) → AreStraightBy P block → AreOnLine (one_line_statements block)
@@ -232,6 +237,7 @@ module _ {P : FunctionBody → Type 0} (kept : StayOnLine P) where
       (both_hold _ _ (all_formed targets (targets_have_cores P targets is.targets) (first_of_both _ _ formed_on))
       (both_hold _ _ (same_some es ∙ first_of_both _ _ values_on) (all_formed es is.values (second_of_both (has_expressions es) _ values_on)))))
   act_formed (local_statement names es) is formed = both_hold _ _ is.0 (all_formed es is.1 (second_of_both _ _ formed))
+  act_formed (local_function text body) is formed = both_hold _ _ (first_of_both _ _ formed) (kept.formed body is.1 (second_of_both (is_name text) _ formed))
   act_formed (return_statement es) is formed = all_formed es is formed
   act_formed s is formed = absurd is
 

@@ -2,7 +2,7 @@
 use Rattle.std.proofs.Common.{◌∷◌, ◌≡◌, ℕ, ◌*◌, ◌+◌, ◌≤◌, Bool, true, List, [], ◌++◌, length, None, Some, Option, suc, false}
 use Rattle.lua_num.specs.Bytes.{Text}
 use Rattle.lua_tree.specs.OneLine.{one_line_expression, one_line_arguments, one_line_statement}
-use Rattle.lua_tree.specs.Syntax.{Arguments, Expression, Statement, assignment, call_statement, local_statement, return_statement, FunctionBody}
+use Rattle.lua_tree.specs.Syntax.{Arguments, Expression, Statement, assignment, call_statement, local_statement, return_statement, FunctionBody, local_function}
 use Rattle.lua_tree.specs.WellFormed.{depth_of_expression, depth_of_body}
 use Rattle.opcode.specs.declared.op.Op.{Op}
 use Rattle.core_expr.specs.Counting.{taken_behind, taken_behind_operand, taken_behind_values, left_by, left_by_operand, left_by_values}
@@ -11,17 +11,17 @@ use Rattle.core_expr.specs.Values.{Value, index_value, OperandValue, Values, Inn
 use Rattle.core_expr.specs.Writing.{ArgumentWording, Wording, as_list, can_write, can_write_operand, can_write_values, chain, is_multiple as can_be_several, operand_count, word, word_each, word_operand, word_values, function_left}
 use Rattle.recover_expr.specs.Situation.{Function}
 use Rattle.scheme.specs.Expressions.{Coded, Want, fold, is_multiple, is_name, local_register, rk}
-use Rattle.scheme.specs.Making.{Maker, Where}
+use Rattle.scheme.specs.Making.{Maker, Where, Ahead}
 use Rattle.scheme.specs.Scheme.{coded, given, statement_made, inner}
 use Rattle.scheme.specs.declared.making.Active.{Active}
 use Rattle.scheme_stands.proofs.Growth.{Final}
 use Rattle.scheme_stands.specs.Words.{Fn, Means}
 use Rattle.reads_back.specs.Acted.{Acted, act_levels, act_statement, can_act, left_by_act, taken_behind_act, lean_depth}
 use Rattle.reads_back.proofs.NameReads.{AreListed}
-use Rattle.reads_back.proofs.Mentions.{IsAhead, mentions_in, mentions_given, mentions_in_all, Mention, locals_mention, made_behind}
+use Rattle.reads_back.proofs.Mentions.{IsAhead, mentions_in, mentions_given, mentions_in_all, Mention, locals_mention, made_behind, own_mention}
 use Rattle.reads_back.proofs.WordsRead.{IsFunction}
 use Rattle.reads_back.specs.Cores.{IsPlainBody}
-use Rattle.reads_back.specs.Coming.{Coming, IsMadeNext, captured_names}
+use Rattle.reads_back.specs.Coming.{Coming, IsMadeNext, captured_names, declared_local}
 use Rattle.std.specs.Prelude.{slice_set}
 use Rattle.scheme.specs.Functions.{without_sources}
 
@@ -54,7 +54,13 @@ mentions_of_statement (call_statement e) = mentions_in e
 mentions_of_statement (assignment targets es) = mentions_in_all targets ++ mentions_in_all es
 mentions_of_statement (local_statement names es) = locals_mention names ∷ mentions_in_all es
 mentions_of_statement (return_statement es) = mentions_in_all es
+mentions_of_statement (local_function text body) = own_mention text body ∷ []
 mentions_of_statement s = []
+
+-- behind a local function that one is active, and listed too
+abbrev pub OwnListed : Function → Fn → List Active → Statement → Type 0
+OwnListed f g active (local_function text body) = (x : Active) (ahead : Ahead) → x.local ≡ declared_local text ahead → (listed : List ℕ) × AreListed f g (active ++ x ∷ []) listed
+OwnListed f g active s = Unit {0}
 
 -- how many keys a value has
 abbrev pub keys_of : Value → ℕ

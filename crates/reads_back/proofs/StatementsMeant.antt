@@ -1,10 +1,10 @@
 -- Where words of a statement stand with their law, each name that it mentions means what the scope finds by it.
-use Rattle.std.proofs.Common.{◌≡◌, ℕ, suc, Bool, true, false, List, [], ◌∷◌, ◌++◌, append-nil, length, Some, None, refl, sym, ap, ◌∙◌, drop, ap₂}
+use Rattle.std.proofs.Common.{◌≡◌, ℕ, suc, Bool, true, false, List, [], ◌∷◌, ◌++◌, append-nil, length, Some, None, refl, sym, ap, ◌∙◌, drop, ap₂, subst₂}
 use Rattle.std.proofs.lemmas.Bool.{eqb-true}
 use Rattle.std.specs.Prelude.{◌==◌, ◌||◌, ◌+◌}
 use Rattle.lua_num.specs.Bytes.{Text}
 use Rattle.lua_tree.specs.Syntax as syntax
-use Rattle.lua_tree.specs.Syntax.{Expressions, no_expressions, Expression, name_expression, index_expression, field_expression, Statement, assignment, call_statement, local_statement, return_statement}
+use Rattle.lua_tree.specs.Syntax.{Expressions, no_expressions, Expression, name_expression, index_expression, field_expression, Statement, assignment, call_statement, local_statement, return_statement, FunctionBody, local_function}
 use Rattle.opcode.specs.declared.op.Op.{Op}
 use Rattle.scheme.specs.Expressions.{Target, is_vararg, name_target, part_target}
 use Rattle.scheme.specs.Making.{Ahead, Where, in_globals, in_register, in_upvalue}
@@ -12,15 +12,18 @@ use Rattle.scheme.specs.declared.making.Active.{Active}
 use Rattle.scheme.specs.declared.making.Local.{Local}
 use Rattle.scheme_stands.proofs.Forms.{form_is}
 use Rattle.scheme_stands.specs.Expressions.{several}
-use Rattle.scheme_stands.specs.Functions.{Declared}
-use Rattle.scheme_stands.specs.Relation.{StatementAt, all_related, related}
-use Rattle.scheme_stands.specs.Statements.{AssignAt, EachStoredAt, ReturnAt, ReturnBy, SetAt, StoreAt, StoreNameAt, StoreRegisterAt, StoredFromAt, StoresBy, TargetsAt}
+use Rattle.scheme_stands.specs.Functions.{Declared, Activated}
+use Rattle.scheme_stands.specs.Relation.{StatementAt, all_related, related, FunctionOf}
+use Rattle.scheme_stands.specs.Statements.{AssignAt, EachStoredAt, ReturnAt, ReturnBy, SetAt, StoreAt, StoreNameAt, StoreRegisterAt, StoredFromAt, StoresBy, TargetsAt, LocalFunctionAt}
 use Rattle.scheme_stands.specs.Words.{Fn, Spot}
 use Rattle.reads_back.specs.Acted.{AreActTargets, Assigns, IsAct, IsActTarget}
 use Rattle.reads_back.specs.Cores.{AllHaveCores, HasCore}
-use Rattle.reads_back.specs.Coming.{coming_at}
-use Rattle.reads_back.proofs.Mentions.{behind_locals, coming_behind, locals_mention, mentions_in, mentions_in_all}
-use Rattle.reads_back.proofs.MentionsMeant.{IsMeant, Keeps, Meant, adjust_meant, each_meant, meant_as, meant_from, meant_none, meant_on, meant_then, name_is_passed, mentions_meant, open_meant, operand_meant, rk_meant, same_keeps, text_meant, word_keeps}
+use Rattle.reads_back.specs.Coming.{coming_at, declared_local, inside_local, Coming, IsMadeNext}
+use Rattle.reads_back.specs.Coming.{behind_locals}
+use Rattle.scheme.specs.Functions.{without_sources}
+use Rattle.scheme.specs.Scheme.{inner}
+use Rattle.reads_back.proofs.Mentions.{coming_behind, locals_mention, mentions_in, mentions_in_all, own_mention, function_mention, captured_same}
+use Rattle.reads_back.proofs.MentionsMeant.{IsMeant, Keeps, Meant, adjust_meant, each_meant, meant_as, meant_from, meant_none, meant_on, meant_then, name_is_passed, mentions_meant, open_meant, operand_meant, rk_meant, same_keeps, text_meant, word_keeps, function_meant}
 use Rattle.reads_back.proofs.Rewriting.{mentions_of_statement}
 use Rattle.reads_back.proofs.TargetsStand.{copies_stand, targets_count}
 
@@ -111,6 +114,42 @@ module _ (g : Fn) (active : List Active) where
   return_meant (syntax.expression e (syntax.expression d es)) have p q at =
       meant_on (open_meant (syntax.expression e (syntax.expression d es)) (each_meant g active (syntax.expression e (syntax.expression d es)) have) (length active) p at.mid at.first_at) (word_keeps at.second_at)
 
+-- the local of a local function, which is active in it
+pub record OwnActive (active : List Active) (text : Text) (after : List Active) (p mid : Spot) : Type 0 where
+  pub local : Active
+  pub is_local : local.local ≡ declared_local text p.ahead
+  pub is_after : after ≡ active ++ local ∷ []
+  pub inside : coming_at mid ≡ inside_local text (coming_at p)
+
+own_activated : (active : List Active) (text : Text) (after : List Active) (p mid : Spot) (locals : List Local) → Declared (text ∷ []) p.ahead locals mid.ahead → Activated locals active after → mid.functions ≡ p.functions → OwnActive active text after p mid
+own_activated active text after p mid [] declared activated as_many = cc
+own_activated active text after p mid (one ∷ []) declared (x, is, same) as_many =
+    let local : one ≡ declared_local text p.ahead = let first = declared.1 in cc in
+    record {
+      local = x;
+      is_local = is ∙ local;
+      is_after = same;
+      inside = ap₂ (λ (ahead : Ahead) (functions : ℕ). record { ahead = ahead; functions = functions }) (declared_behind (text ∷ []) p.ahead mid.ahead (one ∷ []) declared) as_many;
+    }
+own_activated active text after p mid (one ∷ other ∷ locals) declared activated as_many = let others = declared.1 in let none = declared.2.0 in cc
+
+pub own_active : {g : Fn} {active : List Active} {text : Text} (body : FunctionBody) {after : List Active} {p q : Spot} (at : LocalFunctionAt g text (FunctionOf body false) active after p q) → OwnActive active text after p at.mid
+own_active {active = active} {text} body {after} {p} at = own_activated active text after p at.mid at.locals at.declared at.activated at.as_many
+
+own_meant : (g : Fn) (active : List Active) (text : Text) (body : FunctionBody) (after : List Active) (p q : Spot) → LocalFunctionAt g text (FunctionOf body false) active after p q → IsMeant g active (own_mention text body ∷ []) p q
+own_meant g active text body after p q at =
+    let own = own_active body at in
+    let meant = function_meant {active = after} body false (length active + 1) (length active) at.mid q at.closure_at in
+    let next = subst₂ (λ after (c : Coming). IsMadeNext g after body false c) own.is_after own.inside meant.meant.0 in
+    record {
+      meant = (record { local = own.local; is_local = own.is_local; next = next }, tt);
+      behind =
+          meant.behind
+          ∙ ap₂ (λ after (c : Coming). coming_behind after g.upvalue_names (function_mention body false ∷ []) c) own.is_after own.inside
+          ∙ ap (λ names. record { ahead = (inner body false names (without_sources (inside_local text (coming_at p)).ahead)).ahead; functions = suc p.functions })
+          (captured_same active own.local (record { local = declared_local text p.ahead; listed = length active }) own.is_local g.upvalue_names (inside_local text (coming_at p)).ahead);
+    }
+
 -- where the words of a statement stand, what it mentions means what the scope finds
 pub statement_meant : (g : Fn) (s : Statement) → IsAct s → (active after : List Active) (p q : Spot) → StatementAt g None s active after p q → IsMeant g active (mentions_of_statement s) p q
 statement_meant g (call_statement e) is active after p q at = (mentions_meant g active e is.1).multi (ap several (form_is g e) ∙ ap (λ call. call || is_vararg e) is.0) (length active) Op.Call (Some 0) p q at.part_at
@@ -121,5 +160,6 @@ statement_meant g (local_statement names es) is active after p q at =
   where
     keep_declared : coming_at at.mid ≡ coming_behind active g.upvalue_names (locals_mention names ∷ []) (coming_at p)
     keep_declared = ap₂ (λ (ahead : Ahead) (functions : ℕ). record { ahead = ahead; functions = functions }) (declared_behind names p.ahead at.mid.ahead at.locals at.declared) at.as_many
+statement_meant g (local_function text body) is active after p q at = own_meant g active text body after p q at
 statement_meant g (return_statement es) is active after p q at = return_meant g active es is p q at.part_at
 statement_meant g s is active after p q at = absurd is

@@ -4,7 +4,7 @@ use Rattle.std.proofs.lemmas.List.{drop-map, length-map, length-replicate}
 use Rattle.std.proofs.lemmas.Option.{slice_get-get_or}
 use Rattle.std.specs.Prelude.{option_and_then, option_map, slice_set}
 use Rattle.lua_num.specs.Bytes.{Text}
-use Rattle.lua_tree.specs.Syntax.{Statement, Statements, local_statement, no_statements, return_statement, statement}
+use Rattle.lua_tree.specs.Syntax.{Statement, Statements, local_statement, no_statements, return_statement, statement, local_function}
 use Rattle.lua_tree.specs.WellFormed.{depth_of_statement}
 use Rattle.proto.specs.declared.parts.LocVar.{LocVar}
 use Rattle.recover_expr.specs.Drafts.{Drafted, Part}
@@ -23,6 +23,7 @@ use Rattle.reads_back.proofs.Tests.{both_hold}
 -- where so many locals are listed, a declaration is of some of them, one for each name
 abbrev pub KindIs : (listed : ℕ) → Statement → DraftKind → Type 0
 KindIs listed (local_statement names es) kind = (first : ℕ) × (kind ≡ DraftKind.Declaration first (length names)) × (0 < length names) × (first + length names ≤ listed)
+KindIs listed (local_function text body) kind = (first : ℕ) × (kind ≡ DraftKind.Declaration first 1) × (first + 1 ≤ listed)
 KindIs listed (return_statement es) kind = kind ≡ DraftKind.Return
 KindIs listed s kind = kind ≡ DraftKind.Act
 
@@ -107,6 +108,8 @@ module _ (f : Function) (scope : Scope) (ending : AreEnding f) (numbers : Number
   kind_is_placed : (s : Statement) (kind : DraftKind) → KindIs (length f.of.locals) s kind → (step : StepKind) × (kind_placed f scope numbers kind ≡ Some step) × IsKindOf number s step
   kind_is_placed (local_statement names es) kind are =
       (StepKind.Declaration number (any_captured are.0 (length names) scope), ap (kind_placed f scope numbers) are.1 ∙ declaration_is_placed are.0 (length names) are.2 are.3, (any_captured are.0 (length names) scope, refl))
+  kind_is_placed (local_function text body) kind are =
+      (StepKind.Declaration number (any_captured are.0 1 scope), ap (kind_placed f scope numbers) are.1 ∙ declaration_is_placed are.0 1 (omega arith) are.2, (any_captured are.0 1 scope, refl))
   kind_is_placed (return_statement es) kind are = (StepKind.Return, ap (kind_placed f scope numbers) are, refl)
   kind_is_placed s kind are = (StepKind.Act, ap (kind_placed f scope numbers) are, refl)
 

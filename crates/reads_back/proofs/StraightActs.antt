@@ -1,9 +1,9 @@
 -- What is known of each statement of a straight block where it is made: it is read as what it is, and what is written of it is well formed, has the same names and makes the same code.
-use Rattle.std.proofs.Common.{◌≡◌, ℕ, suc, ◌≤◌, false, true, List, [], length, None, arith, Option, ◌*◌, ◌+◌}
+use Rattle.std.proofs.Common.{◌≡◌, ℕ, suc, ◌≤◌, false, true, List, [], length, None, arith, Option, ◌*◌, ◌+◌, ◌∷◌, ◌++◌}
 use Rattle.lua_tree.specs.OneLine.{one_line_statement}
 use Rattle.lua_tree.specs.Outline.{Part, statement_part}
 use Rattle.lua_tree.specs.Syntax as syntax
-use Rattle.lua_tree.specs.Syntax.{Expression, Expressions, Statement, assignment, call_statement, field_expression, index_expression, name_expression, local_statement, no_expressions, return_statement, function_expression}
+use Rattle.lua_tree.specs.Syntax.{Expression, Expressions, Statement, assignment, call_statement, field_expression, index_expression, name_expression, local_statement, no_expressions, return_statement, function_expression, local_function}
 use Rattle.lua_tree.specs.WellFormed.{depth_of_expression, depth_of_expressions, depth_of_statement, ends_block, formed_statement, statement_begins_with_paren}
 use Rattle.core_expr.specs.Places.{Place, place}
 use Rattle.core_expr.specs.Values.{Value, table_value, Inner}
@@ -27,8 +27,10 @@ use Rattle.reads_back.proofs.MarksSame.{ArePartsMade}
 use Rattle.reads_back.proofs.AssignmentStands.{assignment_forward, assignment_read}
 use Rattle.reads_back.proofs.PartsRead.{IsNoTable}
 use Rattle.reads_back.proofs.ReturnsRead.{return_forward, return_read}
+use Rattle.reads_back.proofs.LocalFunctionsRead.{local_function_forward, local_function_read}
+use Rattle.reads_back.proofs.MarksSame.{OwnPartsMade}
 use Rattle.reads_back.proofs.NameReads.{AreListed}
-use Rattle.reads_back.proofs.Rewriting.{IsMadeBy, RewrittenAct, AreAgain}
+use Rattle.reads_back.proofs.Rewriting.{IsMadeBy, RewrittenAct, AreAgain, OwnListed}
 use Rattle.reads_back.proofs.TargetsCome.{ReadsTarget, ReadsTargets}
 use Rattle.reads_back.proofs.ValueReads.{call_read, reads_all}
 use Rattle.reads_back.proofs.WordsRead.{IsQuiet}
@@ -50,6 +52,7 @@ begun_none v begins = tt
 -- the locals that it declares start behind its words
 abbrev pub StartsWith : Function → Statement → Situation → (last : ℕ) → Type 0
 StartsWith f (local_statement names es) s last = StartHere f s.scope names last
+StartsWith f (local_function text body) s last = StartHere f s.scope (text ∷ []) last
 StartsWith f statement s last = Unit {0}
 
 -- what is known of the functions that are left where so many were made, and of the parts of the source that they are
@@ -66,11 +69,20 @@ module _ {f : Function} {g : Fn} {active : List Active} {listed : List ℕ} {z :
   all_written : (deep : ℕ) → deep ≤ 200 → AllWritten f g active listed z lefts deep
   all_written deep low e has few = (rewritten_all lefts made left.again e has (omega (arith, low, few))).value
 
+  -- the functions in the local of a local function have their parts too
+  own_parts : (s : Statement) → OwnListed f g active s → OwnPartsMade g active of s
+  own_parts (local_function text body) own = λ x ahead is. let all = own x ahead is in left.made (active ++ x ∷ []) all.0 all.1
+  own_parts (call_statement e) own = tt
+  own_parts (assignment targets es) own = tt
+  own_parts (local_statement names es) own = tt
+  own_parts (return_statement es) own = tt
+  own_parts s own = own
+
   -- ---- what is written
 
-  module _ (s : Statement) (is : IsAct s) (few : depth_of_statement s ≤ 65) where
+  module _ (s : Statement) (is : IsAct s) (few : depth_of_statement s ≤ 65) (own : OwnListed f g active s) where
     pub written : (before behind : ℕ) (acted : Acted) → IsActed g active s before behind acted → RewrittenAct f g active listed z lefts before behind s acted
-    written before behind acted acts = act_rewritten lefts made 65 s before behind acted (all_written 65 (omega arith)) few is acts
+    written before behind acted acts = act_rewritten lefts made left.again 65 s before behind acted (all_written 65 (omega arith)) few is own acts
 
     can : CanAct f g active listed lefts s
     can = record { can = λ before behind acted acts. (written before behind acted acts).can }
@@ -88,7 +100,7 @@ module _ {f : Function} {g : Fn} {active : List Active} {listed : List ℕ} {z :
         act_shallow at g active s before behind acted n (lefts before) (left.fine before) is acts (written before behind acted acts).can (omega (arith, levels, few, lean_low s))
 
     pub written_marks : (before behind : ℕ) (acted : Acted) (n : ℕ) → IsActed g active s before behind acted → SamePart (statement_part 1 (act_statement at n (lefts before) acted)) (statement_part 1 (one_line_statement s))
-    written_marks before behind acted n acts = act_marks made.is_function made.all of (left.made active listed made.all) s before behind acted n (lefts before) (left.parts before) is acts (written before behind acted acts).can
+    written_marks before behind acted n acts = act_marks made.is_function made.all of (left.made active listed made.all) s own (own_parts s own) before behind acted n (lefts before) (left.parts before) is acts (written before behind acted acts).can
 
     pub written_closed : StatementBeginsWithName s → (before behind : ℕ) (acted : Acted) (n : ℕ) → IsActed g active s before behind acted → statement_begins_with_paren (act_statement at n (lefts before) acted) ≡ false
     written_closed begins before behind acted n acts = act_closed at g active s before behind acted n (lefts before) begins is acts (written before behind acted acts).can
@@ -118,17 +130,20 @@ module _ {f : Function} {g : Fn} {active : List Active} {listed : List ℕ} {z :
       assignment_forward made.is_function made.all targets es is (targets_read targets is.targets begins (omega (arith, few))) (omega (arith, few)) p q stands.part_at
   act_forward (local_statement names es) is begins few after p q stands = local_forward made.is_function made.all names es is.1 (omega (arith, few)) after p q stands
   act_forward (return_statement es) is begins few after p q stands = return_forward made.is_function made.all es is (omega (arith, few)) p q stands.part_at
+  act_forward (local_function text body) is begins few after p q stands = local_function_forward made.is_function made.all text body after p q stands
   act_forward s is begins few after p q stands = absurd is
 
-  pub act_read : (s : Statement) → IsAct s → StatementBeginsWithName s → depth_of_statement s ≤ 65 → (after : List Active) (p q : Spot) → StatementAt g None s active after p q → (now : Situation) → HasLocals active listed now → now.left ≡ lefts p.functions → now.entries ≡ [] → now.taken ≡ now.seen →
+  pub act_read : (s : Statement) → IsAct s → StatementBeginsWithName s → depth_of_statement s ≤ 65 → OwnListed f g active s → length listed ≡ length active → (after : List Active) (p q : Spot) → StatementAt g None s active after p q → (now : Situation) → HasLocals active listed now → now.left ≡ lefts p.functions → now.entries ≡ [] → now.taken ≡ now.seen →
       IsQuiet f now.scope p.pc q.pc → StartsWith f s now q.pc → ActRead f g active s p.functions q.functions now p.pc q.pc
-  act_read (call_statement e) is begins few after p q stands now locals left_is empty taken quiet starts =
+  act_read (call_statement e) is begins few own as_many after p q stands now locals left_is empty taken quiet starts =
       let call = call_read made.is_function made.all e is.0 is.1 (omega (arith, few)) in
-      call_statement_read made.is_function e call.0 call.1 (can (call_statement e) is few) p q now locals left_is empty taken quiet stands.part_at
-  act_read (assignment targets es) is begins few after p q stands now locals left_is empty taken quiet starts =
-      assignment_read made.is_function made.all targets es is (targets_read targets is.targets begins (omega (arith, few))) (omega (arith, few)) (can (assignment targets es) is few) p q now locals left_is empty taken quiet stands.part_at
-  act_read (local_statement names es) is begins few after p q stands now locals left_is empty taken quiet starts =
-      local_read made.is_function made.all names es is.1 (omega (arith, few)) (can (local_statement names es) is few) after p q now locals left_is empty taken quiet starts stands
-  act_read (return_statement es) is begins few after p q stands now locals left_is empty taken quiet starts =
-      return_read made.is_function made.all es is (omega (arith, few)) (can (return_statement es) is few) p q now locals left_is empty taken quiet stands.part_at
-  act_read s is begins few after p q stands now locals left_is empty taken quiet starts = absurd is
+      call_statement_read made.is_function e call.0 call.1 (can (call_statement e) is few own) p q now locals left_is empty taken quiet stands.part_at
+  act_read (assignment targets es) is begins few own as_many after p q stands now locals left_is empty taken quiet starts =
+      assignment_read made.is_function made.all targets es is (targets_read targets is.targets begins (omega (arith, few))) (omega (arith, few)) (can (assignment targets es) is few own) p q now locals left_is empty taken quiet stands.part_at
+  act_read (local_statement names es) is begins few own as_many after p q stands now locals left_is empty taken quiet starts =
+      local_read made.is_function made.all names es is.1 (omega (arith, few)) (can (local_statement names es) is few own) after p q now locals left_is empty taken quiet starts stands
+  act_read (return_statement es) is begins few own as_many after p q stands now locals left_is empty taken quiet starts =
+      return_read made.is_function made.all es is (omega (arith, few)) (can (return_statement es) is few own) p q now locals left_is empty taken quiet stands.part_at
+  act_read (local_function text body) is begins few own as_many after p q stands now locals left_is empty taken quiet starts =
+      local_function_read made.is_function made.all as_many made.is_function.told text body (can (local_function text body) is few own) after p q stands now locals left_is empty taken quiet starts
+  act_read s is begins few own as_many after p q stands now locals left_is empty taken quiet starts = absurd is

@@ -1,10 +1,12 @@
 -- A straight block in a function that is being made: what is known before each of its statements, and that what is written of them makes the same function.
-use Rattle.std.proofs.Common.{◌≡◌, ℕ, ◌≤◌, true, false, not, ◌&&◌, List, ◌++◌, length, map, append_assoc, None, Some, refl, sym, ap, ◌∙◌, subst, arith}
+use Rattle.std.proofs.Common.{◌≡◌, ◌+◌, ◌∷◌, ◌++◌, [], length-append, ℕ, ◌≤◌, true, false, not, ◌&&◌, List, length, map, append_assoc, None, Some, refl, sym, ap, ◌∙◌, subst, arith, suc}
 use Rattle.std.specs.Prelude.{Bool, Option}
 use Rattle.lua_tree.specs.OneLine.{one_line_statement}
 use Rattle.lua_tree.specs.Outline.{Part, statement_part, statements_part}
+use Rattle.lua_num.specs.Bytes.{Text}
+use Rattle.proto.specs.declared.parts.LocVar.{LocVar}
 use Rattle.lua_tree.specs.Syntax as syntax
-use Rattle.lua_tree.specs.Syntax.{Statement, Statements, no_statements, Expressions, assignment}
+use Rattle.lua_tree.specs.Syntax.{Statement, Statements, no_statements, Expressions, assignment, local_function, call_statement, local_statement, return_statement, FunctionBody}
 use Rattle.lua_tree.specs.WellFormed.{depth_of_statement, depth_of_statements, ends_block, formed_statement, formed_statements, may_follow, statement_begins_with_paren, statement_takes_arguments}
 use Rattle.core_expr.specs.Places.{place}
 use Rattle.recover_expr.specs.Situation.{Function}
@@ -15,17 +17,20 @@ use Rattle.scheme_stands.proofs.Blocks.{Settled}
 use Rattle.scheme_stands.proofs.Growth.{Final, Grown, before, before_free, later, loose, on_free, on_part, spot, start}
 use Rattle.scheme_stands.proofs.Standing.{statements_room}
 use Rattle.scheme_stands.proofs.Statements.{grow_statement}
+use Rattle.scheme.specs.declared.making.Active.{Active}
 use Rattle.scheme_stands.specs.Words.{Fn, Names}
 use Rattle.reads_back.specs.Acted.{Acted, IsActed, act_statement, taken_behind_act, AreActs, lean_depth_of}
+use Rattle.reads_back.specs.Coming.{declared_local}
 use Rattle.reads_back.specs.ReadAs.{ArePlain}
 use Rattle.reads_back.proofs.ActsRead.{numbers_from}
-use Rattle.reads_back.proofs.BlockMakers.{AllStand, AreAllActs, all_made, entries_by, entries_from, made_by, statement_listed, statement_moves}
-use Rattle.reads_back.proofs.ListedLocals.{ended}
+use Rattle.reads_back.proofs.BlockMakers.{AllStand, AreAllActs, all_made, entries_by, entries_from, made_by, statement_listed, statement_moves, actives_by}
+use Rattle.reads_back.proofs.ListedLocals.{ended, listed_behind}
 use Rattle.reads_back.proofs.Marks.{SamePart, both_same, part_then}
 use Rattle.reads_back.proofs.Mentions.{IsAhead}
 use Rattle.reads_back.proofs.StatementsMeant.{statement_meant}
+use Rattle.reads_back.proofs.OwnLocals.{listed_same}
 use Rattle.reads_back.proofs.PlainStraight.{AreOnLine}
-use Rattle.reads_back.proofs.Rewriting.{IsMadeBy, mentions_of_statement}
+use Rattle.reads_back.proofs.Rewriting.{IsMadeBy, mentions_of_statement, OwnListed}
 use Rattle.reads_back.proofs.StraightActs.{few_levels, lean_low, written, written_closed, written_ends, written_formed, written_marks, written_shallow, AreLeft}
 use Rattle.reads_back.proofs.StraightScopes.{IsListing, are_listed, is_certain, AreNamed}
 use Rattle.reads_back.proofs.Tests.{and_not, both_hold, first_of_both, second_of_both}
@@ -127,6 +132,34 @@ module _ {f : Function} {g : Fn} {z : Maker} (whole : IsMadeWhole f g z) where
     pub low : depth_of_statement s ≤ 65
     low = omega (arith, next.shallow)
 
+-- the local of a local function is listed behind the others
+module _ {f : Function} {g : Fn} {z : Maker} (whole : IsMadeWhole f g z) where
+  own_local_listed : {line : ℕ} {semi : Bool} (text : Text) (body : FunctionBody) {rest : Statements} {m : Maker} → ComesNext f g z (syntax.statement line semi (local_function text body) rest) m → OwnListed f g m.active (local_function text body)
+  own_local_listed text body {rest} {m} next x ahead is =
+      let y : Active = record { local = declared_local text ahead; listed = length m.active } in
+      let pc = length (made_by (local_function text body) m).items in
+      let entry : LocVar = record { name = text; start = pc; end = pc } in
+      let others = entries_from rest (settle (made_by (local_function text body) m)) in
+      let zero_more : length m.active ≡ 0 + length m.active = omega arith in
+      let count : length (m.active ++ y ∷ []) ≡ suc (length m.active) = omega (arith, length-append m.active (y ∷ [])) in
+      let moves = statement_moves (local_function text body) next.straight.0.0 m in
+      let room = (comes_behind whole next).room in
+      let listing : IsListing f (m.active ++ y ∷ []) (m.locals ++ entry ∷ []) others = record {
+        are = listed_behind 0 (length m.active) m.active (y ∷ []) m.locals (entry ∷ []) zero_more next.listing.are (refl, refl, refl, next.straight.0.0.0, refl);
+        listed = next.listing.listed ∙ ap (map (ended f.last)) (sym (append_assoc m.locals (entry ∷ []) others));
+      } in
+      let few : length (m.active ++ y ∷ []) ≤ 250 = omega (arith, count, ap length moves.active, length-append m.active (actives_by (local_function text body) m), room, whole.is_function.few) in
+      let all = are_listed whole.names listing whole.law whole.named few in
+      (numbers_from 0 (length (m.active ++ y ∷ [])), listed_same g m.active y x (sym is) all)
+
+  pub own_listed : {line : ℕ} {semi : Bool} {s : Statement} {rest : Statements} {m : Maker} → ComesNext f g z (syntax.statement line semi s rest) m → OwnListed f g m.active s
+  own_listed {s = local_function text body} next = own_local_listed text body next
+  own_listed {s = call_statement e} next = tt
+  own_listed {s = assignment targets es} next = tt
+  own_listed {s = local_statement names es} next = tt
+  own_listed {s = return_statement es} next = tt
+  own_listed {s = s} next = absurd next.straight.0.0
+
 -- ---- what is written of a block
 
 -- statements on line 1 without semicolons, each of which is written of the act that a statement is, where so many constants were taken before the first
@@ -141,7 +174,7 @@ module _ {f : Function} {g : Fn} {z : Maker} {lefts : ℕ → List (Option Inner
   block_same no_statements tree taken m next are count = ap (λ block. statements_made block None m) are
   block_same (syntax.statement line semi s rest) tree taken m next are count =
       let acted = are.0 in
-      let one = written (made_there whole.made next) whole.left s next.straight.0.0 (low whole.made next) (length m.functions) (length (made_by s m).functions) acted are.2 in
+      let one = written (made_there whole.made next) whole.left s next.straight.0.0 (low whole.made next) (own_listed whole.made next) (length m.functions) (length (made_by s m).functions) acted are.2 in
       let later_on = settle (made_by s m) in
       let counted : taken_behind_act acted taken ≡ length later_on.constants = ap (taken_behind_act acted) count ∙ sym (one.taken m (names_next whole.made next) (here_final whole.made next)) in
       ap (λ block. statements_made block None m) are.4
@@ -166,16 +199,16 @@ module _ {f : Function} {g : Fn} {z : Maker} {lefts : ℕ → List (Option Inner
   pub block_formed : (block tree : Statements) (taken : ℕ) (m : Maker) → ComesNext f g z block m → formed_statements block ≡ true → AreWritten f g lefts taken block tree m → formed_statements tree ≡ true
   block_formed no_statements tree taken m next formed are = ap formed_statements are
   block_formed (syntax.statement line semi s no_statements) tree taken m next formed are =
-      let one = written_formed (made_there whole.made next) whole.left s next.straight.0.0 (low whole.made next) (length m.functions) (length (made_by s m).functions) are.0 taken are.2 in
+      let one = written_formed (made_there whole.made next) whole.left s next.straight.0.0 (low whole.made next) (own_listed whole.made next) (length m.functions) (length (made_by s m).functions) are.0 taken are.2 in
       ap formed_statements (are.4 ∙ ap (syntax.statement 1 false (act_statement (place f.of (listed_by m) f.short) taken (lefts (length m.functions)) are.0)) are.3) ∙ both_hold _ true one refl
   block_formed (syntax.statement line semi s (syntax.statement line' semi' s' rest)) tree taken m next formed are =
       let more = comes_behind whole.made next in
       let made = made_there whole.made next in
       let others = second_of_both _ _ (second_of_both (formed_statement s) _ formed) in
-      let one = written_formed made whole.left s next.straight.0.0 (low whole.made next) (length m.functions) (length (made_by s m).functions) are.0 taken are.2 in
-      let on = written_ends made whole.left s next.straight.0.0 (low whole.made next) (length m.functions) (length (made_by s m).functions) are.0 taken are.2 ∙ goes_on s s' line' semi semi' rest (first_of_both _ _ (second_of_both (formed_statement s) _ formed)) in
+      let one = written_formed made whole.left s next.straight.0.0 (low whole.made next) (own_listed whole.made next) (length m.functions) (length (made_by s m).functions) are.0 taken are.2 in
+      let on = written_ends made whole.left s next.straight.0.0 (low whole.made next) (own_listed whole.made next) (length m.functions) (length (made_by s m).functions) are.0 taken are.2 ∙ goes_on s s' line' semi semi' rest (first_of_both _ _ (second_of_both (formed_statement s) _ formed)) in
       let behind_taken = taken_behind_act are.0 taken in
-      let closed = written_closed (made_there whole.made more) whole.left s' more.straight.0.0 (low whole.made more) more.straight.0.1 (length (made_by s m).functions) (length (made_by s' (settle (made_by s m))).functions) are.3.0 behind_taken are.3.2 in
+      let closed = written_closed (made_there whole.made more) whole.left s' more.straight.0.0 (low whole.made more) (own_listed whole.made more) more.straight.0.1 (length (made_by s m).functions) (length (made_by s' (settle (made_by s m))).functions) are.3.0 behind_taken are.3.2 in
       let first = act_statement (place f.of (listed_by m) f.short) taken (lefts (length m.functions)) are.0 in
       ap formed_statements are.4
       ∙ both_hold _ _ one
@@ -185,10 +218,10 @@ module _ {f : Function} {g : Fn} {z : Maker} {lefts : ℕ → List (Option Inner
   pub block_shallow : (block tree : Statements) (taken : ℕ) (m : Maker) → ComesNext f g z block m → AreWritten f g lefts taken block tree m → depth_of_statements tree ≤ 200
   block_shallow no_statements tree taken m next are = omega (arith, ap depth_of_statements are)
   block_shallow (syntax.statement line semi s rest) tree taken m next are =
-      let levels = few_levels (made_there whole.made next) whole.left s next.straight.0.0 (low whole.made next) (length m.functions) (length (made_by s m).functions) are.0 taken are.2 in
+      let levels = few_levels (made_there whole.made next) whole.left s next.straight.0.0 (low whole.made next) (own_listed whole.made next) (length m.functions) (length (made_by s m).functions) are.0 taken are.2 in
       let deep = low whole.made next in
       let lean = lean_low s in
-      let one = written_shallow (made_there whole.made next) whole.left s next.straight.0.0 (low whole.made next) (length m.functions) (length (made_by s m).functions) are.0 taken are.2 in
+      let one = written_shallow (made_there whole.made next) whole.left s next.straight.0.0 (low whole.made next) (own_listed whole.made next) (length m.functions) (length (made_by s m).functions) are.0 taken are.2 in
       let others = block_shallow rest are.1 (taken_behind_act are.0 taken) (settle (made_by s m)) (comes_behind whole.made next) are.3 in
       omega (arith, ap depth_of_statements are.4, one, levels, lean, deep, others)
 
@@ -199,7 +232,7 @@ module _ {f : Function} {g : Fn} {z : Maker} {lefts : ℕ → List (Option Inner
   block_marks no_statements tree taken m next are = λ here. ap (λ block. statements_part block here) are
   block_marks (syntax.statement line semi s rest) tree taken m next are =
       let on : SamePart (statement_part 1 (one_line_statement s)) (statement_part line s) = λ here. ap (λ s. statement_part 1 s here) next.on_line.1 ∙ ap (λ line. statement_part line s here) (sym next.on_line.0) in
-      let one = part_then (written_marks (made_there whole.made next) whole.left s next.straight.0.0 (low whole.made next) (length m.functions) (length (made_by s m).functions) are.0 taken are.2) on in
+      let one = part_then (written_marks (made_there whole.made next) whole.left s next.straight.0.0 (low whole.made next) (own_listed whole.made next) (length m.functions) (length (made_by s m).functions) are.0 taken are.2) on in
       let others = block_marks rest are.1 (taken_behind_act are.0 taken) (settle (made_by s m)) (comes_behind whole.made next) are.3 in
       part_then (λ here. ap (λ block. statements_part block here) are.4) (both_same one others)
 
@@ -208,5 +241,5 @@ module _ {f : Function} {g : Fn} {z : Maker} {lefts : ℕ → List (Option Inner
   pub block_plain : (block tree : Statements) (taken : ℕ) (m : Maker) → ComesNext f g z block m → AreWritten f g lefts taken block tree m → ArePlain tree
   block_plain no_statements tree taken m next are = subst ArePlain (sym are) tt
   block_plain (syntax.statement line semi s rest) tree taken m next are =
-      let closed = written_closed (made_there whole.made next) whole.left s next.straight.0.0 (low whole.made next) next.straight.0.1 (length m.functions) (length (made_by s m).functions) are.0 taken are.2 in
+      let closed = written_closed (made_there whole.made next) whole.left s next.straight.0.0 (low whole.made next) (own_listed whole.made next) next.straight.0.1 (length m.functions) (length (made_by s m).functions) are.0 taken are.2 in
       subst ArePlain (sym are.4) (refl, refl, closed, block_plain rest are.1 (taken_behind_act are.0 taken) (settle (made_by s m)) (comes_behind whole.made next) are.3)

@@ -203,6 +203,7 @@ module _ {n : Names} {heading : Heading} {params : List Text} {block : Statement
     code = ap (λ (own : Own). own.code) same_own;
     constants = ap (λ (own : Own). own.constants) same_own;
     upvalues = as_many_upvalues chunk (chunk_of heading z) of.same;
+    told = ap (λ (own : Own). own.upvalue_names) same_own;
     natural = refl;
     short = omega (arith, of.short);
     few = of.at.limits.registers;

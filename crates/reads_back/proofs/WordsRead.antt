@@ -22,6 +22,8 @@ pub record IsFunction (f : Function) (g : Fn) : Type 0 where
   pub constants : f.of.constants ≡ g.constants
   -- a function in it has as many upvalues
   pub upvalues : (number : ℕ) (chunk : Chunk) → function_at g.functions number ≡ Some chunk → upvalues_in f number ≡ Some (own chunk).upvalues
+  -- and its own have the same names
+  pub told : f.of.upvalue_names ≡ g.upvalue_names
   pub natural : f.short ≡ false
   pub short : f.last < 2 ^ 32
   pub few : g.size ≤ 250

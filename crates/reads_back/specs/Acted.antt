@@ -1,23 +1,25 @@
 -- Serves the laws. What a call, an assignment, a declaration of locals or a return does, from the words of its parts, and how it is written.
-use Rattle.std.specs.Prelude.{◌≡◌, ◌⊎◌, ◌&&◌, ◌==◌, nat_lt, not, ℕ, suc, max, Bool, true, false, List, [], ◌∷◌, length, Option, Some, None, option_and_then, if◌then◌else◌}
+use Rattle.std.specs.Prelude.{◌≡◌, ◌⊎◌, ◌&&◌, ◌==◌, nat_lt, not, is_some, slice_set, ℕ, suc, max, Bool, true, false, List, [], ◌∷◌, length, Option, Some, None, option_and_then, if◌then◌else◌}
 use Rattle.lua_num.specs.Bytes.{Text}
 use Rattle.lua_tree.specs.Names.{is_name}
 use Rattle.lua_tree.specs.Syntax as syntax
-use Rattle.lua_tree.specs.Syntax.{FunctionBody, Statements, no_statements, Expressions, no_expressions, Expression, function_expression, parenthesized, name_expression, index_expression, field_expression, Statement, assignment, call_statement, local_statement, return_statement, Statements}
+use Rattle.lua_tree.specs.Syntax.{FunctionBody, Statements, no_statements, Expressions, no_expressions, Expression, function_expression, parenthesized, name_expression, index_expression, field_expression, Statement, assignment, call_statement, local_statement, return_statement, Statements, local_function}
 use Rattle.lua_tree.specs.WellFormed.{depth_of_body, depth_of_expression, depth_of_expressions, depth_of_statement}
 use Rattle.proto.specs.declared.parts.Constant.{Constant}
 use Rattle.core_expr.specs.Counting.{one_more, taken_behind, taken_behind_operand, taken_behind_values, left_by, left_by_operand, left_by_values, with_constant}
 use Rattle.core_expr.specs.Held.{wordings_with}
 use Rattle.core_expr.specs.Places.{Place}
 use Rattle.core_expr.specs.Targets.{TargetValue, global_target, index_target, local_target, upvalue_target, path_of, word_target, taken_behind_target, left_by_target, can_write_target}
-use Rattle.core_expr.specs.Values.{Value, nil_value, Values, no_values, and_value, OperandValue, value_operand, Inner}
+use Rattle.core_expr.specs.Values.{Value, nil_value, function_value, Values, no_values, and_value, OperandValue, value_operand, Inner}
 use Rattle.core_expr.specs.Writing.{Wordings, and_wording, no_wordings, function_left, is_multiple, word, word_operand, word_values, can_write, can_write_operand, can_write_values}
 use Rattle.recover_expr.specs.Assigning.{function_as, function_number, with_number}
 use Rattle.recover_expr.specs.Entries.{Listed, and_last_value}
 use Rattle.recover_expr.specs.Lists.{before_last, is_nil, split_last, value_count}
 use Rattle.scheme.specs.Making.{Where, in_register, in_upvalue, in_globals}
 use Rattle.scheme.specs.declared.making.Active.{Active}
-use Rattle.scheme_stands.specs.Words.{Fn, Means}
+use Rattle.scheme_stands.specs.Words.{Fn, Means, is_among}
+use Rattle.proto.specs.Chunk.{own}
+use Rattle.reads_back.specs.Coming.{Coming, IsOwnNext}
 use Rattle.reads_back.specs.Cores.{Counted, HasNumber, core, IsCore, first_and, AreCores, IsOperand, IsKey, ends_open, IsPlainBody}
 use Rattle.reads_back.specs.Straight.{IsActTargetBy, AreActTargetsBy, AssignsBy, IsActBy, StatementBeginsWithName}
 
@@ -27,6 +29,8 @@ pub data Acted : Type 0 where
   assigned : List TargetValue → Values → (all : Bool) → (last : Option OperandValue) → Acted
   declared : List Text → Values → (all : Bool) → Acted
   returned : Values → (all : Bool) → Acted
+  -- a local function that captures itself, with its number
+  declared_function : Text → (number : ℕ) → Acted
 
 -- what a name means, as a target
 abbrev pub IsVariableTarget : Fn → Text → Where → TargetValue → Type 0
@@ -121,11 +125,17 @@ AreValues g active ts es before behind to =
 abbrev pub AreAssigned : Fn → List Active → (targets es : Expressions) → List TargetValue → Counted Assigned
 AreAssigned g active targets es ts before behind to = (mid : ℕ) × AreTargets g active targets before mid ts × (AreWithOperand g active ts es mid behind to ⊎ AreValues g active ts es mid behind to)
 
+-- the next function that is made is that of a local which is active in it, and this is so of whether it captures that local
+abbrev pub IsOwnMade : Fn → List Active → Text → FunctionBody → (before behind : ℕ) → (Is : (itself : Bool) → Type 0) → Type 0
+IsOwnMade g active text body before behind Is = (behind ≡ suc before) × (c : Coming) × (c.functions ≡ before) × (made : IsOwnNext g active text body c) × Is (is_among text (own made.next.chunk).upvalue_names)
+
 abbrev pub IsActed : Fn → List Active → Statement → Counted Acted
 IsActed g active (call_statement e) before behind (called v) = IsCore g active e before behind v
 IsActed g active (assignment targets es) before behind (assigned ts vs all last) = AreAssigned g active targets es ts before behind (record { values = vs; all = all; last = last })
 IsActed g active (local_statement names es) before behind (declared others vs all) =
     (others ≡ names) × (from : Values) × AreCores g active es before behind from × (declared_values (length names) (ends_open es) from ≡ record { values = vs; all = all })
+IsActed g active (local_function text body) before behind (declared names vs all) = IsOwnMade g active text body before behind (λ itself. (itself ≡ false) × (names ≡ text ∷ []) × (vs ≡ and_value (function_value before false) no_values) × (all ≡ true))
+IsActed g active (local_function text body) before behind (declared_function name number) = IsOwnMade g active text body before behind (λ itself. (itself ≡ true) × (name ≡ text) × (number ≡ before))
 IsActed g active (return_statement es) before behind (returned vs all) = AreCores g active es before behind vs × (all ≡ ends_open es)
 IsActed g active statement before behind acted = ⊥
 
@@ -185,6 +195,11 @@ abbrev pub levels_by : Option Inner → (otherwise : ℕ) → ℕ
 levels_by None otherwise = otherwise
 levels_by (Some found) otherwise = one_more (one_more found.levels)
 
+-- a local function, where its function is left
+abbrev pub local_by : Text → Option Inner → Statement
+local_by text None = local_statement (text ∷ []) no_expressions
+local_by text (Some found) = local_function text found.body
+
 abbrev pub named_or : List (Option Inner) → Option (List Text × ℕ) → (otherwise : Statement) → Statement
 named_or fs None otherwise = otherwise
 named_or fs (Some named) otherwise = said_by (function_left fs named.1) named.0 otherwise
@@ -203,24 +218,28 @@ abbrev pub act_statement : Place → ℕ → List (Option Inner) → Acted → S
 act_statement at n fs (called v) = call_statement (word at n fs v).words
 act_statement at n fs (assigned ts vs all last) = named_or fs (named_by at ts vs last) (assigned_statement at n fs ts vs all last)
 act_statement at n fs (declared names vs all) = local_statement names (word_values at n fs vs all).words
+act_statement at n fs (declared_function text number) = local_by text (function_left fs number)
 act_statement at n fs (returned vs all) = return_statement (word_values at n fs vs all).words
 
 abbrev pub act_levels : Place → ℕ → List (Option Inner) → Acted → ℕ
 act_levels at n fs (called v) = one_more (word at n fs v).levels
 act_levels at n fs (assigned ts vs all last) = levels_or fs (named_by at ts vs last) (assigned_levels at n fs ts vs all last)
 act_levels at n fs (declared names vs all) = one_more (word_values at n fs vs all).levels
+act_levels at n fs (declared_function text number) = levels_by (function_left fs number) 1
 act_levels at n fs (returned vs all) = one_more (word_values at n fs vs all).levels
 
 abbrev pub can_act : Place → List (Option Inner) → Acted → Bool
 can_act at fs (called v) = can_write at fs v
 can_act at fs (assigned ts vs all last) = can_write_targets at fs ts && (can_write_values at (left_by_targets ts fs) vs && can_write_last at (left_by_values vs (left_by_targets ts fs)) last)
 can_act at fs (declared names vs all) = can_write_values at fs vs
+can_act at fs (declared_function text number) = is_some (function_left fs number)
 can_act at fs (returned vs all) = can_write_values at fs vs
 
 abbrev pub left_by_act : Acted → List (Option Inner) → List (Option Inner)
 left_by_act (called v) fs = left_by v fs
 left_by_act (assigned ts vs all last) fs = left_by_last last (left_by_values vs (left_by_targets ts fs))
 left_by_act (declared names vs all) fs = left_by_values vs fs
+left_by_act (declared_function text number) fs = slice_set fs number None
 left_by_act (returned vs all) fs = left_by_values vs fs
 
 -- the name of a global is taken by its store, behind the values
@@ -237,6 +256,7 @@ abbrev pub taken_behind_act : Acted → ℕ → ℕ
 taken_behind_act (called v) n = taken_behind v n
 taken_behind_act (assigned ts vs all last) n = all_named_behind ts (taken_behind_last last (taken_behind_values vs (taken_behind_targets ts n)))
 taken_behind_act (declared names vs all) n = taken_behind_values vs n
+taken_behind_act (declared_function text number) n = n
 taken_behind_act (returned vs all) n = taken_behind_values vs n
 
 -- ---- statements that are such

@@ -2,7 +2,7 @@
 use Rattle.std.specs.Prelude.{◌≡◌, ◌==◌, ◌≤◌, ℕ, zero, suc, max, not, Bool, true, false, List, [], ◌∷◌, length, Option, Some, IsSome}
 use Rattle.lua_num.specs.Bytes.{Text}
 use Rattle.lua_tree.specs.Scoping.{Scoped}
-use Rattle.lua_tree.specs.Syntax.{Statement, Statements, function_body, local_statement, no_statements, return_statement, statement, Source}
+use Rattle.lua_tree.specs.Syntax.{Statement, Statements, function_body, local_function, local_statement, no_statements, return_statement, statement, Source}
 use Rattle.lua_tree.specs.WellFormed.{WellFormed, depth_of_statement, formed_statements, statement_begins_with_paren}
 use Rattle.proto.specs.Chunk.{Chunk, Functions, Own, SameButLines, and_function, function, no_functions, own}
 use Rattle.proto.specs.Short.{IsShort}
@@ -32,6 +32,7 @@ pub record IsStraightChunk (chunk : Chunk) : Type 0 where
 -- what a step of the statement is, in a function of so many steps, where no local ends before the function does
 abbrev pub IsKindOf : (count : ℕ) → Statement → StepKind → Type 0
 IsKindOf count (local_statement names es) kind = (captured : Bool) × (kind ≡ StepKind.Declaration count captured)
+IsKindOf count (local_function text body) kind = (captured : Bool) × (kind ≡ StepKind.Declaration count captured)
 IsKindOf count (return_statement es) kind = kind ≡ StepKind.Return
 IsKindOf count s kind = kind ≡ StepKind.Act
 

@@ -1,8 +1,8 @@
--- To be believed. Straight sources: calls, assignments, function statements and declarations of locals, one after the other, and maybe a return at the end; and so in each function that stands in one.
+-- To be believed. Straight sources: calls, assignments, function statements, local functions and declarations of locals, one after the other, and maybe a return at the end; and so in each function that stands in one.
 use Rattle.std.specs.Prelude.{◌≡◌, ◌≤◌, ℕ, zero, suc, true, length, false}
 use Rattle.lua_tree.specs.Names.{are_some_names, is_name}
 use Rattle.lua_tree.specs.Syntax as syntax
-use Rattle.lua_tree.specs.Syntax.{FunctionBody, function_body, Expression, Expressions, no_expressions, Source, Statement, Statements, Arguments, argument_list, text_argument, table_argument, Fields, no_fields, positional, named, keyed, nil_literal, true_literal, false_literal, vararg_expression, number_literal, text_literal, name_expression, function_expression, index_expression, field_expression, call_expression, method_call, binary_expression, unary_expression, constructor, parenthesized, assignment, call_statement, function_statement, local_statement, no_statements, return_statement}
+use Rattle.lua_tree.specs.Syntax.{FunctionBody, function_body, Expression, Expressions, no_expressions, Source, Statement, Statements, Arguments, argument_list, text_argument, table_argument, Fields, no_fields, positional, named, keyed, nil_literal, true_literal, false_literal, vararg_expression, number_literal, text_literal, name_expression, function_expression, index_expression, field_expression, call_expression, method_call, binary_expression, unary_expression, constructor, parenthesized, assignment, call_statement, function_statement, local_function, local_statement, no_statements, return_statement}
 use Rattle.lua_tree.specs.WellFormed.{depth_of_statements, has_expressions, is_call, is_numeral_value}
 use Rattle.scheme.specs.Expressions.{is_comparison}
 
@@ -67,6 +67,7 @@ abbrev pub IsActBy : (FunctionBody → Type 0) → Statement → Type 0
 IsActBy P (call_statement e) = (is_call e ≡ true) × HasCoreBy P e
 IsActBy P (assignment targets es) = AssignsBy P targets es
 IsActBy P (local_statement names es) = (are_some_names names ≡ true) × AllHaveCoresBy P es
+IsActBy P (local_function text body) = (is_name text ≡ true) × P body
 IsActBy P (return_statement es) = AllHaveCoresBy P es
 IsActBy P statement = ⊥
 
@@ -88,6 +89,7 @@ abbrev pub StatementBeginsWithName : Statement → Type 0
 StatementBeginsWithName (call_statement e) = BeginsWithName e
 StatementBeginsWithName (assignment targets es) = AllBeginWithName targets
 StatementBeginsWithName (local_statement names es) = Unit {0}
+StatementBeginsWithName (local_function text body) = Unit {0}
 StatementBeginsWithName (return_statement es) = Unit {0}
 StatementBeginsWithName (function_statement path method body) = Unit {0}
 StatementBeginsWithName statement = ⊥
