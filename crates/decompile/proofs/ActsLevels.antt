@@ -15,16 +15,16 @@ module _ (all : List Step) where
   step_levels_are kind from step there = ap levels_at there
 
   -- the statements of the steps from one on need those of the step that needs most
-  levels_from : (count most from : ℕ) (written : Statements) (rest : List Step) → ((number : ℕ) → slice_get all (from + number) ≡ slice_get rest number) → AreStepsOf count most written rest → body_levels all (plans_of from rest) ≡ most_levels rest
-  levels_from count most from written [] there are = refl
-  levels_from count most from no_statements (step ∷ rest) there are = cc
-  levels_from count most from (statement line semi s others) (step ∷ rest) there are =
+  levels_from : (count from : ℕ) (written : Statements) (rest : List Step) → ((number : ℕ) → slice_get all (from + number) ≡ slice_get rest number) → AreStepsOf count written rest → body_levels all (plans_of from rest) ≡ most_levels rest
+  levels_from count from written [] there are = refl
+  levels_from count from no_statements (step ∷ rest) there are = cc
+  levels_from count from (statement line semi s others) (step ∷ rest) there are =
       let zero_more : from ≡ from + 0 = omega arith in
       let one = step_levels_are step.kind from step (ap (slice_get all) zero_more ∙ there 0) in
       let next : (number : ℕ) → slice_get all (from + 1 + number) ≡ slice_get rest number = λ number. let same : from + 1 + number ≡ from + suc number = omega arith in ap (slice_get all) same ∙ there (suc number) in
-      let more = levels_from count most (from + 1) others rest next are.1 in
+      let more = levels_from count (from + 1) others rest next are.1 in
       omega (arith, one, more, are.0.enough)
 
 -- and so do all statements of a body
-pub acts_levels : (count most : ℕ) (written : Statements) (steps : List Step) → AreStepsOf count most written steps → body_levels steps (plans_of 0 steps) ≡ most_levels steps
-acts_levels count most written steps are = levels_from steps count most 0 written steps (λ number. let same : 0 + number ≡ number = omega arith in ap (slice_get steps) same) are
+pub acts_levels : (count : ℕ) (written : Statements) (steps : List Step) → AreStepsOf count written steps → body_levels steps (plans_of 0 steps) ≡ most_levels steps
+acts_levels count written steps are = levels_from steps count 0 written steps (λ number. let same : 0 + number ≡ number = omega arith in ap (slice_get steps) same) are

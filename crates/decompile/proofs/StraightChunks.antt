@@ -1,5 +1,5 @@
 -- What is recovered of the chunk of a straight source is one of its trees, with the statements that are read of its words; and nothing is lost but for want of memory.
-use Rattle.std.proofs.Common.{◌≡◌, ◌∙◌, ℕ, zero, suc, ◌+◌, ◌≤◌, true, false, List, [], ◌∷◌, length, Option, Some, Err, refl, sym, ap, ap₂, subst, arith, inl, inr}
+use Rattle.std.proofs.Common.{◌≡◌, ◌∙◌, ℕ, zero, suc, ◌+◌, ◌≤◌, Bool, true, false, List, [], ◌∷◌, length, Option, Some, Err, refl, sym, ap, ap₂, subst, arith, inl, inr}
 use Rattle.std.specs.Prelude.{IsSome, ◌⊎◌}
 use Rattle.std.proofs.lemmas.Bool.{false≢true, not-true}
 use Rattle.std.proofs.lemmas.Bool.Decides.{nat_tests}
@@ -17,7 +17,7 @@ use Rattle.recover_expr.specs.Reading.{read_steps}
 use Rattle.recover_expr.specs.declared.steps.Step.{Step}
 use Rattle.recover_expr.specs.declared.steps.StepKind.{StepKind}
 use Rattle.recover_flow.specs.Acts as acts
-use Rattle.recover_flow.specs.Acts.{ActsAreBuilt, ActsAreFound, IsPlain, NoneOpen, is_return, is_return_step, part_of_statement, parts_of_statements, plans_of, without_semicolons}
+use Rattle.recover_flow.specs.Acts.{ActsAreBuilt, ActsAreFound, IsPlain, begin_open, is_return, is_return_step, part_of_statement, parts_of_statements, plans_of, with_separators}
 use Rattle.recover_flow.specs.Built.{built_body}
 use Rattle.recover_flow.specs.Debug.{FirstUntold, FirstUntoldIn, LacksDebug, Tells}
 use Rattle.recover_flow.specs.Parts.{begins_open, is_open}
@@ -26,8 +26,7 @@ use Rattle.recover_flow.specs.Recovering.{AreFound, IsFound, IsFunctionFound, Is
 use Rattle.recover_flow.specs.declared.lost.Lost.{Lost}
 use Rattle.recover_flow.specs.Searching.{whole_body}
 use Rattle.recover_flow.specs.Standing.{BodyStands}
-use Rattle.reads_back.specs.ReadAs.{ArePlain, AreRead, AreStepsOf, FlatSourcesAreStraight, IsKindOf, IsRead, IsReadFrom, IsSourceRead, IsStraightChunk, IsTold, StraightSourcesAreRead, part_of, parts_of}
-use Rattle.reads_back.proofs.InnerReads.{low_levels}
+use Rattle.reads_back.specs.ReadAs.{ArePlain, begin_with_paren, AreRead, AreStepsOf, FlatSourcesAreStraight, IsKindOf, IsRead, IsReadFrom, IsSourceRead, IsSourceReadAs, IsStraightChunk, IsTold, StraightSourcesAreRead, part_of, parts_of}
 use Rattle.reads_back.proofs.Tests.{first_of_both, second_of_both}
 use Rattle.scheme.specs.Scheme.{scheme}
 use Rattle.scheme_lines.specs.Alike.{SemicolonsDoNotMatter}
@@ -54,15 +53,16 @@ begins_is (assignment (syntax.expression target rest) es) = open_is target
 begins_is (call_statement e) = open_is e
 begins_is s = refl
 
--- no plain statement does
-none_open : (block : Statements) → ArePlain block → NoneOpen block
-none_open no_statements plain = tt
-none_open (syntax.statement line semi s rest) plain = (begins_is s ∙ plain.2, none_open rest plain.3)
+-- and so whether the first of several does
+begin_are : (block : Statements) → begin_open block ≡ begin_with_paren block
+begin_are no_statements = refl
+begin_are (syntax.statement line semi s rest) = begins_is s
 
--- plain statements are on line 1 and have no semicolons already
-stays : (block : Statements) → ArePlain block → without_semicolons block ≡ block
+-- plain statements are on line 1, and have the semicolons that they need
+stays : (block : Statements) → ArePlain block → with_separators block ≡ block
 stays no_statements plain = refl
-stays (syntax.statement line semi s rest) plain = let others = stays rest plain.3 in let first = plain.0 in let second = plain.1 in cc
+stays (syntax.statement line semi s rest) plain =
+    ap₂ (λ line (semi : Bool). syntax.statement line semi s (with_separators rest)) (sym plain.0) (begin_are rest ∙ sym plain.1) ∙ ap (syntax.statement line semi s) (stays rest plain.2)
 
 -- what stands of a statement in its step is said twice too, of what is read and of what is recovered
 part_is : (s : Statement) → part_of s ≡ part_of_statement s
@@ -91,17 +91,17 @@ is_last count (return_statement es) kind is = inr is
 is_last count s kind is = inl (inl is)
 
 -- only the last step can be a return, since a return ends its block
-all_plain : (count most : ℕ) (block : Statements) (steps : List Step) → formed_statements block ≡ true → AreStepsOf count most block steps → acts.ArePlain count steps
-all_plain count most no_statements steps formed are = subst (acts.ArePlain count) (sym are) tt
-all_plain count most (syntax.statement line semi s rest) [] formed are = absurd are
-all_plain count most (syntax.statement line semi s no_statements) (step ∷ []) formed are = is_last count s step.kind are.0.kind
-all_plain count most (syntax.statement line semi s no_statements) (step ∷ next ∷ steps) formed are = let over = are.1 in cc
-all_plain count most (syntax.statement line semi s (syntax.statement line' semi' s' rest)) (step ∷ []) formed are = absurd are.1
-all_plain count most (syntax.statement line semi s (syntax.statement line' semi' s' rest)) (step ∷ next ∷ steps) formed are =
+all_plain : (count : ℕ) (block : Statements) (steps : List Step) → formed_statements block ≡ true → AreStepsOf count block steps → acts.ArePlain count steps
+all_plain count no_statements steps formed are = subst (acts.ArePlain count) (sym are) tt
+all_plain count (syntax.statement line semi s rest) [] formed are = absurd are
+all_plain count (syntax.statement line semi s no_statements) (step ∷ []) formed are = is_last count s step.kind are.0.kind
+all_plain count (syntax.statement line semi s no_statements) (step ∷ next ∷ steps) formed are = let over = are.1 in cc
+all_plain count (syntax.statement line semi s (syntax.statement line' semi' s' rest)) (step ∷ []) formed are = absurd are.1
+all_plain count (syntax.statement line semi s (syntax.statement line' semi' s' rest)) (step ∷ next ∷ steps) formed are =
     let others = syntax.statement line' semi' s' rest in
     let behind = second_of_both (formed_statement s) _ formed in
     let follows = first_of_both (may_follow s semi others) _ behind in
-    (goes_on count s step.kind (not-true (ends_block s) (first_of_both _ _ follows)) are.0.kind, all_plain count most others (next ∷ steps) (second_of_both (may_follow s semi others) _ behind) are.1)
+    (goes_on count s step.kind (not-true (ends_block s) (first_of_both _ _ follows)) are.0.kind, all_plain count others (next ∷ steps) (second_of_both (may_follow s semi others) _ behind) are.1)
 
 -- a step returns where its statement does
 returns_is : (count : ℕ) (s : Statement) (kind : StepKind) → IsKindOf count s kind → is_return_step kind ≡ is_return s
@@ -111,22 +111,22 @@ returns_is count (return_statement es) kind is = ap is_return_step is
 returns_is count s kind is = ap is_return_step is
 
 -- and so the steps that are read are those of which the statements are built
-all_steps : (count most : ℕ) (block : Statements) (steps : List Step) → AreStepsOf count most block steps → acts.AreStepsOf block steps
-all_steps count most no_statements steps are = are
-all_steps count most (syntax.statement line semi s rest) [] are = absurd are
-all_steps count most (syntax.statement line semi s rest) (step ∷ steps) are = (returns_is count s step.kind are.0.kind, all_steps count most rest steps are.1)
+all_steps : (count : ℕ) (block : Statements) (steps : List Step) → AreStepsOf count block steps → acts.AreStepsOf block steps
+all_steps count no_statements steps are = are
+all_steps count (syntax.statement line semi s rest) [] are = absurd are
+all_steps count (syntax.statement line semi s rest) (step ∷ steps) are = (returns_is count s step.kind are.0.kind, all_steps count rest steps are.1)
 
 -- ---- a function
 
--- the words of a function are read as steps, where one body stands and no other: it needs no more levels than a tree may have, and these statements are built of it
-record IsChunkRead (chunk : Chunk) (left : List (Option Inner)) (found : Inner) : Type 0 where
+-- the words of a function are read as steps, where one body stands and no other, and these statements are built of it: in the forms of fewest levels it needs no more than a tree may have
+record IsChunkRead (short : Bool) (chunk : Chunk) (left : List (Option Inner)) (found : Inner) : Type 0 where
   steps : Steps
   written : Statements
-  read : read_steps chunk left false ≡ Some steps
+  read : read_steps chunk left short ≡ Some steps
   behind : List Part
   stands : BodyStands steps.steps (whole_body steps.steps) (plans_of 0 steps.steps)
   only : (plans : Plans) → BodyStands steps.steps (whole_body steps.steps) plans → plans ≡ plans_of 0 steps.steps
-  low : body_levels steps.steps (plans_of 0 steps.steps) ≤ 200
+  low : short ≡ true → body_levels steps.steps (plans_of 0 steps.steps) ≤ 200
   built : built_body (plans_of 0 steps.steps) steps.parts ≡ Some (written, behind)
   body : found.body ≡ function_body steps.params (is_vararg chunk) written 1 1
   levels : found.levels ≡ body_levels steps.steps (plans_of 0 steps.steps)
@@ -138,15 +138,15 @@ pub record ActLaws : Type 0 where
 
 module _ (laws : ActLaws) where
   -- what the laws say of a function whose words are read as statements
-  as_read : {chunk : Chunk} {left : List (Option Inner)} {found : Inner} → IsReadFrom chunk left found → IsChunkRead chunk left found
+  as_read : {short : Bool} {chunk : Chunk} {left : List (Option Inner)} {found : Inner} → IsReadFrom short chunk left found → IsChunkRead short chunk left found
   as_read back =
       let steps = back.steps.steps in
       let count = length steps in
       let block = back.written in
-      let stands = laws.found steps (all_plain count 200 block steps back.formed back.are) in
-      let made = laws.built block steps (none_open block back.plain) (all_steps count 200 block steps back.are) in
+      let stands = laws.found steps (all_plain count block steps back.formed back.are) in
+      let made = laws.built block steps (all_steps count block steps back.are) in
       let parts : back.steps.parts ≡ parts_of_statements block = back.parts ∙ parts_are block in
-      let levels = acts_levels count 200 block steps back.are in
+      let levels = acts_levels count block steps back.are in
       record {
         steps = back.steps;
         written = block;
@@ -154,14 +154,14 @@ module _ (laws : ActLaws) where
         behind = made.0;
         stands = stands.0;
         only = stands.1;
-        low = let few = low_levels count 200 block steps back.are in omega (arith, levels, few);
+        low = λ short. let few = back.low short in omega (arith, levels, few, back.levels);
         built = ap (built_body (plans_of 0 steps)) parts ∙ made.1 ∙ ap (λ body. Some (body, made.0)) (stays block back.plain);
         body = back.body;
         levels = back.levels ∙ sym levels;
       }
 
-  module _ {chunk : Chunk} {left : List (Option Inner)} {found : Inner} (from : IsReadFrom chunk left found) where
-    is_read : IsChunkRead chunk left found
+  module _ {short : Bool} {chunk : Chunk} {left : List (Option Inner)} {found : Inner} (from : IsReadFrom short chunk left found) where
+    is_read : IsChunkRead short chunk left found
     is_read = as_read from
 
     -- what is built of the one body that stands there
@@ -171,7 +171,7 @@ module _ (laws : ActLaws) where
         ap₂ (λ body (s : Steps). built_body body s.parts) one same ∙ is_read.built
 
     -- what is found of the function is what is read
-    found_is : (other : Inner) → IsFunctionFound chunk left false other → other ≡ found
+    found_is : (other : Inner) → IsFunctionFound chunk left short other → other ≡ found
     found_is other is =
         let same : is.steps ≡ is_read.steps = same_Some is.steps is_read.steps (sym is.read ∙ is_read.read) in
         let one = is_read.only is.plans (subst (λ (s : Steps). BodyStands s.steps (whole_body s.steps) is.plans) same is.stands) in
@@ -181,44 +181,48 @@ module _ (laws : ActLaws) where
         ∙ sym is_read.body)
         (is.levels ∙ ap₂ (λ (s : Steps) (plans : Plans). body_levels s.steps plans) same one ∙ sym is_read.levels)
 
-    -- and it is recovered
-    is_recovered : IsUnrecovered chunk left false → ⊥
-    is_recovered (inl unread) = none-some is_read.steps (sym unread ∙ is_read.read)
-    is_recovered (inr (steps, read, inl nowhere)) =
+    -- and in the forms of fewest levels it is recovered
+    is_recovered : short ≡ true → IsUnrecovered chunk left short → ⊥
+    is_recovered forms (inl unread) = none-some is_read.steps (sym unread ∙ is_read.read)
+    is_recovered forms (inr (steps, read, inl nowhere)) =
         let none = subst (λ (s : Steps). StandsNowhere s) (same_Some steps is_read.steps (sym read ∙ is_read.read)) nowhere in
-        let few = is_read.low in let many = none (plans_of 0 is_read.steps.steps) is_read.stands in grind (arith, nat_tests)
-    is_recovered (inr (steps, read, inr unbuilt)) =
+        let few = is_read.low forms in let many = none (plans_of 0 is_read.steps.steps) is_read.stands in grind (arith, nat_tests)
+    is_recovered forms (inr (steps, read, inr unbuilt)) =
         none-some _ (sym unbuilt.3 ∙ built_of steps unbuilt.0 (same_Some steps is_read.steps (sym read ∙ is_read.read)) unbuilt.1)
 
   -- ---- a function and those in it
 
   -- what is found of a function, behind those in it, is what is read
   mutual
-    found_once : (deep : ℕ) (chunk : Chunk) (found other : Inner) → IsRead deep chunk found → IsFound false chunk other → other ≡ found
-    found_once zero chunk found other read is = absurd read
-    found_once (suc deep) (function f inner) found other (left, are, from) (those, they, is) =
-        found_is from other (subst (λ left. IsFunctionFound (function f inner) left false other) (left_once deep inner left those are they) is)
+    found_once : (short : Bool) (deep : ℕ) (chunk : Chunk) (found other : Inner) → IsRead short deep chunk found → IsFound short chunk other → other ≡ found
+    found_once short zero chunk found other read is = absurd read
+    found_once short (suc deep) (function f inner) found other (left, are, from) (those, they, is) =
+        found_is from other (subst (λ left. IsFunctionFound (function f inner) left short other) (left_once short deep inner left those are they) is)
 
-    left_once : (deep : ℕ) (functions : Functions) (left those : List (Option Inner)) → AreRead deep functions left → AreFound false functions those → those ≡ left
-    left_once deep no_functions left those are they = they ∙ sym are
-    left_once deep (and_function c rest) left those (found, others, read, are, same) (found', others', is, they, is_same) =
+    left_once : (short : Bool) (deep : ℕ) (functions : Functions) (left those : List (Option Inner)) → AreRead short deep functions left → AreFound short functions those → those ≡ left
+    left_once short deep no_functions left those are they = they ∙ sym are
+    left_once short deep (and_function c rest) left those (found, others, read, are, same) (found', others', is, they, is_same) =
         is_same
-        ∙ ap₂ (λ (found : Inner) (others : List (Option Inner)). Some found ∷ others) (found_once deep c found found' read is) (left_once deep rest others others' are they)
+        ∙ ap₂ (λ (found : Inner) (others : List (Option Inner)). Some found ∷ others) (found_once short deep c found found' read is) (left_once short deep rest others others' are they)
         ∙ sym same
 
-  -- and it is not lost, where none of those in it stands too deep
+  -- and in the forms of fewest levels it is not lost, where none of those in it stands too deep
   mutual
-    never_lost : (deep depth : ℕ) (chunk : Chunk) (found : Inner) → deep + depth ≤ 201 → IsRead deep chunk found → IsLost false depth chunk → ⊥
+    never_lost : (deep depth : ℕ) (chunk : Chunk) (found : Inner) → deep + depth ≤ 201 → IsRead true deep chunk found → IsLost true depth chunk → ⊥
     never_lost zero depth chunk found few read lost = absurd read
     never_lost (suc deep) depth (function f inner) found few (left, are, from) (inl many) = absurd (omega (arith, few, many))
     never_lost (suc deep) depth (function f inner) found few (left, are, from) (inr (inl one)) = none_lost deep (suc depth) inner left (omega (arith, few)) are one
     never_lost (suc deep) depth (function f inner) found few (left, are, from) (inr (inr (those, they, unrecovered))) =
-        is_recovered from (subst (λ left. IsUnrecovered (function f inner) left false) (left_once deep inner left those are they) unrecovered)
+        is_recovered from refl (subst (λ left. IsUnrecovered (function f inner) left true) (left_once true deep inner left those are they) unrecovered)
 
-    none_lost : (deep depth : ℕ) (functions : Functions) (left : List (Option Inner)) → deep + depth ≤ 201 → AreRead deep functions left → IsOneLost false depth functions → ⊥
+    none_lost : (deep depth : ℕ) (functions : Functions) (left : List (Option Inner)) → deep + depth ≤ 201 → AreRead true deep functions left → IsOneLost true depth functions → ⊥
     none_lost deep depth no_functions left few are one = absurd one
     none_lost deep depth (and_function c rest) left few (found, others, read, are, same) (inl lost) = never_lost deep depth c found few read lost
     none_lost deep depth (and_function c rest) left few (found, others, read, are, same) (inr one) = none_lost deep depth rest others few are one
+
+-- what is found of a function has no more levels than a tree may have
+found_low : (short : Bool) (chunk : Chunk) (found : Inner) → IsFound short chunk found → found.levels ≤ 200
+found_low short (function f inner) found (left, are, is) = let few = is.fits in omega (arith, few, is.levels)
 
 -- ---- what it tells
 
@@ -228,15 +232,15 @@ tells f told = record { lines = told.lines; names = told.names }
 
 -- and so does each function in it
 mutual
-  none_untold : (deep : ℕ) (chunk : Chunk) (found : Inner) → IsRead deep chunk found → (path : List ℕ) → FirstUntold chunk path → ⊥
-  none_untold zero chunk found read path untold = absurd read
-  none_untold (suc deep) (function f inner) found (left, are, from) [] untold = untold (tells f from.told)
-  none_untold (suc deep) (function f inner) found (left, are, from) (n ∷ path) untold = none_untold_in deep inner left are n path untold.1
+  none_untold : (short : Bool) (deep : ℕ) (chunk : Chunk) (found : Inner) → IsRead short deep chunk found → (path : List ℕ) → FirstUntold chunk path → ⊥
+  none_untold short zero chunk found read path untold = absurd read
+  none_untold short (suc deep) (function f inner) found (left, are, from) [] untold = untold (tells f from.told)
+  none_untold short (suc deep) (function f inner) found (left, are, from) (n ∷ path) untold = none_untold_in short deep inner left are n path untold.1
 
-  none_untold_in : (deep : ℕ) (functions : Functions) (left : List (Option Inner)) → AreRead deep functions left → (n : ℕ) (path : List ℕ) → FirstUntoldIn functions n path → ⊥
-  none_untold_in deep no_functions left are n path untold = absurd untold
-  none_untold_in deep (and_function c rest) left (found, others, read, are, same) zero path untold = none_untold deep c found read path untold
-  none_untold_in deep (and_function c rest) left (found, others, read, are, same) (suc n) path untold = none_untold_in deep rest others are n path untold.1
+  none_untold_in : (short : Bool) (deep : ℕ) (functions : Functions) (left : List (Option Inner)) → AreRead short deep functions left → (n : ℕ) (path : List ℕ) → FirstUntoldIn functions n path → ⊥
+  none_untold_in short deep no_functions left are n path untold = absurd untold
+  none_untold_in short deep (and_function c rest) left (found, others, read, are, same) zero path untold = none_untold short deep c found read path untold
+  none_untold_in short deep (and_function c rest) left (found, others, read, are, same) (suc n) path untold = none_untold_in short deep rest others are n path untold.1
 
 -- ---- the chunk
 
@@ -256,8 +260,8 @@ formed_again of tree well is = record {
 }
 
 -- a well-formed tree with the statements that are read is one of the chunk
-is_tree_for : SemicolonsDoNotMatter → {chunk : Chunk} (straight : IsStraightChunk chunk) (read : IsSourceRead straight.source chunk) (tree : Source) → WellFormed tree → tree.body ≡ read.tree.body → IsTreeFor chunk tree
-is_tree_for semicolons {chunk} straight read tree formed is =
+is_tree_for : SemicolonsDoNotMatter → {short : Bool} {chunk : Chunk} (straight : IsStraightChunk chunk) (read : IsSourceReadAs short straight.source chunk) (tree : Source) → WellFormed tree → tree.body ≡ read.tree.body → IsTreeFor chunk tree
+is_tree_for semicolons {chunk = chunk} straight read tree formed is =
     let again = semicolons read.tree tree (ap (λ (body : Statements). record { body = bare_statements body; last_line = 1 }) (sym is)) in
     record {
       formed = formed;
@@ -270,24 +274,43 @@ is_tree_for semicolons {chunk} straight read tree formed is =
 
 -- ---- why none is recovered
 
+-- in one of the two forms, a tree is the one that is read
+record IsReadTree (source : Source) (chunk : Chunk) (tree : Source) : Type 0 where
+  short : Bool
+  read : IsSourceReadAs short source chunk
+  low : read.found.levels ≤ 200
+  body : tree.body ≡ read.tree.body
+
 module _ (laws : ActLaws) {chunk : Chunk} {source : Source} (read : IsSourceRead source chunk) where
   -- the chunk tells what its source is recovered by
   lacks_nothing : (path : List ℕ) → LacksDebug chunk path → ⊥
   lacks_nothing path (inl (unnamed, top)) = false≢true (subst IsSome unnamed read.named)
-  lacks_nothing path (inr (named, untold)) = none_untold 67 chunk read.found read.read path untold
+  lacks_nothing path (inr (named, untold)) = none_untold true 201 chunk (read.read true).found (read.read true).read path untold
 
   -- a tree that is found has the statements that are read
-  tree_is : {tree : Source} → IsSourceFound chunk tree → tree.body ≡ read.tree.body
-  tree_is {tree} is = ap (λ (t : Source). t.body) is.is_main ∙ ap (λ (found : Inner). (main_of found.body).body) (main_is is.function) ∙ ap (λ body. (main_of body).body) read.body
+  tree_is : {tree : Source} → IsSourceFound chunk tree → IsReadTree source chunk tree
+  tree_is {tree} is = by is.function
     where
-      main_is : IsMainFound chunk is.found → is.found ≡ read.found
-      main_is (inl found) = found_once laws 67 chunk read.found is.found read.read found
-      main_is (inr (lost, found)) = absurd (never_lost laws 67 0 chunk read.found (omega arith) read.read lost)
+      read_as : (short : Bool) → IsFound short chunk is.found → IsReadTree source chunk tree
+      read_as short found =
+          let one = read.read short in
+          let same = found_once laws short 201 chunk one.found is.found one.read found in
+          let few = found_low short chunk is.found found in
+          record {
+            short = short;
+            read = one;
+            low = omega (arith, few, ap (λ (found : Inner). found.levels) same);
+            body = ap (λ (t : Source). t.body) is.is_main ∙ ap (λ (found : Inner). (main_of found.body).body) same ∙ ap (λ body. (main_of body).body) one.body;
+          }
+
+      by : IsMainFound chunk is.found → IsReadTree source chunk tree
+      by (inl found) = read_as false found
+      by (inr (lost, found)) = read_as true found
 
   -- and it is not without a source
   has_source : IsSourceless chunk → ⊥
-  has_source (inl (lost, shortest)) = never_lost laws 67 0 chunk read.found (omega arith) read.read lost
-  has_source (inr (tree, found, misformed)) = misformed (formed_again read.tree tree read.formed (tree_is found))
+  has_source (inl (lost, shortest)) = never_lost laws 201 0 chunk (read.read true).found (omega arith) (read.read true).read shortest
+  has_source (inr (tree, found, misformed)) = let one = tree_is found in misformed (formed_again one.read.tree tree (one.read.formed one.low) one.body)
 
 -- ---- with the laws of what is below
 
@@ -308,7 +331,7 @@ module _ (laws : StraightLaws) (chunk : Chunk) (short : IsShort chunk) (straight
 
   -- what is recovered of it is a tree of it
   pub straight_given : (tree : Source) → WellFormed tree → IsSourceFound chunk tree → IsTreeFor chunk tree
-  straight_given tree formed found = is_tree_for laws.semicolons straight source_read tree formed (tree_is laws.acts source_read found)
+  straight_given tree formed found = let one = tree_is laws.acts source_read found in is_tree_for laws.semicolons straight one.read tree formed one.body
 
   -- and nothing is lost but for want of memory
   pub straight_lost : (lost : Lost) → IsLostOnlyWhere chunk lost → IsGiven (Err (refused_by lost))

@@ -6,25 +6,23 @@ use Rattle.lua_tree.specs.Joins.{join_expressions}
 use Rattle.lua_tree.specs.Names.{are_some_names, is_name}
 use Rattle.lua_tree.specs.Syntax as syntax
 use Rattle.lua_tree.specs.Syntax.{Expression, Expressions, Statement, assignment, call_expression, call_statement, field_expression, index_expression, local_statement, method_call, name_expression, no_expressions, parenthesized, return_statement, local_function}
-use Rattle.lua_tree.specs.WellFormed.{are_targets, begins_with_paren, depth_of_expression, depth_of_expressions, depth_of_statement, ends_block, formed_expression, formed_expressions, formed_statement, has_expressions, is_call, is_prefix, is_target, statement_begins_with_paren}
-use Rattle.core_expr.specs.Counting.{one_more, left_by, left_by_operand, left_by_values, taken_behind, taken_behind_operand, taken_behind_values}
-use Rattle.core_expr.specs.Making.{and_last, deepest, depth_of, depth_of_operand, made_index}
+use Rattle.lua_tree.specs.WellFormed.{are_targets, depth_of_expression, depth_of_expressions, depth_of_statement, ends_block, formed_expression, formed_expressions, formed_statement, has_expressions, is_call, is_target}
+use Rattle.core_expr.specs.Counting.{one_more, left_by_values, taken_behind_values}
+use Rattle.core_expr.specs.Making.{deepest, depth_of}
 use Rattle.core_expr.specs.Places.{Place, constant_name, field_name, local_name, upvalue_name}
 use Rattle.core_expr.specs.Targets.{TargetValue, can_write_target, global_target, index_target, left_by_target, local_target, taken_behind_target, upvalue_target, word_target}
-use Rattle.core_expr.specs.Values.{Inner, OperandList, OperandValue, Value, Values, and_operand, and_value, nil_value, no_values, call_value, global_value, index_value, local_value, method_value, no_operands, upvalue_value}
-use Rattle.core_expr.specs.Writing.{Wording, as_prefix, can_write, can_write_values, name_word, unless, with_key, word, word_keys, word_operand, word_values, function_left}
+use Rattle.core_expr.specs.Values.{Inner, OperandValue, Value, Values, and_operand, and_value, nil_value, no_values, call_value, global_value, index_value, local_value, method_value, no_operands, upvalue_value}
+use Rattle.core_expr.specs.Writing.{Wording, can_write, can_write_values, name_word, with_key, word, word_operand, word_values, function_left}
 use Rattle.recover_expr.specs.Assigning.{function_as}
 use Rattle.recover_expr.specs.Entries.{and_last_value}
 use Rattle.recover_expr.specs.Lists.{value_count}
-use Rattle.scheme.specs.Making.{Where, in_globals, in_register, in_upvalue}
 use Rattle.scheme.specs.declared.making.Active.{Active}
 use Rattle.scheme_stands.specs.Words.{Fn}
-use Rattle.reads_back.specs.Acted.{Acted, AreAssigned, AreTargets, AreValues, AreWithOperand, Assigned, Assigns, IsAct, IsActed, IsTarget, IsVariableTarget, act_levels, act_statement, assigned, assigned_levels, assigned_statement, called, can_act, can_write_last, can_write_targets, declared, last_target, left_by_targets, returned, some_missing, taken_behind_targets, with_last_nil, words_assigned, words_targets, local_by, declared_function, levels_by}
-use Rattle.reads_back.specs.Cores.{AreCores, IsCore, IsVariable, ends_open}
-use Rattle.reads_back.specs.Straight.{BeginsWithName, StatementBeginsWithName}
+use Rattle.reads_back.specs.Acted.{Acted, AreAssigned, AreTargets, AreValues, AreWithOperand, Assigned, Assigns, IsAct, IsActed, act_levels, act_statement, assigned, assigned_levels, assigned_statement, called, can_act, can_write_last, can_write_targets, declared, last_target, left_by_targets, returned, some_missing, taken_behind_targets, with_last_nil, words_assigned, words_targets, local_by, declared_function, levels_by}
+use Rattle.reads_back.specs.Cores.{AreCores, IsCore, ends_open}
 use Rattle.reads_back.proofs.FunctionsLeft.{each_by_target, each_by_targets, each_by_values, left_there}
 use Rattle.reads_back.proofs.MarksSame.{over_made}
-use Rattle.reads_back.proofs.NamedActs.{function_as_closed, function_as_depth, function_as_ends, function_as_formed, named_can, named_fine, path_names}
+use Rattle.reads_back.proofs.NamedActs.{function_as_depth, function_as_ends, function_as_formed, named_can, named_fine, path_names}
 use Rattle.reads_back.proofs.Paths.{IsNamed, named_or_holds}
 use Rattle.reads_back.proofs.Tests.{both_hold, first_of_both, not_so, or_first, or_second, second_of_both}
 use Rattle.reads_back.proofs.WrittenFormed.{AreFine, AreFineLeft, IsFine, operand_fine, values_fine, word_fine, IsFineFunction}
@@ -170,104 +168,19 @@ module _ (g : Fn) (active : List Active) where
   some_targets at n left (syntax.expression target targets) before behind [] some are = absurd are
   some_targets at n left (syntax.expression target targets) before behind (t ∷ ts) some are = refl
 
--- ---- a value that begins with a variable is written as it begins
-
-abbrev pub BeginsWithVariable : Value → Type 0
-BeginsWithVariable (local_value r) = Unit {0}
-BeginsWithVariable (upvalue_value u) = Unit {0}
-BeginsWithVariable (global_value k) = Unit {0}
-BeginsWithVariable (index_value on keys depth) = BeginsWithVariable on
-BeginsWithVariable (call_value on args all depth) = BeginsWithVariable on
-BeginsWithVariable (method_value on name args all depth) = BeginsWithVariable on
-BeginsWithVariable v = ⊥
-
-record IsOpen (w : Wording) : Type 0 where
-  prefix : is_prefix w.words ≡ true
-  bare : begins_with_paren w.words ≡ false
-
--- so it needs no parentheses where it is called or indexed
-open_prefix : (w : Wording) → IsOpen w → IsOpen (as_prefix w)
-open_prefix w is = record { prefix = ap (λ bare. is_prefix (unless bare w).words) is.prefix ∙ is.prefix; bare = ap (λ bare. begins_with_paren (unless bare w).words) is.prefix ∙ is.bare }
-
-named_open : (name : Option Text) → is_some name ≡ true → IsOpen (name_word name)
-named_open None some = not_so some
-named_open (Some text) some = record { prefix = refl; bare = refl }
-
-keyed_open : (name : Option Text) (on key : Wording) → IsOpen on → IsOpen (with_key name on key)
-keyed_open None on key is = record { prefix = refl; bare = is.bare }
-keyed_open (Some name) on key is = record { prefix = refl; bare = is.bare }
-
 -- ---- a local function that captures itself
 
 own_formed : (name : Text) (found : Option Inner) → is_name name ≡ true → ((one : Inner) → found ≡ Some one → IsFineFunction one) → is_some found ≡ true → formed_statement (local_by name found) ≡ true
 own_formed name None good fine some = not_so some
 own_formed name (Some found) good fine some = both_hold _ _ good (fine found refl).formed
 
-own_shallow : (name : Text) (found : Option Inner) → ((one : Inner) → found ≡ Some one → IsFineFunction one) → is_some found ≡ true → levels_by found 1 ≤ 400 → suc (depth_of_statement (local_by name found)) ≤ levels_by found 1
+own_shallow : (name : Text) (found : Option Inner) → ((one : Inner) → found ≡ Some one → IsFineFunction one) → is_some found ≡ true → levels_by found 1 ≤ 1000 → suc (depth_of_statement (local_by name found)) ≤ levels_by found 1
 own_shallow name None fine some few = not_so some
 own_shallow name (Some found) fine some few = let low = (fine found refl).shallow (omega (arith, few)) in omega (arith, few, low)
-
-own_closed : (name : Text) (found : Option Inner) → statement_begins_with_paren (local_by name found) ≡ false
-own_closed name None = refl
-own_closed name (Some found) = refl
 
 own_ends : (name : Text) (found : Option Inner) → ends_block (local_by name found) ≡ false
 own_ends name None = refl
 own_ends name (Some found) = refl
-
-module _ (at : Place) where
-  keys_open : (keys : OperandList) (n : ℕ) (fs : List (Option Inner)) (on : Wording) → IsOpen on → IsOpen (word_keys at n fs on keys)
-  keys_open no_operands n fs on is = is
-  keys_open (and_operand key rest) n fs on is = keys_open rest (taken_behind_operand key n) (left_by_operand key fs) _ (keyed_open (field_name at key) on _ is)
-
-  variable_open : (v : Value) (n : ℕ) (fs : List (Option Inner)) → BeginsWithVariable v → can_write at fs v ≡ true → IsOpen (word at n fs v)
-  variable_open (local_value r) n fs begins can = named_open (local_name at r) can
-  variable_open (upvalue_value u) n fs begins can = named_open (upvalue_name at u) can
-  variable_open (global_value k) n fs begins can = named_open (constant_name at k) can
-  variable_open (index_value on keys depth) n fs begins can =
-      keys_open keys (taken_behind on n) (left_by on fs) _ (open_prefix (word at n fs on) (variable_open on n fs begins (first_of_both _ _ (second_of_both _ _ can))))
-  variable_open (call_value on args all depth) n fs begins can = let is = open_prefix (word at n fs on) (variable_open on n fs begins (first_of_both _ _ can)) in record { prefix = refl; bare = is.bare }
-  variable_open (method_value on name args all depth) n fs begins can = let is = open_prefix (word at n fs on) (variable_open on n fs begins (first_of_both _ _ can)) in record { prefix = refl; bare = is.bare }
-  variable_open v n fs begins can = absurd begins
-
--- ---- what begins with a name is a value that begins with a variable
-
-begins_as : (v w : Value) → v ≡ w → BeginsWithVariable w → BeginsWithVariable v
-begins_as v w same begins = subst BeginsWithVariable (sym same) begins
-
-index_begins : (on : Value) (key : OperandValue) (v : Value) → made_index on key ≡ Some v → BeginsWithVariable on → BeginsWithVariable v
-index_begins (index_value on keys depth) key v is begins = begins_as v _ (over_made (depth_of_operand key) (λ d. index_value on (and_last keys key) (max depth d)) v is) begins
-index_begins on key v is begins = begins_as v _ (over_made (max (depth_of on) (depth_of_operand key)) (λ d. index_value on (and_operand key no_operands) d) v is) begins
-
-module _ (g : Fn) (active : List Active) where
-  variable_begins : (text : Text) (w : Where) (v : Value) → IsVariable g text w v → BeginsWithVariable v
-  variable_begins text (in_register r) v is = begins_as v (local_value r) is tt
-  variable_begins text (in_upvalue slot) v is = begins_as v (upvalue_value slot) is tt
-  variable_begins text in_globals v is = begins_as v (global_value is.0) is.2 tt
-
-  pub name_begins : (e : Expression) (before behind : ℕ) (v : Value) → BeginsWithName e → IsCore g active e before behind v → BeginsWithVariable v
-  name_begins (name_expression line text) before behind v begins is = let means = is.1 in variable_begins text means.0 v means.2
-  name_begins (index_expression line on key) before behind v begins is = let parts = is.1 in index_begins parts.0 parts.1 v parts.4 (name_begins on before is.0 parts.0 begins parts.2)
-  name_begins (field_expression line on text) before behind v begins is = let parts = is.1 in index_begins parts.0 parts.1 v parts.4 (name_begins on before is.0 parts.0 begins parts.2)
-  name_begins (call_expression line on args on_line) before behind v begins is =
-      let parts = is.1 in
-      begins_as v _ (over_made (max (depth_of parts.0) (deepest parts.1)) (λ d. call_value parts.0 parts.1 parts.2 d) v parts.5) (name_begins on before is.0 parts.0 begins parts.3)
-  name_begins (method_call line on name args on_line) before behind v begins is =
-      let parts = is.1 in
-      begins_as v _ (over_made (max (depth_of parts.0) (deepest parts.2)) (λ d. method_value parts.0 parts.1 parts.2 parts.3 d) v parts.7) (name_begins on before is.0 parts.0 begins parts.4)
-  name_begins (parenthesized line e) before behind v begins is = name_begins e before behind v begins is
-  name_begins e before behind v begins is = absurd begins
-
-  target_variable : (text : Text) (w : Where) (t : TargetValue) → IsVariableTarget g text w t → BeginsWithVariable (value_of_target t)
-  target_variable text (in_register r) t is = subst (λ t. BeginsWithVariable (value_of_target t)) (sym is) tt
-  target_variable text (in_upvalue slot) t is = subst (λ t. BeginsWithVariable (value_of_target t)) (sym is) tt
-  target_variable text in_globals t is = subst (λ t. BeginsWithVariable (value_of_target t)) (sym is.2) tt
-
-  target_begins : (e : Expression) (before behind : ℕ) (t : TargetValue) → BeginsWithName e → IsTarget g active e before behind t → BeginsWithVariable (value_of_target t)
-  target_begins (name_expression line text) before behind t begins is = target_variable text is.1 t is.3
-  target_begins (index_expression line on key) before behind (index_target o k) begins is = name_begins on before is.0 o begins is.1
-  target_begins (field_expression line on text) before behind (index_target o k) begins is = name_begins on before is.0 o begins is.1
-  target_begins e before behind t begins is = absurd (assumption is)
 
 -- ---- acts; calls are written as calls
 
@@ -292,7 +205,7 @@ module _ (at : Place) (g : Fn) (active : List Active) where
       both_hold _ _ (some_targets g active at n left targets before is.0 ts has.some is.1) (both_hold _ _ fine.0.1 (both_hold _ _ to.formed (both_hold _ _ some values.formed)))
 
   -- it is no deeper than its levels tell
-  pub assigned_shallow : (ts : List TargetValue) (vs : Values) (all : Bool) (last : Option OperandValue) (n : ℕ) (left : List (Option Inner)) → AreFineLeft left → can_act at left (assigned ts vs all last) ≡ true → assigned_levels at n left ts vs all last ≤ 400 →
+  pub assigned_shallow : (ts : List TargetValue) (vs : Values) (all : Bool) (last : Option OperandValue) (n : ℕ) (left : List (Option Inner)) → AreFineLeft left → can_act at left (assigned ts vs all last) ≡ true → assigned_levels at n left ts vs all last ≤ 1000 →
       suc (depth_of_statement (assigned_statement at n left ts vs all last)) ≤ assigned_levels at n left ts vs all last
   assigned_shallow ts vs all last n left fine_left can few =
       let fine = assigned_parts at ts vs all last n left fine_left can in
@@ -301,16 +214,6 @@ module _ (at : Place) (g : Fn) (active : List Active) where
       let low = targets.shallow (omega (arith, few)) in
       let high = values.shallow (omega (arith, few)) in
       omega (arith, few, low, high)
-
-  -- it begins with no parenthesis
-  pub assigned_closed : (targets es : Expressions) (before behind : ℕ) (ts : List TargetValue) (vs : Values) (all : Bool) (last : Option OperandValue) (n : ℕ) (left : List (Option Inner)) → StatementBeginsWithName (assignment targets es) → AreAssigned g active targets es ts before behind (record { values = vs; all = all; last = last }) → can_act at left (assigned ts vs all last) ≡ true →
-      statement_begins_with_paren (assigned_statement at n left ts vs all last) ≡ false
-  assigned_closed targets es before behind [] vs all last n left begins is can = refl
-  assigned_closed no_expressions es before behind (t ∷ ts) vs all last n left begins is can = absurd is.1
-  assigned_closed (syntax.expression target targets) es before behind (t ∷ ts) vs all last n left begins is can =
-      let first = is.1 in
-      let open_words = variable_open at (value_of_target t) n left (target_begins g active target before first.0 t begins.0 first.1) (can_be_read at left t (first_of_both _ _ (first_of_both _ _ can))) in
-      ap (λ w. begins_with_paren w.words) (written_as_value at n left t) ∙ open_words.bare
 
   pub act_formed : (s : Statement) (before behind : ℕ) (acted : Acted) (n : ℕ) (left : List (Option Inner)) → AreFineLeft left → IsAct s → IsActed g active s before behind acted → can_act at left acted ≡ true → formed_statement (act_statement at n left acted) ≡ true
   act_formed (call_statement e) before behind (called v) n left fine_left has is can = let fine = word_fine at v n left fine_left can in both_hold _ _ (called_is at g active left e before behind v n has.0 is) fine.formed
@@ -331,28 +234,17 @@ module _ (at : Place) (g : Fn) (active : List Active) where
   act_formed (return_statement es) before behind (returned vs all) n left fine_left has is can = let fine = values_fine at vs all n left fine_left can in fine.formed
   act_formed s before behind acted n left fine_left has is can = absurd is
 
-  pub act_shallow : (s : Statement) (before behind : ℕ) (acted : Acted) (n : ℕ) (left : List (Option Inner)) → AreFineLeft left → IsAct s → IsActed g active s before behind acted → can_act at left acted ≡ true → act_levels at n left acted ≤ 400 → suc (depth_of_statement (act_statement at n left acted)) ≤ act_levels at n left acted
+  pub act_shallow : (s : Statement) (before behind : ℕ) (acted : Acted) (n : ℕ) (left : List (Option Inner)) → AreFineLeft left → IsAct s → IsActed g active s before behind acted → can_act at left acted ≡ true → act_levels at n left acted ≤ 1000 → suc (depth_of_statement (act_statement at n left acted)) ≤ act_levels at n left acted
   act_shallow s before behind (called v) n left fine_left has is can few = let fine = word_fine at v n left fine_left can in let low = fine.shallow (omega (arith, few)) in omega (arith, few, low)
   act_shallow s before behind (assigned ts vs all last) n left fine_left has is can few =
-      let named : (path : List Text) (found : Inner) → IsNamed at left ts vs last path found → one_more (one_more found.levels) ≤ 400 → suc (depth_of_statement (function_as path found.body)) ≤ one_more (one_more found.levels) = λ path found named few.
+      let named : (path : List Text) (found : Inner) → IsNamed at left ts vs last path found → one_more (one_more found.levels) ≤ 1000 → suc (depth_of_statement (function_as path found.body)) ≤ one_more (one_more found.levels) = λ path found named few.
       let fine = named_fine at left ts vs last path found named fine_left in
       let low = fine.shallow (omega (arith, few)) in
       omega (arith, few, low, function_as_depth path found.body) in
-      named_or_holds (λ s levels. levels ≤ 400 → suc (depth_of_statement s) ≤ levels) at left ts vs last (assigned_statement at n left ts vs all last) (assigned_levels at n left ts vs all last) (assigned_shallow ts vs all last n left fine_left can) named few
+      named_or_holds (λ s levels. levels ≤ 1000 → suc (depth_of_statement s) ≤ levels) at left ts vs last (assigned_statement at n left ts vs all last) (assigned_levels at n left ts vs all last) (assigned_shallow ts vs all last n left fine_left can) named few
   act_shallow s before behind (declared names vs all) n left fine_left has is can few = let fine = values_fine at vs all n left fine_left can in let low = fine.shallow (omega (arith, few)) in omega (arith, few, low)
   act_shallow s before behind (declared_function name number) n left fine_left has is can few = own_shallow name (function_left left number) (λ found there. left_there (λ number found. IsFineFunction found) number left found fine_left there) can few
   act_shallow s before behind (returned vs all) n left fine_left has is can few = let fine = values_fine at vs all n left fine_left can in let low = fine.shallow (omega (arith, few)) in omega (arith, few, low)
-
-  pub act_closed : (s : Statement) (before behind : ℕ) (acted : Acted) (n : ℕ) (left : List (Option Inner)) → StatementBeginsWithName s → IsAct s → IsActed g active s before behind acted → can_act at left acted ≡ true → statement_begins_with_paren (act_statement at n left acted) ≡ false
-  act_closed (call_statement e) before behind (called v) n left begins has is can = let open_words = variable_open at v n left (name_begins g active e before behind v begins is) can in open_words.bare
-  act_closed (assignment targets es) before behind (assigned ts vs all last) n left begins has is can =
-      named_or_holds (λ s levels. statement_begins_with_paren s ≡ false) at left ts vs last (assigned_statement at n left ts vs all last) (assigned_levels at n left ts vs all last) (assigned_closed targets es before behind ts vs all last n left begins is can)
-      (λ path found named. function_as_closed path found.body)
-  act_closed (local_statement names es) before behind (declared others vs all) n left begins has is can = refl
-  act_closed (return_statement es) before behind (returned vs all) n left begins has is can = refl
-  act_closed (local_function text body) before behind (declared others vs all) n left begins has is can = refl
-  act_closed (local_function text body) before behind (declared_function name number) n left begins has is can = own_closed name (function_left left number)
-  act_closed s before behind acted n left begins has is can = absurd is
 
 -- a return ends its block, and nothing else does
 pub act_ends : (at : Place) (g : Fn) (active : List Active) (s : Statement) (before behind : ℕ) (acted : Acted) (n : ℕ) (left : List (Option Inner)) → IsActed g active s before behind acted → ends_block (act_statement at n left acted) ≡ ends_block s

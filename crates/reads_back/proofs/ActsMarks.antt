@@ -1,11 +1,12 @@
 -- What is written of an act mentions the same names as the act, in the same order.
-use Rattle.std.proofs.Common.{◌≡◌, ℕ, ◌⊎◌, inl, inr, Bool, false, List, [], ◌∷◌, length, Option, Some, None, refl, ap, subst, ◌∙◌, true, sym, is_some}
+use Rattle.std.proofs.Common.{◌≡◌, ◌≤◌, max, arith, ℕ, ◌⊎◌, inl, inr, Bool, false, List, [], ◌∷◌, length, Option, Some, None, refl, ap, subst, ◌∙◌, true, sym, is_some}
 use Rattle.lua_num.specs.Bytes.{Text}
 use Rattle.lua_tree.specs.Joins.{join_expressions}
 use Rattle.lua_tree.specs.OneLine.{one_line_expression, one_line_expressions, one_line_statement}
 use Rattle.lua_tree.specs.Outline.{Part, both, come, declares, expression_part, expressions_part, nothing, path_part, statement_part, body_part}
 use Rattle.lua_tree.specs.Syntax as syntax
 use Rattle.lua_tree.specs.Syntax.{Expression, Expressions, Statement, assignment, call_statement, field_expression, index_expression, local_statement, name_expression, no_expressions, return_statement, local_function}
+use Rattle.lua_tree.specs.WellFormed.{depth_of_expression, depth_of_expressions, depth_of_statement}
 use Rattle.core_expr.specs.Counting.{left_by_values, taken_behind_values}
 use Rattle.core_expr.specs.Places.{Place, constant_name, local_name, place, upvalue_name}
 use Rattle.core_expr.specs.Targets.{TargetValue, can_write_target, global_target, index_target, left_by_target, local_target, path_of, upvalue_target, taken_behind_target, word_target}
@@ -32,9 +33,9 @@ use Rattle.reads_back.proofs.Paths.{IsNamed, function_alone, named_or_holds}
 use Rattle.reads_back.proofs.Tests.{first_of_both, second_of_both, not_so}
 use Rattle.reads_back.proofs.WordsRead.{IsFunction}
 
-module _ (at : Place) (of : ℕ → Part) (natural : at.short ≡ false) where
+module _ (at : Place) (of : ℕ → Part) where
   target_part : (t : TargetValue) (n : ℕ) (fs : List (Option Inner)) → ArePartsLeft of fs → can_write_target at fs t ≡ true → SamePart (expression_part (word_target at n fs t).words) (part_of at of (value_of_target t))
-  target_part t n fs parts_left can = part_then (λ here. ap (λ w. expression_part w.words here) (written_as_value at n fs t)) (word_part at of natural (value_of_target t) n fs parts_left (can_be_read at fs t can))
+  target_part t n fs parts_left can = part_then (λ here. ap (λ w. expression_part w.words here) (written_as_value at n fs t)) (word_part at of (value_of_target t) n fs parts_left (can_be_read at fs t can))
 
 module _ (at : Place) (of : ℕ → Part) where
   -- the path of a target mentions what the target does
@@ -60,25 +61,25 @@ module _ {f : Function} {g : Fn} {active : List Active} {listed : List ℕ} (is_
   variable_value text in_globals t (number, has, is) = (number, has, ap value_of_target is)
 
   -- what is assigned to
-  target_marks : (e : Expression) (before behind : ℕ) (t : TargetValue) → IsActTarget e → IsTarget g active e before behind t → SamePart (part_of at of (value_of_target t)) (expression_part (one_line_expression e))
-  target_marks (name_expression line text) before behind t has is =
-      (marks_of is_function listed_names of parts_made (name_expression line text) has).one before behind (value_of_target t) (is.0, (is.1, is.2, variable_value text is.1 t is.3))
-  target_marks (index_expression line on key) before behind (index_target o k) has is =
-      both_same ((marks_of is_function listed_names of parts_made on has.0).one before is.0 o is.1)
-      (part_then (nothing_behind (part_of_operand at of k)) (of_operand is_function listed_names of parts_made key is.0 behind k (literal key) refl (marks_of is_function listed_names of parts_made key has.1).one is.2))
-  target_marks (field_expression line on text) before behind (index_target o k) has is =
+  target_marks : (e : Expression) (before behind : ℕ) (t : TargetValue) → IsActTarget e → depth_of_expression e ≤ 200 → IsTarget g active e before behind t → SamePart (part_of at of (value_of_target t)) (expression_part (one_line_expression e))
+  target_marks (name_expression line text) before behind t has few is =
+      (marks_of is_function listed_names of parts_made (name_expression line text) has (omega arith)).one before behind (value_of_target t) (is.0, (is.1, is.2, variable_value text is.1 t is.3))
+  target_marks (index_expression line on key) before behind (index_target o k) has few is =
+      both_same ((marks_of is_function listed_names of parts_made on has.0 (omega (arith, few))).one before is.0 o is.1)
+      (part_then (nothing_behind (part_of_operand at of k)) (of_operand is_function listed_names of parts_made key is.0 behind k (literal key) refl (marks_of is_function listed_names of parts_made key has.1 (omega (arith, few))).one is.2))
+  target_marks (field_expression line on text) before behind (index_target o k) has few is =
       let key = key_part is_function listed_names of parts_made text is.0 behind k is.2 in
-      part_then (both_same ((marks_of is_function listed_names of parts_made on has).one before is.0 o is.1) (part_then (nothing_behind (part_of_operand at of k)) key)) (nothing_behind (expression_part (one_line_expression on)))
-  target_marks e before behind t has is = absurd (assumption is)
+      part_then (both_same ((marks_of is_function listed_names of parts_made on has (omega (arith, few))).one before is.0 o is.1) (part_then (nothing_behind (part_of_operand at of k)) key)) (nothing_behind (expression_part (one_line_expression on)))
+  target_marks e before behind t has few is = absurd (assumption is)
 
-  targets_marks : (es : Expressions) (before behind : ℕ) (ts : List TargetValue) (n : ℕ) (fs : List (Option Inner)) → ArePartsLeft of fs → AreActTargets es → AreTargets g active es before behind ts → can_write_targets at fs ts ≡ true →
+  targets_marks : (es : Expressions) (before behind : ℕ) (ts : List TargetValue) (n : ℕ) (fs : List (Option Inner)) → ArePartsLeft of fs → AreActTargets es → depth_of_expressions es ≤ 200 → AreTargets g active es before behind ts → can_write_targets at fs ts ≡ true →
       SamePart (expressions_part (words_targets at n fs ts).words) (expressions_part (one_line_expressions es))
-  targets_marks no_expressions before behind [] n fs parts_left are is can = same_part nothing
-  targets_marks no_expressions before behind (t ∷ ts) n fs parts_left are is can = absurd is
-  targets_marks (syntax.expression e es) before behind [] n fs parts_left are is can = absurd is
-  targets_marks (syntax.expression e es) before behind (t ∷ ts) n fs parts_left are is can =
-      both_same (part_then (target_part at of is_function.natural t n fs parts_left (first_of_both _ _ can)) (target_marks e before is.0 t are.0 is.1))
-      (targets_marks es is.0 behind ts (taken_behind_target t n) (left_by_target t fs) (each_by_target (IsPartLeft of) t fs parts_left) are.1 is.2 (second_of_both (can_write_target at fs t) _ can))
+  targets_marks no_expressions before behind [] n fs parts_left are few is can = same_part nothing
+  targets_marks no_expressions before behind (t ∷ ts) n fs parts_left are few is can = absurd is
+  targets_marks (syntax.expression e es) before behind [] n fs parts_left are few is can = absurd is
+  targets_marks (syntax.expression e es) before behind (t ∷ ts) n fs parts_left are few is can =
+      both_same (part_then (target_part at of t n fs parts_left (first_of_both _ _ can)) (target_marks e before is.0 t are.0 (omega (arith, few)) is.1))
+      (targets_marks es is.0 behind ts (taken_behind_target t n) (left_by_target t fs) (each_by_target (IsPartLeft of) t fs parts_left) are.1 (omega (arith, few)) is.2 (second_of_both (can_write_target at fs t) _ can))
 
   -- ---- the values that are assigned
 
@@ -89,84 +90,84 @@ module _ {f : Function} {g : Fn} {active : List Active} {listed : List ℕ} (is_
 
   assigned_words : (vs : Values) (all : Bool) (last : Option OperandValue) (n : ℕ) (fs : List (Option Inner)) → ArePartsLeft of fs → can_write_values at fs vs ≡ true → can_write_last at (left_by_values vs fs) last ≡ true →
       SamePart (expressions_part (words_assigned at n fs vs all last).words) (assigned_part at of (record { values = vs; all = all; last = last }))
-  assigned_words vs all None n fs parts_left can can_last = part_then (values_part at of is_function.natural vs all n fs parts_left can) (part_back (nothing_behind (parts_of at of vs)))
+  assigned_words vs all None n fs parts_left can can_last = part_then (values_part at of vs all n fs parts_left can) (part_back (nothing_behind (parts_of at of vs)))
   assigned_words vs all (Some o) n fs parts_left can can_last =
       let operand = word_operand at (taken_behind_values vs n) (left_by_values vs fs) o in
       part_then (end_part (word_values at n fs vs all).words operand.words)
-      (both_same (values_part at of is_function.natural vs all n fs parts_left can) (operand_part at of is_function.natural o (taken_behind_values vs n) (left_by_values vs fs) (each_by_values (IsPartLeft of) vs fs parts_left) can_last))
+      (both_same (values_part at of vs all n fs parts_left can) (operand_part at of o (taken_behind_values vs n) (left_by_values vs fs) (each_by_values (IsPartLeft of) vs fs parts_left) can_last))
 
   -- as many values as targets, with an operand behind them
-  ended_part : (es : Expressions) (o : OperandValue) (before behind : ℕ) (vs : Values) → AllHaveCores es → EndWithOperand g active es o before behind vs → SamePart (both (parts_of at of vs) (part_of_operand at of o)) (expressions_part (one_line_expressions es))
-  ended_part no_expressions o before behind vs has is = absurd is
-  ended_part (syntax.expression e no_expressions) o before behind vs has is =
-      let last = of_operand is_function listed_names of parts_made e before behind o (literal e) refl (marks_of is_function listed_names of parts_made e has.0).one is.1 in
+  ended_part : (es : Expressions) (o : OperandValue) (before behind : ℕ) (vs : Values) → AllHaveCores es → depth_of_expressions es ≤ 200 → EndWithOperand g active es o before behind vs → SamePart (both (parts_of at of vs) (part_of_operand at of o)) (expressions_part (one_line_expressions es))
+  ended_part no_expressions o before behind vs has few is = absurd is
+  ended_part (syntax.expression e no_expressions) o before behind vs has few is =
+      let last = of_operand is_function listed_names of parts_made e before behind o (literal e) refl (marks_of is_function listed_names of parts_made e has.0 (omega (arith, few))).one is.1 in
       part_then (both_same (λ place. ap (λ vs. parts_of at of vs place) is.0) last) (part_back (nothing_behind (expression_part (one_line_expression e))))
-  ended_part (syntax.expression e (syntax.expression d es)) o before behind vs has (mid, is) =
+  ended_part (syntax.expression e (syntax.expression d es)) o before behind vs has few (mid, is) =
       let front : SamePart (parts_of at of vs) (both (part_of at of is.0) (parts_of at of is.1)) = λ place. ap (λ vs. parts_of at of vs place) is.4 in
       part_then (both_same front (same_part (part_of_operand at of o)))
-      (part_then (both_assoc (part_of at of is.0) (parts_of at of is.1) (part_of_operand at of o)) (both_same ((marks_of is_function listed_names of parts_made e has.0).one before mid is.0 is.2) (ended_part (syntax.expression d es) o mid behind is.1 has.1 is.3)))
+      (part_then (both_assoc (part_of at of is.0) (parts_of at of is.1) (part_of_operand at of o)) (both_same ((marks_of is_function listed_names of parts_made e has.0 (omega (arith, few))).one before mid is.0 is.2) (ended_part (syntax.expression d es) o mid behind is.1 has.1 (omega (arith, few)) is.3)))
 
-  values_marks : (es : Expressions) (ts : List TargetValue) (before behind : ℕ) (to : Assigned) → AllHaveCores es → AreWithOperand g active ts es before behind to ⊎ AreValues g active ts es before behind to → SamePart (assigned_part at of to) (expressions_part (one_line_expressions es))
-  values_marks es ts before behind to has (inl is) =
-      part_then (both_same (same_part (parts_of at of to.values)) (λ place. ap (λ (last : Option OperandValue). last_part at of last place) is.5)) (ended_part es is.2 before behind to.values has is.3)
-  values_marks es ts before behind to has (inr is) =
-      part_then (assigned_parts at of (length ts) (last_target ts) (ends_open es) is.0 to is.3) (list_part is_function listed_names of parts_made es has before behind is.0 is.1)
+  values_marks : (es : Expressions) (ts : List TargetValue) (before behind : ℕ) (to : Assigned) → AllHaveCores es → depth_of_expressions es ≤ 200 → AreWithOperand g active ts es before behind to ⊎ AreValues g active ts es before behind to → SamePart (assigned_part at of to) (expressions_part (one_line_expressions es))
+  values_marks es ts before behind to has few (inl is) =
+      part_then (both_same (same_part (parts_of at of to.values)) (λ place. ap (λ (last : Option OperandValue). last_part at of last place) is.5)) (ended_part es is.2 before behind to.values has few is.3)
+  values_marks es ts before behind to has few (inr is) =
+      part_then (assigned_parts at of (length ts) (last_target ts) (ends_open es) is.0 to is.3) (list_part is_function listed_names of parts_made es has (omega (arith, few)) before behind is.0 is.1)
 
   -- an assignment, where no path says it
-  pub assigned_marks : (targets es : Expressions) (before behind : ℕ) (ts : List TargetValue) (vs : Values) (all : Bool) (last : Option OperandValue) (n : ℕ) (left : List (Option Inner)) → ArePartsLeft of left → Assigns targets es → AreAssigned g active targets es ts before behind (record { values = vs; all = all; last = last }) → can_act at left (assigned ts vs all last) ≡ true →
+  pub assigned_marks : (targets es : Expressions) (before behind : ℕ) (ts : List TargetValue) (vs : Values) (all : Bool) (last : Option OperandValue) (n : ℕ) (left : List (Option Inner)) → ArePartsLeft of left → Assigns targets es → max (depth_of_expressions targets) (depth_of_expressions es) ≤ 200 → AreAssigned g active targets es ts before behind (record { values = vs; all = all; last = last }) → can_act at left (assigned ts vs all last) ≡ true →
       SamePart (statement_part 1 (assigned_statement at n left ts vs all last)) (statement_part 1 (one_line_statement (assignment targets es)))
-  assigned_marks targets es before behind ts vs all last n left parts_left has is can =
+  assigned_marks targets es before behind ts vs all last n left parts_left has few is can =
       let values = second_of_both (can_write_targets at left ts) _ can in
-      both_same (targets_marks targets before is.0 ts n left parts_left has.targets is.1 (first_of_both _ _ can))
+      both_same (targets_marks targets before is.0 ts n left parts_left has.targets (omega (arith, few)) is.1 (first_of_both _ _ can))
       (part_then (assigned_words vs all last (taken_behind_targets ts n) (left_by_targets ts left) (each_by_targets (IsPartLeft of) ts left parts_left) (first_of_both _ _ values) (second_of_both (can_write_values at (left_by_targets ts left) vs) _ values))
-      (values_marks es ts is.0 behind (record { values = vs; all = all; last = last }) has.values is.2))
+      (values_marks es ts is.0 behind (record { values = vs; all = all; last = last }) has.values (omega (arith, few)) is.2))
 
   -- one target
-  alone_marks : (es : Expressions) (before behind : ℕ) (ts : List TargetValue) (t : TargetValue) → ts ≡ t ∷ [] → AreActTargets es → AreTargets g active es before behind ts → SamePart (part_of at of (value_of_target t)) (expressions_part (one_line_expressions es))
-  alone_marks no_expressions before behind ts t one are is = absurd (subst (AreTargets g active no_expressions before behind) one is)
-  alone_marks (syntax.expression e no_expressions) before behind ts t one are is =
+  alone_marks : (es : Expressions) (before behind : ℕ) (ts : List TargetValue) (t : TargetValue) → ts ≡ t ∷ [] → AreActTargets es → depth_of_expressions es ≤ 200 → AreTargets g active es before behind ts → SamePart (part_of at of (value_of_target t)) (expressions_part (one_line_expressions es))
+  alone_marks no_expressions before behind ts t one are few is = absurd (subst (AreTargets g active no_expressions before behind) one is)
+  alone_marks (syntax.expression e no_expressions) before behind ts t one are few is =
       let those = subst (AreTargets g active (syntax.expression e no_expressions) before behind) one is in
-      part_then (target_marks e before those.0 t are.0 those.1) (part_back (nothing_behind (expression_part (one_line_expression e))))
-  alone_marks (syntax.expression e (syntax.expression d es)) before behind ts t one are is =
+      part_then (target_marks e before those.0 t are.0 (omega (arith, few)) those.1) (part_back (nothing_behind (expression_part (one_line_expression e))))
+  alone_marks (syntax.expression e (syntax.expression d es)) before behind ts t one are few is =
       let those = subst (AreTargets g active (syntax.expression e (syntax.expression d es)) before behind) one is in
       absurd those.2
 
   -- a function statement that says a path
-  named_marks : (targets es : Expressions) (before behind : ℕ) (ts : List TargetValue) (vs : Values) (all : Bool) (last : Option OperandValue) (left : List (Option Inner)) → ArePartsLeft of left → Assigns targets es → AreAssigned g active targets es ts before behind (record { values = vs; all = all; last = last }) → can_act at left (assigned ts vs all last) ≡ true →
+  named_marks : (targets es : Expressions) (before behind : ℕ) (ts : List TargetValue) (vs : Values) (all : Bool) (last : Option OperandValue) (left : List (Option Inner)) → ArePartsLeft of left → Assigns targets es → max (depth_of_expressions targets) (depth_of_expressions es) ≤ 200 → AreAssigned g active targets es ts before behind (record { values = vs; all = all; last = last }) → can_act at left (assigned ts vs all last) ≡ true →
       (path : List Text) (found : Inner) → IsNamed at left ts vs last path found → SamePart (statement_part 1 (function_as path found.body)) (statement_part 1 (one_line_statement (assignment targets es)))
-  named_marks targets es before behind ts vs all last left parts_left has is can path found named =
+  named_marks targets es before behind ts vs all last left parts_left has few is can path found named =
       let target = path_of_part at of left named.target path (named_can at left ts vs last path found named (first_of_both _ _ can)) named.has_path in
       let body = left_there (IsPartLeft of) named.number left found parts_left named.there in
       let function = part_then body (alone_part at of vs all last named.number named.goes) in
       part_then (function_as_part 1 path found.body)
-      (both_same (part_then target (alone_marks targets before is.0 ts named.target named.one has.targets is.1))
-      (part_then function (values_marks es ts is.0 behind (record { values = vs; all = all; last = last }) has.values is.2)))
+      (both_same (part_then target (alone_marks targets before is.0 ts named.target named.one has.targets (omega (arith, few)) is.1))
+      (part_then function (values_marks es ts is.0 behind (record { values = vs; all = all; last = last }) has.values (omega (arith, few)) is.2)))
 
   -- on the line 1, which every path has that is written as a target
-  pub act_marks : (s : Statement) → OwnListed f g active s → OwnPartsMade g active of s → (before behind : ℕ) (acted : Acted) (n : ℕ) (left : List (Option Inner)) → ArePartsLeft of left → IsAct s → IsActed g active s before behind acted → can_act at left acted ≡ true → SamePart (statement_part 1 (act_statement at n left acted)) (statement_part 1 (one_line_statement s))
-  act_marks (call_statement e) own parts before behind (called v) n left parts_left has is can = part_then (word_part at of is_function.natural v n left parts_left can) ((marks_of is_function listed_names of parts_made e has.1).one before behind v is)
-  act_marks (assignment targets es) own parts before behind (assigned ts vs all last) n left parts_left has is can =
+  pub act_marks : (s : Statement) → depth_of_statement s ≤ 200 → OwnListed f g active s → OwnPartsMade g active of s → (before behind : ℕ) (acted : Acted) (n : ℕ) (left : List (Option Inner)) → ArePartsLeft of left → IsAct s → IsActed g active s before behind acted → can_act at left acted ≡ true → SamePart (statement_part 1 (act_statement at n left acted)) (statement_part 1 (one_line_statement s))
+  act_marks (call_statement e) few own parts before behind (called v) n left parts_left has is can = part_then (word_part at of v n left parts_left can) ((marks_of is_function listed_names of parts_made e has.1 (omega (arith, few))).one before behind v is)
+  act_marks (assignment targets es) few own parts before behind (assigned ts vs all last) n left parts_left has is can =
       named_or_holds (λ s levels. SamePart (statement_part 1 s) (statement_part 1 (one_line_statement (assignment targets es)))) at left ts vs last (assigned_statement at n left ts vs all last) (assigned_levels at n left ts vs all last)
-      (assigned_marks targets es before behind ts vs all last n left parts_left has is can) (named_marks targets es before behind ts vs all last left parts_left has is can)
-  act_marks (local_statement names es) own parts before behind (declared others vs all) n left parts_left has is can =
-      let made = part_then (declared_parts at of (length names) (ends_open es) is.1 vs all is.3) (list_part is_function listed_names of parts_made es has.1 before behind is.1 is.2) in
-      let values = part_then (values_part at of is_function.natural vs all n left parts_left can) made in
+      (assigned_marks targets es before behind ts vs all last n left parts_left has few is can) (named_marks targets es before behind ts vs all last left parts_left has few is can)
+  act_marks (local_statement names es) few own parts before behind (declared others vs all) n left parts_left has is can =
+      let made = part_then (declared_parts at of (length names) (ends_open es) is.1 vs all is.3) (list_part is_function listed_names of parts_made es has.1 (omega (arith, few)) before behind is.1 is.2) in
+      let values = part_then (values_part at of vs all n left parts_left can) made in
       λ here. ap (λ names. both (declares 1 0 names) (both (expressions_part (word_values at n left vs all).words) (come 0 names here.declarations)) here) is.0
       ∙ both_same (same_part (declares 1 0 names)) (both_same values (same_part (come 0 names here.declarations))) here
-  act_marks (return_statement es) own parts before behind (returned vs all) n left parts_left has is can = part_then (values_part at of is_function.natural vs all n left parts_left can) (list_part is_function listed_names of parts_made es has before behind vs is.0)
-  act_marks (local_function text body) own parts before behind (declared others vs all) n left parts_left has (counts, c, as_many, next, other) can =
-      let values = part_then (values_part at of is_function.natural vs all n left parts_left can) (part_then (λ here. ap (λ vs. parts_of at of vs here) other.2) (nothing_behind (of before))) in
+  act_marks (return_statement es) few own parts before behind (returned vs all) n left parts_left has is can = part_then (values_part at of vs all n left parts_left can) (list_part is_function listed_names of parts_made es has (omega (arith, few)) before behind vs is.0)
+  act_marks (local_function text body) few own parts before behind (declared others vs all) n left parts_left has (counts, c, as_many, next, other) can =
+      let values = part_then (values_part at of vs all n left parts_left can) (part_then (λ here. ap (λ vs. parts_of at of vs here) other.2) (nothing_behind (of before))) in
       let given = part_then values (λ here. ap (λ number. of number here) (sym as_many)) in
       part_then
       (λ here. ap (λ names. both (declares 1 0 names) (both (expressions_part (word_values at n left vs all).words) (come 0 names here.declarations)) here) other.1
       ∙ both_same (same_part (declares 1 0 (text ∷ []))) (both_same given (same_part (come 0 (text ∷ []) here.declarations))) here)
-      (given_marks is_function of text body own parts has.1 c next other.0)
-  act_marks (local_function text body) own parts before behind (declared_function name number) n left parts_left has (counts, c, as_many, next, same) can =
+      (given_marks is_function of text body own parts has.1 (omega (arith, few)) c next other.0)
+  act_marks (local_function text body) few own parts before behind (declared_function name number) n left parts_left has (counts, c, as_many, next, same) can =
       by (function_left left number) (λ found there. left_there (IsPartLeft of) number left found parts_left there) can
     where
       by : (found : Option Inner) → ((one : Inner) → found ≡ Some one → SamePart (body_part false one.body) (of number)) → is_some found ≡ true → SamePart (statement_part 1 (local_by name found)) (statement_part 1 (one_line_statement (local_function text body)))
       by None part some = not_so some
       by (Some found) part some =
           part_then (λ here. ap (λ name. statement_part 1 (local_function name found.body) here) same.1)
-          (own_marks is_function of text body own parts has.1 c next found (part_then (part found refl) (λ here. ap (λ number. of number here) (same.2 ∙ sym as_many))))
-  act_marks s own parts before behind acted n left parts_left has is can = absurd is
+          (own_marks is_function of text body own parts has.1 (omega (arith, few)) c next found (part_then (part found refl) (λ here. ap (λ number. of number here) (same.2 ∙ sym as_many))))
+  act_marks s few own parts before behind acted n left parts_left has is can = absurd is

@@ -42,13 +42,13 @@ each_written deep (syntax.expression e es) all have shallow = (all e have.0 (ome
 
 module _ {f : Function} {g : Fn} {active : List Active} {listed : List ℕ} {z : Maker} (lefts : ℕ → List (Option Inner)) (made : IsMadeBy f g active listed z) (again : AreAgain f g lefts) where
   -- every act
-  pub act_rewritten : (deep : ℕ) (s : Statement) (before behind : ℕ) (acted : Acted) → AllWritten f g active listed z lefts deep → depth_of_statement s ≤ deep → IsAct s → OwnListed f g active s → IsActed g active s before behind acted →
+  pub act_rewritten : (deep : ℕ) (s : Statement) (before behind : ℕ) (acted : Acted) → AllWritten f g active listed z lefts deep → deep ≤ 200 → depth_of_statement s ≤ deep → IsAct s → OwnListed f g active s → IsActed g active s before behind acted →
       RewrittenAct f g active listed z lefts before behind s acted
-  act_rewritten deep (call_statement e) before behind (called v) all shallow is own acts = call_rewritten_act e v is.0 is.1 (all e is.1 shallow before behind v acts)
-  act_rewritten deep (assignment targets es) before behind (assigned ts vs several last) all shallow is own acts =
+  act_rewritten deep (call_statement e) before behind (called v) all few shallow is own acts = call_rewritten_act e v is.0 is.1 (all e is.1 shallow before behind v acts)
+  act_rewritten deep (assignment targets es) before behind (assigned ts vs several last) all few shallow is own acts =
       assignment_rewritten_act lefts made targets es before behind ts (record { values = vs; all = several; last = last }) is (targets_written deep targets all is.targets (omega (arith, shallow))) (each_written deep es all is.values (omega (arith, shallow))) acts
-  act_rewritten deep (return_statement es) before behind (returned vs several) all shallow is own acts = return_rewritten_act lefts made es before behind vs several is (each_written deep es all is shallow) acts.0 acts.1
-  act_rewritten deep (local_statement names es) before behind (declared others vs several) all shallow is own acts =
+  act_rewritten deep (return_statement es) before behind (returned vs several) all few shallow is own acts = return_rewritten_act lefts made es before behind vs several is (each_written deep es all is shallow) acts.0 acts.1
+  act_rewritten deep (local_statement names es) before behind (declared others vs several) all few shallow is own acts =
       local_rewritten_act lefts made names es before behind acts.1 is.1 (each_written deep es all is.1 shallow) acts.2 others vs several acts.0 acts.3
-  act_rewritten deep (local_function text body) before behind acted all shallow is own acts = local_function_rewritten made again text body own is before behind acted acts
-  act_rewritten deep s before behind acted all shallow is own acts = absurd acts
+  act_rewritten deep (local_function text body) before behind acted all few shallow is own acts = local_function_rewritten made again text body own is (omega (arith, few, shallow)) before behind acted acts
+  act_rewritten deep s before behind acted all few shallow is own acts = absurd acts

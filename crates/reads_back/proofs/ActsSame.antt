@@ -1,5 +1,5 @@
 -- What is written of a call makes the same code as the statement; and what names a statement passes that declares nothing.
-use Rattle.std.proofs.Common.{◌≡◌, ℕ, true, List, Option, Some, None, ap, ◌∙◌, arith}
+use Rattle.std.proofs.Common.{inr, ◌≡◌, ℕ, true, List, Option, Some, None, ap, ◌∙◌, arith, length}
 use Rattle.std.specs.Prelude.{◌||◌}
 use Rattle.lua_tree.specs.OneLine.{one_line_expression, one_line_expressions, one_line_statement}
 use Rattle.lua_tree.specs.Syntax.{Expression, Statement, assignment, call_statement, local_statement, return_statement, local_function}
@@ -21,8 +21,12 @@ use Rattle.reads_back.specs.Cores.{HasCore}
 use Rattle.reads_back.proofs.AssignedMentions.{assignment_passes}
 use Rattle.reads_back.proofs.Mentions.{Passed}
 use Rattle.reads_back.proofs.PassedMentions.{mentions_passed}
+use Rattle.core_expr.specs.Places.{place}
+use Rattle.core_expr.specs.Writing.{is_bare}
+use Rattle.reads_back.proofs.InRoom.{levels_in}
+use Rattle.reads_back.proofs.Tests.{second_of_both}
 use Rattle.reads_back.proofs.ReturnsSame.{return_passes}
-use Rattle.reads_back.proofs.Rewriting.{Rewritten, RewrittenAct, mentions_of_statement}
+use Rattle.reads_back.proofs.Rewriting.{Rewritten, RewrittenAct, mentions_of_statement, wording}
 use Rattle.reads_back.proofs.WordsSame.{coded_is, same_multiple}
 
 -- ---- what declares nothing
@@ -66,6 +70,10 @@ module _ {f : Function} {g : Fn} {active : List Active} {listed : List ℕ} {z :
         leaves = written.leaves;
         makes = written.makes;
         few = λ n. omega (arith, written.few n);
+        low = λ short formed m ahead final.
+            let n = length m.constants in
+            let low = levels_in (is_bare (place f.of listed f.short) n v) e (wording f listed z lefts before n v) (written.low short (second_of_both (is_call e) _ formed) m ahead (inr (inr (several, Op.Call, Some 0, final)))) in
+            omega (arith, low);
         made = λ m ahead final. written.multi several Op.Call (Some 0) m ahead final;
         taken = λ m ahead final. written.multi_taken several Op.Call (Some 0) m ahead final;
       }

@@ -4,7 +4,7 @@ use Rattle.std.proofs.lemmas.List.{length-map, length-replicate}
 use Rattle.std.specs.List.{prefix_len}
 use Rattle.std.specs.Prelude.{◌==◌, ◌^◌, option_and_then, replicate, Option}
 use Rattle.lua_num.specs.Bytes.{Text}
-use Rattle.lua_tree.specs.WellFormed.{depth_of_statement}
+use Rattle.lua_tree.specs.WellFormed.{depth_of_statement, formed_statement, formed_statements, may_follow}
 use Rattle.lua_tree.specs.Names.{are_names, are_some_names, is_name}
 use Rattle.lua_tree.specs.Syntax as syntax
 use Rattle.lua_tree.specs.Syntax.{Statement, Statements, assignment, call_statement, local_statement, no_statements, return_statement, local_function}
@@ -21,8 +21,8 @@ use Rattle.scheme.specs.Making.{Maker}
 use Rattle.scheme.specs.Statements.{settle}
 use Rattle.scheme_stands.proofs.Growth.{spot}
 use Rattle.scheme_stands.specs.Words.{Fn}
-use Rattle.reads_back.specs.Acted.{Acted, IsAct, IsActed, act_levels, act_statement, assigned, called, declared, left_by_act, returned, lean_depth, lean_depth_of, named_by, assigned_statement, local_by, declared_function}
-use Rattle.reads_back.specs.ReadAs.{part_of}
+use Rattle.reads_back.specs.Acted.{Acted, IsAct, IsActed, act_levels, act_statement, assigned, called, declared, left_by_act, returned, taken_behind_act, lean_depth, lean_depth_of, named_by, assigned_statement, local_by, declared_function}
+use Rattle.reads_back.specs.ReadAs.{part_of, begin_with_paren}
 use Rattle.reads_back.proofs.ActsRead.{ActRead, Declares, kind_of_act, locals_of, numbers_from}
 use Rattle.reads_back.proofs.BehindWords.{HasLocals}
 use Rattle.reads_back.proofs.BlockMakers.{actives_by, all_made, entries_by, entries_from, good_names, made_by, statement_moves}
@@ -33,9 +33,10 @@ use Rattle.reads_back.proofs.FunctionSteps.{as_assigned}
 use Rattle.reads_back.proofs.ListedLocals.{as_many_listed, ended}
 use Rattle.reads_back.proofs.StartingLocals.{StartFrom, all_left, all_start, are_declared, at_front, behind_front, entries_start, names_listed, none_start, numbers_length, shown_name, start_both, start_later}
 use Rattle.reads_back.proofs.StepsPlaced.{AreDraftsOf, KindIs}
+use Rattle.reads_back.proofs.Rooms.{lean_room, lean_room_of}
 use Rattle.reads_back.proofs.StraightActs.{StartsWith, act_forward, act_read, few_levels, written, written_shallow}
-use Rattle.reads_back.proofs.StraightBlocks.{AreWritten, ComesNext, IsWhole, comes_behind, listed_by, low, made_there, own_listed}
-use Rattle.reads_back.proofs.Tests.{first_of_both, not_below, both_hold}
+use Rattle.reads_back.proofs.StraightBlocks.{AreWritten, ComesNext, IsWhole, comes_behind, here_final, listed_by, low, made_there, names_next, own_listed}
+use Rattle.reads_back.proofs.Tests.{first_of_both, not_below, both_hold, second_of_both}
 use Rattle.reads_back.proofs.WordsRead.{IsQuiet}
 use Rattle.lua_tree.specs.Outline.{Part}
 
@@ -92,6 +93,11 @@ pub record IsThere (f : Function) (lefts : ℕ → List (Option Inner)) (m : Mak
   pub declared : length now.scope.declared ≡ length m.active
   pub active : length m.items < f.last → now.scope.active ≡ listed_by m
   pub left : now.left ≡ lefts (length m.functions)
+  pub seen : now.seen ≡ length m.constants
+
+-- no more levels than so many, and in the forms of fewest levels than others
+abbrev pub IsLow : (short : Bool) → (most roomy : ℕ) → ℕ → Type 0
+IsLow short most roomy levels = (levels ≤ most) × (short ≡ true → levels ≤ roomy)
 
 module _ {f : Function} {g : Fn} {z : Maker} {lefts : ℕ → List (Option Inner)} {of : ℕ → Part} (whole : IsWhole f g z lefts of) where
   module _ {block : Statements} {m : Maker} (next : ComesNext f g z block m) where
@@ -235,6 +241,7 @@ module _ {f : Function} {g : Fn} {z : Maker} {lefts : ℕ → List (Option Inner
       let moves = statement_moves s next.straight.0.0 m in
       let count = declares_count s next.straight.0.0 m (length m.functions) (length n.functions) act.acted act.is in
       let added : length n.active ≡ length m.active + locals_of act.acted = ap length moves.active ∙ length-append m.active (actives_by s m) ∙ ap (λ more. length m.active + more) (sym count) in
+      let one = written (made_there whole.made next) whole.left s next.straight.0.0 (low whole.made next) (own_listed whole.made next) (length m.functions) (length n.functions) act.acted act.is in
       let zero_more : length m.active ≡ 0 + length m.active = omega arith in
       let all_active : act.behind.scope.active ≡ numbers_from 0 (length n.active) =
       act.declares.active_more
@@ -248,22 +255,23 @@ module _ {f : Function} {g : Fn} {z : Maker} {lefts : ℕ → List (Option Inner
             ap (λ locals. (leave locals (length n.items) act.behind.scope).active) more.listing.listed
             ∙ all_left f.last (length n.items) (length n.active) (n.locals ++ entries_from rest (settle n)) act.behind.scope before all_active as_many
             ∙ all_active;
-        left = act.left ∙ ap (left_by_act act.acted) there.left ∙ (written (made_there whole.made next) whole.left s next.straight.0.0 (low whole.made next) (own_listed whole.made next) (length m.functions) (length n.functions) act.acted act.is).leaves;
+        left = act.left ∙ ap (left_by_act act.acted) there.left ∙ one.leaves;
+        seen = act.seen ∙ ap (taken_behind_act act.acted) there.seen ∙ sym (one.taken m (names_next whole.made next) (here_final whole.made next));
       }
 
   -- ---- steps up to the last word
 
-  pub record StepsRead (most : ℕ) (block : Statements) (m : Maker) (drafts : List Drafted) (now : Situation) : Type 0 where
+  pub record StepsRead (most roomy : ℕ) (block : Statements) (m : Maker) (drafts : List Drafted) (now : Situation) : Type 0 where
     pub written : Statements
     pub are : AreWritten f g lefts now.seen block written m
     pub more : List Drafted
     pub behind : Situation
     pub reads : (count : ℕ) → f.last ≤ count + length m.items → drafts_from f count (drafts, length m.items, now) ≡ Some (drafts ++ more, f.last, behind)
-    pub drafts_are : AreDraftsOf (length f.of.locals) most written more
+    pub drafts_are : AreDraftsOf (length f.of.locals) (IsLow f.short most roomy) written more
     pub all_declared : length f.of.locals ≡ length behind.scope.declared
 
-  no_steps : (most : ℕ) (m : Maker) (drafts : List Drafted) (now : Situation) → ComesNext f g z no_statements m → length m.items ≡ f.last → IsThere f lefts m now → StepsRead most no_statements m drafts now
-  no_steps most m drafts now next over there = record {
+  no_steps : (most roomy : ℕ) (m : Maker) (drafts : List Drafted) (now : Situation) → ComesNext f g z no_statements m → length m.items ≡ f.last → IsThere f lefts m now → StepsRead most roomy no_statements m drafts now
+  no_steps most roomy m drafts now next over there = record {
     written = no_statements;
     are = refl;
     more = [];
@@ -295,16 +303,16 @@ module _ {f : Function} {g : Fn} {z : Maker} {lefts : ℕ → List (Option Inner
       ∙ ap (λ n. if n == 0 then words_from f (suc (f.last - pc)) pc step else None) none
       ∙ act.reads (suc (f.last - pc)) (omega (arith, act.later, within))
 
-  one_step : {s : Statement} {rest : Statements} {m : Maker} (most line : ℕ) (semi : Bool) (drafts : List Drafted) (now : Situation) (next : ComesNext f g z (syntax.statement line semi s rest) m) → 3 * lean_depth s + 4 ≤ most → now.scope.active ≡ listed_by m → IsThere f lefts m now →
+  one_step : {s : Statement} {rest : Statements} {m : Maker} (most roomy line : ℕ) (semi : Bool) (drafts : List Drafted) (now : Situation) (next : ComesNext f g z (syntax.statement line semi s rest) m) → formed_statement s ≡ true → 3 * lean_depth s + 4 ≤ most → suc (lean_room s) ≤ roomy → now.scope.active ≡ listed_by m → IsThere f lefts m now →
       (act : ActRead f g m.active s (length m.functions) (length (made_by s m).functions) (begun (length drafts) (length m.items) now) (length m.items) (length (made_by s m).items)) → step_at f (length drafts) (length m.items) now ≡ Some (act.draft, act.behind) → length (made_by s m).items ≤ f.last →
-      StepsRead most rest (settle (made_by s m)) (drafts ++ act.draft ∷ []) (left_at f (length (made_by s m).items) act.behind) → StepsRead most (syntax.statement line semi s rest) m drafts now
-  one_step {s} {rest} {m} most line semi drafts now next is_low active there act is_read within others = record {
-    written = syntax.statement 1 false here others.written;
+      StepsRead most roomy rest (settle (made_by s m)) (drafts ++ act.draft ∷ []) (left_at f (length (made_by s m).items) act.behind) → StepsRead most roomy (syntax.statement line semi s rest) m drafts now
+  one_step {s} {rest} {m} most roomy line semi drafts now next formed is_low is_roomy active there act is_read within others = record {
+    written = syntax.statement 1 (begin_with_paren others.written) here others.written;
     are = (act.acted, others.written, act.is, subst (λ taken. AreWritten f g lefts taken rest others.written (settle n)) act.seen others.are, refl);
     more = act.draft ∷ others.more;
     behind = others.behind;
     reads = reads;
-    drafts_are = (record { kind = kind; part = part; enough = enough; few = few }, others.drafts_are);
+    drafts_are = (record { kind = kind; part = part; enough = enough; low = (few, in_room) }, others.drafts_are);
     all_declared = others.all_declared;
   }
     where
@@ -325,6 +333,12 @@ module _ {f : Function} {g : Fn} {z : Maker} {lefts : ℕ → List (Option Inner
 
       few : act.draft.levels ≤ most
       few = omega (arith, levels, is_low, few_levels (made_there whole.made next) whole.left s next.straight.0.0 (low whole.made next) (own_listed whole.made next) (length m.functions) (length n.functions) act.acted now.seen act.is)
+
+      in_room : f.short ≡ true → act.draft.levels ≤ roomy
+      in_room short =
+          let one = written (made_there whole.made next) whole.left s next.straight.0.0 (low whole.made next) (own_listed whole.made next) (length m.functions) (length n.functions) act.acted act.is in
+          let there_seen = ap (λ taken. act_levels (place f.of (listed_by m) f.short) taken (lefts (length m.functions)) act.acted) there.seen in
+          omega (arith, levels, there_seen, is_roomy, one.low short formed m (names_next whole.made next) (here_final whole.made next))
 
       room : length now.scope.declared + length (entries_by s n) ≤ length f.of.locals
       room =
@@ -347,9 +361,10 @@ module _ {f : Function} {g : Fn} {z : Maker} {lefts : ℕ → List (Option Inner
   -- ---- all steps
 
   -- with no more levels than so many
-  pub block_read : (most : ℕ) (block : Statements) (m : Maker) (drafts : List Drafted) (now : Situation) → ComesNext f g z block m → 3 * lean_depth_of block + 1 ≤ most → length (all_made block m).items ≡ f.last → IsThere f lefts m now → StepsRead most block m drafts now
-  block_read most no_statements m drafts now next is_low ends there = no_steps most m drafts now next ends there
-  block_read most (syntax.statement line semi s rest) m drafts now next is_low ends there =
+  pub block_read : (most roomy : ℕ) (block : Statements) (m : Maker) (drafts : List Drafted) (now : Situation) → ComesNext f g z block m → formed_statements block ≡ true → 3 * lean_depth_of block + 1 ≤ most → lean_room_of block ≤ roomy → length (all_made block m).items ≡ f.last → IsThere f lefts m now → StepsRead most roomy block m drafts now
+  block_read most roomy no_statements m drafts now next formed is_low is_roomy ends there = no_steps most roomy m drafts now next ends there
+  block_read most roomy (syntax.statement line semi s rest) m drafts now next formed is_low is_roomy ends there =
+      let behind_formed = second_of_both (may_follow s semi rest) _ (second_of_both (formed_statement s) _ formed) in
       let n = made_by s m in
       let more = comes_behind whole.made next in
       let rest_later = later_starts rest (settle n) more (omega (arith, ends)) in
@@ -362,4 +377,4 @@ module _ {f : Function} {g : Fn} {z : Maker} {lefts : ℕ → List (Option Inner
       let few : length now.scope.active ≤ 250 = omega (arith, base, next.room, whole.made.is_function.few) in
       let is_read = act_is_read m now act (quiet.none (length m.items) (omega arith) later) few within in
       let behind = left_at f (length n.items) act.behind in
-      one_step most line semi drafts now next (omega (arith, is_low)) active there act is_read within (block_read most rest (settle n) (drafts ++ act.draft ∷ []) behind more (omega (arith, is_low)) ends (there_behind next there active act))
+      one_step most roomy line semi drafts now next (first_of_both _ _ formed) (omega (arith, is_low)) (omega (arith, is_roomy)) active there act is_read within (block_read most roomy rest (settle n) (drafts ++ act.draft ∷ []) behind more behind_formed (omega (arith, is_low)) (omega (arith, is_roomy)) ends (there_behind next there active act))

@@ -1,18 +1,18 @@
 -- What is written of a call has the code of the call: a function with its arguments, and a method.
-use Rattle.std.proofs.Common.{◌≡◌, ℕ, suc, ◌≤◌, max, ◌+◌, Bool, true, false, cond, List, [], ◌++◌, length, Option, Some, None, refl, sym, ap, ◌∙◌, subst, arith}
+use Rattle.std.proofs.Common.{◌≡◌, ℕ, suc, ◌≤◌, max, ◌+◌, inr, Bool, true, false, cond, List, [], ◌++◌, length, Option, Some, None, refl, sym, ap, ◌∙◌, subst, arith}
 use Rattle.std.specs.Prelude.{◌&&◌, not, ◌==◌, is_some, if◌then◌else◌}
 use Rattle.lua_num.specs.Bytes.{Text}
 use Rattle.lua_tree.specs.Names.{is_name as is_name_text}
 use Rattle.lua_tree.specs.OneLine.{one_line_arguments, one_line_expression}
 use Rattle.lua_tree.specs.Syntax.{Arguments, Expression, Expressions, argument_list, call_expression, method_call, text_argument, Fields, table_argument}
-use Rattle.lua_tree.specs.WellFormed.{depth_of_arguments, depth_of_expression, depth_of_expressions, is_prefix, depth_of_fields}
+use Rattle.lua_tree.specs.WellFormed.{depth_of_arguments, depth_of_expression, depth_of_expressions, formed_expression, is_prefix, depth_of_fields, on_its_line}
 use Rattle.opcode.specs.declared.op.Op.{Op}
 use Rattle.proto.specs.declared.parts.Constant.{Constant}
-use Rattle.core_expr.specs.Counting.{with_constant, taken_behind, taken_behind_values, left_by, left_by_values}
+use Rattle.core_expr.specs.Counting.{with_constant, taken_behind, taken_behind_values, left_by_values}
 use Rattle.core_expr.specs.Making.{deepest, depth_of, made_call, made_method}
 use Rattle.core_expr.specs.Places.{as_name, as_text, constant_name, place}
 use Rattle.core_expr.specs.Values.{Value, call_value, method_value, Values, Inner}
-use Rattle.core_expr.specs.Writing.{Wording, as_arguments, as_list, as_prefix, can_write_values, text_or_empty, with_arguments, with_method, word_short, word_values}
+use Rattle.core_expr.specs.Writing.{Wording, as_arguments, as_prefix, can_write_values, is_bare, text_or_empty, with_arguments, with_method, word_short, word_values}
 use Rattle.recover_expr.specs.Situation.{Function}
 use Rattle.scheme.specs.Expressions.{Coded, Want, count_field, fold, is_multiple, is_name, is_small, next_reg, next_text, operand, rk_text, small_constant}
 use Rattle.scheme.specs.Lists.{Given, by_base, call_at, method_at, moved, results_at}
@@ -29,9 +29,11 @@ use Rattle.reads_back.proofs.Deeper.{some_depth}
 use Rattle.reads_back.proofs.LiteralReads.{constant_there}
 use Rattle.reads_back.proofs.Mentions.{IsAhead, Passed, ahead_behind, ahead_front, mentions_given, mentions_in, made_behind, made_both}
 use Rattle.reads_back.proofs.PassedMentions.{mentions_passed, next_passes, operand_passes, rk_text_passes}
-use Rattle.reads_back.proofs.Rewriting.{IsMadeBy, Rewritten, RewrittenGiven, arguments_wording, code, wording}
-use Rattle.reads_back.proofs.Tests.{both_hold, given_is}
-use Rattle.reads_back.proofs.WordsSame.{levels_wrapped, next_same, next_taken, next_wrapped, operand_same, operand_taken, operand_wrapped}
+use Rattle.reads_back.proofs.Rewriting.{HasRoom, IsMadeBy, Rewritten, RewrittenGiven, arguments_wording, code, given_wording, wording}
+use Rattle.reads_back.proofs.ShortWords.{AreGivenAlike, arguments_alike}
+use Rattle.reads_back.proofs.Tests.{both_hold, first_of_both, given_is, second_of_both}
+use Rattle.reads_back.proofs.InRoom.{IsInRoom, prefix_in}
+use Rattle.reads_back.proofs.WordsSame.{levels_wrapped, made_called, next_low, next_same, next_taken, next_wrapped, operand_low, operand_same, operand_taken, operand_wrapped}
 
 -- ---- what comes to a register from F
 
@@ -64,25 +66,27 @@ call_at_same on off one other op want m next part count =
     ∙ ap (λ (c : Want). results_at m.free want (put 1 (Piece.Abc op m.free (count_field 1 c) (count_field 1 want)) (other.part (next_reg off m)))) count
 
 module _ {f : Function} {g : Fn} {active : List Active} {listed : List ℕ} {z : Maker} {lefts : ℕ → List (Option Inner)} {before mid behind : ℕ} (on : Expression) (args : Arguments) (o : Value) (values : Values) (all : Bool) (line on_line deep depth : ℕ)
-    (short : f.short ≡ false) (has : HasCore on) (on_written : Rewritten f g active listed z lefts before mid on o) (args_written : RewrittenGiven f g active listed z lefts mid behind args deep values all)
-    (within : deep ≤ max (depth_of_expression on) (depth_of_arguments args)) where
+    (has : HasCore on) (on_written : Rewritten f g active listed z lefts before mid on o) (args_written : RewrittenGiven f g active listed z lefts mid behind args deep values all)
+    (within : deep ≤ max (depth_of_expression on) (depth_of_arguments args)) (shallow : deep ≤ 200) where
   abbrev prefix_words : (n : ℕ) → Wording
   prefix_words n = as_prefix (wording f listed z lefts before n o)
 
   abbrev call_words : (n : ℕ) → Wording
-  call_words n = with_arguments (prefix_words n) (arguments_wording f listed z lefts mid (taken_behind o n) values all)
+  call_words n = with_arguments (prefix_words n) (given_wording f listed z lefts mid (taken_behind o n) values all)
 
   call_words_are : (n : ℕ) → wording f listed z lefts before n (call_value o values all depth) ≡ call_words n
   call_words_are n =
       let at = place f.of listed f.short in
-      ap (λ short. with_arguments (prefix_words n) (as_arguments (short && not all) (word_short at (taken_behind o n) (left_by o (lefts before)) values) (word_values at (taken_behind o n) (left_by o (lefts before)) values all))) short
-      ∙ ap (λ fs. with_arguments (prefix_words n) (as_list (word_values at (taken_behind o n) fs values all))) on_written.leaves
+      ap (λ fs. with_arguments (prefix_words n) (as_arguments (f.short && not all) (word_short at (taken_behind o n) fs values) (word_values at (taken_behind o n) fs values all))) on_written.leaves
 
   abbrev of_call : Op → Want → Part
   of_call = call_at 1 (code on) (given (one_line_arguments args) 1)
 
   abbrev written_call : (n : ℕ) → Op → Want → Part
-  written_call n = call_at 1 (coded (prefix_words n).words) (given (arguments_wording f listed z lefts mid (taken_behind o n) values all).words 1)
+  written_call n = call_at 1 (coded (prefix_words n).words) (given (given_wording f listed z lefts mid (taken_behind o n) values all).words 1)
+
+  alike : (n : ℕ) → AreGivenAlike (given_wording f listed z lefts mid n values all) (word_values (place f.of listed f.short) n (lefts mid) values all)
+  alike n = arguments_alike (place f.of listed f.short) n (lefts mid) f.short values all
 
   before_word : (op : Op) (want : Want) (m : Maker) → Final (length m.labels) (of_call op want m) z → Final (length m.labels) ((given (one_line_arguments args) 1).part (next_reg (code on) m)) z
   before_word op want m final = before_put 1 _ _ (before_part (grows_results {v = calm} m.free want _) final)
@@ -100,10 +104,10 @@ module _ {f : Function} {g : Fn} {active : List Active} {listed : List ℕ} {z :
   call_same op want m ahead final =
       let n = length m.constants in
       let on_made = next_reg (code on) m in
-      call_at_same (coded (prefix_words n).words) (code on) (given (arguments_wording f listed z lefts mid (taken_behind o n) values all).words 1) (given (one_line_arguments args) 1) op want m
+      call_at_same (coded (prefix_words n).words) (code on) (given (given_wording f listed z lefts mid (taken_behind o n) values all).words 1) (given (one_line_arguments args) 1) op want m
       (next_wrapped (is_prefix (wording f listed z lefts before n o).words) (wording f listed z lefts before n o) m ∙ next_same on_written m (ahead_front (mentions_in on) (mentions_given args) ahead) (before_args op want m final))
-      (ap (λ n. (given (arguments_wording f listed z lefts mid n values all).words 1).part on_made) (sym (next_taken on_written m (ahead_front (mentions_in on) (mentions_given args) ahead) (before_args op want m final))) ∙ args_written.part on_made (behind_ahead m ahead) (behind_on op want m final))
-      (args_written.counts (taken_behind o n))
+      ((alike (taken_behind o n)).part on_made ∙ ap (λ n. (given (arguments_wording f listed z lefts mid n values all).words 1).part on_made) (sym (next_taken on_written m (ahead_front (mentions_in on) (mentions_given args) ahead) (before_args op want m final))) ∙ args_written.part on_made (behind_ahead m ahead) (behind_on op want m final))
+      ((alike (taken_behind o n)).count ∙ args_written.counts (taken_behind o n))
 
   call_taken : (op : Op) (want : Want) (m : Maker) → IsAhead g active before (mentions_in on ++ mentions_given args) m → Final (length m.labels) (of_call op want m) z →
       length (of_call op want m).constants ≡ taken_behind_values values (taken_behind o (length m.constants))
@@ -111,6 +115,21 @@ module _ {f : Function} {g : Fn} {active : List Active} {listed : List ℕ} {z :
       results_keep m.free want _
       ∙ args_written.taken (next_reg (code on) m) (behind_ahead m ahead) (behind_on op want m final)
       ∙ ap (taken_behind_values values) (next_taken on_written m (ahead_front (mentions_in on) (mentions_given args) ahead) (before_args op want m final))
+
+  -- in the forms of fewest levels
+  call_low : f.short ≡ true → formed_expression (call_expression line on args on_line) ≡ true → (op : Op) (want : Want) (m : Maker) → IsAhead g active before (mentions_in on ++ mentions_given args) m → Final (length m.labels) (of_call op want m) z →
+      HasRoom f listed z lefts before (length m.constants) (call_expression line on args on_line) (call_value o values all depth)
+  call_low short formed op want m ahead final =
+      let n = length m.constants in
+      let parts = second_of_both (is_prefix on) _ formed in
+      let given = second_of_both (on_its_line args line on_line) _ (second_of_both (formed_expression on) _ parts) in
+      let here = ahead_front (mentions_in on) (mentions_given args) ahead in
+      let w = wording f listed z lefts before n o in
+      let one = prefix_in (is_bare (place f.of listed f.short) n o) on w (next_low on_written short (first_of_both _ _ parts) m here (before_args op want m final)) (first_of_both _ _ formed) in
+      let other = args_written.low short given shallow (next_reg (code on) m) (behind_ahead m ahead) (behind_on op want m final) in
+      let same = ap (λ n. (given_wording f listed z lefts mid n values all).levels) (next_taken on_written m here (before_args op want m final)) in
+      subst (λ (w : Wording). IsInRoom true (call_expression line on args on_line) w) (sym (call_words_are n))
+      (inr (record { low = omega (arith, one, other, same); binds = record { prefix = refl; level = refl; unary = refl; several = refl }; bare_there = λ none. refl; unfolded = refl }))
 
   call_written : Rewritten f g active listed z lefts before behind (call_expression line on args on_line) (call_value o values all depth)
   call_written = record {
@@ -124,7 +143,11 @@ module _ {f : Function} {g : Fn} {active : List Active} {listed : List ℕ} {z :
     few = λ n.
         let same = ap (λ (w : Wording). w.levels) (call_words_are n) in
         let prefix_few = levels_wrapped (is_prefix (wording f listed z lefts before n o).words) (wording f listed z lefts before n o) in
-        omega (arith, same, prefix_few, on_written.few n, args_written.few (taken_behind o n), within);
+        let given_few = args_written.few (taken_behind o n) in
+        let no_more = (alike (taken_behind o n)).levels (omega (arith, given_few, within, shallow)) in
+        omega (arith, same, prefix_few, on_written.few n, given_few, no_more, within);
+    low = λ short formed m ahead as_made.
+        made_called (call_expression line on args on_line) m refl (λ r final. call_low short formed Op.Call (Some 1) m ahead (before_base (of_call Op.Call (Some 1)) r m final)) (λ op want final. call_low short formed op want m ahead final) as_made;
     keys = omega arith;
     as_local = λ n r m ahead is. cc;
     to_reg = λ r m ahead final.
@@ -164,7 +187,7 @@ name_taken {z = z} {j = j} made name number m has final = by (is_small (Constant
 
 module _ {f : Function} {g : Fn} {active : List Active} {listed : List ℕ} {z : Maker} {lefts : ℕ → List (Option Inner)} {before mid behind : ℕ} (made : IsMadeBy f g active listed z)
     (on : Expression) (args : Arguments) (o : Value) (values : Values) (all : Bool) (line on_line deep depth number : ℕ) (name : Text)
-    (has : HasCore on) (on_written : Rewritten f g active listed z lefts before mid on o) (args_written : RewrittenGiven f g active listed z lefts mid behind args deep values all) (within : deep ≤ max (depth_of_expression on) (depth_of_arguments args))
+    (has : HasCore on) (on_written : Rewritten f g active listed z lefts before mid on o) (args_written : RewrittenGiven f g active listed z lefts mid behind args deep values all) (within : deep ≤ max (depth_of_expression on) (depth_of_arguments args)) (shallow : deep ≤ 200)
     (numbered : HasNumber g (Constant.Text name) number) (named : is_name_text name ≡ true) where
   abbrev on_words : (n : ℕ) → Wording
   on_words n = as_prefix (wording f listed z lefts before n o)
@@ -173,7 +196,7 @@ module _ {f : Function} {g : Fn} {active : List Active} {listed : List ℕ} {z :
   behind_name n = with_constant (taken_behind o n) number
 
   abbrev method_words : (n : ℕ) → Wording
-  method_words n = with_method (on_words n) name (arguments_wording f listed z lefts mid (behind_name n) values all)
+  method_words n = with_method (on_words n) name (given_wording f listed z lefts mid (behind_name n) values all)
 
   name_there : constant_name (place f.of listed f.short) number ≡ Some name
   name_there = ap (λ k. as_name (as_text k)) (constant_there number (Constant.Text name) made.is_function numbered.is) ∙ ap (λ good. if good then Some name else None) named
@@ -182,15 +205,17 @@ module _ {f : Function} {g : Fn} {active : List Active} {listed : List ℕ} {z :
   method_words_are n =
       let at = place f.of listed f.short in
       let method_name = text_or_empty (constant_name at number) in
-      ap (λ short. with_method (on_words n) method_name (as_arguments (short && not all) (word_short at (behind_name n) (left_by o (lefts before)) values) (word_values at (behind_name n) (left_by o (lefts before)) values all))) made.is_function.natural
-      ∙ ap (λ fs. with_method (on_words n) method_name (as_list (word_values at (behind_name n) fs values all))) on_written.leaves
-      ∙ ap (λ (k : Option Text). with_method (on_words n) (text_or_empty k) (arguments_wording f listed z lefts mid (behind_name n) values all)) name_there
+      ap (λ fs. with_method (on_words n) method_name (as_arguments (f.short && not all) (word_short at (behind_name n) fs values) (word_values at (behind_name n) fs values all))) on_written.leaves
+      ∙ ap (λ (k : Option Text). with_method (on_words n) (text_or_empty k) (given_wording f listed z lefts mid (behind_name n) values all)) name_there
 
   abbrev of_method : Op → Want → Part
   of_method = method_at 1 (code on) name (given (one_line_arguments args) 1)
 
   abbrev written_method : (n : ℕ) → Op → Want → Part
-  written_method n = method_at 1 (coded (on_words n).words) name (given (arguments_wording f listed z lefts mid (behind_name n) values all).words 1)
+  written_method n = method_at 1 (coded (on_words n).words) name (given (given_wording f listed z lefts mid (behind_name n) values all).words 1)
+
+  method_alike : (n : ℕ) → AreGivenAlike (given_wording f listed z lefts mid n values all) (word_values (place f.of listed f.short) n (lefts mid) values all)
+  method_alike n = arguments_alike (place f.of listed f.short) n (lefts mid) f.short values all
 
   abbrev before_given : Maker → Maker
   before_given m = self_behind m.free name (operand (code on) m)
@@ -228,14 +253,29 @@ module _ {f : Function} {g : Fn} {active : List Active} {listed : List ℕ} {z :
   method_same : (op : Op) (want : Want) (m : Maker) → IsAhead g active before (mentions_in on ++ mentions_given args) m → Final (length m.labels) (of_method op want m) z → written_method (length m.constants) op want m ≡ of_method op want m
   method_same op want m ahead final =
       let n = length m.constants in
-      method_at_same (coded (on_words n).words) (code on) name (given (arguments_wording f listed z lefts mid (behind_name n) values all).words 1) (given (one_line_arguments args) 1) op want m
+      method_at_same (coded (on_words n).words) (code on) name (given (given_wording f listed z lefts mid (behind_name n) values all).words 1) (given (one_line_arguments args) 1) op want m
       (operand_wrapped (is_prefix (wording f listed z lefts before n o).words) (wording f listed z lefts before n o) m ∙ operand_same on_written m (ahead_front (mentions_in on) (mentions_given args) ahead) (behind_operand op want m final))
-      (ap (λ n. (given (arguments_wording f listed z lefts mid n values all).words 1).part (before_given m)) (sym (given_taken op want m ahead final)) ∙ args_written.part (before_given m) (given_ahead m ahead) (given_final op want m final))
-      (args_written.counts (behind_name n))
+      ((method_alike (behind_name n)).part (before_given m) ∙ ap (λ n. (given (arguments_wording f listed z lefts mid n values all).words 1).part (before_given m)) (sym (given_taken op want m ahead final)) ∙ args_written.part (before_given m) (given_ahead m ahead) (given_final op want m final))
+      ((method_alike (behind_name n)).count ∙ args_written.counts (behind_name n))
 
   method_taken : (op : Op) (want : Want) (m : Maker) → IsAhead g active before (mentions_in on ++ mentions_given args) m → Final (length m.labels) (of_method op want m) z →
       length (of_method op want m).constants ≡ taken_behind_values values (behind_name (length m.constants))
   method_taken op want m ahead final = results_keep m.free want _ ∙ args_written.taken (before_given m) (given_ahead m ahead) (given_final op want m final) ∙ ap (taken_behind_values values) (given_taken op want m ahead final)
+
+  -- in the forms of fewest levels
+  method_low : f.short ≡ true → formed_expression (method_call line on name args on_line) ≡ true → (op : Op) (want : Want) (m : Maker) → IsAhead g active before (mentions_in on ++ mentions_given args) m → Final (length m.labels) (of_method op want m) z →
+      HasRoom f listed z lefts before (length m.constants) (method_call line on name args on_line) (method_value o number values all depth)
+  method_low short formed op want m ahead final =
+      let n = length m.constants in
+      let parts = second_of_both (is_prefix on) _ formed in
+      let given = second_of_both (on_its_line args line on_line) _ (second_of_both (is_name_text name) _ (second_of_both (formed_expression on) _ parts)) in
+      let w = wording f listed z lefts before n o in
+      let low = operand_low on_written short (first_of_both _ _ parts) m (ahead_front (mentions_in on) (mentions_given args) ahead) (behind_operand op want m final) in
+      let one = prefix_in (is_bare (place f.of listed f.short) n o) on w low (first_of_both _ _ formed) in
+      let other = args_written.low short given shallow (before_given m) (given_ahead m ahead) (given_final op want m final) in
+      let same = ap (λ n. (given_wording f listed z lefts mid n values all).levels) (given_taken op want m ahead final) in
+      subst (λ (w : Wording). IsInRoom true (method_call line on name args on_line) w) (sym (method_words_are n))
+      (inr (record { low = omega (arith, one, other, same); binds = record { prefix = refl; level = refl; unary = refl; several = refl }; bare_there = λ none. refl; unfolded = refl }))
 
   method_written : Rewritten f g active listed z lefts before behind (method_call line on name args on_line) (method_value o number values all depth)
   method_written = record {
@@ -251,7 +291,11 @@ module _ {f : Function} {g : Fn} {active : List Active} {listed : List ℕ} {z :
     few = λ n.
         let same = ap (λ (w : Wording). w.levels) (method_words_are n) in
         let prefix_few = levels_wrapped (is_prefix (wording f listed z lefts before n o).words) (wording f listed z lefts before n o) in
-        omega (arith, same, prefix_few, on_written.few n, args_written.few (behind_name n), within);
+        let given_few = args_written.few (behind_name n) in
+        let no_more = (method_alike (behind_name n)).levels (omega (arith, given_few, within, shallow)) in
+        omega (arith, same, prefix_few, on_written.few n, given_few, no_more, within);
+    low = λ short formed m ahead as_made.
+        made_called (method_call line on name args on_line) m refl (λ r final. method_low short formed Op.Call (Some 1) m ahead (before_base (of_method Op.Call (Some 1)) r m final)) (λ op want final. method_low short formed op want m ahead final) as_made;
     keys = omega arith;
     as_local = λ n r m ahead is. cc;
     to_reg = λ r m ahead final.
@@ -266,19 +310,19 @@ module _ {f : Function} {g : Fn} {active : List Active} {listed : List ℕ} {z :
 
 module _ {f : Function} {g : Fn} {active : List Active} {listed : List ℕ} {z : Maker} {lefts : ℕ → List (Option Inner)} {before mid behind : ℕ} (made : IsMadeBy f g active listed z) where
   pub call_rewritten : (on : Expression) (args : Arguments) (line on_line deep : ℕ) (o : Value) (values : Values) (all : Bool) (v : Value) → HasCore on → Rewritten f g active listed z lefts before mid on o →
-      RewrittenGiven f g active listed z lefts mid behind args deep values all → deep ≤ max (depth_of_expression on) (depth_of_arguments args) → made_call o values all ≡ Some v → Rewritten f g active listed z lefts before behind (call_expression line on args on_line) v
-  call_rewritten on args line on_line deep o values all v has on_written args_written within is =
+      RewrittenGiven f g active listed z lefts mid behind args deep values all → deep ≤ max (depth_of_expression on) (depth_of_arguments args) → deep ≤ 200 → made_call o values all ≡ Some v → Rewritten f g active listed z lefts before behind (call_expression line on args on_line) v
+  call_rewritten on args line on_line deep o values all v has on_written args_written within shallow is =
       let depth = suc (max (depth_of o) (deepest values)) in
       subst (λ v. Rewritten f g active listed z lefts before behind (call_expression line on args on_line) v) (given_is _ (call_value o values all depth) v is)
-      (call_written on args o values all line on_line deep depth made.is_function.natural has on_written args_written within)
+      (call_written on args o values all line on_line deep depth has on_written args_written within shallow)
 
   pub method_rewritten : (on : Expression) (args : Arguments) (line on_line deep number : ℕ) (name : Text) (o : Value) (values : Values) (all : Bool) (v : Value) → HasCore on → Rewritten f g active listed z lefts before mid on o →
-      RewrittenGiven f g active listed z lefts mid behind args deep values all → deep ≤ max (depth_of_expression on) (depth_of_arguments args) → HasNumber g (Constant.Text name) number → is_name_text name ≡ true → made_method o number values all ≡ Some v →
+      RewrittenGiven f g active listed z lefts mid behind args deep values all → deep ≤ max (depth_of_expression on) (depth_of_arguments args) → deep ≤ 200 → HasNumber g (Constant.Text name) number → is_name_text name ≡ true → made_method o number values all ≡ Some v →
       Rewritten f g active listed z lefts before behind (method_call line on name args on_line) v
-  method_rewritten on args line on_line deep number name o values all v has on_written args_written within numbered named is =
+  method_rewritten on args line on_line deep number name o values all v has on_written args_written within shallow numbered named is =
       let depth = suc (max (depth_of o) (deepest values)) in
       subst (λ v. Rewritten f g active listed z lefts before behind (method_call line on name args on_line) v) (given_is _ (method_value o number values all depth) v is)
-      (method_written made on args o values all line on_line deep depth number name has on_written args_written within numbered named)
+      (method_written made on args o values all line on_line deep depth number name has on_written args_written within shallow numbered named)
 
 -- ---- arguments are no deeper than a call needs
 

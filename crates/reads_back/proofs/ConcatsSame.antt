@@ -1,22 +1,23 @@
 -- What is written of the operands of a `..` has the same code as they have along its right spine.
-use Rattle.std.proofs.Common.{◌≡◌, ℕ, ◌+◌, ◌-◌, ◌*◌, ◌≤◌, Bool, true, false, List, ◌∷◌, ◌++◌, length, max, refl, sym, ap, ◌∙◌, subst, arith, nat_lt}
+use Rattle.std.proofs.Common.{◌≡◌, ℕ, ◌+◌, ◌-◌, ◌*◌, ◌≤◌, Bool, true, false, List, ◌∷◌, ◌++◌, length, max, inl, inr, refl, sym, ap, ◌∙◌, subst, arith, nat_lt}
 use Rattle.std.specs.Prelude.{Option, Some}
 use Rattle.std.proofs.lemmas.Bool.{and_from}
 use Rattle.lua_tree.specs.declared.tree.BinaryOp.{BinaryOp}
 use Rattle.lua_tree.specs.OneLine.{one_line_expression}
-use Rattle.lua_tree.specs.Precedence.{left_binds, right_binds}
-use Rattle.lua_tree.specs.Syntax.{Expression, nil_literal, binary_expression}
-use Rattle.lua_tree.specs.WellFormed.{depth_of_expression}
+use Rattle.lua_tree.specs.Precedence.{is_unary, left_binds, level_of, right_binds}
+use Rattle.lua_tree.specs.Syntax.{Expression, and_expression, nil_literal, binary_expression, or_expression}
+use Rattle.lua_tree.specs.WellFormed.{depth_of_expression, formed_expression, is_prefix}
 use Rattle.opcode.specs.declared.op.Op.{Op}
 use Rattle.core_expr.specs.Counting.{taken_behind, taken_behind_values, left_by, left_by_values}
 use Rattle.core_expr.specs.Making.{deepest, made_concat}
 use Rattle.core_expr.specs.Places.{Place, place}
 use Rattle.core_expr.specs.Values.{Value, Values, no_values, and_value, Inner}
-use Rattle.core_expr.specs.Writing.{Wording, can_write_values, chain, ends_values, on_left, on_right, unless, with_binary, word_each}
+use Rattle.core_expr.specs.Writing.{Wording, can_write_values, chain, ends_values, is_bare, on_left, on_right, unless, with_binary, word_each}
 use Rattle.recover_expr.specs.Situation.{Function}
 use Rattle.scheme.specs.Making.{Maker, free_from, put, take_registers}
 use Rattle.scheme.specs.Expressions.{fold, is_multiple, is_name, next_reg}
 use Rattle.scheme.specs.Scheme.{coded}
+use Rattle.scheme.specs.Shapes.{room_of_expression}
 use Rattle.scheme.specs.declared.making.Active.{Active}
 use Rattle.scheme.specs.declared.making.Piece.{Piece}
 use Rattle.scheme_stands.proofs.Growth.{calm, Final, before as before_part, before_free, before_put, before_take, later}
@@ -25,8 +26,9 @@ use Rattle.scheme_stands.specs.Words.{Fn}
 use Rattle.reads_back.proofs.Mentions.{IsAhead, ahead_behind, ahead_front, mentions_in, made_behind, made_both}
 use Rattle.reads_back.proofs.PassedMentions.{PassesMentions, next_passes}
 use Rattle.reads_back.proofs.OperatorsSame.{few_more}
-use Rattle.reads_back.proofs.Tests.{given_is}
-use Rattle.reads_back.proofs.WordsSame.{levels_wrapped, next_wrapped}
+use Rattle.reads_back.proofs.Tests.{first_of_both, given_is, not_so, second_of_both}
+use Rattle.reads_back.proofs.InRoom.{left_in, right_in}
+use Rattle.reads_back.proofs.WordsSame.{levels_wrapped, made_plainly, next_wrapped}
 use Rattle.reads_back.proofs.Rewriting.{Rewritten, RewrittenSpine, code, wording}
 
 -- ---- the spine of what is no `..`
@@ -60,6 +62,19 @@ bare_alone (binary_expression line BinaryOp.Concat l r) bare = absurd cc
 bare_alone (binary_expression line op l r) bare = refl
 bare_alone e bare = refl
 
+tighter : (e : Expression) → is_joined e ≡ false → right_binds 4 true e ≡ true → right_binds 4 false e ≡ true
+tighter (binary_expression line BinaryOp.Concat l r) other binds = absurd cc
+tighter (binary_expression line BinaryOp.Lt l r) other binds = not_so binds
+tighter (binary_expression line BinaryOp.Gt l r) other binds = not_so binds
+tighter (binary_expression line BinaryOp.Le l r) other binds = not_so binds
+tighter (binary_expression line BinaryOp.Ge l r) other binds = not_so binds
+tighter (binary_expression line BinaryOp.Ne l r) other binds = not_so binds
+tighter (binary_expression line BinaryOp.Eq l r) other binds = not_so binds
+tighter (binary_expression line op l r) other binds = refl
+tighter (and_expression line l r) other binds = not_so binds
+tighter (or_expression line l r) other binds = not_so binds
+tighter e other binds = refl
+
 -- in parentheses too
 last_alone : (bare : Bool) (w : Wording) → (bare ≡ true → is_joined w.words ≡ false) → (m : Maker) → (coded (unless bare w).words).spine m ≡ next_reg (coded w.words) m
 last_alone true w other m = spine_alone w.words (other refl) m
@@ -84,16 +99,21 @@ module _ {f : Function} {g : Fn} {active : List Active} {listed : List ℕ} {z :
         let w = wording f listed z lefts before (length m.constants) v in
         last_alone (right_binds 4 false w.words) w (bare_alone w.words) m ∙ ap (take_registers 1) (value.to_reg m.free m ahead alone_final) ∙ sym (alone m)
 
+    alone_low : is_joined e ≡ false → f.short ≡ true → formed_expression e ≡ true → right_binds 4 true e ≡ true → (on_right BinaryOp.Concat (wording f listed z lefts before (length m.constants) v)).levels ≤ room_of_expression e
+    alone_low other short formed binds =
+        right_in (is_bare (place f.of listed f.short) (length m.constants) v) e (wording f listed z lefts before (length m.constants) v) 4 false (value.low short formed m ahead (inl (m.free, alone_final))) (tighter e other binds)
+
     alone_taken : length ((code e).spine m).constants ≡ taken_behind v (length m.constants)
     alone_taken = ap (λ n. length n.constants) (alone m) ∙ value.taken m.free m ahead alone_final
 
 module _ {f : Function} {g : Fn} {active : List Active} {listed : List ℕ} {z : Maker} {lefts : ℕ → List (Option Inner)} {before behind : ℕ} where
-  pub spine_of_one : (e : Expression) (v : Value) → Rewritten f g active listed z lefts before behind e v → ((m : Maker) → (code e).spine m ≡ next_reg (code e) m) → RewrittenSpine f g active listed z lefts before behind e (and_value v no_values)
-  spine_of_one e v value alone = record {
+  pub spine_of_one : (e : Expression) (v : Value) → Rewritten f g active listed z lefts before behind e v → is_joined e ≡ false → RewrittenSpine f g active listed z lefts before behind e (and_value v no_values)
+  spine_of_one e v value other = let alone = code_alone e other in record {
     can = and_from _ _ value.can refl;
     leaves = value.leaves;
     makes = value.makes;
     few = alone_few value alone;
+    low = λ short formed binds m ahead final. alone_low value alone m ahead final other short formed binds;
     spine = alone_spine value alone;
     taken = alone_taken value alone;
   }
@@ -154,6 +174,18 @@ module _ {f : Function} {g : Fn} {active : List Active} {listed : List ℕ} {z :
         ap (coded u.words).spine (next_wrapped (left_binds 4 true w.words) w m ∙ ap (take_registers 1) (first.to_reg m.free m first_ahead first_final))
         ∙ others.spine (next_reg (code l) m) others_ahead others_final
 
+    -- in the forms of fewest levels
+    joined_low : (line : ℕ) → f.short ≡ true → formed_expression (binary_expression line BinaryOp.Concat l r) ≡ true → (chain (word_each (place f.of listed f.short) (length m.constants) (lefts before) (and_value v rest))).levels ≤ 1 + max (room_of_expression l) (room_of_expression r)
+    joined_low line short formed =
+        let w = wording f listed z lefts before (length m.constants) v in
+        let u = chain (word_each (place f.of listed f.short) (length (next_reg (code l) m).constants) (lefts mid) rest) in
+        let binds = second_of_both (left_binds 4 true l) _ formed in
+        let parts = second_of_both (right_binds 4 true r) _ binds in
+        let one = left_in (is_bare (place f.of listed f.short) (length m.constants) v) l w 4 true (first.low short (first_of_both _ _ parts) m first_ahead (inl (m.free, first_final))) (first_of_both _ _ formed) in
+        let other = others.low short (second_of_both (formed_expression l) _ parts) (first_of_both _ _ binds) (next_reg (code l) m) others_ahead others_final in
+        let all = few_more (max (on_left BinaryOp.Concat w).levels u.levels) in
+        omega (arith, ap (λ (w : Wording). w.levels) joined_here, one, other, all)
+
     joined_taken : length ((code r).spine (next_reg (code l) m)).constants ≡ taken_behind_values rest (taken_behind v (length m.constants))
     joined_taken = others.taken (next_reg (code l) m) others_ahead others_final ∙ ap (taken_behind_values rest) (first.taken m.free m first_ahead first_final)
 
@@ -174,6 +206,7 @@ module _ {f : Function} {g : Fn} {active : List Active} {listed : List ℕ} {z :
     leaves = ap (left_by_values rest) first.leaves ∙ others.leaves;
     makes = others.makes ∙ ap (made_behind (mentions_in r)) first.makes ∙ sym (made_both (mentions_in l) (mentions_in r) before);
     few = λ n. let few = joined_few first others some n in omega (arith, few);
+    low = λ short formed binds m ahead final. joined_low first others some kept m ahead final line short formed;
     spine = λ m ahead final. ap (λ w. (coded w.words).spine m) (joined_here first others some kept m ahead final) ∙ parts_same first others some kept m ahead final;
     taken = λ m ahead final. joined_taken first others some kept m ahead final;
   }
@@ -189,6 +222,15 @@ module _ {f : Function} {g : Fn} {active : List Active} {listed : List ℕ} {z :
     several = λ n. ap (λ w. is_multiple w.words) (joined_is first others some n (taken_behind of n) refl);
     gives = λ is. cc;
     few = joined_few first others some;
+    low = λ short formed m ahead is.
+        made_plainly (binary_expression line BinaryOp.Concat l r) m refl refl (λ to final.
+        let binds = ap (λ (w : Wording). w.words) (joined_is first others some (length m.constants) (taken_behind of (length m.constants)) refl) in
+        inr (record {
+          low = joined_low first others some kept m ahead (operands_final to m final) line short formed;
+          binds = record { prefix = ap is_prefix binds; level = ap level_of binds; unary = ap is_unary binds; several = ap is_multiple binds };
+          bare_there = λ literal. refl;
+          unfolded = refl;
+        })) is;
     keys = omega arith;
     as_local = λ n r m ahead is. cc;
     to_reg = λ to m ahead final.

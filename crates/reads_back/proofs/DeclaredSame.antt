@@ -1,17 +1,20 @@
 -- What is written of values that are adjusted to a count makes the same code as the expressions, whichever of the values are written; and so does what is written of a `local` statement.
-use Rattle.std.proofs.Common.{◌≡◌, ℕ, suc, ◌+◌, ◌-◌, ◌*◌, ◌≤◌, ◌<◌, Bool, true, false, cond, List, [], ◌∷◌, length, nat_lt, lt-ltb, Option, Some, None, refl, sym, ap, ◌∙◌, subst, arith}
+use Rattle.reads_back.proofs.Rooms.{some_room}
+use Rattle.lua_tree.specs.Names.{are_some_names}
+use Rattle.scheme.specs.Shapes.{room_of_expressions}
+use Rattle.std.proofs.Common.{◌≡◌, ℕ, suc, ◌+◌, ◌-◌, ◌*◌, ◌≤◌, ◌<◌, Bool, true, false, cond, List, [], ◌∷◌, length, nat_lt, lt-ltb, Option, Some, None, refl, sym, ap, ◌∙◌, subst, arith, ap₂, max}
 use Rattle.std.proofs.lemmas.Bool.{eqb-true, eqb-false, le-ltb, ltb-false, ltb-true}
 use Rattle.std.specs.Prelude.{◌&&◌, ◌==◌, not}
 use Rattle.lua_num.specs.Bytes.{Text}
 use Rattle.lua_tree.specs.OneLine.{one_line_expressions}
 use Rattle.lua_tree.specs.Syntax as syntax
 use Rattle.lua_tree.specs.Syntax.{Expressions, no_expressions, argument_list, nil_literal, local_statement}
-use Rattle.lua_tree.specs.WellFormed.{depth_of_expressions}
+use Rattle.lua_tree.specs.WellFormed.{depth_of_expressions, formed_expressions}
 use Rattle.opcode.specs.declared.op.Op.{Op}
-use Rattle.core_expr.specs.Counting.{taken_behind_values, left_by_values}
-use Rattle.core_expr.specs.Places.{place}
-use Rattle.core_expr.specs.Values.{Value, nil_value, Values, and_value, Inner}
-use Rattle.core_expr.specs.Writing.{can_write_values, is_multiple as can_be_several}
+use Rattle.core_expr.specs.Counting.{taken_behind_values, left_by_values, taken_behind, left_by}
+use Rattle.core_expr.specs.Places.{place, Place}
+use Rattle.core_expr.specs.Values.{Value, nil_value, Values, and_value, Inner, no_values}
+use Rattle.core_expr.specs.Writing.{can_write_values, is_multiple as can_be_several, word_values, word, unless, ends_values}
 use Rattle.recover_expr.specs.Entries.{Listed, and_last_value}
 use Rattle.recover_expr.specs.Lists.{before_last, is_nil, split_last, value_count}
 use Rattle.recover_expr.specs.Situation.{Function}
@@ -32,7 +35,7 @@ use Rattle.reads_back.specs.Cores.{AllHaveCores, AreCores, ends_open}
 use Rattle.reads_back.proofs.DeclaredValues.{nil_last}
 use Rattle.reads_back.proofs.GivenSame.{AllRewritten, list_rewritten}
 use Rattle.reads_back.proofs.AdjustedEntries.{count_last, last_split, taken_end}
-use Rattle.reads_back.proofs.ListsSame.{EachFine, can_last, codes_of, coded_count, cores_count, cores_fine, fine_front, fine_last, left_last, list_closed, list_few, multi_all, multi_all_taken, next_all, next_all_taken, nil_next, opens_is, values_coded}
+use Rattle.reads_back.proofs.ListsSame.{EachFine, can_last, codes_of, coded_count, cores_count, cores_fine, fine_front, fine_last, left_last, list_closed, list_few, multi_all, multi_all_taken, next_all, next_all_taken, nil_next, opens_is, values_coded, multi_all_low, next_all_low, stays_bare}
 use Rattle.reads_back.proofs.DeclaredLocals.{declare_passes}
 use Rattle.reads_back.proofs.Mentions.{IsAhead, ahead_behind, locals_mention, mentions_in_all, made_behind}
 use Rattle.reads_back.proofs.Rewriting.{IsMadeBy, RewrittenAct, RewrittenGiven}
@@ -43,6 +46,76 @@ use Rattle.reads_back.proofs.Tests.{and_not, first_of_both, not_so, second_of_bo
 no_nil : (v : Value) → can_be_several v ≡ true → is_nil v ≡ false
 no_nil nil_value several = cc
 no_nil v several = refl
+
+-- ---- the levels of what is written with a nil behind it
+
+-- the last one cannot give several
+abbrev LastSingle : Values → Type 0
+LastSingle no_values = Unit {0}
+LastSingle (and_value v no_values) = can_be_several v ≡ false
+LastSingle (and_value v rest) = LastSingle rest
+
+front_single : (front : Values) → ends_with_nil (and_last_value front nil_value) ≡ true → LastSingle front
+front_single no_values is = tt
+front_single (and_value v no_values) is = not_true (can_be_several v) is
+  where
+    not_true : (several : Bool) → not several ≡ true → several ≡ false
+    not_true true is = cc
+    not_true false is = refl
+front_single (and_value v (and_value w no_values)) is = front_single (and_value w no_values) is
+front_single (and_value v (and_value w (and_value u rest))) is = front_single (and_value w (and_value u rest)) is
+
+module _ (at : Place) where
+  -- that nil needs one
+  nil_levels : (n : ℕ) (fs : List (Option Inner)) (vs : Values) → (word_values at n fs (and_last_value vs nil_value) true).levels ≤ max 1 (word_values at n fs vs true).levels
+  nil_levels n fs no_values = omega arith
+  nil_levels n fs (and_value v rest) =
+      let w = word at n fs v in
+      let one = ap (λ (stays : Bool). (unless stays w).levels) (stays_bare (ends_values (and_last_value rest nil_value)) (can_be_several v)) in
+      let other = ap (λ (stays : Bool). (unless stays w).levels) (stays_bare (ends_values rest) (can_be_several v)) in
+      omega (arith, one, other, nil_levels (taken_behind v n) (left_by v fs) rest)
+
+  front_levels : (n : ℕ) (fs : List (Option Inner)) (vs : Values) → (word_values at n fs vs true).levels ≤ (word_values at n fs (and_last_value vs nil_value) true).levels
+  front_levels n fs no_values = omega arith
+  front_levels n fs (and_value v rest) =
+      let w = word at n fs v in
+      let one = ap (λ (stays : Bool). (unless stays w).levels) (stays_bare (ends_values (and_last_value rest nil_value)) (can_be_several v)) in
+      let other = ap (λ (stays : Bool). (unless stays w).levels) (stays_bare (ends_values rest) (can_be_several v)) in
+      omega (arith, one, other, front_levels (taken_behind v n) (left_by v fs) rest)
+
+  -- none stands in parentheses where the last one cannot give several
+  bare_levels : (n : ℕ) (fs : List (Option Inner)) (vs : Values) → LastSingle vs → (word_values at n fs vs false).levels ≤ (word_values at n fs vs true).levels
+  bare_levels n fs no_values single = omega arith
+  bare_levels n fs (and_value v no_values) single =
+      let w = word at n fs v in
+      let one = ap (λ (several : Bool). (unless (not several) w).levels) single in
+      omega (arith, one)
+  bare_levels n fs (and_value v (and_value u rest)) single = omega (arith, bare_levels (taken_behind v n) (left_by v fs) (and_value u rest) single)
+
+none_last : (vs : Values) → and_last_value vs nil_value ≡ no_values → ⊥
+none_last no_values is = cc
+none_last (and_value v rest) is = cc
+
+room_for_nil : (es : Expressions) → (es ≡ no_expressions → ⊥) → 1 ≤ room_of_expressions es
+room_for_nil no_expressions some = absurd (some refl)
+room_for_nil (syntax.expression e es) some = omega (arith, some_room e)
+
+-- where no values are given, none are written
+none_declared : (count : ℕ) (vs : Values) (all : Bool) → declared_values count false no_values ≡ record { values = vs; all = all } → vs ≡ no_values
+none_declared count vs all is = by (nat_lt 1 count) (1 == count) refl is
+  where
+    none_out : (out : Bool) → (without_nil (out && false) no_values).values ≡ no_values
+    none_out true = refl
+    none_out false = refl
+
+    one_out : (one : Bool) → one ≡ true → (without_nil (one && true) (and_value nil_value no_values)).values ≡ no_values
+    one_out true is = refl
+    one_out false is = cc
+
+    by : (some one : Bool) → (1 == count) ≡ one → filled_values some count one no_values ≡ record { values = vs; all = all } → vs ≡ no_values
+    by true one known is = sym (ap (λ (list : Listed). list.values) is)
+    by false true known is = sym (ap (λ (list : Listed). list.values) is) ∙ one_out (1 == count) known
+    by false false known is = sym (ap (λ (list : Listed). list.values) is) ∙ none_out (0 == count)
 
 -- ---- the registers of the locals
 
@@ -107,17 +180,24 @@ module _ (f : Function) (g : Fn) (active : List Active) (listed : List ℕ) (z :
     pub leaves : left_by_values vs (lefts before) ≡ lefts behind
     pub makes : behind ≡ made_behind (mentions_in_all es) before
     pub fine : (n : ℕ) → EachFine (place f.of listed f.short) (3 * depth_of_expressions es + 2) n (lefts before) vs
+    -- in the forms of fewest levels, where there are values if any are written
+    pub low : (es ≡ no_expressions → vs ≡ no_values) → f.short ≡ true → formed_expressions es ≡ true → (m : Maker) → IsAhead g active before (mentions_in_all es) m → Final (length m.labels) (adjust 1 (codes_of es) count m) z →
+        (word_values (place f.of listed f.short) (length m.constants) (lefts before) vs all).levels ≤ room_of_expressions es
     pub same : (m : Maker) → IsAhead g active before (mentions_in_all es) m → Final (length m.labels) (adjust 1 (codes_of es) count m) z →
         adjust 1 (values_coded (place f.of listed f.short) (length m.constants) (lefts before) vs all) count m ≡ adjust 1 (codes_of es) count m
     pub taken : (m : Maker) → IsAhead g active before (mentions_in_all es) m → Final (length m.labels) (adjust 1 (codes_of es) count m) z → length (adjust 1 (codes_of es) count m).constants ≡ taken_behind_values vs (length m.constants)
 
   -- the names are declared before the values, and active behind them
-  adjusts_act : (names : List Text) (es : Expressions) (vs : Values) (all : Bool) → Adjusts (length names) es vs all → RewrittenAct f g active listed z lefts before behind (local_statement names es) (declared names vs all)
-  adjusts_act names es vs all adjusts = record {
+  adjusts_act : (names : List Text) (es : Expressions) (vs : Values) (all : Bool) → Adjusts (length names) es vs all → (es ≡ no_expressions → vs ≡ no_values) → RewrittenAct f g active listed z lefts before behind (local_statement names es) (declared names vs all)
+  adjusts_act names es vs all adjusts some = record {
     can = adjusts.can;
     leaves = adjusts.leaves;
     makes = adjusts.makes;
     few = λ n. omega (arith, list_few (place f.of listed f.short) (3 * depth_of_expressions es + 2) n (lefts before) vs all (adjusts.fine n));
+    low = λ short formed m ahead final.
+        let low = adjusts.low some short (second_of_both (are_some_names names) _ formed) (declare names m).after (names_ahead m ahead) (inner m final) in
+        let same = ap (λ constants. (word_values (place f.of listed f.short) (length constants) (lefts before) vs all).levels) (declare_constants names m) in
+        omega (arith, low, same);
     made = λ m ahead final.
         let named = declare names m in
         ap (λ constants. activate named.value (adjust 1 (values_coded (place f.of listed f.short) (length constants) (lefts before) vs all) (length names) named.after)) (sym (declare_constants names m))
@@ -197,6 +277,7 @@ module _ {f : Function} {g : Fn} {active : List Active} {listed : List ℕ} {z :
           adjust_more ds count m (omega (arith, enough, count_written (length m.constants) from true))
           ∙ ap (free_from (m.free + count)) (next_all f g active listed z lefts es before behind from true has written are m ahead (more_final m final))
           ∙ sym (more_is m);
+      low = λ some short formed m ahead final. next_all_low f g active listed z lefts es before behind from true has written are (λ is. cc) short formed m ahead (more_final m final);
       taken = more_taken;
     }
 
@@ -227,6 +308,7 @@ module _ {f : Function} {g : Fn} {active : List Active} {listed : List ℕ} {z :
           ∙ ap (λ k. all_multi Op.Call (Some (count - k + 1)) ds m) (counted ∙ sym as_many)
           ∙ multi_all f g active listed z lefts Op.Call (Some (count - length cs + 1)) es before behind from has written are open_last m ahead (open_final m final)
           ∙ sym (open_is m);
+      low = λ some short formed m ahead final. multi_all_low f g active listed z lefts Op.Call (Some (count - length cs + 1)) es before behind from has written are open_last short formed m ahead (open_final m final);
       taken = λ m ahead final. ap (λ (n : Maker). length n.constants) (open_is m) ∙ multi_all_taken f g active listed z lefts Op.Call (Some (count - length cs + 1)) es before behind from has written are open_last m ahead (open_final m final);
     }
 
@@ -254,6 +336,7 @@ module _ {f : Function} {g : Fn} {active : List Active} {listed : List ℕ} {z :
           ∙ ap (λ k. nils 1 (count - k) (all_next ds m)) (counted ∙ sym as_many)
           ∙ ap (nils 1 (count - length cs)) (next_all f g active listed z lefts es before behind from false has written are m ahead (closed_final m final))
           ∙ sym (closed_is m);
+      low = λ some short formed m ahead final. next_all_low f g active listed z lefts es before behind from false has written are (λ is. closed) short formed m ahead (closed_final m final);
       taken = closed_taken;
     }
 
@@ -276,6 +359,11 @@ module _ {f : Function} {g : Fn} {active : List Active} {listed : List ℕ} {z :
           ∙ sym (nils_one (all_next cs m))
           ∙ ap (λ k. nils 1 k (all_next cs m)) one
           ∙ sym (closed_is m);
+      low = λ some short formed m ahead final.
+          let at = place f.of listed f.short in
+          let low = next_all_low f g active listed z lefts es before behind from true has written are (λ is. cc) short formed m ahead (closed_final m final) in
+          let ended = nil_levels at (length m.constants) left from in
+          omega (arith, low, ended, room_for_nil es (λ none. none_last from (some none)));
       taken = λ m ahead final. closed_taken m ahead final ∙ sym (taken_end from nil_value (length m.constants));
     }
 
@@ -317,6 +405,12 @@ module _ {f : Function} {g : Fn} {active : List Active} {listed : List ℕ} {z :
               ∙ next_all f g active listed z lefts es before behind from false has written are m ahead (more_final enough m final)
               ∙ sym (free_there (m.free + count) (all_next cs m) (omega (arith, all_free m, exact)))
               ∙ sym (more_is enough m);
+          low = λ some short formed m ahead final.
+              let low = next_all_low f g active listed z lefts es before behind from true has written are (λ is. cc) short formed m ahead (more_final enough m final) in
+              let same = ap (λ vs. (word_values at (length m.constants) left vs true).levels) split in
+              let ended = front_levels at (length m.constants) left front in
+              let bare = bare_levels at (length m.constants) left front (front_single front (ap ends_with_nil (sym split) ∙ is)) in
+              omega (arith, low, same, ended, bare);
           taken = λ m ahead final. more_taken enough m ahead final ∙ ap (λ vs. taken_behind_values vs (length m.constants)) split ∙ taken_end front nil_value (length m.constants);
         }
 
@@ -361,4 +455,9 @@ module _ {f : Function} {g : Fn} {active : List Active} {listed : List ℕ} {z :
   local_rewritten_act others vs all same is =
       let adjusts : Adjusts f g active listed z lefts before behind (length names) es vs all =
       subst (λ (list : Listed). Adjusts f g active listed z lefts before behind (length names) es list.values list.all) is (all_listed lefts made (length names) es before behind from has written are (ends_open es) refl) in
-      subst (λ others. RewrittenAct f g active listed z lefts before behind (local_statement names es) (declared others vs all)) (sym same) (adjusts_act f g active listed z lefts before behind names es vs all adjusts)
+      subst (λ others. RewrittenAct f g active listed z lefts before behind (local_statement names es) (declared others vs all)) (sym same) (adjusts_act f g active listed z lefts before behind names es vs all adjusts none_given)
+    where
+      none_given : es ≡ no_expressions → vs ≡ no_values
+      none_given none =
+          let from_none : from ≡ no_values = (subst (λ es. AreCores g active es before behind from) none are).1 in
+          none_declared (length names) vs all (ap₂ (λ (is_open : Bool) (from : Values). declared_values (length names) is_open from) (sym (ap ends_open none)) (sym from_none) ∙ is)

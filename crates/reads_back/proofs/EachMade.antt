@@ -7,6 +7,7 @@ use Rattle.lua_tree.specs.Syntax.{Arguments, Expression, Expressions, FunctionBo
 use Rattle.lua_tree.specs.WellFormed.{depth_of_arguments, depth_of_body, depth_of_expression, depth_of_expressions, depth_of_fields}
 use Rattle.recover_expr.specs.Situation.{Function}
 use Rattle.scheme.specs.Making.{Maker}
+use Rattle.scheme.specs.Shapes.{room_of_arguments, room_of_body, room_of_expression, room_of_expressions, room_of_fields}
 use Rattle.scheme.specs.Statements.{settle}
 use Rattle.scheme.specs.declared.making.Active.{Active}
 use Rattle.scheme_stands.specs.Words.{Fn}
@@ -18,39 +19,40 @@ use Rattle.reads_back.proofs.Mentions.{AreMeant, IsAhead, Mention, behind_mentio
 use Rattle.reads_back.proofs.NameReads.{AreListed}
 use Rattle.reads_back.proofs.OneLineActs.{targets_have_cores}
 use Rattle.reads_back.proofs.Rewriting.{mentions_of_statement, OwnListed}
+use Rattle.reads_back.proofs.Rooms.{inside_room, lean_room, lean_room_assignment, lean_room_of, left_room, of_room}
 use Rattle.reads_back.proofs.Tests.{first_of_both}
 use Rattle.reads_back.proofs.StraightBlocks.{ComesNext, IsMadeWhole, comes_behind, made_there, names_next, own_listed}
 
 -- ---- the levels of what is mentioned
 
--- each function that is mentioned is plain, and has fewer levels than so many
-abbrev pub AreLowMentions : (high : ℕ) → List Mention → Type 0
-AreLowMentions high [] = Unit {0}
-AreLowMentions high (name_mention text ∷ mentions) = AreLowMentions high mentions
-AreLowMentions high (function_mention body method ∷ mentions) = (IsPlainBody body × (depth_of_body body < high)) × AreLowMentions high mentions
-AreLowMentions high (locals_mention texts ∷ mentions) = AreLowMentions high mentions
-AreLowMentions high (own_mention text body ∷ mentions) = ⊥
+-- each function that is mentioned is plain, and has fewer levels than so many, and less room than that
+abbrev pub AreLowMentions : (high roomy : ℕ) → List Mention → Type 0
+AreLowMentions high roomy [] = Unit {0}
+AreLowMentions high roomy (name_mention text ∷ mentions) = AreLowMentions high roomy mentions
+AreLowMentions high roomy (function_mention body method ∷ mentions) = (IsPlainBody body × (depth_of_body body < high) × (room_of_body body < roomy)) × AreLowMentions high roomy mentions
+AreLowMentions high roomy (locals_mention texts ∷ mentions) = AreLowMentions high roomy mentions
+AreLowMentions high roomy (own_mention text body ∷ mentions) = ⊥
 
-lower : (high higher : ℕ) (mentions : List Mention) → high ≤ higher → AreLowMentions high mentions → AreLowMentions higher mentions
-lower high higher [] up are = tt
-lower high higher (name_mention text ∷ mentions) up are = lower high higher mentions up are
-lower high higher (function_mention body method ∷ mentions) up are = ((are.0.0, omega (arith, are.0.1, up)), lower high higher mentions up are.1)
-lower high higher (locals_mention texts ∷ mentions) up are = lower high higher mentions up are
-lower high higher (own_mention text body ∷ mentions) up are = absurd are
+lower : (high higher roomy more : ℕ) (mentions : List Mention) → high ≤ higher → roomy ≤ more → AreLowMentions high roomy mentions → AreLowMentions higher more mentions
+lower high higher roomy more [] up wider are = tt
+lower high higher roomy more (name_mention text ∷ mentions) up wider are = lower high higher roomy more mentions up wider are
+lower high higher roomy more (function_mention body method ∷ mentions) up wider are = ((are.0.0, omega (arith, are.0.1, up), omega (arith, are.0.2, wider)), lower high higher roomy more mentions up wider are.1)
+lower high higher roomy more (locals_mention texts ∷ mentions) up wider are = lower high higher roomy more mentions up wider are
+lower high higher roomy more (own_mention text body ∷ mentions) up wider are = absurd are
 
-low_then : (high : ℕ) (mentions others : List Mention) → AreLowMentions high mentions → AreLowMentions high others → AreLowMentions high (mentions ++ others)
-low_then high [] others first second = second
-low_then high (name_mention text ∷ mentions) others first second = low_then high mentions others first second
-low_then high (function_mention body method ∷ mentions) others first second = (first.0, low_then high mentions others first.1 second)
-low_then high (locals_mention texts ∷ mentions) others first second = low_then high mentions others first second
-low_then high (own_mention text body ∷ mentions) others first second = absurd first
+low_then : (high roomy : ℕ) (mentions others : List Mention) → AreLowMentions high roomy mentions → AreLowMentions high roomy others → AreLowMentions high roomy (mentions ++ others)
+low_then high roomy [] others first second = second
+low_then high roomy (name_mention text ∷ mentions) others first second = low_then high roomy mentions others first second
+low_then high roomy (function_mention body method ∷ mentions) others first second = (first.0, low_then high roomy mentions others first.1 second)
+low_then high roomy (locals_mention texts ∷ mentions) others first second = low_then high roomy mentions others first second
+low_then high roomy (own_mention text body ∷ mentions) others first second = absurd first
 
 -- what two parts mention, where both have no more levels than so many
-both_low : (one other high : ℕ) (mentions others : List Mention) → one ≤ high → other ≤ high → AreLowMentions one mentions → AreLowMentions other others → AreLowMentions high (mentions ++ others)
-both_low one other high mentions others up up_too first second = low_then high mentions others (lower one high mentions up first) (lower other high others up_too second)
+both_low : (one other high little few roomy : ℕ) (mentions others : List Mention) → max one other ≤ high → max little few ≤ roomy → AreLowMentions one little mentions → AreLowMentions other few others → AreLowMentions high roomy (mentions ++ others)
+both_low one other high little few roomy mentions others up wider first second = low_then high roomy mentions others (lower one high little roomy mentions (omega (arith, up)) (omega (arith, wider)) first) (lower other high few roomy others (omega (arith, up)) (omega (arith, wider)) second)
 
 mutual
-  low_in : (e : Expression) → HasCore e → AreLowMentions (depth_of_expression e) (mentions_in e)
+  low_in : (e : Expression) → HasCore e → AreLowMentions (depth_of_expression e) (room_of_expression e) (mentions_in e)
   low_in (nil_literal line) has = tt
   low_in (true_literal line) has = tt
   low_in (false_literal line) has = tt
@@ -58,57 +60,61 @@ mutual
   low_in (number_literal line n) has = tt
   low_in (text_literal line text) has = tt
   low_in (name_expression line text) has = tt
-  low_in (function_expression line body) has = ((has, omega arith), tt)
-  low_in (index_expression line on key) has = both_low (depth_of_expression on) (depth_of_expression key) _ (mentions_in on) (mentions_in key) (omega arith) (omega arith) (low_in on has.0) (low_in key has.1)
-  low_in (field_expression line on text) has = lower (depth_of_expression on) _ (mentions_in on) (omega arith) (low_in on has)
-  low_in (call_expression line on args on_line) has = both_low (depth_of_expression on) (depth_of_arguments args) _ (mentions_in on) (mentions_given args) (omega arith) (omega arith) (low_in on has.0) (low_given args has.1)
-  low_in (method_call line on name args on_line) has = both_low (depth_of_expression on) (depth_of_arguments args) _ (mentions_in on) (mentions_given args) (omega arith) (omega arith) (low_in on has.1) (low_given args has.2)
-  low_in (binary_expression line op left right) has = both_low (depth_of_expression left) (depth_of_expression right) _ (mentions_in left) (mentions_in right) (omega arith) (omega arith) (low_in left has.1) (low_in right has.2)
-  low_in (unary_expression line op e) has = lower (depth_of_expression e) _ (mentions_in e) (omega arith) (low_in e has)
-  low_in (constructor line fields) has = lower (depth_of_fields fields) _ (mentions_of_fields fields) (omega arith) (low_of_fields fields has)
-  low_in (parenthesized line e) has = lower (depth_of_expression e) _ (mentions_in e) (omega arith) (low_in e has)
+  low_in (function_expression line body) has = ((has, omega arith, omega arith), tt)
+  low_in (index_expression line on key) has = both_low (depth_of_expression on) (depth_of_expression key) _ (room_of_expression on) (room_of_expression key) _ (mentions_in on) (mentions_in key) (omega arith) (omega arith) (low_in on has.0) (low_in key has.1)
+  low_in (field_expression line on text) has = lower (depth_of_expression on) _ (room_of_expression on) _ (mentions_in on) (omega arith) (omega arith) (low_in on has)
+  low_in (call_expression line on args on_line) has = both_low (depth_of_expression on) (depth_of_arguments args) _ (room_of_expression on) (room_of_arguments args) _ (mentions_in on) (mentions_given args) (omega arith) (omega arith) (low_in on has.0) (low_given args has.1)
+  low_in (method_call line on name args on_line) has = both_low (depth_of_expression on) (depth_of_arguments args) _ (room_of_expression on) (room_of_arguments args) _ (mentions_in on) (mentions_given args) (omega arith) (omega arith) (low_in on has.1) (low_given args has.2)
+  low_in (binary_expression line op left right) has = both_low (depth_of_expression left) (depth_of_expression right) _ (room_of_expression left) (room_of_expression right) _ (mentions_in left) (mentions_in right) (omega arith) (left_room line op left right) (low_in left has.1) (low_in right has.2)
+  low_in (unary_expression line op e) has = lower (depth_of_expression e) _ (room_of_expression e) _ (mentions_in e) (omega arith) (of_room line op e) (low_in e has)
+  low_in (constructor line fields) has = lower (depth_of_fields fields) _ (room_of_fields fields) _ (mentions_of_fields fields) (omega arith) (omega arith) (low_of_fields fields has)
+  low_in (parenthesized line e) has = lower (depth_of_expression e) _ (room_of_expression e) _ (mentions_in e) (omega arith) (inside_room line e) (low_in e has)
   low_in e has = absurd has
 
-  low_given : (args : Arguments) → HaveCores args → AreLowMentions (depth_of_arguments args) (mentions_given args)
+  low_given : (args : Arguments) → HaveCores args → AreLowMentions (depth_of_arguments args) (room_of_arguments args) (mentions_given args)
   low_given (argument_list es) have = low_in_all es have
   low_given (text_argument text) have = tt
   low_given (table_argument fields) have = low_of_fields fields have
 
-  low_of_fields : (fields : Fields) → HaveItems fields → AreLowMentions (depth_of_fields fields) (mentions_of_fields fields)
+  low_of_fields : (fields : Fields) → HaveItems fields → AreLowMentions (depth_of_fields fields) (room_of_fields fields) (mentions_of_fields fields)
   low_of_fields no_fields have = tt
-  low_of_fields (positional e separator rest) have = both_low (depth_of_expression e) (depth_of_fields rest) _ (mentions_in e) (mentions_of_fields rest) (omega arith) (omega arith) (low_in e have.0) (low_of_fields rest have.1)
-  low_of_fields (named text e separator rest) have = both_low (depth_of_expression e) (depth_of_fields rest) _ (mentions_in e) (mentions_of_fields rest) (omega arith) (omega arith) (low_in e have.0) (low_of_fields rest have.1)
+  low_of_fields (positional e separator rest) have = both_low (depth_of_expression e) (depth_of_fields rest) _ (room_of_expression e) (room_of_fields rest) _ (mentions_in e) (mentions_of_fields rest) (omega arith) (omega arith) (low_in e have.0) (low_of_fields rest have.1)
+  low_of_fields (named text e separator rest) have = both_low (depth_of_expression e) (depth_of_fields rest) _ (room_of_expression e) (room_of_fields rest) _ (mentions_in e) (mentions_of_fields rest) (omega arith) (omega arith) (low_in e have.0) (low_of_fields rest have.1)
   low_of_fields (keyed key e separator rest) have =
-      let item = both_low (depth_of_expression key) (depth_of_expression e) (max (depth_of_expression key) (depth_of_expression e)) (mentions_in key) (mentions_in e) (omega arith) (omega arith) (low_in key have.0) (low_in e have.1) in
-      both_low (max (depth_of_expression key) (depth_of_expression e)) (depth_of_fields rest) _ (mentions_in key ++ mentions_in e) (mentions_of_fields rest) (omega arith) (omega arith) item (low_of_fields rest have.2)
+      let item = both_low (depth_of_expression key) (depth_of_expression e) (max (depth_of_expression key) (depth_of_expression e)) (room_of_expression key) (room_of_expression e) (max (room_of_expression key) (room_of_expression e)) (mentions_in key) (mentions_in e) (omega arith) (omega arith) (low_in key have.0) (low_in e have.1) in
+      both_low (max (depth_of_expression key) (depth_of_expression e)) (depth_of_fields rest) _ (max (room_of_expression key) (room_of_expression e)) (room_of_fields rest) _ (mentions_in key ++ mentions_in e) (mentions_of_fields rest) (omega arith) (omega arith) item (low_of_fields rest have.2)
 
-  low_in_all : (es : Expressions) → AllHaveCores es → AreLowMentions (depth_of_expressions es) (mentions_in_all es)
+  low_in_all : (es : Expressions) → AllHaveCores es → AreLowMentions (depth_of_expressions es) (room_of_expressions es) (mentions_in_all es)
   low_in_all no_expressions have = tt
-  low_in_all (syntax.expression e es) have = both_low (depth_of_expression e) (depth_of_expressions es) _ (mentions_in e) (mentions_in_all es) (omega arith) (omega arith) (low_in e have.0) (low_in_all es have.1)
+  low_in_all (syntax.expression e es) have = both_low (depth_of_expression e) (depth_of_expressions es) _ (room_of_expression e) (room_of_expressions es) _ (mentions_in e) (mentions_in_all es) (omega arith) (omega arith) (low_in e have.0) (low_in_all es have.1)
 
 -- a path mentions none
-path_low : (target : Expression) (high : ℕ) → is_path target ≡ true → AreLowMentions high (mentions_in target)
-path_low (name_expression line text) high is = tt
-path_low (field_expression line on text) high is = path_low on high (first_of_both _ _ is)
-path_low target high is = cc
+path_low : (target : Expression) (high roomy : ℕ) → is_path target ≡ true → AreLowMentions high roomy (mentions_in target)
+path_low (name_expression line text) high roomy is = tt
+path_low (field_expression line on text) high roomy is = path_low on high roomy (first_of_both _ _ is)
+path_low target high roomy is = cc
 
 -- of an assignment
-assigned_low : (targets es : Expressions) → AllHaveCores targets → AllHaveCores es → AreLowMentions (lean_assignment targets es) (mentions_in_all targets ++ mentions_in_all es)
+assigned_low : (targets es : Expressions) → AllHaveCores targets → AllHaveCores es → AreLowMentions (lean_assignment targets es) (lean_room_assignment targets es) (mentions_in_all targets ++ mentions_in_all es)
 assigned_low (syntax.expression target no_expressions) (syntax.expression (function_expression line body) no_expressions) to from = by (is_path target) refl
   where
-    by : (path : Bool) → is_path target ≡ path → AreLowMentions (if path then suc (depth_of_body body) else max (depth_of_expression target) (suc (depth_of_body body))) ((mentions_in target ++ []) ++ (function_mention body false ∷ []))
-    by true is = low_then (suc (depth_of_body body)) (mentions_in target ++ []) (function_mention body false ∷ []) (low_then (suc (depth_of_body body)) (mentions_in target) [] (path_low target (suc (depth_of_body body)) is) tt) ((from.0, omega arith), tt)
+    by : (path : Bool) → is_path target ≡ path → AreLowMentions (if path then suc (depth_of_body body) else max (depth_of_expression target) (suc (depth_of_body body))) (if path then suc (room_of_body body) else max (room_of_expression target) (suc (room_of_body body))) ((mentions_in target ++ []) ++ (function_mention body false ∷ []))
+    by true is =
+        let high = suc (depth_of_body body) in
+        let roomy = suc (room_of_body body) in
+        low_then high roomy (mentions_in target ++ []) (function_mention body false ∷ []) (low_then high roomy (mentions_in target) [] (path_low target high roomy is) tt) ((from.0, omega arith, omega arith), tt)
     by false is =
         let high = max (depth_of_expression target) (suc (depth_of_body body)) in
-        both_low (depth_of_expressions (syntax.expression target no_expressions)) (suc (depth_of_body body)) high (mentions_in target ++ []) (function_mention body false ∷ []) (omega arith) (omega arith) (low_in_all (syntax.expression target no_expressions) to) ((from.0, omega arith), tt)
-assigned_low targets es to from = both_low (depth_of_expressions targets) (depth_of_expressions es) _ (mentions_in_all targets) (mentions_in_all es) (omega arith) (omega arith) (low_in_all targets to) (low_in_all es from)
+        let roomy = max (room_of_expression target) (suc (room_of_body body)) in
+        both_low (depth_of_expressions (syntax.expression target no_expressions)) (suc (depth_of_body body)) high (room_of_expressions (syntax.expression target no_expressions)) (suc (room_of_body body)) roomy (mentions_in target ++ []) (function_mention body false ∷ []) (omega arith) (omega arith) (low_in_all (syntax.expression target no_expressions) to) ((from.0, omega arith, omega arith), tt)
+assigned_low targets es to from = both_low (depth_of_expressions targets) (depth_of_expressions es) _ (room_of_expressions targets) (room_of_expressions es) _ (mentions_in_all targets) (mentions_in_all es) (omega arith) (omega arith) (low_in_all targets to) (low_in_all es from)
 
 -- no local function, which alone mentions one of its own
 abbrev pub IsNotLocal : Statement → Type 0
 IsNotLocal (local_function text body) = ⊥
 IsNotLocal s = Unit {0}
 
-pub mentions_low : (s : Statement) → IsAct s → IsNotLocal s → AreLowMentions (lean_depth s) (mentions_of_statement s)
+pub mentions_low : (s : Statement) → IsAct s → IsNotLocal s → AreLowMentions (lean_depth s) (lean_room s) (mentions_of_statement s)
 mentions_low (call_statement e) is other = low_in e is.1
 mentions_low (assignment targets es) is other = assigned_low targets es (targets_have_cores IsPlainBody targets is.targets) is.values
 mentions_low (local_statement names es) is other = low_in_all es is.1
@@ -118,8 +124,8 @@ mentions_low s is other = absurd is
 
 -- ---- where a function is made
 
--- the function of a number is made where so many were made, with fewer levels than so many
-pub record IsMadeAt (f : Function) (g : Fn) (high number : ℕ) : Type 0 where
+-- the function of a number is made where so many were made, with fewer levels than so many and less room than that
+pub record IsMadeAt (f : Function) (g : Fn) (high roomy number : ℕ) : Type 0 where
   pub active : List Active
   -- the places in the list of the locals that are active there
   pub listed : List ℕ
@@ -131,43 +137,44 @@ pub record IsMadeAt (f : Function) (g : Fn) (high number : ℕ) : Type 0 where
   pub number_is : c.functions ≡ number
   pub plain : IsPlainBody body
   pub low : depth_of_body body < high
+  pub in_room : room_of_body body < roomy
 
 -- and so with fewer levels than more
-made_lower : {f : Function} {g : Fn} (high higher number : ℕ) → high ≤ higher → IsMadeAt f g high number → IsMadeAt f g higher number
-made_lower high higher number up made =
-    record { active = made.active; listed = made.listed; all = made.all; body = made.body; method = made.method; c = made.c; is = made.is; number_is = made.number_is; plain = made.plain; low = omega (arith, made.low, up) }
+made_lower : {f : Function} {g : Fn} (high higher roomy more number : ℕ) → high ≤ higher → roomy ≤ more → IsMadeAt f g high roomy number → IsMadeAt f g higher more number
+made_lower high higher roomy more number up wider made =
+    record { active = made.active; listed = made.listed; all = made.all; body = made.body; method = made.method; c = made.c; is = made.is; number_is = made.number_is; plain = made.plain; low = omega (arith, made.low, up); in_room = omega (arith, made.in_room, wider) }
 
 -- each function of what is mentioned is made
-pub mentioned_made : {f : Function} (g : Fn) (active : List Active) {listed : List ℕ} → AreListed f g active listed → (high : ℕ) (mentions : List Mention) (c : Coming) → AreMeant g active mentions c → AreLowMentions high mentions →
-    (number : ℕ) → c.functions ≤ number → number < (coming_behind active g.upvalue_names mentions c).functions → IsMadeAt f g high number
-mentioned_made g active all high [] c meant low number from below = absurd (omega (arith, from, below))
-mentioned_made g active all high (name_mention text ∷ mentions) c meant low number from below = mentioned_made g active all high mentions (behind_mention active g.upvalue_names (name_mention text) c) meant.1 low number from below
-mentioned_made {f} g active {listed} all high (function_mention body method ∷ mentions) c meant low number from below =
-    by (cases_lt c.functions number) (λ later. mentioned_made g active all high mentions (behind_mention active g.upvalue_names (function_mention body method) c) meant.1 low.1 number (omega (arith, later)) below)
+pub mentioned_made : {f : Function} (g : Fn) (active : List Active) {listed : List ℕ} → AreListed f g active listed → (high roomy : ℕ) (mentions : List Mention) (c : Coming) → AreMeant g active mentions c → AreLowMentions high roomy mentions →
+    (number : ℕ) → c.functions ≤ number → number < (coming_behind active g.upvalue_names mentions c).functions → IsMadeAt f g high roomy number
+mentioned_made g active all high roomy [] c meant low number from below = absurd (omega (arith, from, below))
+mentioned_made g active all high roomy (name_mention text ∷ mentions) c meant low number from below = mentioned_made g active all high roomy mentions (behind_mention active g.upvalue_names (name_mention text) c) meant.1 low number from below
+mentioned_made {f} g active {listed} all high roomy (function_mention body method ∷ mentions) c meant low number from below =
+    by (cases_lt c.functions number) (λ later. mentioned_made g active all high roomy mentions (behind_mention active g.upvalue_names (function_mention body method) c) meant.1 low.1 number (omega (arith, later)) below)
   where
-    by : (c.functions < number) ⊎ (number ≤ c.functions) → (c.functions < number → IsMadeAt f g high number) → IsMadeAt f g high number
+    by : (c.functions < number) ⊎ (number ≤ c.functions) → (c.functions < number → IsMadeAt f g high roomy number) → IsMadeAt f g high roomy number
     by (inl later) others = others later
-    by (inr here) others = record { active = active; listed = listed; all = all; body = body; method = method; c = c; is = meant.0; number_is = omega (arith, from, here); plain = low.0.0; low = low.0.1 }
-mentioned_made g active all high (own_mention text body ∷ mentions) c meant low number from below = absurd low
-mentioned_made g active all high (locals_mention texts ∷ mentions) c meant low number from below = mentioned_made g active all high mentions (behind_mention active g.upvalue_names (locals_mention texts) c) meant.1 low number from below
+    by (inr here) others = record { active = active; listed = listed; all = all; body = body; method = method; c = c; is = meant.0; number_is = omega (arith, from, here); plain = low.0.0; low = low.0.1; in_room = low.0.2 }
+mentioned_made g active all high roomy (own_mention text body ∷ mentions) c meant low number from below = absurd low
+mentioned_made g active all high roomy (locals_mention texts ∷ mentions) c meant low number from below = mentioned_made g active all high roomy mentions (behind_mention active g.upvalue_names (locals_mention texts) c) meant.1 low number from below
 
 -- that of a local function
-own_made : {f : Function} (g : Fn) (active : List Active) (text : Text) (body : FunctionBody) (c : Coming) → OwnListed f g active (local_function text body) → IsPlainBody body → IsOwnNext g active text body c → (number : ℕ) → c.functions ≤ number → number < suc c.functions → IsMadeAt f g (1 + depth_of_body body) number
+own_made : {f : Function} (g : Fn) (active : List Active) (text : Text) (body : FunctionBody) (c : Coming) → OwnListed f g active (local_function text body) → IsPlainBody body → IsOwnNext g active text body c → (number : ℕ) → c.functions ≤ number → number < suc c.functions → IsMadeAt f g (1 + depth_of_body body) (1 + room_of_body body) number
 own_made g active text body c listed plain own number from below =
     let all = listed own.local c.ahead own.is_local in
-    record { active = active ++ own.local ∷ []; listed = all.0; all = all.1; body = body; method = false; c = inside_local text c; is = own.next; number_is = omega (arith, from, below); plain = plain; low = omega arith }
+    record { active = active ++ own.local ∷ []; listed = all.0; all = all.1; body = body; method = false; c = inside_local text c; is = own.next; number_is = omega (arith, from, below); plain = plain; low = omega arith; in_room = omega arith }
 
 statement_made_at : {f : Function} (g : Fn) (active : List Active) {listed : List ℕ} → AreListed f g active listed → (s : Statement) → IsAct s → OwnListed f g active s → (c : Coming) → AreMeant g active (mentions_of_statement s) c →
-    (number : ℕ) → c.functions ≤ number → number < (coming_behind active g.upvalue_names (mentions_of_statement s) c).functions → IsMadeAt f g (lean_depth s) number
+    (number : ℕ) → c.functions ≤ number → number < (coming_behind active g.upvalue_names (mentions_of_statement s) c).functions → IsMadeAt f g (lean_depth s) (lean_room s) number
 statement_made_at g active all (local_function text body) is own c meant number from below = own_made g active text body c own is.1 meant.0 number from below
-statement_made_at g active all (call_statement e) is own c meant number from below = mentioned_made g active all _ (mentions_of_statement (call_statement e)) c meant (mentions_low (call_statement e) is tt) number from below
-statement_made_at g active all (assignment targets es) is own c meant number from below = mentioned_made g active all _ (mentions_of_statement (assignment targets es)) c meant (mentions_low (assignment targets es) is tt) number from below
-statement_made_at g active all (local_statement names es) is own c meant number from below = mentioned_made g active all _ (mentions_of_statement (local_statement names es)) c meant (mentions_low (local_statement names es) is tt) number from below
-statement_made_at g active all (return_statement es) is own c meant number from below = mentioned_made g active all _ (mentions_of_statement (return_statement es)) c meant (mentions_low (return_statement es) is tt) number from below
+statement_made_at g active all (call_statement e) is own c meant number from below = mentioned_made g active all _ _ (mentions_of_statement (call_statement e)) c meant (mentions_low (call_statement e) is tt) number from below
+statement_made_at g active all (assignment targets es) is own c meant number from below = mentioned_made g active all _ _ (mentions_of_statement (assignment targets es)) c meant (mentions_low (assignment targets es) is tt) number from below
+statement_made_at g active all (local_statement names es) is own c meant number from below = mentioned_made g active all _ _ (mentions_of_statement (local_statement names es)) c meant (mentions_low (local_statement names es) is tt) number from below
+statement_made_at g active all (return_statement es) is own c meant number from below = mentioned_made g active all _ _ (mentions_of_statement (return_statement es)) c meant (mentions_low (return_statement es) is tt) number from below
 statement_made_at g active all s is own c meant number from below = absurd is
 
 -- each function that a block makes is one that stands in its statements
-pub each_made : {f : Function} {g : Fn} {z : Maker} (whole : IsMadeWhole f g z) (block : Statements) (m : Maker) → ComesNext f g z block m → (number : ℕ) → length m.functions ≤ number → number < length (all_made block m).functions → IsMadeAt f g (lean_depth_of block) number
+pub each_made : {f : Function} {g : Fn} {z : Maker} (whole : IsMadeWhole f g z) (block : Statements) (m : Maker) → ComesNext f g z block m → (number : ℕ) → length m.functions ≤ number → number < length (all_made block m).functions → IsMadeAt f g (lean_depth_of block) (lean_room_of block) number
 each_made whole no_statements m next number from below = absurd (omega (arith, from, below))
 each_made {f} {g} whole (syntax.statement line semi s rest) m next number from below =
     by (cases_lt number (length (made_by s m).functions)) (λ later. each_made whole rest (settle (made_by s m)) (comes_behind whole next) number later below)
@@ -178,9 +185,9 @@ each_made {f} {g} whole (syntax.statement line semi s rest) m next number from b
     behind : coming (made_by s m) ≡ coming_behind m.active g.upvalue_names (mentions_of_statement s) (coming m)
     behind = (statement_moves s next.straight.0.0 m).behind ∙ ap (λ names. coming_behind m.active names (mentions_of_statement s) (coming m)) ahead.upvalues_are
 
-    by : (number < length (made_by s m).functions) ⊎ (length (made_by s m).functions ≤ number) → (length (made_by s m).functions ≤ number → IsMadeAt f g (lean_depth_of rest) number) → IsMadeAt f g (lean_depth_of (syntax.statement line semi s rest)) number
+    by : (number < length (made_by s m).functions) ⊎ (length (made_by s m).functions ≤ number) → (length (made_by s m).functions ≤ number → IsMadeAt f g (lean_depth_of rest) (lean_room_of rest) number) → IsMadeAt f g (lean_depth_of (syntax.statement line semi s rest)) (lean_room_of (syntax.statement line semi s rest)) number
     by (inl here) others =
         let high = lean_depth s in
         let one = statement_made_at g m.active (made_there whole next).all s next.straight.0.0 (own_listed whole next) (coming m) ahead.meant number from (omega (arith, here, ap (λ (c : Coming). c.functions) behind)) in
-        made_lower high _ number (omega arith) one
-    by (inr later) others = made_lower (lean_depth_of rest) _ number (omega arith) (others later)
+        made_lower high _ (lean_room s) _ number (omega arith) (omega arith) one
+    by (inr later) others = made_lower (lean_depth_of rest) _ (lean_room_of rest) _ number (omega arith) (omega arith) (others later)

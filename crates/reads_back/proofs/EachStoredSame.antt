@@ -1,19 +1,21 @@
 -- Values that are stored to the places of targets: what is written of them makes the same code as the expressions, where each target has its value; a nil that is missing is stored as one in parentheses; and which constants the stores take.
-use Rattle.std.proofs.Common.{◌≡◌, ℕ, suc, ◌+◌, ◌*◌, ◌≤◌, Bool, true, false, List, [], ◌∷◌, ◌++◌, length, Option, Some, refl, sym, ap, ◌∙◌, subst, arith, true≢false}
+use Rattle.reads_back.proofs.InRoom.{levels_in}
+use Rattle.scheme.specs.Shapes.{room_of_expressions}
+use Rattle.std.proofs.Common.{◌≡◌, ℕ, suc, ◌+◌, ◌*◌, ◌≤◌, Bool, true, false, List, [], ◌∷◌, ◌++◌, length, Option, Some, refl, sym, ap, ◌∙◌, subst, arith, true≢false, max, inl}
 use Rattle.std.specs.Prelude.{◌&&◌, not}
 use Rattle.lua_num.specs.Bytes.{Text}
 use Rattle.lua_tree.specs.Joins.{join_expressions}
 use Rattle.lua_tree.specs.OneLine.{one_line_expression, one_line_expressions}
 use Rattle.lua_tree.specs.Syntax as syntax
 use Rattle.lua_tree.specs.Syntax.{Expressions, no_expressions, Expression, nil_literal, parenthesized}
-use Rattle.lua_tree.specs.WellFormed.{depth_of_expressions}
+use Rattle.lua_tree.specs.WellFormed.{depth_of_expressions, formed_expressions, formed_expression}
 use Rattle.opcode.specs.declared.op.Op.{Op}
 use Rattle.proto.specs.declared.parts.Constant.{Constant}
 use Rattle.core_expr.specs.Counting.{left_by, left_by_operand, left_by_values, taken_behind, taken_behind_operand, taken_behind_values}
 use Rattle.core_expr.specs.Places.{Place, place}
 use Rattle.core_expr.specs.Targets.{TargetValue, index_target, local_target}
 use Rattle.core_expr.specs.Values.{Value, nil_value, Values, no_values, and_value, OperandValue, value_operand, Inner}
-use Rattle.core_expr.specs.Writing.{can_write_operand, can_write_values, ends_values, is_multiple as can_be_several, unless, word_values}
+use Rattle.core_expr.specs.Writing.{can_write_operand, can_write_values, ends_values, is_multiple as can_be_several, unless, word_values, word_operand, word}
 use Rattle.recover_expr.specs.Entries.{and_last_value}
 use Rattle.recover_expr.specs.Situation.{Function}
 use Rattle.scheme.specs.Expressions.{Coded, Target, name_target, part_target, next_reg, operand, rk}
@@ -31,13 +33,13 @@ use Rattle.reads_back.specs.Cores.{AllHaveCores, AreCores, HasCore}
 use Rattle.reads_back.proofs.ConstantsSame.{constant_taken}
 use Rattle.reads_back.proofs.GivenSame.{AllRewritten}
 use Rattle.reads_back.proofs.LeavesSame.{nil_rewritten, parenthesized_rewritten}
-use Rattle.reads_back.proofs.ListsSame.{codes_of, first_ahead, others_ahead, others_final, values_coded}
+use Rattle.reads_back.proofs.ListsSame.{codes_of, first_ahead, others_ahead, others_final, values_coded, stays_bare}
 use Rattle.reads_back.proofs.Mentions.{IsAhead, mentions_in, mentions_in_all, made_behind, made_both}
 use Rattle.reads_back.proofs.OperandsSame.{operand_rewritten}
-use Rattle.reads_back.proofs.Rewriting.{IsMadeBy, Rewritten, RewrittenOperand, code, operand_wording, wording}
+use Rattle.reads_back.proofs.Rewriting.{IsMadeBy, Rewritten, RewrittenOperand, code, operand_wording, wording, HasRoom}
 use Rattle.reads_back.proofs.TargetsSame.{ArePlaces, IsPlace}
-use Rattle.reads_back.proofs.Tests.{both_hold}
-use Rattle.reads_back.proofs.WordsSame.{levels_wrapped, next_same, next_taken, next_wrapped, operand_same, operand_taken, operand_wrapped, to_reg_wrapped}
+use Rattle.reads_back.proofs.Tests.{both_hold, first_of_both, second_of_both}
+use Rattle.reads_back.proofs.WordsSame.{levels_wrapped, next_same, next_taken, next_wrapped, operand_same, operand_taken, operand_wrapped, to_reg_wrapped, next_low, operand_low}
 
 -- a target, and the place that a value goes to
 pub record Placed (g : Fn) : Type 0 where
@@ -74,7 +76,7 @@ module _ (g : Fn) where
   targets_are ts to are = absurd are
 
 -- a name is no part of a table
-name_no_part : {A : Type 0} (g : Fn) (text : Text) (w : Where) (t : TargetValue) → IsVariableTarget g text w t → is_part (Some t) ≡ true → A
+pub name_no_part : {A : Type 0} (g : Fn) (text : Text) (w : Where) (t : TargetValue) → IsVariableTarget g text w t → is_part (Some t) ≡ true → A
 name_no_part g text (in_register x) t is part = absurd (true≢false (sym part ∙ ap (λ t. is_part (Some t)) is))
 name_no_part g text (in_upvalue slot) t is part = absurd (true≢false (sym part ∙ ap (λ t. is_part (Some t)) is))
 name_no_part g text in_globals t (number, has, is) part = absurd (true≢false (sym part ∙ ap (λ t. is_part (Some t)) is))
@@ -159,6 +161,11 @@ module _ {f : Function} {g : Fn} {active : List Active} {listed : List ℕ} {z :
   store_same bare text (in_upvalue slot) m ahead final = operand_stored bare text (in_upvalue slot) m ahead final
   store_same bare text in_globals m ahead final = operand_stored bare text in_globals m ahead final
 
+  store_low : (text : Text) (w : Where) → f.short ≡ true → formed_expression e ≡ true → (m : Maker) → IsAhead g active before (mentions_in e) m → Final (length m.labels) (store 1 (name_target text w) (code e) m) z → HasRoom f listed z lefts before (length m.constants) e v
+  store_low text (in_register x) short formed m ahead final = written.low short formed m ahead (inl (x, final))
+  store_low text (in_upvalue slot) short formed m ahead final = operand_low written short formed m ahead (value_final text (in_upvalue slot) (code e) m final)
+  store_low text in_globals short formed m ahead final = operand_low written short formed m ahead (value_final text in_globals (code e) m final)
+
   module _ (made : IsMadeBy f g active listed z) where
     operand_takes : (text : Text) (w : Where) (t : TargetValue) (m : Maker) → IsVariableTarget g text w t → IsAhead g active before (mentions_in e) m → Final (length m.labels) (store_operand 1 text w (code e) m) z →
         length (store_operand 1 text w (code e) m).constants ≡ named_behind t (taken_behind v (length m.constants))
@@ -176,36 +183,45 @@ module _ {f : Function} {g : Fn} {active : List Active} {listed : List ℕ} {z :
 
 module _ (f : Function) (g : Fn) (active : List Active) (listed : List ℕ) (z : Maker) (before : ℕ) where
   -- what is written of the values, where so many constants are taken, is stored as the expressions are
-  pub record EachSame (placed : List (Placed g)) (es : Expressions) (written : ℕ → List Coded) (taken : ℕ → ℕ) : Type 0 where
+  pub record EachSame (placed : List (Placed g)) (es : Expressions) (written : ℕ → List Coded) (taken levels : ℕ → ℕ) : Type 0 where
     pub same : (m : Maker) → IsAhead g active before (mentions_in_all es) m → Final (length m.labels) (each_stored 1 (places placed) (codes_of es) m) z → each_stored 1 (places placed) (written (length m.constants)) m ≡ each_stored 1 (places placed) (codes_of es) m
     pub takes : (m : Maker) → IsAhead g active before (mentions_in_all es) m → Final (length m.labels) (each_stored 1 (places placed) (codes_of es) m) z →
         length (each_stored 1 (places placed) (codes_of es) m).constants ≡ all_named_behind (targets_of placed) (taken (length m.constants))
+    -- in the forms of fewest levels it needs no more than there is room for
+    pub low : f.short ≡ true → formed_expressions es ≡ true → (m : Maker) → IsAhead g active before (mentions_in_all es) m → Final (length m.labels) (each_stored 1 (places placed) (codes_of es) m) z → levels (length m.constants) ≤ room_of_expressions es
 
 module _ {f : Function} {g : Fn} {active : List Active} {listed : List ℕ} {z : Maker} {lefts : ℕ → List (Option Inner)} {before behind : ℕ} (made : IsMadeBy f g active listed z) where
   -- the last value goes to a name
-  value_only : (t : TargetValue) (to : Target) (is : IsPlace g t to) (e : Expression) (v : Value) (bare : Bool) → is_part (Some t) ≡ false → HasCore e → Rewritten f g active listed z lefts before behind e v →
-      EachSame f g active listed z before (record { to = t; there = to; is = is } ∷ []) (syntax.expression e no_expressions) (λ n. coded (unless bare (wording f listed z lefts before n v)).words ∷ []) (taken_behind v)
-  value_only t (name_target text w) is e v bare no_part has written = record {
+  value_only : (t : TargetValue) (to : Target) (is : IsPlace g t to) (e : Expression) (v : Value) (bare : Bool) → bare ≡ true → is_part (Some t) ≡ false → HasCore e → Rewritten f g active listed z lefts before behind e v →
+      EachSame f g active listed z before (record { to = t; there = to; is = is } ∷ []) (syntax.expression e no_expressions) (λ n. coded (unless bare (wording f listed z lefts before n v)).words ∷ []) (taken_behind v) (λ n. max (unless bare (wording f listed z lefts before n v)).levels 0)
+  value_only t (name_target text w) is e v bare stays no_part has written = record {
     same = λ m ahead final. store_same written bare text w m (first_ahead e no_expressions (has, tt) m ahead) final;
     takes = λ m ahead final. store_taken written made text w t m is (first_ahead e no_expressions (has, tt) m ahead) final;
+    low = λ short formed m ahead final.
+        let low = levels_in _ e (wording f listed z lefts before (length m.constants) v) (store_low written text w short (first_of_both _ _ formed) m (first_ahead e no_expressions (has, tt) m ahead) final) in
+        let same = ap (λ (bare : Bool). (unless bare (wording f listed z lefts before (length m.constants) v)).levels) stays in
+        omega (arith, low, same);
   }
-  value_only t (part_target on key on_local key_local) is e v bare no_part has written = absurd (true≢false (sym is ∙ no_part))
+  value_only t (part_target on key on_local key_local) is e v bare stays no_part has written = absurd (true≢false (sym is ∙ no_part))
 
   -- or as an operand to a part of a table
   operand_only : (t : TargetValue) (to : Target) (is : IsPlace g t to) (e : Expression) (o : OperandValue) → is_part (Some t) ≡ true → HasCore e → RewrittenOperand f g active listed z lefts before behind e o →
-      EachSame f g active listed z before (record { to = t; there = to; is = is } ∷ []) (syntax.expression e no_expressions) (λ n. coded (operand_wording f listed z lefts before n o).words ∷ []) (taken_behind_operand o)
+      EachSame f g active listed z before (record { to = t; there = to; is = is } ∷ []) (syntax.expression e no_expressions) (λ n. coded (operand_wording f listed z lefts before n o).words ∷ []) (taken_behind_operand o) (λ n. (operand_wording f listed z lefts before n o).levels)
   operand_only t (name_target text w) is e o part has written = name_no_part g text w t is part
   operand_only t (part_target on key on_local key_local) is e o part has written = record {
     same = λ m ahead final. ap (λ (x : Got ℕ). put 1 (Piece.Abc Op.SetTable on key x.value) x.after) (written.as_rk m (first_ahead e no_expressions (has, tt) m ahead) (part_final on key on_local key_local (code e) m final));
     takes = λ m ahead final.
         written.taken m (first_ahead e no_expressions (has, tt) m ahead) (part_final on key on_local key_local (code e) m final) ∙ sym (part_names_none t (taken_behind_operand o (length m.constants)) part);
+    low = λ short formed m ahead final.
+        let low = (written.low short (first_of_both _ _ formed) m (first_ahead e no_expressions (has, tt) m ahead) (part_final on key on_local key_local (code e) m final)).low in
+        omega (arith, low);
   }
 
   -- a value goes to the next register, the others come behind it, and then it is stored
-  more_each : (one other : Placed g) (others : List (Placed g)) (e : Expression) (es : Expressions) (v : Value) (bare : Bool) (written : ℕ → List (Option Inner) → List Coded) (taken : ℕ → ℕ) → AllHaveCores (syntax.expression e es) →
-      Rewritten f g active listed z lefts before behind e v → EachSame f g active listed z behind (other ∷ others) es (λ n. written n (lefts behind)) taken →
-      EachSame f g active listed z before (one ∷ other ∷ others) (syntax.expression e es) (λ n. coded (unless bare (wording f listed z lefts before n v)).words ∷ written (taken_behind v n) (left_by v (lefts before))) (λ n. taken (taken_behind v n))
-  more_each one other others e es v bare written taken has first rest = record {
+  more_each : (one other : Placed g) (others : List (Placed g)) (e : Expression) (es : Expressions) (v : Value) (bare : Bool) (written : ℕ → List (Option Inner) → List Coded) (taken : ℕ → ℕ) (levels : ℕ → List (Option Inner) → ℕ) → bare ≡ true → AllHaveCores (syntax.expression e es) →
+      Rewritten f g active listed z lefts before behind e v → EachSame f g active listed z behind (other ∷ others) es (λ n. written n (lefts behind)) taken (λ n. levels n (lefts behind)) →
+      EachSame f g active listed z before (one ∷ other ∷ others) (syntax.expression e es) (λ n. coded (unless bare (wording f listed z lefts before n v)).words ∷ written (taken_behind v n) (left_by v (lefts before))) (λ n. taken (taken_behind v n)) (λ n. max (unless bare (wording f listed z lefts before n v)).levels (levels (taken_behind v n) (left_by v (lefts before))))
+  more_each one other others e es v bare written taken levels stays has first rest = record {
     same = λ m ahead final.
         let n = length m.constants in
         ap (λ mid. stores m (written (taken_behind v n) (left_by v (lefts before))) mid) (next_wrapped bare (wording f listed z lefts before n v) m ∙ next_same first m (first_ahead e es has m ahead) (first_final m final))
@@ -217,6 +233,14 @@ module _ {f : Function} {g : Fn} {active : List Active} {listed : List ℕ} {z :
         ∙ ap (named_behind one.to)
         (rest.takes (next_reg (code e) m) (others_ahead e es has m ahead first.makes) (others_final e es m (behind_final m final))
         ∙ ap (λ n. all_named_behind (targets_of (other ∷ others)) (taken n)) (next_taken first m (first_ahead e es has m ahead) (first_final m final)));
+    low = λ short formed m ahead final.
+        let n = length m.constants in
+        let one_low = levels_in _ e (wording f listed z lefts before n v) (next_low first short (first_of_both _ _ formed) m (first_ahead e es has m ahead) (first_final m final)) in
+        let rest_low = rest.low short (second_of_both (formed_expression e) _ formed) (next_reg (code e) m) (others_ahead e es has m ahead first.makes) (others_final e es m (behind_final m final)) in
+        let same = ap (λ (bare : Bool). (unless bare (wording f listed z lefts before n v)).levels) stays in
+        let rest_taken = ap (λ n. levels n (left_by v (lefts before))) (next_taken first m (first_ahead e es has m ahead) (first_final m final)) in
+        let left = ap (λ fs. levels (length (next_reg (code e) m).constants) fs) first.leaves in
+        omega (arith, one_low, rest_low, same, rest_taken, left);
   }
     where
       stores : Maker → List Coded → Maker → Maker
@@ -229,6 +253,14 @@ module _ {f : Function} {g : Fn} {active : List Active} {listed : List ℕ} {z :
       first_final m final = before_each (places (other ∷ others)) (codes_of es) (grow_all calm (one_line_expressions es)) (next_reg (code e) m) (behind_final m final)
 
 -- values, and an operand behind them
+abbrev pub with_operand_levels : Place → ℕ → List (Option Inner) → Values → OperandValue → ℕ
+with_operand_levels at n fs no_values o = (word_operand at n fs o).levels
+with_operand_levels at n fs (and_value v rest) o = max (unless (not ((ends_values rest && false) && can_be_several v)) (word at n fs v)).levels (with_operand_levels at (taken_behind v n) (left_by v fs) rest o)
+
+pub operand_levels_are : (at : Place) (n : ℕ) (fs : List (Option Inner)) (vs : Values) (o : OperandValue) → (words_assigned at n fs vs true (Some o)).levels ≡ with_operand_levels at n fs vs o
+operand_levels_are at n fs no_values o = omega arith
+operand_levels_are at n fs (and_value v rest) o = omega (arith, operand_levels_are at (taken_behind v n) (left_by v fs) rest o)
+
 abbrev pub with_operand_coded : Place → ℕ → List (Option Inner) → Values → OperandValue → List Coded
 with_operand_coded at n fs vs o = all_coded (words_assigned at n fs vs true (Some o)).words
 
@@ -237,28 +269,28 @@ module _ {f : Function} {g : Fn} {active : List Active} {listed : List ℕ} {z :
   at = place f.of listed f.short
 
   pub each_values : (placed : List (Placed g)) (es : Expressions) (before behind : ℕ) (vs : Values) → length (codes_of es) ≡ length (places placed) → is_part (last_target (targets_of placed)) ≡ false → AllHaveCores es → AllRewritten f g active listed z lefts es → AreCores g active es before behind vs →
-      EachSame f g active listed z before placed es (λ n. values_coded (place f.of listed f.short) n (lefts before) vs true) (taken_behind_values vs)
-  each_values [] no_expressions before behind vs same no_part has written are = record { same = λ m ahead final. refl; takes = λ m ahead final. ap (λ vs. taken_behind_values vs (length m.constants)) (sym are.1) }
+      EachSame f g active listed z before placed es (λ n. values_coded (place f.of listed f.short) n (lefts before) vs true) (taken_behind_values vs) (λ n. (word_values (place f.of listed f.short) n (lefts before) vs true).levels)
+  each_values [] no_expressions before behind vs same no_part has written are = record { same = λ m ahead final. refl; takes = λ m ahead final. ap (λ vs. taken_behind_values vs (length m.constants)) (sym are.1); low = λ short formed m ahead final. omega (arith, ap (λ vs. (word_values at (length m.constants) (lefts before) vs true).levels) are.1) }
   each_values (one ∷ []) (syntax.expression e no_expressions) before behind vs same no_part has written (mid, (v, rest, core, (as_many, none), is)) =
-      subst (λ vs. EachSame f g active listed z before (one ∷ []) (syntax.expression e no_expressions) (λ n. values_coded at n (lefts before) vs true) (taken_behind_values vs)) (sym (is ∙ ap (and_value v) none))
-      (value_only made one.to one.there one.is e v true no_part has.0 (written.0 before mid v core))
+      subst (λ vs. EachSame f g active listed z before (one ∷ []) (syntax.expression e no_expressions) (λ n. values_coded at n (lefts before) vs true) (taken_behind_values vs) (λ n. (word_values at n (lefts before) vs true).levels)) (sym (is ∙ ap (and_value v) none))
+      (value_only made one.to one.there one.is e v true refl no_part has.0 (written.0 before mid v core))
   each_values (one ∷ other ∷ others) (syntax.expression e es) before behind vs same no_part has written (mid, (v, rest, core, are, is)) =
-      subst (λ vs. EachSame f g active listed z before (one ∷ other ∷ others) (syntax.expression e es) (λ n. values_coded at n (lefts before) vs true) (taken_behind_values vs)) (sym is)
-      (more_each made one other others e es v (not ((ends_values rest && false) && can_be_several v)) (λ n fs. values_coded at n fs rest true) (taken_behind_values rest) has (written.0 before mid v core)
+      subst (λ vs. EachSame f g active listed z before (one ∷ other ∷ others) (syntax.expression e es) (λ n. values_coded at n (lefts before) vs true) (taken_behind_values vs) (λ n. (word_values at n (lefts before) vs true).levels)) (sym is)
+      (more_each made one other others e es v (not ((ends_values rest && false) && can_be_several v)) (λ n fs. values_coded at n fs rest true) (taken_behind_values rest) (λ n fs. (word_values at n fs rest true).levels) (stays_bare (ends_values rest) (can_be_several v)) has (written.0 before mid v core)
       (each_values (other ∷ others) es mid behind rest (omega (arith, same)) no_part has.1 written.1 are))
   each_values placed es before behind vs same no_part has written are = absurd (omega (arith, same))
 
   pub each_with_operand : (placed : List (Placed g)) (es : Expressions) (before behind : ℕ) (vs : Values) (o : OperandValue) → length (codes_of es) ≡ length (places placed) → is_part (last_target (targets_of placed)) ≡ true → AllHaveCores es → AllRewritten f g active listed z lefts es → EndWithOperand g active es o before behind vs →
-      EachSame f g active listed z before placed es (λ n. with_operand_coded (place f.of listed f.short) n (lefts before) vs o) (λ n. taken_behind_operand o (taken_behind_values vs n))
+      EachSame f g active listed z before placed es (λ n. with_operand_coded (place f.of listed f.short) n (lefts before) vs o) (λ n. taken_behind_operand o (taken_behind_values vs n)) (λ n. with_operand_levels (place f.of listed f.short) n (lefts before) vs o)
   each_with_operand [] es before behind vs o same part has written are = absurd (true≢false (sym part))
   each_with_operand placed no_expressions before behind vs o same part has written are = absurd are
   each_with_operand (one ∷ []) (syntax.expression e no_expressions) before behind vs o same part has written are =
-      subst (λ vs. EachSame f g active listed z before (one ∷ []) (syntax.expression e no_expressions) (λ n. with_operand_coded at n (lefts before) vs o) (λ n. taken_behind_operand o (taken_behind_values vs n))) (sym are.0)
+      subst (λ vs. EachSame f g active listed z before (one ∷ []) (syntax.expression e no_expressions) (λ n. with_operand_coded at n (lefts before) vs o) (λ n. taken_behind_operand o (taken_behind_values vs n)) (λ n. with_operand_levels at n (lefts before) vs o)) (sym are.0)
       (operand_only made one.to one.there one.is e o part has.0 (operand_rewritten lefts made e before behind o has.0 are.1 (written.0 before behind)))
   each_with_operand (one ∷ other ∷ others) (syntax.expression e (syntax.expression d es)) before behind vs o same part has written (mid, (v, rest, core, are, is)) =
       let more = syntax.expression d es in
-      subst (λ vs. EachSame f g active listed z before (one ∷ other ∷ others) (syntax.expression e more) (λ n. with_operand_coded at n (lefts before) vs o) (λ n. taken_behind_operand o (taken_behind_values vs n))) (sym is)
-      (more_each made one other others e more v (not ((ends_values rest && false) && can_be_several v)) (λ n fs. with_operand_coded at n fs rest o) (λ n. taken_behind_operand o (taken_behind_values rest n)) has (written.0 before mid v core)
+      subst (λ vs. EachSame f g active listed z before (one ∷ other ∷ others) (syntax.expression e more) (λ n. with_operand_coded at n (lefts before) vs o) (λ n. taken_behind_operand o (taken_behind_values vs n)) (λ n. with_operand_levels at n (lefts before) vs o)) (sym is)
+      (more_each made one other others e more v (not ((ends_values rest && false) && can_be_several v)) (λ n fs. with_operand_coded at n fs rest o) (λ n. taken_behind_operand o (taken_behind_values rest n)) (λ n fs. with_operand_levels at n fs rest o) (stays_bare (ends_values rest) (can_be_several v)) has (written.0 before mid v core)
       (each_with_operand (other ∷ others) more mid behind rest o (omega (arith, same)) part has.1 written.1 are))
   each_with_operand placed es before behind vs o same part has written are = absurd (omega (arith, same))
 

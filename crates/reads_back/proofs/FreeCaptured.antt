@@ -1,5 +1,5 @@
 -- A name that is free in a function, and means no global there, is that of one of its upvalues.
-use Rattle.std.proofs.Common.{◌≡◌, ◌⊎◌, inl, inr, ℕ, zero, suc, ◌≤◌, Bool, true, false, not, ◌&&◌, ◌||◌, List, [], ◌∷◌, ◌++◌, append-nil, append_assoc, drop, length, Option, Some, None, refl, sym, ap, ap₂, ◌∙◌, subst, arith, if◌then◌else◌}
+use Rattle.std.proofs.Common.{◌≡◌, ◌⊎◌, inl, inr, ℕ, zero, suc, Bool, true, false, not, ◌&&◌, ◌||◌, List, [], ◌∷◌, ◌++◌, append-nil, append_assoc, drop, length, Option, Some, None, refl, sym, ap, ap₂, ◌∙◌, subst, if◌then◌else◌}
 use Rattle.std.proofs.lemmas.Bool.{or_parts}
 use Rattle.std.proofs.lemmas.Slice.Eq.{bytes_eq-Decides}
 use Rattle.std.specs.Prelude.{is_some, slice_get}
@@ -10,7 +10,7 @@ use Rattle.lua_tree.specs.Outline.{all_params}
 use Rattle.lua_tree.specs.Scoping.{Use}
 use Rattle.lua_tree.specs.Syntax as syntax
 use Rattle.lua_tree.specs.Syntax.{Arguments, argument_list, text_argument, table_argument, Expression, Expressions, no_expressions, Fields, no_fields, positional, named, keyed, FunctionBody, function_body, Statement, Statements, no_statements, assignment, call_statement, function_statement, local_function, local_statement, return_statement, nil_literal, true_literal, false_literal, vararg_expression, number_literal, text_literal, name_expression, function_expression, index_expression, field_expression, call_expression, method_call, binary_expression, unary_expression, constructor, parenthesized}
-use Rattle.lua_tree.specs.WellFormed.{depth_of_statements, formed_statement, formed_statements, may_follow}
+use Rattle.lua_tree.specs.WellFormed.{formed_statement, formed_statements, may_follow}
 use Rattle.proto.specs.Chunk.{Chunk, own}
 use Rattle.scheme.specs.Functions.{without_sources}
 use Rattle.scheme.specs.Making.{Ahead, Maker, Where, in_globals, in_register, in_upvalue, head_or, where_is}
@@ -28,7 +28,7 @@ use Rattle.reads_back.specs.Straight.{AllHaveCoresBy, HasCoreBy, HaveCoresBy, Ha
 use Rattle.reads_back.proofs.BlockMakers.{AllStand, actives_by, all_stand, made_by, statement_moves}
 use Rattle.reads_back.proofs.DeclaredLocals.{actives_of}
 use Rattle.reads_back.proofs.FreeNames.{brings, free_in, free_in_all, free_in_block, free_in_body, free_in_fields, free_in_given, free_in_statement}
-use Rattle.reads_back.proofs.FunctionStatements.{acts_are, acts_formed, acts_on_line, acts_shallow, as_assignment, as_assignments, path_target, with_method_name, with_self}
+use Rattle.reads_back.proofs.FunctionStatements.{acts_are, acts_formed, acts_on_line, as_assignment, as_assignments, path_target, with_method_name, with_self}
 use Rattle.reads_back.proofs.Mentions.{AreMeant, IsMentionMeant, Mention, behind_mention, function_mention, locals_mention, mentions_given, mentions_in, mentions_in_all, mentions_of_fields, name_mention, own_mention}
 use Rattle.reads_back.proofs.OneLineActs.{targets_have_cores}
 use Rattle.reads_back.proofs.ParametersRead as parameters
@@ -279,9 +279,8 @@ captured_inside text (suc deep) (function_body params vararg block first last) m
     let formed : formed_statements block ≡ true = second_of_both (are_names params) _ plain.formed in
     let on_line : AreOnLine block = let same = plain.on_line in each_on_line block cc in
     let acts = acts_are deep block straight formed in
-    let shallow : depth_of_statements block ≤ 66 = omega (arith, plain.shallow) in
     let acts_line = acts_on_line block on_line in
-    let plain_acts = plain_block deep (as_assignments block) acts (acts_formed deep block straight formed) acts_line (acts_shallow deep block straight shallow) in
+    let plain_acts = plain_block deep (as_assignments block) acts (acts_formed deep block straight formed) acts_line in
     let names = (own chunk).upvalue_names in
     let f = fn_of (body_maker body method names before) in
     let m = body_begun body method names before in

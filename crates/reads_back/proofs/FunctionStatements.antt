@@ -9,7 +9,9 @@ use Rattle.lua_tree.specs.Syntax as syntax
 use Rattle.lua_tree.specs.Syntax.{Expression, Expressions, FunctionBody, Statement, Statements, assignment, field_expression, function_body, function_expression, function_statement, name_expression, nil_literal, no_expressions, no_statements}
 use Rattle.lua_tree.specs.WellFormed.{begins_with_paren, depth_of_body, depth_of_expression, depth_of_expressions, depth_of_statement, depth_of_statements, ends_block, formed_body, formed_expression, formed_statement, formed_statements, is_optional_name, is_prefix, is_target, may_follow, statement_begins_with_paren, statement_takes_arguments}
 use Rattle.reads_back.specs.Acted.{AreActsBy, is_path, lean_assignment, lean_depth, lean_depth_of}
-use Rattle.reads_back.specs.Straight.{AreStraightBy, BeginsWithName, HasCoreBy, IsActBy, IsActTargetBy, IsStraightBody, IsStraightStatementBy, StatementBeginsWithName}
+use Rattle.reads_back.specs.Straight.{AreStraightBy, HasCoreBy, IsActBy, IsActTargetBy, IsStraightBody, IsStraightStatementBy, StatementIndexesNoTable, IndexesNoTable, is_constructor}
+use Rattle.scheme.specs.Shapes.{room_of_body, room_of_expression, room_of_expressions, room_of_statement, room_of_statements}
+use Rattle.reads_back.proofs.Rooms.{lean_room, lean_room_assignment, lean_room_of}
 use Rattle.reads_back.proofs.Paths.{fields_behind}
 use Rattle.reads_back.proofs.PlainStraight.{AreOnLine}
 use Rattle.reads_back.proofs.Tests.{both_hold, first_of_both, not_so, second_of_both}
@@ -39,23 +41,24 @@ as_assignments (syntax.statement line semi s rest) = syntax.statement line semi 
 -- a name with fields behind it, on one line and of at most so many names
 record IsChain (most : ℕ) (e : Expression) : Type 0 where
   target : is_target e ≡ true
-  begins : BeginsWithName e
+  no_constructor : is_constructor e ≡ false
+  indexes : IndexesNoTable e
   bare : begins_with_paren e ≡ false
   on_line : one_line_expression e ≡ e
   deep : depth_of_expression e ≤ most
 
 name_is_chain : (text : Text) → IsChain 1 (name_expression 1 text)
-name_is_chain text = record { target = refl; begins = tt; bare = refl; on_line = refl; deep = omega arith }
+name_is_chain text = record { target = refl; no_constructor = refl; indexes = tt; bare = refl; on_line = refl; deep = omega arith }
 
 field_is_chain : (most : ℕ) (on : Expression) (text : Text) → IsChain most on → IsChain (suc most) (field_expression 1 on text)
-field_is_chain most on text chain = record { target = refl; begins = chain.begins; bare = chain.bare; on_line = cc chain.on_line; deep = omega (arith, chain.deep) }
+field_is_chain most on text chain = record { target = refl; no_constructor = refl; indexes = chain.no_constructor; bare = chain.bare; on_line = cc chain.on_line; deep = omega (arith, chain.deep) }
 
 fields_are_chain : (most all : ℕ) (on : Expression) (texts : List Text) → most + length texts ≡ all → IsChain most on → IsChain all (fields_behind on texts)
-fields_are_chain most all on [] is chain = record { target = chain.target; begins = chain.begins; bare = chain.bare; on_line = chain.on_line; deep = omega (arith, is, chain.deep) }
+fields_are_chain most all on [] is chain = record { target = chain.target; no_constructor = chain.no_constructor; indexes = chain.indexes; bare = chain.bare; on_line = chain.on_line; deep = omega (arith, is, chain.deep) }
 fields_are_chain most all on (text ∷ texts) is chain = fields_are_chain (suc most) all (field_expression 1 on text) texts (omega (arith, is)) (field_is_chain most on text chain)
 
 method_is_chain : (most : ℕ) (on : Expression) (method : Option Text) → IsChain most on → IsChain (suc most) (with_method_name on method)
-method_is_chain most on None chain = record { target = chain.target; begins = chain.begins; bare = chain.bare; on_line = chain.on_line; deep = omega (arith, chain.deep) }
+method_is_chain most on None chain = record { target = chain.target; no_constructor = chain.no_constructor; indexes = chain.indexes; bare = chain.bare; on_line = chain.on_line; deep = omega (arith, chain.deep) }
 method_is_chain most on (Some text) chain = field_is_chain most on text chain
 
 path_is_chain : (name : Text) (names : List Text) (method : Option Text) → IsChain (suc (suc (length names))) (path_target (name ∷ names) method)
@@ -113,17 +116,17 @@ statement_is_act deep (function_statement (name ∷ names) method body) is forme
     record { some = refl; targets = (named.target, tt); given = refl; values = (self_straight deep (is_some method) body is.1, tt) }
 statement_is_act deep s is formed = is
 
-statement_begins : (s : Statement) → StatementBeginsWithName s → formed_statement s ≡ true → StatementBeginsWithName (as_assignment s)
-statement_begins (function_statement [] method body) begins formed = not_so formed
-statement_begins (function_statement (name ∷ names) method body) begins formed = ((path_is_chain name names method).begins, tt)
-statement_begins s begins formed = begins
+indexes_still : (s : Statement) → StatementIndexesNoTable s → formed_statement s ≡ true → StatementIndexesNoTable (as_assignment s)
+indexes_still (function_statement [] method body) none formed = not_so formed
+indexes_still (function_statement (name ∷ names) method body) none formed = ((path_is_chain name names method).indexes, tt)
+indexes_still s none formed = none
 
 pub acts_are : (deep : ℕ) (block : Statements) → AreStraightBy (IsStraightBody deep) block → formed_statements block ≡ true → AreActsBy (IsStraightBody deep) (as_assignments block)
 acts_are deep no_statements are formed = tt
 acts_are deep (syntax.statement line semi s rest) are formed =
     let first = first_of_both (formed_statement s) _ formed in
     let behind = second_of_both (may_follow s semi rest) _ (second_of_both (formed_statement s) _ formed) in
-    ((statement_is_act deep s are.0.0 first, statement_begins s are.0.1 first), acts_are deep rest are.1 behind)
+    ((statement_is_act deep s are.0.0 first, indexes_still s are.0.1 first), acts_are deep rest are.1 behind)
 
 -- ---- it is well formed
 
@@ -180,15 +183,15 @@ path_deep : (path : List Text) (method : Option Text) → depth_of_expression (p
 path_deep [] method = omega arith
 path_deep (name ∷ names) method = (path_is_chain name names method).deep
 
-assigned_shallow : (deep : ℕ) (s : Statement) → IsStraightStatementBy (IsStraightBody deep) s → depth_of_statement s ≤ 65 → depth_of_statement (as_assignment s) ≤ 65
+assigned_shallow : (deep : ℕ) (s : Statement) → IsStraightStatementBy (IsStraightBody deep) s → depth_of_statement s ≤ 199 → depth_of_statement (as_assignment s) ≤ 199
 assigned_shallow deep (function_statement path method body) is shallow = omega (arith, is.0, path_deep path method, self_deep (is_some method) body, shallow)
 assigned_shallow deep s is shallow = shallow
 
-pub acts_shallow : (deep : ℕ) (block : Statements) → AreStraightBy (IsStraightBody deep) block → depth_of_statements block ≤ 66 → depth_of_statements (as_assignments block) ≤ 66
+pub acts_shallow : (deep : ℕ) (block : Statements) → AreStraightBy (IsStraightBody deep) block → depth_of_statements block ≤ 200 → depth_of_statements (as_assignments block) ≤ 200
 acts_shallow deep no_statements are shallow = shallow
 acts_shallow deep (syntax.statement line semi s rest) are shallow =
-    let first : depth_of_statement s ≤ 65 = omega (arith, shallow) in
-    let behind : depth_of_statements rest ≤ 66 = omega (arith, shallow) in
+    let first : depth_of_statement s ≤ 199 = omega (arith, shallow) in
+    let behind : depth_of_statements rest ≤ 200 = omega (arith, shallow) in
     omega (arith, assigned_shallow deep s are.0.0 first, acts_shallow deep rest are.1 behind)
 
 -- ---- nor is it deeper, where a path does not count
@@ -223,3 +226,38 @@ acts_lean deep no_statements are formed = omega arith
 acts_lean deep (syntax.statement line semi s rest) are formed =
     let behind = second_of_both (may_follow s semi rest) _ (second_of_both (formed_statement s) _ formed) in
     omega (arith, assigned_lean s (first_of_both _ _ formed), acts_lean deep rest are.1 behind)
+
+-- ---- and it has as much room
+
+lean_room_less : (targets es : Expressions) → lean_room_assignment targets es ≤ max (room_of_expressions targets) (room_of_expressions es)
+lean_room_less (syntax.expression target no_expressions) (syntax.expression (function_expression line body) no_expressions) = by (is_path target)
+  where
+    by : (path : Bool) → (if path then suc (room_of_body body) else max (room_of_expression target) (suc (room_of_body body))) ≤ max (max (room_of_expression target) 0) (max (1 + room_of_body body) 0)
+    by true = omega arith
+    by false = omega arith
+lean_room_less targets es = omega arith
+
+self_room : (method : Bool) (body : FunctionBody) → room_of_body (with_self method body) ≡ room_of_body body
+self_room method (function_body params vararg block first last) = refl
+
+assigned_roomy : (s : Statement) → formed_statement s ≡ true → lean_room (as_assignment s) ≤ room_of_statement s
+assigned_roomy (function_statement [] method body) formed = not_so formed
+assigned_roomy (function_statement (name ∷ names) method body) formed =
+    let behind = second_of_both (are_some_names (name ∷ names)) _ formed in
+    let named = path_is_named (λ body. Unit {0}) name names method (first_of_both _ _ formed) (first_of_both _ _ behind) in
+    by (is_path (path_target (name ∷ names) method)) named.path
+  where
+    inside : FunctionBody
+    inside = with_self (is_some method) body
+
+    by : (path : Bool) → path ≡ true → (if path then suc (room_of_body inside) else max (room_of_expression (path_target (name ∷ names) method)) (suc (room_of_body inside))) ≤ 1 + room_of_body body
+    by true is = omega (arith, self_room (is_some method) body)
+    by false is = not_so is
+assigned_roomy (assignment targets es) formed = lean_room_less targets es
+assigned_roomy s formed = omega arith
+
+pub acts_roomy : (deep : ℕ) (block : Statements) → AreStraightBy (IsStraightBody deep) block → formed_statements block ≡ true → lean_room_of (as_assignments block) ≤ room_of_statements block
+acts_roomy deep no_statements are formed = omega arith
+acts_roomy deep (syntax.statement line semi s rest) are formed =
+    let behind = second_of_both (may_follow s semi rest) _ (second_of_both (formed_statement s) _ formed) in
+    omega (arith, assigned_roomy s (first_of_both _ _ formed), acts_roomy deep rest are.1 behind)

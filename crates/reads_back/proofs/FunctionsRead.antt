@@ -11,6 +11,7 @@ use Rattle.proto.specs.Short.{AreShort, HasShortLists, IsShort}
 use Rattle.scheme.specs.Functions.{Finished, Heading, chunk_of, empty_maker, whole_function}
 use Rattle.scheme.specs.Making.{Ahead}
 use Rattle.scheme.specs.Scheme.{inner, statements_made}
+use Rattle.scheme.specs.Shapes.{room_of_statements}
 use Rattle.scheme_stands.proofs.Growth.{Final, fn_of}
 use Rattle.scheme_stands.proofs.Makers.{StandFrom, body_stands}
 use Rattle.scheme_stands.proofs.Every.{statements_at}
@@ -22,13 +23,14 @@ use Rattle.scheme_stands.specs.Words.{Names, asking}
 use Rattle.reads_back.specs.Cores.{IsPlainBody}
 use Rattle.reads_back.specs.Straight.{AreStraightBy, IsStraightBody}
 use Rattle.reads_back.specs.Acted.{AreActs, lean_depth_of}
-use Rattle.reads_back.proofs.FunctionStatements.{acts_are, acts_formed, acts_lean, acts_on_line, acts_shallow, as_assignments}
+use Rattle.reads_back.proofs.FunctionStatements.{acts_are, acts_formed, acts_lean, acts_on_line, acts_roomy, acts_shallow, as_assignments}
 use Rattle.reads_back.proofs.SameStatements.{block_made_same, block_part_same, block_stands}
 use Rattle.reads_back.proofs.InnerNames.{placed_known}
 use Rattle.reads_back.proofs.InnerReads.{AreNamedBy, IsEverRead, IsFunctionRead, IsReadAsBody, function_read}
 use Rattle.reads_back.proofs.Marks.{SamePart, part_then}
 use Rattle.reads_back.proofs.PlainBodies.{plain_block}
 use Rattle.reads_back.proofs.PlainStraight.{AreOnLine, each_on_line}
+use Rattle.reads_back.proofs.Rooms.{lean_room_of}
 use Rattle.reads_back.proofs.SameFunctions.{good_params, same_function, same_function_part}
 use Rattle.reads_back.proofs.StraightFunctions.{IsStraightFunction, begun_of, maker_of}
 use Rattle.reads_back.proofs.Tests.{both_hold, first_of_both, second_of_both}
@@ -40,13 +42,14 @@ pub record AreTheActs (params names : List Text) (before : Ahead) (block : State
   pub on_line : AreOnLine (as_assignments block)
   pub plain : AreActs (as_assignments block)
   pub formed : formed_statements (as_assignments block) ≡ true
-  pub shallow : depth_of_statements (as_assignments block) ≤ 66
+  pub shallow : depth_of_statements (as_assignments block) ≤ 200
   pub lean : lean_depth_of (as_assignments block) ≤ depth_of_statements block
+  pub roomy : lean_room_of (as_assignments block) ≤ room_of_statements block
   pub made : statements_made (as_assignments block) None (begun_of params names before) ≡ statements_made block None (begun_of params names before)
   pub maker : maker_of params (as_assignments block) names before ≡ maker_of params block names before
   pub part : SamePart (statements_part (as_assignments block)) (statements_part block)
 
-pub the_acts : (params names : List Text) (before : Ahead) (deep : ℕ) (block : Statements) → AreStraightBy (IsStraightBody deep) block → formed_statements block ≡ true → AreOnLine block → depth_of_statements block ≤ 66 → AreTheActs params names before block
+pub the_acts : (params names : List Text) (before : Ahead) (deep : ℕ) (block : Statements) → AreStraightBy (IsStraightBody deep) block → formed_statements block ≡ true → AreOnLine block → depth_of_statements block ≤ 200 → AreTheActs params names before block
 the_acts params names before deep block straight formed on_line low =
     let acts_line = acts_on_line block on_line in
     let formed_acts = acts_formed deep block straight formed in
@@ -54,23 +57,24 @@ the_acts params names before deep block straight formed on_line low =
     let same = block_made_same block (begun_of params names before) formed on_line in
     record {
       on_line = acts_line;
-      plain = plain_block deep (as_assignments block) (acts_are deep block straight formed) formed_acts acts_line shallow;
+      plain = plain_block deep (as_assignments block) (acts_are deep block straight formed) formed_acts acts_line;
       formed = formed_acts;
       shallow = shallow;
       lean = acts_lean deep block straight formed;
+      roomy = acts_roomy deep block straight formed;
       made = same;
       maker = ap (λ m. whole_function 1 params (λ n. m) (empty_maker before names)) same;
       part = block_part_same block formed on_line;
     }
 
-body_acts : (deep : ℕ) (params : List Text) (vararg : Bool) (block : Statements) → IsStraightBody deep (function_body params vararg block 1 1) → (all names : List Text) (before : Ahead) → formed_statements block ≡ true → AreOnLine block → depth_of_statements block ≤ 66 → AreTheActs all names before block
+body_acts : (deep : ℕ) (params : List Text) (vararg : Bool) (block : Statements) → IsStraightBody deep (function_body params vararg block 1 1) → (all names : List Text) (before : Ahead) → formed_statements block ≡ true → AreOnLine block → depth_of_statements block ≤ 200 → AreTheActs all names before block
 body_acts zero params vararg block straight all names before formed on_line low = absurd straight
 body_acts (suc deep) params vararg block straight all names before formed on_line low = the_acts all names before deep block straight formed on_line low
 
 -- ---- a function
 
-module _ (mine : Own) (functions : Functions) (ever : (number : ℕ) (c : Chunk) → function_at functions number ≡ Some c → IsEverRead c) (short : HasShortLists mine) where
-  module _ (params : List Text) (vararg : Bool) (block : Statements) (method : Bool) (n : Names) (before behind : Ahead) (made : Chunk) where
+module _ (is_short : Bool) (mine : Own) (functions : Functions) (ever : (number : ℕ) (c : Chunk) → function_at functions number ≡ Some c → IsEverRead is_short c) (lists : HasShortLists mine) where
+  module _ (params : List Text) (vararg : Bool) (block : Statements) (method : Bool) (n : Names) (before behind : Ahead) (made : Chunk) (shallow : depth_of_statements block ≤ 199) where
     abbrev body : FunctionBody
     body = function_body params vararg block 1 1
 
@@ -94,7 +98,7 @@ module _ (mine : Own) (functions : Functions) (ever : (number : ℕ) (c : Chunk)
       made_is = sym (ap (λ (made : Finished). made.chunk) at.is)
 
       acts : AreTheActs (all_params method params) names before block
-      acts = body_acts plain.deep params vararg block plain.straight (all_params method params) names before formed_block on_line (omega (arith, plain.shallow))
+      acts = body_acts plain.deep params vararg block plain.straight (all_params method params) names before formed_block on_line (omega (arith, shallow))
 
       straight : IsStraightFunction n heading (all_params method params) (as_assignments block) names before (function mine functions)
       straight = record {
@@ -113,39 +117,41 @@ module _ (mine : Own) (functions : Functions) (ever : (number : ℕ) (c : Chunk)
         final = subst₂ (Final 0) (sym acts.made) (sym acts.maker) (statements_final heading 1 (all_params method params) (statements_made block None) (λ f. StatementsAt f None block) (grow_statements block None) (λ z. statements_at z block None) refl names before
             (ap (λ (made : Finished). made.misfits) at.is));
         same = same ∙ ap (each no_lines) (made_is ∙ ap (chunk_of heading) (sym acts.maker));
-        short = short.code;
+        short = lists.code;
       }
 
-      is_read : (deep : ℕ) → depth_of_statements block < deep → IsReadAsBody deep (function mine functions) body method names before
+      is_read : (deep : ℕ) → depth_of_statements block < deep → IsReadAsBody is_short deep (function mine functions) body method names before
       is_read zero low = absurd (omega (arith, low))
       is_read (suc deep) low =
-          let r : IsFunctionRead deep heading (all_params method params) (as_assignments block) names before (function mine functions) = function_read deep functions ever straight (omega (arith, low, acts.lean)) in
+          let r : IsFunctionRead is_short deep heading (all_params method params) (as_assignments block) names before (function mine functions) = function_read is_short deep functions ever straight (omega (arith, low, acts.lean)) in
           record {
             found = r.found;
             read = r.read;
+            strict = λ roomy. r.strict (λ is. omega (arith, roomy is, acts.roomy));
             fine = record {
               formed = ap formed_body r.body ∙ both_hold _ _ good r.formed;
               shallow = λ few. omega (arith, ap depth_of_body r.body, r.shallow);
             };
             same = ap (λ body. inner body false names before) r.body ∙ same_function params vararg method block r.written names before (r.made ∙ acts.made);
             few = omega (arith, r.few, acts.lean);
+            low = λ is. omega (arith, r.low is, acts.roomy);
             part = part_then (λ here. ap (λ body. body_part false body here) r.body) (same_function_part params vararg method block r.written (part_then r.part acts.part));
           }
 
-  body_read : IsEverRead (function mine functions)
-  body_read deep (function_body params vararg block first last) method n before behind made plain low at same named =
+  body_read : IsEverRead is_short (function mine functions)
+  body_read deep (function_body params vararg block first last) method n before behind made plain low shallow at same named =
       let on_line = plain.on_line in
       let body : function_body params vararg block 1 1 ≡ function_body params vararg block first last = cc in
-      let read = is_read params vararg block method n before behind made (subst IsPlainBody (sym body) plain) (subst (λ body. FunctionOf body method (Some n) before behind made) (sym body) at) same named deep low in
-      subst (λ body. IsReadAsBody deep (function mine functions) body method (own made).upvalue_names before) body read
+      let read = is_read params vararg block method n before behind made shallow (subst IsPlainBody (sym body) plain) (subst (λ body. FunctionOf body method (Some n) before behind made) (sym body) at) same named deep low in
+      subst (λ body. IsReadAsBody is_short deep (function mine functions) body method (own made).upvalue_names before) body read
 
 -- ---- at every depth
 
 mutual
-  pub ever_read : (chunk : Chunk) → IsShort chunk → IsEverRead chunk
-  ever_read (function mine functions) short = body_read mine functions (each_read functions short.2) short.0
+  pub ever_read : (short : Bool) (chunk : Chunk) → IsShort chunk → IsEverRead short chunk
+  ever_read short (function mine functions) lists = body_read short mine functions (each_read short functions lists.2) lists.0
 
-  pub each_read : (functions : Functions) → AreShort functions → (number : ℕ) (c : Chunk) → function_at functions number ≡ Some c → IsEverRead c
-  each_read no_functions short number c is = cc
-  each_read (and_function d rest) short zero c is = subst IsEverRead (same_Some d c is) (ever_read d short.0)
-  each_read (and_function d rest) short (suc number) c is = each_read rest short.1 number c is
+  pub each_read : (short : Bool) (functions : Functions) → AreShort functions → (number : ℕ) (c : Chunk) → function_at functions number ≡ Some c → IsEverRead short c
+  each_read short no_functions lists number c is = cc
+  each_read short (and_function d rest) lists zero c is = subst (IsEverRead short) (same_Some d c is) (ever_read short d lists.0)
+  each_read short (and_function d rest) lists (suc number) c is = each_read short rest lists.1 number c is

@@ -1,9 +1,10 @@
 -- What is written of a function is the function that is left with its number: it has the same code, where it is the next one that is made.
-use Rattle.std.proofs.Common.{◌≡◌, ℕ, suc, false, List, [], ◌∷◌, length, Option, Some, None, is_some, refl, sym, ap, ap₂, ◌∙◌, subst, subst₂, arith}
+use Rattle.std.proofs.Common.{◌≡◌, ◌≤◌, ℕ, suc, false, List, [], ◌∷◌, length, Option, Some, None, is_some, refl, sym, ap, ap₂, ◌∙◌, subst, subst₂, arith, true, inr}
 use Rattle.std.specs.Prelude.{slice_set}
 use Rattle.lua_num.specs.Bytes.{Text}
 use Rattle.lua_tree.specs.Scoping.{Use}
 use Rattle.lua_tree.specs.Syntax.{FunctionBody, function_expression}
+use Rattle.lua_tree.specs.WellFormed.{depth_of_body}
 use Rattle.opcode.specs.declared.op.Op.{Op}
 use Rattle.core_expr.specs.Values.{Value, function_value, Inner}
 use Rattle.core_expr.specs.Writing.{Wording, function_left, function_word, over}
@@ -20,6 +21,7 @@ use Rattle.reads_back.specs.Cores.{IsClosure, IsPlainBody}
 use Rattle.reads_back.proofs.Mentions.{IsAhead, coming, function_mention}
 use Rattle.reads_back.proofs.OperatorsSame.{few_more}
 use Rattle.reads_back.proofs.PassedMentions.{sources_named}
+use Rattle.reads_back.proofs.InRoom.{IsInRoom}
 use Rattle.reads_back.proofs.Rewriting.{AreAgain, IsAgain, IsMadeBy, Rewritten, code, wording}
 use Rattle.reads_back.proofs.WordsSame.{no_local}
 
@@ -43,10 +45,10 @@ code_is line body r m plain = ap (λ body. (coded (function_expression 1 body)).
 module _ {f : Function} {g : Fn} {active : List Active} {listed : List ℕ} {z : Maker} {lefts : ℕ → List (Option Inner)} (made : IsMadeBy f g active listed z) (again : AreAgain f g lefts) where
   -- what is found where so many functions were made
   abbrev IsFound : FunctionBody → (before : ℕ) → Coming → Type 0
-  IsFound body before c = (found : Inner) × (function_left (lefts before) before ≡ Some found) × IsAgain g active body false c found
+  IsFound body before c = (found : Inner) × (function_left (lefts before) before ≡ Some found) × IsAgain f.short g active body false c found
 
-  found_at : (body : FunctionBody) (before : ℕ) (c : Coming) → IsPlainBody body → c.functions ≡ before → IsMadeNext g active body false c → IsFound body before c
-  found_at body before c plain as_many next = subst (λ before. IsFound body before c) as_many (again.next active listed made.all body false c plain next)
+  found_at : (body : FunctionBody) (before : ℕ) (c : Coming) → IsPlainBody body → depth_of_body body ≤ 199 → c.functions ≡ before → IsMadeNext g active body false c → IsFound body before c
+  found_at body before c plain low as_many next = subst (λ before. IsFound body before c) as_many (again.next active listed made.all body false c plain low next)
 
   others_left : (body : FunctionBody) (before : ℕ) (c : Coming) → IsPlainBody body → c.functions ≡ before → IsMadeNext g active body false c → slice_set (lefts before) before None ≡ lefts (suc before)
   others_left body before c plain as_many next = subst (λ before. slice_set (lefts before) before None ≡ lefts (suc before)) as_many (again.others active body false c plain next)
@@ -64,16 +66,16 @@ module _ {f : Function} {g : Fn} {active : List Active} {listed : List ℕ} {z :
       let names = names_are body m ahead in
       ap (λ names. inner is.0.body false names (without_sources m.ahead)) names ∙ is.2.same ∙ ap (λ names. inner body false names (without_sources m.ahead)) (sym names)
 
-  function_same : (line : ℕ) (body : FunctionBody) (before r : ℕ) (m : Maker) → IsPlainBody body → IsAhead g active before (function_mention body false ∷ []) m →
+  function_same : (line : ℕ) (body : FunctionBody) (before r : ℕ) (m : Maker) → IsPlainBody body → depth_of_body body ≤ 199 → IsAhead g active before (function_mention body false ∷ []) m →
       (coded (wording f listed z lefts before (length m.constants) (function_value before false)).words).to_reg r m ≡ (code (function_expression line body)).to_reg r m
-  function_same line body before r m plain ahead =
-      let is = found_at body before (coming m) plain ahead.made_are ahead.meant.0 in
+  function_same line body before r m plain low ahead =
+      let is = found_at body before (coming m) plain low ahead.made_are ahead.meant.0 in
       ap (λ (w : Wording). (coded w.words).to_reg r m) (word_is body before (length m.constants) (coming m) is)
       ∙ ap (behind_function r m) (same_function body m ahead is)
       ∙ sym (code_is line body r m plain)
 
-  pub function_rewritten : (line : ℕ) (body : FunctionBody) (before behind : ℕ) (v : Value) → IsPlainBody body → IsClosure g active body false before behind v → Rewritten f g active listed z lefts before behind (function_expression line body) v
-  function_rewritten line body before behind v plain (counts, is, c, as_many, next) = subst₂ (λ behind v. Rewritten f g active listed z lefts before behind (function_expression line body) v) (sym counts) (sym is) (record {
+  pub function_rewritten : (line : ℕ) (body : FunctionBody) (before behind : ℕ) (v : Value) → IsPlainBody body → depth_of_body body ≤ 199 → IsClosure g active body false before behind v → Rewritten f g active listed z lefts before behind (function_expression line body) v
+  function_rewritten line body before behind v plain low (counts, is, c, as_many, next) = subst₂ (λ behind v. Rewritten f g active listed z lefts before behind (function_expression line body) v) (sym counts) (sym is) (record {
     can = ap is_some found.1;
     leaves = others_left body before c plain as_many next;
     makes = refl;
@@ -82,13 +84,17 @@ module _ {f : Function} {g : Fn} {active : List Active} {listed : List ℕ} {z :
     several = λ n. ap (λ (w : Wording). is_multiple w.words) (word_is body before n c found);
     gives = λ several. cc;
     few = λ n. let few = few_more found.0.levels in omega (arith, ap (λ (w : Wording). w.levels) (word_is body before n c found), few, found.2.few);
+    low = λ short formed m ahead is.
+        let few = few_more found.0.levels in
+        subst (λ (w : Wording). IsInRoom true (function_expression line body) w) (sym (word_is body before (length m.constants) c found))
+        (inr (record { low = omega (arith, few, found.2.low short); binds = record { prefix = refl; level = refl; unary = refl; several = refl }; bare_there = λ none. refl; unfolded = refl }));
     keys = omega arith;
     as_local = λ n r m ahead local. no_local (function_expression line body) r m refl local;
-    to_reg = λ r m ahead final. function_same line body before r m plain ahead;
+    to_reg = λ r m ahead final. function_same line body before r m plain low ahead;
     taken = λ r m ahead final. ap (λ (n : Maker). length n.constants) (code_is line body r m plain) ∙ ap (λ ks. length ks) (further_constants (next_sources m) _);
     multi = λ several. cc;
     multi_taken = λ several. cc;
   })
     where
       found : IsFound body before c
-      found = found_at body before c plain as_many next
+      found = found_at body before c plain low as_many next

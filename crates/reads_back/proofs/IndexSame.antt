@@ -1,19 +1,23 @@
 -- What is written of a value with a key behind it has the same code as the expression that is indexed.
-use Rattle.std.proofs.Common.{◌≡◌, ℕ, suc, ◌+◌, ◌*◌, ◌≤◌, Bool, true, false, cond, List, [], ◌++◌, append-nil, length, max, refl, sym, ap, ◌∙◌, subst, arith, le-leb, lt-ltb, nat_lt, nat_le}
+use Rattle.std.proofs.Common.{◌≡◌, ℕ, suc, ◌+◌, ◌*◌, ◌≤◌, Bool, true, false, cond, List, [], ◌++◌, append-nil, length, max, refl, sym, ap, ◌∙◌, subst, arith, le-leb, lt-ltb, nat_lt, nat_le, inr}
 use Rattle.std.specs.Prelude.{Option, Some, None, ◌||◌, if◌then◌else◌}
 use Rattle.std.proofs.lemmas.Bool.{and_from, leb-false}
 use Rattle.lua_num.specs.Bytes.{Text}
 use Rattle.lua_tree.specs.Names.{is_name as is_good}
 use Rattle.lua_tree.specs.OneLine.{one_line_expression}
 use Rattle.lua_tree.specs.Syntax.{Expression, text_literal, index_expression, field_expression}
-use Rattle.lua_tree.specs.WellFormed.{depth_of_expression, is_prefix}
+use Rattle.lua_tree.specs.WellFormed.{depth_of_expression, formed_expression, is_prefix}
+use Rattle.lua_tree.specs.Precedence.{is_unary, level_of}
+use Rattle.scheme.specs.Shapes.{room_of_expression}
+use Rattle.reads_back.proofs.InRoom.{prefix_in}
+use Rattle.reads_back.proofs.Rooms.{some_room}
 use Rattle.opcode.specs.declared.op.Op.{Op}
 use Rattle.proto.specs.declared.parts.Constant.{Constant}
 use Rattle.core_expr.specs.Counting.{taken_behind, taken_behind_operand, taken_behind_operands, left_by, left_by_operand, left_by_operands}
 use Rattle.core_expr.specs.Making.{and_last, depth_of, depth_of_operand, made_index}
 use Rattle.core_expr.specs.Places.{Place, as_name, as_text, constant_at, constant_name, field_name, name_of_number, place}
 use Rattle.core_expr.specs.Values.{Value, index_value, constant_value, OperandValue, constant_operand, value_operand, OperandList, no_operands, and_operand, Inner}
-use Rattle.core_expr.specs.Writing.{Wording, as_prefix, can_write, can_write_operand, can_write_operands, constant_word, is_multiple as can_be_several, operand_count, unless, with_key, word, word_keys, word_operand}
+use Rattle.core_expr.specs.Writing.{Wording, as_prefix, can_write, can_write_operand, can_write_operands, constant_word, is_bare, is_multiple as can_be_several, operand_count, unless, with_key, word, word_keys, word_operand}
 use Rattle.recover_expr.specs.Situation.{Function}
 use Rattle.scheme.specs.Expressions.{fold, indexed_value, is_multiple, is_name, is_small, next_text, operand, rk, rk_text, small_constant}
 use Rattle.scheme.specs.Making.{Asks, Got, Maker, free_from, freeing, put}
@@ -29,7 +33,7 @@ use Rattle.reads_back.proofs.Operators.{last_taken}
 use Rattle.reads_back.proofs.OperatorsSame.{few_more}
 use Rattle.reads_back.proofs.PassedMentions.{PassesMentions, operand_passes, rk_passes, rk_text_passes}
 use Rattle.reads_back.proofs.Rewriting.{Rewritten, RewrittenOperand, code, keys_of, operand_wording, wording}
-use Rattle.reads_back.proofs.WordsSame.{levels_wrapped, no_local, operand_same, operand_taken, operand_wrapped}
+use Rattle.reads_back.proofs.WordsSame.{levels_wrapped, made_plainly, no_local, operand_low, operand_same, operand_taken, operand_wrapped}
 use Rattle.reads_back.proofs.Tests.{first_of_both, given_is, second_of_both}
 use Rattle.reads_back.proofs.WrittenFormed.{keyed_prefix, prefix_by}
 
@@ -72,6 +76,7 @@ record Indexes (at : Place) (on : Value) (key : OperandValue) (v : Value) : Type
   keys : keys_of v ≡ suc (keys_of on)
   can : (fs : List (Option Inner)) → suc (keys_of on) ≤ 200 → can_write at fs on ≡ true → can_write_operand at (left_by on fs) key ≡ true → can_write at fs v ≡ true
   several : can_be_several v ≡ false
+  bare : (n : ℕ) → is_bare at n v ≡ true
 
 first_key : (at : Place) (on : Value) (key : OperandValue) (depth : ℕ) → keys_of on ≡ 0 → Indexes at on key (index_value on (and_operand key no_operands) depth)
 first_key at on key depth none = record {
@@ -81,6 +86,7 @@ first_key at on key depth none = record {
   keys = ap suc (sym none);
   can = λ fs few first last. and_from _ _ first (and_from _ _ last refl);
   several = refl;
+  bare = λ n. refl;
 }
 
 next_key : (at : Place) (on : Value) (keys : OperandList) (key : OperandValue) (depth more : ℕ) → Indexes at (index_value on keys depth) key (index_value on (and_last keys key) more)
@@ -99,6 +105,7 @@ next_key at on keys key depth more = record {
       let both = second_of_both _ _ first in
       and_from _ _ (le-leb _ _ small) (and_from _ _ (first_of_both _ _ both) (can_last at (left_by on fs) keys key (second_of_both _ _ both) last));
   several = refl;
+  bare = λ n. refl;
 }
 
 indexes : (at : Place) (on : Value) (key : OperandValue) (v : Value) → made_index on key ≡ Some v → Indexes at on key v
@@ -170,31 +177,67 @@ key_single : (name : Option Text) (on key : Wording) → is_multiple (with_key n
 key_single None on key = refl
 key_single (Some name) on key = refl
 
+key_level : (name : Option Text) (on key : Wording) → level_of (with_key name on key).words ≡ 9
+key_level None on key = refl
+key_level (Some name) on key = refl
+
+key_unary : (name : Option Text) (on key : Wording) → is_unary (with_key name on key).words ≡ false
+key_unary None on key = refl
+key_unary (Some name) on key = refl
+
 pub key_few : (name : Option Text) (on key : Wording) (deep more : ℕ) → on.levels ≤ deep → key.levels ≤ more → (with_key name on key).levels ≤ suc (max deep more)
 key_few None on key deep more first second = let all = few_more (max on.levels key.levels) in omega (arith, first, second, all)
 key_few (Some name) on key deep more first second = let all = few_more on.levels in omega (arith, first, all)
 
 -- what is known of a key that asks so, where no names come behind it
-pub record KeyWritten (f : Function) (g : Fn) (active : List Active) (listed : List ℕ) (z : Maker) (lefts : ℕ → List (Option Inner)) (before behind : ℕ) (asked : Asks ℕ) (mentions : List Mention) (key : OperandValue) (deep : ℕ) : Type 0 where
+pub record KeyWritten (f : Function) (g : Fn) (active : List Active) (listed : List ℕ) (z : Maker) (lefts : ℕ → List (Option Inner)) (before behind : ℕ) (asked : Asks ℕ) (mentions : List Mention) (key : OperandValue) (deep : ℕ) (formed : Bool) (roomy : ℕ) : Type 0 where
   pub can : can_write_operand (place f.of listed f.short) (lefts before) key ≡ true
   pub leaves : left_by_operand key (lefts before) ≡ lefts behind
   pub makes : behind ≡ made_behind mentions before
   pub few : (n : ℕ) → (operand_wording f listed z lefts before n key).levels ≤ 3 * deep + 3
+  -- where it is well formed
+  pub low : f.short ≡ true → formed ≡ true → (m : Maker) → IsAhead g active before mentions m → Final (length m.labels) (asked m).after z → (operand_wording f listed z lefts before (length m.constants) key).levels ≤ roomy
   pub grown : (m : Maker) → Grown calm m (asked m).after
   pub as_rk : (m : Maker) → IsAhead g active before mentions m → Final (length m.labels) (asked m).after z → rk (coded (operand_wording f listed z lefts before (length m.constants) key).words) m ≡ asked m
   pub taken : (m : Maker) → IsAhead g active before mentions m → Final (length m.labels) (asked m).after z → length (asked m).after.constants ≡ taken_behind_operand key (length m.constants)
 
 -- and where names come behind it: what asks for it passes those that are in it
-pub record KeySame (f : Function) (g : Fn) (active : List Active) (listed : List ℕ) (z : Maker) (lefts : ℕ → List (Option Inner)) (before behind : ℕ) (asked : Asks ℕ) (mentions : List Mention) (key : OperandValue) (deep : ℕ) : Type 0 where
-  pub written : KeyWritten f g active listed z lefts before behind asked mentions key deep
+pub record KeySame (f : Function) (g : Fn) (active : List Active) (listed : List ℕ) (z : Maker) (lefts : ℕ → List (Option Inner)) (before behind : ℕ) (asked : Asks ℕ) (mentions : List Mention) (key : OperandValue) (deep : ℕ) (formed : Bool) (roomy : ℕ) : Type 0 where
+  pub written : KeyWritten f g active listed z lefts before behind asked mentions key deep formed roomy
   pub passes : AskingPasses mentions asked
+
+-- an expression that indexes this one, with a key that is well formed and has so much room
+pub record IsIndexing (e on : Expression) (good : Bool) (roomy : ℕ) : Type 0 where
+  pub parts : formed_expression e ≡ true → (is_prefix on ≡ true) × (formed_expression on ≡ true) × (good ≡ true)
+  pub roomier : suc (max (room_of_expression on) roomy) ≤ room_of_expression e
+  prefix : is_prefix e ≡ true
+  level : level_of e ≡ 9
+  unary : is_unary e ≡ false
+
+pub index_indexing : (line : ℕ) (on key : Expression) → IsIndexing (index_expression line on key) on (formed_expression key) (room_of_expression key)
+index_indexing line on key = record {
+  parts = λ formed. let parts = second_of_both (is_prefix on) _ formed in (first_of_both _ _ formed, first_of_both _ _ parts, second_of_both (formed_expression on) _ parts);
+  roomier = omega arith;
+  prefix = refl;
+  level = refl;
+  unary = refl;
+}
+
+pub field_indexing : (line : ℕ) (on : Expression) (text : Text) → IsIndexing (field_expression line on text) on true 1
+field_indexing line on text = record {
+  parts = λ formed. (first_of_both _ _ formed, first_of_both (formed_expression on) _ (second_of_both (is_prefix on) _ formed), refl);
+  roomier = omega (arith, some_room on);
+  prefix = refl;
+  level = refl;
+  unary = refl;
+}
 
 -- the word behind both
 abbrev behind_key : (to : ℕ) → Maker → ℕ → Got ℕ → Maker
 behind_key to m x y = free_from m.free (put 1 (Piece.Abc Op.GetTable to x y.value) y.after)
 
-module _ {f : Function} {g : Fn} {active : List Active} {listed : List ℕ} {z : Maker} {lefts : ℕ → List (Option Inner)} {before mid behind : ℕ} {on : Expression} {o : Value} {asked : Asks ℕ} {mentions : List Mention} {key : OperandValue} {deep : ℕ} {v : Value}
-    (first : Rewritten f g active listed z lefts before mid on o) (second : KeyWritten f g active listed z lefts mid behind asked mentions key deep) (made : made_index o key ≡ Some v) where
+module _ {f : Function} {g : Fn} {active : List Active} {listed : List ℕ} {z : Maker} {lefts : ℕ → List (Option Inner)} {before mid behind : ℕ} {on : Expression} {o : Value} {asked : Asks ℕ} {mentions : List Mention} {key : OperandValue} {deep : ℕ} {good : Bool} {roomy : ℕ} {v : Value}
+    (first : Rewritten f g active listed z lefts before mid on o) (second : KeyWritten f g active listed z lefts mid behind asked mentions key deep good roomy) (made : made_index o key ≡ Some v) where
   is : Indexes (place f.of listed f.short) o key v
   is = indexes (place f.of listed f.short) o key v made
 
@@ -251,6 +294,18 @@ module _ {f : Function} {g : Fn} {active : List Active} {listed : List ℕ} {z :
         ∙ ap (λ x. behind_key to m x.value (key_asks (field_name at key) u x.after)) (operand_wrapped (is_prefix w.words) w m ∙ operand_same first m on_ahead front_final)
         ∙ ap (behind_key to m x.value) (key_asks_same at (length m1.constants) (lefts mid) key m1 ∙ second.as_rk m1 key_ahead behind_final)
 
+    -- in the forms of fewest levels
+    indexed_low : f.short ≡ true → formed_expression on ≡ true → is_prefix on ≡ true → good ≡ true → (wording f listed z lefts before (length m.constants) v).levels ≤ suc (max (room_of_expression on) roomy)
+    indexed_low short formed prefix good =
+        let n = length m.constants in
+        let m1 = (operand (code on) m).after in
+        let w = wording f listed z lefts before n o in
+        let u = operand_wording f listed z lefts mid (length m1.constants) key in
+        let same = ap (λ (w : Wording). w.levels) (indexed_is n (length m1.constants) (sym (operand_taken first m on_ahead front_final))) in
+        let one = prefix_in (is_bare (place f.of listed f.short) n o) on w (operand_low first short formed m on_ahead front_final) prefix in
+        let all = key_few (field_name (place f.of listed f.short) key) (as_prefix w) u (room_of_expression on) roomy one (second.low short good m1 key_ahead behind_final) in
+        omega (arith, same, all)
+
     indexed_taken : length (freeing (indexed_value 1 (code on) asked to) m).constants ≡ taken_behind v (length m.constants)
     indexed_taken =
         second.taken (operand (code on) m).after key_ahead behind_final
@@ -258,9 +313,9 @@ module _ {f : Function} {g : Fn} {active : List Active} {listed : List ℕ} {z :
         ∙ sym (is.taken (length m.constants))
 
   -- an expression whose code this is
-  indexed_rewritten : (e : Expression) → mentions_in e ≡ mentions_in on ++ mentions → suc (max (depth_of_expression on) deep) ≤ depth_of_expression e → depth_of_expression e ≤ 200 → is_name e ≡ false → fold e ≡ None → is_multiple e ≡ false →
+  indexed_rewritten : (e : Expression) → mentions_in e ≡ mentions_in on ++ mentions → suc (max (depth_of_expression on) deep) ≤ depth_of_expression e → depth_of_expression e ≤ 200 → is_name e ≡ false → fold e ≡ None → is_multiple e ≡ false → IsIndexing e on good roomy →
       ((to : ℕ) (m : Maker) → (code e).to_reg to m ≡ freeing (indexed_value 1 (code on) asked to) m) → PassesMentions (mentions_in on) (code on) → Rewritten f g active listed z lefts before behind e v
-  indexed_rewritten e mentioned deeper shallow plain none single code_is kept =
+  indexed_rewritten e mentioned deeper shallow plain none single indexing code_is kept =
       let name = field_name (place f.of listed f.short) key in
       let ahead_of : (m : Maker) → IsAhead g active before (mentions_in e) m → IsAhead g active before (mentions_in on ++ mentions) m = λ m ahead. subst (λ mentions. IsAhead g active before mentions m) mentioned ahead in
       record {
@@ -272,6 +327,17 @@ module _ {f : Function} {g : Fn} {active : List Active} {listed : List ℕ} {z :
         several = λ n. ap (λ w. is_multiple w.words) (indexed_is n (taken_behind o n) refl) ∙ key_single name _ _ ∙ sym is.several;
         gives = λ several. absurd cc;
         few = λ n. let few = indexed_few n in omega (arith, few, deeper);
+        low = λ short formed m ahead as_made.
+            let parts = indexing.parts formed in
+            let words = ap (λ (w : Wording). w.words) (indexed_is (length m.constants) (taken_behind o (length m.constants)) refl) in
+            made_plainly e m plain single (λ to final.
+            let low = indexed_low kept to m (ahead_of m ahead) (subst (λ n. Final (length m.labels) n z) (code_is to m) final) short parts.1 parts.0 parts.2 in
+            inr (record {
+              low = omega (arith, low, indexing.roomier);
+              binds = record { prefix = ap is_prefix words ∙ keyed_prefix name _ _ ∙ sym indexing.prefix; level = ap level_of words ∙ key_level name _ _ ∙ sym indexing.level; unary = ap is_unary words ∙ key_unary name _ _ ∙ sym indexing.unary; several = ap is_multiple words ∙ key_single name _ _ ∙ sym single };
+              bare_there = λ literal. is.bare (length m.constants);
+              unfolded = none;
+            })) as_made;
         keys = let keys = is.keys in omega (arith, keys, first.keys, deeper);
         as_local = λ n r m ahead local. no_local e r m plain local;
         to_reg = λ to m ahead final. indexed_same kept to m (ahead_of m ahead) (subst (λ n. Final (length m.labels) n z) (code_is to m) final) ∙ sym (code_is to m);
@@ -284,12 +350,13 @@ module _ {f : Function} {g : Fn} {active : List Active} {listed : List ℕ} {z :
 
 module _ {f : Function} {g : Fn} {active : List Active} {listed : List ℕ} {z : Maker} {lefts : ℕ → List (Option Inner)} {before behind : ℕ} where
   -- a key that is an expression
-  operand_key : (key : Expression) (k : OperandValue) → RewrittenOperand f g active listed z lefts before behind key k → KeyWritten f g active listed z lefts before behind (rk (code key)) (mentions_in key) k (depth_of_expression key)
+  operand_key : (key : Expression) (k : OperandValue) → RewrittenOperand f g active listed z lefts before behind key k → KeyWritten f g active listed z lefts before behind (rk (code key)) (mentions_in key) k (depth_of_expression key) (formed_expression key) (room_of_expression key)
   operand_key key k operand = record {
     can = operand.can;
     leaves = operand.leaves;
     makes = operand.makes;
     few = operand.few;
+    low = λ short formed m ahead final. (operand.low short formed m ahead final).low;
     grown = grows_rk (code key) (grows calm (one_line_expression key));
     as_rk = operand.as_rk;
     taken = operand.taken;
@@ -300,24 +367,24 @@ module _ {f : Function} {g : Fn} {active : List Active} {listed : List ℕ} {z :
   pub index_rewritten : (line : ℕ) (on key : Expression) (o : Value) (k : OperandValue) (v : Value) → depth_of_expression (index_expression line on key) ≤ 200 → PassesMentions (mentions_in on) (code on) →
       Rewritten f g active listed z lefts before mid on o → RewrittenOperand f g active listed z lefts mid behind key k → made_index o k ≡ Some v → Rewritten f g active listed z lefts before behind (index_expression line on key) v
   index_rewritten line on key o k v shallow kept first second made =
-      indexed_rewritten first (operand_key key k second) made (index_expression line on key) refl (omega arith) shallow refl refl refl (λ to m. refl) kept
+      indexed_rewritten first (operand_key key k second) made (index_expression line on key) refl (omega arith) shallow refl refl refl (index_indexing line on key) (λ to m. refl) kept
 
   pub field_rewritten : (line : ℕ) (on : Expression) (text : Text) (o : Value) (k : OperandValue) (v : Value) → depth_of_expression (field_expression line on text) ≤ 200 → PassesMentions (mentions_in on) (code on) →
-      Rewritten f g active listed z lefts before mid on o → KeySame f g active listed z lefts mid behind (rk_text 1 text) [] k 1 → made_index o k ≡ Some v → Rewritten f g active listed z lefts before behind (field_expression line on text) v
+      Rewritten f g active listed z lefts before mid on o → KeySame f g active listed z lefts mid behind (rk_text 1 text) [] k 1 true 1 → made_index o k ≡ Some v → Rewritten f g active listed z lefts before behind (field_expression line on text) v
   field_rewritten line on text o k v shallow kept first key made =
-      indexed_rewritten first key.written made (field_expression line on text) (sym (append-nil (mentions_in on))) (omega (arith, some_depth on)) shallow refl refl refl (λ to m. refl) kept
+      indexed_rewritten first key.written made (field_expression line on text) (sym (append-nil (mentions_in on))) (omega (arith, some_depth on)) shallow refl refl refl (field_indexing line on text) (λ to m. refl) kept
 
 module _ {f : Function} {g : Fn} {active : List Active} {listed : List ℕ} {z : Maker} {lefts : ℕ → List (Option Inner)} {before behind : ℕ} where
-  pub expression_key : (key : Expression) (k : OperandValue) → PassesMentions (mentions_in key) (code key) → RewrittenOperand f g active listed z lefts before behind key k → KeySame f g active listed z lefts before behind (rk (code key)) (mentions_in key) k (depth_of_expression key)
+  pub expression_key : (key : Expression) (k : OperandValue) → PassesMentions (mentions_in key) (code key) → RewrittenOperand f g active listed z lefts before behind key k → KeySame f g active listed z lefts before behind (rk (code key)) (mentions_in key) k (depth_of_expression key) (formed_expression key) (room_of_expression key)
   expression_key key k passed operand = record { written = operand_key key k operand; passes = rk_passes (mentions_in key) (code key) passed }
 
-  pub key_deeper : {asked : Asks ℕ} {mentions : List Mention} {k : OperandValue} {deep more : ℕ} → deep ≤ more → KeySame f g active listed z lefts before behind asked mentions k deep → KeySame f g active listed z lefts before behind asked mentions k more
+  pub key_deeper : {asked : Asks ℕ} {mentions : List Mention} {k : OperandValue} {deep more : ℕ} {good : Bool} {roomy : ℕ} → deep ≤ more → KeySame f g active listed z lefts before behind asked mentions k deep good roomy → KeySame f g active listed z lefts before behind asked mentions k more good roomy
   key_deeper deeper key =
       let written = key.written in
-      record { written = record { can = written.can; leaves = written.leaves; makes = written.makes; few = λ n. omega (arith, written.few n, deeper); grown = written.grown; as_rk = written.as_rk; taken = written.taken }; passes = key.passes }
+      record { written = record { can = written.can; leaves = written.leaves; makes = written.makes; few = λ n. omega (arith, written.few n, deeper); low = written.low; grown = written.grown; as_rk = written.as_rk; taken = written.taken }; passes = key.passes }
 
   -- the name of a field is a string, which is an operand as one that is an expression of its own
-  pub text_key : (line : ℕ) (text : Text) (k : OperandValue) → RewrittenOperand f g active listed z lefts before behind (text_literal line text) k → KeySame f g active listed z lefts before behind (rk_text 1 text) [] k 1
+  pub text_key : (line : ℕ) (text : Text) (k : OperandValue) → RewrittenOperand f g active listed z lefts before behind (text_literal line text) k → KeySame f g active listed z lefts before behind (rk_text 1 text) [] k 1 true 1
   text_key line text k operand =
       let asked = text_asks text in
       record {
@@ -326,6 +393,7 @@ module _ {f : Function} {g : Fn} {active : List Active} {listed : List ℕ} {z :
           leaves = operand.leaves;
           makes = operand.makes;
           few = operand.few;
+          low = λ short formed m ahead final. (operand.low short refl m ahead (subst (λ got. Final (length m.labels) got.after z) (sym (asked m)) final)).low;
           grown = grows_rk_text 1 text;
           as_rk = λ m ahead final. operand.as_rk m ahead (subst (λ got. Final (length m.labels) got.after z) (sym (asked m)) final) ∙ asked m;
           taken = λ m ahead final. ap (λ got. length got.after.constants) (sym (asked m)) ∙ operand.taken m ahead (subst (λ got. Final (length m.labels) got.after z) (sym (asked m)) final);

@@ -14,15 +14,20 @@ use Rattle.recover_expr.specs.declared.steps.Step.{Step}
 use Rattle.scheme.specs.Functions.{Heading, chunk_of, without_sources}
 use Rattle.scheme.specs.Making.{Ahead, head_or}
 use Rattle.scheme.specs.Scheme.{inner, statements_made}
+use Rattle.scheme.specs.Shapes.{room_of_body}
 use Rattle.scheme.specs.declared.making.Active.{Active}
 use Rattle.scheme_stands.specs.Relation.{FunctionOf}
 use Rattle.scheme_stands.specs.Words.{Fn, Names, names_in, onto}
 use Rattle.reads_back.specs.Coming.{Coming, IsMadeNext}
 use Rattle.reads_back.specs.Acted.{lean_depth_of}
 use Rattle.reads_back.specs.Cores.{IsPlainBody}
-use Rattle.reads_back.specs.ReadAs.{AreStepsOf, IsRead, IsReadFrom, is_vararg, most_levels}
+use Rattle.reads_back.specs.ReadAs.{AreRead, AreStepsOf, IsRead, IsReadFrom, is_vararg, most_levels}
+use Rattle.reads_back.proofs.BlockReads.{IsLow}
+use Rattle.reads_back.proofs.ReadLoosely.{IsLooselyRead, IsLooselyReadFrom}
+use Rattle.reads_back.proofs.Rooms.{lean_room_of}
+use Rattle.reads_back.proofs.StepsPlaced.{AreLow}
 use Rattle.reads_back.proofs.EachMade.{IsMadeAt, each_made}
-use Rattle.reads_back.proofs.LeftFunctions.{AreAllRead, all_read, each_left, left_behind, next_left, others_left}
+use Rattle.reads_back.proofs.LeftFunctions.{AreAllRead, all_read, all_strict, each_left, left_behind, next_left, others_left}
 use Rattle.reads_back.proofs.Marks.{IsPartLeft, SamePart, part_then}
 use Rattle.reads_back.proofs.NameReads.{AreListed}
 use Rattle.reads_back.proofs.NamesInside.{named_inside}
@@ -39,19 +44,22 @@ abbrev pub AreNamedBy : Names → (names : List Text) → Type 0
 AreNamedBy n names = (text : Text) (slot : ℕ) → slice_get n.upvalues slot ≡ Some text → as_name (slice_get names slot) ≡ Some text
 
 -- it is read as one that is the same as this body, with no more than so many functions in one another
-pub record IsReadAsBody (deep : ℕ) (chunk : Chunk) (body : FunctionBody) (method : Bool) (names : List Text) (before : Ahead) : Type 0 where
+pub record IsReadAsBody (short : Bool) (deep : ℕ) (chunk : Chunk) (body : FunctionBody) (method : Bool) (names : List Text) (before : Ahead) : Type 0 where
   pub found : Inner
-  pub read : IsRead deep chunk found
+  pub read : IsLooselyRead short deep chunk found
+  -- and so where its body has room
+  pub strict : (short ≡ true → room_of_body body ≤ 200) → IsRead short deep chunk found
   pub fine : IsFineFunction found
   pub same : inner found.body false names before ≡ inner body method names before
   pub few : found.levels ≤ 3 * depth_of_body body + 4
+  pub low : short ≡ true → found.levels ≤ room_of_body body
   pub part : SamePart (body_part false found.body) (body_part method body)
 
 -- whatever plain function the chunk stands as, but for the numbers of lines
-abbrev pub IsEverRead : Chunk → Type 0
-IsEverRead chunk =
-    (deep : ℕ) (body : FunctionBody) (method : Bool) (n : Names) (before behind : Ahead) (made : Chunk) → IsPlainBody body → depth_of_body body < deep → FunctionOf body method (Some n) before behind made → SameButLines chunk made →
-    AreNamedBy n (own made).upvalue_names → IsReadAsBody deep chunk body method (own made).upvalue_names before
+abbrev pub IsEverRead : (short : Bool) → Chunk → Type 0
+IsEverRead short chunk =
+    (deep : ℕ) (body : FunctionBody) (method : Bool) (n : Names) (before behind : Ahead) (made : Chunk) → IsPlainBody body → depth_of_body body < deep → depth_of_body body ≤ 199 → FunctionOf body method (Some n) before behind made → SameButLines chunk made →
+    AreNamedBy n (own made).upvalue_names → IsReadAsBody short deep chunk body method (own made).upvalue_names before
 
 -- ---- functions that are the same but for lines
 
@@ -88,21 +96,16 @@ stands_too (and_function c others) (and_function first rest) (suc number) d same
 
 -- ---- levels
 
-pub low_levels : (count most : ℕ) (written : Statements) (steps : List Step) → AreStepsOf count most written steps → most_levels steps ≤ most
-low_levels count most written [] are = omega arith
-low_levels count most no_statements (step ∷ steps) are = cc
-low_levels count most (statement line semi s rest) (step ∷ steps) are = omega (arith, are.0.levels, low_levels count most rest steps are.1)
+pub low_levels : (short : Bool) (most roomy : ℕ) (steps : List Step) → AreLow (IsLow short most roomy) steps → IsLow short most roomy (most_levels steps)
+low_levels short most roomy [] low = (omega arith, λ is. omega arith)
+low_levels short most roomy (step ∷ steps) low =
+    let rest = low_levels short most roomy steps low.1 in
+    (omega (arith, low.0.0, rest.0), λ is. omega (arith, low.0.1 is, rest.1 is))
 
-enough_levels : (count most : ℕ) (written : Statements) (steps : List Step) → AreStepsOf count most written steps → depth_of_statements written ≤ most_levels steps
-enough_levels count most no_statements steps are = omega arith
-enough_levels count most (statement line semi s rest) [] are = absurd are
-enough_levels count most (statement line semi s rest) (step ∷ steps) are = omega (arith, are.0.enough, enough_levels count most rest steps are.1)
-
-higher : (count most more : ℕ) (written : Statements) (steps : List Step) → most ≤ more → AreStepsOf count most written steps → AreStepsOf count more written steps
-higher count most more no_statements steps up are = are
-higher count most more (statement line semi s rest) [] up are = absurd are
-higher count most more (statement line semi s rest) (step ∷ steps) up are =
-    (record { kind = are.0.kind; enough = are.0.enough; levels = omega (arith, up, are.0.levels) }, higher count most more rest steps up are.1)
+enough_levels : (count : ℕ) (written : Statements) (steps : List Step) → AreStepsOf count written steps → depth_of_statements written ≤ most_levels steps
+enough_levels count no_statements steps are = omega arith
+enough_levels count (statement line semi s rest) [] are = absurd are
+enough_levels count (statement line semi s rest) (step ∷ steps) are = omega (arith, are.0.enough, enough_levels count rest steps are.1)
 
 -- ---- the functions in one
 
@@ -112,24 +115,26 @@ part_found None = nothing
 part_found (Some found) = body_part false found.body
 
 -- what is read of a function with its functions
-pub record IsFunctionRead (deep : ℕ) (heading : Heading) (params : List Text) (block : Statements) (names : List Text) (ahead : Ahead) (chunk : Chunk) : Type 0 where
+pub record IsFunctionRead (short : Bool) (deep : ℕ) (heading : Heading) (params : List Text) (block : Statements) (names : List Text) (ahead : Ahead) (chunk : Chunk) : Type 0 where
   pub found : Inner
-  pub read : IsRead (suc deep) chunk found
+  pub read : IsLooselyRead short (suc deep) chunk found
+  pub strict : (short ≡ true → lean_room_of block ≤ 200) → IsRead short (suc deep) chunk found
   pub written : Statements
   pub body : found.body ≡ function_body params heading.vararg written 1 1
   pub formed : formed_statements written ≡ true
   pub shallow : depth_of_statements written ≤ found.levels
   pub few : found.levels ≤ 3 * lean_depth_of block + 1
+  pub low : short ≡ true → found.levels ≤ lean_room_of block
   pub part : SamePart (statements_part written) (statements_part block)
   pub made : statements_made written None (begun_of params names ahead) ≡ statements_made block None (begun_of params names ahead)
 
-module _ (deep : ℕ) (functions : Functions) (ever : (number : ℕ) (c : Chunk) → function_at functions number ≡ Some c → IsEverRead c) {n : Names} {heading : Heading} {params : List Text} {block : Statements} {names : List Text} {ahead : Ahead} {mine : Own}
+module _ (short : Bool) (deep : ℕ) (functions : Functions) (ever : (number : ℕ) (c : Chunk) → function_at functions number ≡ Some c → IsEverRead short c) {n : Names} {heading : Heading} {params : List Text} {block : Statements} {names : List Text} {ahead : Ahead} {mine : Own}
     (of : IsStraightFunction n heading params block names ahead (function mine functions)) (low : lean_depth_of block ≤ deep) where
   abbrev outer : Function
-  outer = f of
+  outer = f short of
 
   abbrev made_of : Fn
-  made_of = g of
+  made_of = g short of
 
   all_same : each_of no_lines functions ≡ each_of no_lines made_of.functions
   all_same = inner_same (function mine functions) (chunk_of heading (maker_of params block names ahead)) of.same
@@ -146,31 +151,33 @@ module _ (deep : ℕ) (functions : Functions) (ever : (number : ℕ) (c : Chunk)
     next_named : AreNamedBy inside (own next.chunk).upvalue_names
     next_named text slot is =
         ap (λ names. as_name (slice_get names slot)) next.named
-        ∙ named_inside n refl all next.names (head_or [] c.ahead.sources) next.captured (upvalues_told of) text slot is
+        ∙ named_inside n refl all next.names (head_or [] c.ahead.sources) next.captured (upvalues_told short of) text slot is
 
-    next_read : (high : ℕ) → depth_of_body body < high → IsReadAsBody high (there next).c body method (own next.chunk).upvalue_names (without_sources c.ahead)
-    next_read high few = ever c.functions (there next).c (there next).is high body method inside (without_sources c.ahead) next.behind next.chunk plain few next.made_at (there next).same next_named
+    next_read : (high : ℕ) → depth_of_body body < high → depth_of_body body ≤ 199 → IsReadAsBody short high (there next).c body method (own next.chunk).upvalue_names (without_sources c.ahead)
+    next_read high few shallow = ever c.functions (there next).c (there next).is high body method inside (without_sources c.ahead) next.behind next.chunk plain few shallow next.made_at (there next).same next_named
 
   -- each of them is made next somewhere
-  at_number : (number : ℕ) (c : Chunk) → function_at functions number ≡ Some c → IsMadeAt outer made_of (lean_depth_of block) number
+  at_number : (number : ℕ) (c : Chunk) → function_at functions number ≡ Some c → IsMadeAt outer made_of (lean_depth_of block) (lean_room_of block) number
   at_number number c is =
-      each_made (is_made of) block (begun_of params names ahead) (first_next of) number (omega (arith, none_before of))
-      (omega (arith, within_count functions number c is, count_same functions made_of.functions all_same, counted (maker_of params block names ahead).functions, ap length (functions_made of)))
+      each_made (is_made short of) block (begun_of params names ahead) (first_next short of) number (omega (arith, none_before short of))
+      (omega (arith, within_count functions number c is, count_same functions made_of.functions all_same, counted (maker_of params block names ahead).functions, ap length (functions_made short of)))
 
   record IsReadThere (c : Chunk) : Type 0 where
     found : Inner
-    read : IsRead deep c found
+    read : IsLooselyRead short deep c found
+    strict : (short ≡ true → lean_room_of block ≤ 200) → IsRead short deep c found
     fine : IsFineFunction found
 
   number_read : (number : ℕ) (c : Chunk) → function_at functions number ≡ Some c → IsReadThere c
   number_read number c is =
       let m = at_number number c is in
-      let r = next_read m.all m.plain m.is deep (omega (arith, low, m.low)) in
+      let shallow_block : lean_depth_of block ≤ 200 = omega (arith, of.shallow, all_lean_low block) in
+      let r = next_read m.all m.plain m.is deep (omega (arith, low, m.low)) (omega (arith, shallow_block, m.low)) in
       let same : (there m.is).c ≡ c = same_Some (there m.is).c c (sym (there m.is).is ∙ ap (function_at functions) m.number_is ∙ is) in
-      record { found = r.found; read = subst (λ c. IsRead deep c r.found) same r.read; fine = r.fine }
+      record { found = r.found; read = subst (λ c. IsLooselyRead short deep c r.found) same r.read; strict = λ roomy. subst (λ c. IsRead short deep c r.found) same (r.strict (λ is. omega (arith, roomy is, m.in_room))); fine = r.fine }
 
-  founds : AreAllRead deep functions
-  founds = all_read deep functions (λ number c is. let r = number_read number c is in (r.found, r.read))
+  founds : AreAllRead short deep functions
+  founds = all_read short deep functions (λ number c is. let r = number_read number c is in (r.found, r.read))
 
   -- those that are left where so many were made, and the parts of the source that they are
   abbrev lefts : ℕ → List (Option Inner)
@@ -179,66 +186,90 @@ module _ (deep : ℕ) (functions : Functions) (ever : (number : ℕ) (c : Chunk)
   abbrev parts : ℕ → Part
   parts number = part_found (slice_get founds.founds number)
 
-  module _ {active : List Active} {listed : List ℕ} (all : AreListed outer made_of active listed) {body : FunctionBody} {method : Bool} {c : Coming} (plain : IsPlainBody body) (next : IsMadeNext made_of active body method c) where
-    now_read : IsReadAsBody (suc (depth_of_body body)) (there next).c body method (own next.chunk).upvalue_names (without_sources c.ahead)
-    now_read = next_read all plain next (suc (depth_of_body body)) (omega arith)
+  module _ {active : List Active} {listed : List ℕ} (all : AreListed outer made_of active listed) {body : FunctionBody} {method : Bool} {c : Coming} (plain : IsPlainBody body) (shallow : depth_of_body body ≤ 199) (next : IsMadeNext made_of active body method c) where
+    now_read : IsReadAsBody short (suc (depth_of_body body)) (there next).c body method (own next.chunk).upvalue_names (without_sources c.ahead)
+    now_read = next_read all plain next (suc (depth_of_body body)) (omega arith) shallow
 
     now_found : slice_get founds.founds c.functions ≡ Some now_read.found
     now_found =
         let e = founds.each c.functions (there next).c (there next).is in
-        e.1 ∙ ap (λ (found : Inner). Some found) (same_found deep (suc (depth_of_body body)) (there next).c e.0 now_read.found e.2 now_read.read)
+        e.1 ∙ ap (λ (found : Inner). Some found) (same_found short deep (suc (depth_of_body body)) (there next).c e.0 now_read.found e.2 now_read.read)
 
   left : AreLeft outer made_of lefts parts
   left = record {
     again = record {
-      next = λ active listed all body method c plain next.
-          let r = now_read all plain next in (
+      next = λ active listed all body method c plain shallow next.
+          let r = now_read all plain shallow next in (
             r.found,
-            next_left founds.founds c.functions r.found (now_found all plain next),
-            record { same = subst (λ names. inner r.found.body false names (without_sources c.ahead) ≡ inner body method names (without_sources c.ahead)) next.named r.same; few = r.few },
+            next_left founds.founds c.functions r.found (now_found all plain shallow next),
+            record { same = subst (λ names. inner r.found.body false names (without_sources c.ahead) ≡ inner body method names (without_sources c.ahead)) next.named r.same; few = r.few; low = r.low },
           );
       others = λ active body method c plain next. others_left founds.founds c.functions (omega (arith, founds.as_many, within_count functions c.functions (there next).c (there next).is));
     };
     fine = each_left (λ number found. IsFineFunction found) founds.founds (λ number found is.
         let back = founds.back number found is in
         let r = number_read number back.0 back.1 in
-        subst IsFineFunction (same_found deep deep back.0 r.found found r.read back.2) r.fine);
+        subst IsFineFunction (same_found short deep deep back.0 r.found found r.read back.2) r.fine);
     parts = each_left (IsPartLeft parts) founds.founds (λ number found is. λ here. ap (λ found. part_found found here) (sym is));
-    made = λ active listed all body c plain next. part_then (λ here. ap (λ found. part_found found here) (now_found all plain next)) (now_read all plain next).part;
+    made = λ active listed all body c plain shallow next. part_then (λ here. ap (λ found. part_found found here) (now_found all plain shallow next)) (now_read all plain shallow next).part;
   }
 
-  from : IsWrittenFrom heading params block names ahead (function mine functions) (lefts 0)
-  from = is_written of left
+  from : IsWrittenFrom short heading params block names ahead (function mine functions) (lefts 0)
+  from = is_written short of left
 
   abbrev found : Inner
   found = record { body = function_body from.steps.params (is_vararg mine) from.written 1 1; levels = most_levels from.steps.steps }
 
-  abbrev most : ℕ
-  most = 3 * lean_depth_of block + 1
+  levels_low : IsLow short (3 * lean_depth_of block + 1) (lean_room_of block) found.levels
+  levels_low = low_levels short (3 * lean_depth_of block + 1) (lean_room_of block) from.steps.steps from.low
 
-  read_from : IsReadFrom (function mine functions) (lefts 0) found
-  read_from = record {
-    told = is_told of;
+  read_loosely : IsLooselyReadFrom short (function mine functions) (lefts 0) found
+  read_loosely = record {
+    told = is_told short of;
     steps = from.steps;
     written = from.written;
     read = from.read;
     parts = from.parts;
-    are = higher (length from.steps.steps) most 200 from.written from.steps.steps (omega (arith, of.shallow, all_lean_low block)) from.are;
+    are = from.are;
     plain = from.plain;
     formed = from.formed;
     body = refl;
     levels = refl;
   }
 
-  pub function_read : IsFunctionRead deep heading params block names ahead (function mine functions)
+  read_from : (short ≡ true → lean_room_of block ≤ 200) → IsReadFrom short (function mine functions) (lefts 0) found
+  read_from roomy = record {
+    told = is_told short of;
+    steps = from.steps;
+    written = from.written;
+    read = from.read;
+    parts = from.parts;
+    are = from.are;
+    plain = from.plain;
+    formed = from.formed;
+    body = refl;
+    levels = refl;
+    low = λ is. omega (arith, roomy is, levels_low.1 is);
+  }
+
+  strictly_found : (short ≡ true → lean_room_of block ≤ 200) → AreRead short deep functions (lefts 0)
+  strictly_found roomy = all_strict short deep functions founds.founds founds.as_many (λ number c found at is.
+      let r = number_read number c at in
+      let back = founds.back number found is in
+      let same : back.0 ≡ c = same_Some back.0 c (sym back.1 ∙ at) in
+      subst (IsRead short deep c) (same_found short deep deep c r.found found r.read (subst (λ c. IsLooselyRead short deep c found) same back.2)) (r.strict roomy))
+
+  pub function_read : IsFunctionRead short deep heading params block names ahead (function mine functions)
   function_read = record {
     found = found;
-    read = (lefts 0, founds.are, read_from);
+    read = (lefts 0, founds.are, read_loosely);
+    strict = λ roomy. (lefts 0, strictly_found roomy, read_from roomy);
     written = from.written;
-    body = ap₂ (λ params vararg. function_body params vararg from.written 1 1) from.params_are (further_taken of);
+    body = ap₂ (λ params vararg. function_body params vararg from.written 1 1) from.params_are (further_taken short of);
     formed = from.formed;
-    shallow = enough_levels (length from.steps.steps) most from.written from.steps.steps from.are;
-    few = low_levels (length from.steps.steps) most from.written from.steps.steps from.are;
+    shallow = enough_levels (length from.steps.steps) from.written from.steps.steps from.are;
+    few = levels_low.0;
+    low = levels_low.1;
     part = from.part;
     made = from.made;
   }

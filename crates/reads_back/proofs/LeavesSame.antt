@@ -1,16 +1,18 @@
 -- What is written of the value of an expression without parts has the same code: literals, folded numbers, names and `...`; and so in parentheses.
-use Rattle.std.proofs.Common.{◌≡◌, ℕ, ◌≤◌, true, false, ℤ, List, [], ◌∷◌, length, Option, Some, None, is_some, refl, sym, ap, ◌∙◌, subst, arith, true≢false}
+use Rattle.std.proofs.Common.{◌≡◌, ℕ, ◌≤◌, true, false, ℤ, List, [], ◌∷◌, length, Option, Some, None, is_some, refl, sym, ap, ◌∙◌, subst, arith, true≢false, Bool, inr, inl}
 use Rattle.std.specs.Prelude.{slice_get, if◌then◌else◌}
 use Rattle.lua_num.specs.Bytes.{Text}
 use Rattle.lua_tree.specs.Names.{is_name as is_good_name}
 use Rattle.lua_tree.specs.Scoping.{global_use}
 use Rattle.lua_tree.specs.Syntax.{Expression, nil_literal, true_literal, false_literal, vararg_expression, text_literal, name_expression, parenthesized}
+use Rattle.lua_tree.specs.Precedence.{is_unary, level_of}
+use Rattle.lua_tree.specs.WellFormed.{is_prefix}
 use Rattle.opcode.specs.declared.op.Op.{Op}
 use Rattle.proto.specs.declared.parts.Constant.{Constant}
 use Rattle.core_expr.specs.Counting.{left_by, taken_behind}
-use Rattle.core_expr.specs.Places.{as_name, as_text, constant_name, place}
+use Rattle.core_expr.specs.Places.{as_name, as_text, constant_name, place, Place}
 use Rattle.core_expr.specs.Values.{Value, nil_value, bool_value, vararg_value, constant_value, global_value, Inner}
-use Rattle.core_expr.specs.Writing.{Wording, can_write, constant_word, is_multiple as can_be_several, literal as literal_word, name_word, single as single_word, word}
+use Rattle.core_expr.specs.Writing.{Wording, can_write, constant_word, is_multiple as can_be_several, literal as literal_word, name_word, single as single_word, word, is_bare}
 use Rattle.recover_expr.specs.Situation.{Function}
 use Rattle.scheme.specs.Expressions.{Want, fold, is_multiple, is_name, read_where, register_of}
 use Rattle.scheme.specs.Lists.{vararg_at}
@@ -23,7 +25,9 @@ use Rattle.scheme_stands.specs.Words.{Fn, Means}
 use Rattle.reads_back.specs.Cores.{HasNumber, IsConstant, IsNamed, IsVariable}
 use Rattle.reads_back.proofs.ConstantsSame.{before_load, constant_is, constant_word_is, constant_taken, fold_numeral, loads, number_loads, number_no_name, number_single, numeral_few, numeral_loads, numeral_plain, numeral_single}
 use Rattle.reads_back.proofs.Deeper.{some_depth}
-use Rattle.reads_back.proofs.Rewriting.{IsMadeBy, Rewritten, code, keys_of}
+use Rattle.reads_back.proofs.InRoom.{BindsAlike, IsInRoom, parens_in}
+use Rattle.reads_back.proofs.Rooms.{folded_room}
+use Rattle.reads_back.proofs.Rewriting.{IsMadeAs, IsMadeBy, Rewritten, code, keys_of, wording}
 use Rattle.reads_back.proofs.WholeNumbers.{IsWhole}
 use Rattle.reads_back.proofs.WordsSame.{no_local}
 use Rattle.reads_back.proofs.NameReads.{IsListed}
@@ -35,6 +39,10 @@ use Rattle.reads_back.proofs.MentionsMeant.{folded_nameless}
 -- what is no call and no `...` gives no several values
 never_several : {A : Type 0} (e : Expression) → is_multiple e ≡ false → is_multiple e ≡ true → A
 never_several e single several = absurd (true≢false (sym several ∙ single))
+
+-- what is written of a leaf is the leaf, on line 1
+leaf_binds : {e x : Expression} → (is_prefix x ≡ is_prefix e) → (level_of x ≡ level_of e) → (is_unary x ≡ is_unary e) → (is_multiple x ≡ is_multiple e) → BindsAlike e x
+leaf_binds prefix level unary several = record { prefix = prefix; level = level; unary = unary; several = several }
 
 -- ---- constants
 
@@ -54,8 +62,8 @@ record LoadsIt (k : Constant) (e : Expression) : Type 0 where
   as_loaded : (r : ℕ) (m : Maker) → (code e).to_reg r m ≡ loads r k m
 
 module _ {f : Function} {g : Fn} {active : List Active} {listed : List ℕ} {z : Maker} {lefts : ℕ → List (Option Inner)} {before : ℕ} (made : IsMadeBy f g active listed z) where
-  loaded_rewritten : (e : Expression) (k : Constant) (number : ℕ) → HasNumber g k number → IsLoaded k → LoadsIt k e → Rewritten f g active listed z lefts before before e (constant_value number)
-  loaded_rewritten e k number has loaded it = record {
+  loaded_rewritten : (e : Expression) (k : Constant) (number : ℕ) → HasNumber g k number → IsLoaded k → LoadsIt k e → ((bare : Bool) → IsInRoom bare e (literal_word k)) → Rewritten f g active listed z lefts before before e (constant_value number)
+  loaded_rewritten e k number has loaded it in_room = record {
     can = ap is_some (constant_is made k number has);
     leaves = refl;
     makes = ap (λ mentions. made_behind mentions before) (sym it.nameless);
@@ -64,6 +72,7 @@ module _ {f : Function} {g : Fn} {active : List Active} {listed : List ℕ} {z :
     several = λ n. ap (λ (w : Wording). is_multiple w.words) word_is ∙ loaded.single;
     gives = λ several. never_several e it.single several;
     few = λ n. omega (arith, ap (λ (w : Wording). w.levels) word_is, loaded.few, some_depth e);
+    low = λ short formed m ahead is. subst (λ (w : Wording). IsInRoom (is_bare (place f.of listed f.short) (length m.constants) (constant_value number)) e w) (sym word_is) (in_room _);
     keys = omega arith;
     as_local = λ n r m ahead is. no_local e r m it.named is;
     to_reg = λ r m ahead final. ap (λ (w : Wording). (coded w.words).to_reg r m) word_is ∙ loaded.as_loaded r m ∙ sym (it.as_loaded r m);
@@ -81,14 +90,16 @@ module _ {f : Function} {g : Fn} {active : List Active} {listed : List ℕ} {z :
       subst (Rewritten f g active listed z lefts before before e) (sym same)
       (loaded_rewritten e (Constant.Number n) number has
       (record { named = numeral_plain n; single = numeral_single n; few = numeral_few n; as_loaded = numeral_loads n whole })
-      (record { named = number_no_name e n is; single = number_single e n is; folded = fold_numeral n whole ∙ sym is; nameless = folded_nameless e n is; as_loaded = number_loads e n is }))
+      (record { named = number_no_name e n is; single = number_single e n is; folded = fold_numeral n whole ∙ sym is; nameless = folded_nameless e n is; as_loaded = number_loads e n is })
+      (λ bare. inl (omega (arith, numeral_few n, folded_room e n is))))
 
   pub text_rewritten : (line : ℕ) (text : Text) (v : Value) → IsConstant g (Constant.Text text) v → Rewritten f g active listed z lefts before before (text_literal line text) v
   text_rewritten line text v (number, has, same) =
       subst (Rewritten f g active listed z lefts before before (text_literal line text)) (sym same)
       (loaded_rewritten (text_literal line text) (Constant.Text text) number has
       (record { named = refl; single = refl; few = omega arith; as_loaded = λ r m. refl })
-      (record { named = refl; single = refl; folded = refl; nameless = refl; as_loaded = λ r m. refl }))
+      (record { named = refl; single = refl; folded = refl; nameless = refl; as_loaded = λ r m. refl })
+      (λ bare. inr (record { low = omega arith; binds = leaf_binds refl refl refl refl; bare_there = λ none. cc; unfolded = refl })))
 
   -- ---- literals that are words
 
@@ -102,6 +113,7 @@ module _ {f : Function} {g : Fn} {active : List Active} {listed : List ℕ} {z :
     several = λ n. refl;
     gives = λ several. cc;
     few = λ n. omega arith;
+    low = λ short formed m ahead is. inr (record { low = omega arith; binds = leaf_binds refl refl refl refl; bare_there = λ none. cc; unfolded = refl });
     keys = omega arith;
     as_local = λ n r m ahead is. cc;
     to_reg = λ r m ahead final. refl;
@@ -120,6 +132,7 @@ module _ {f : Function} {g : Fn} {active : List Active} {listed : List ℕ} {z :
     several = λ n. refl;
     gives = λ several. cc;
     few = λ n. omega arith;
+    low = λ short formed m ahead is. inr (record { low = omega arith; binds = leaf_binds refl refl refl refl; bare_there = λ none. cc; unfolded = refl });
     keys = omega arith;
     as_local = λ n r m ahead is. cc;
     to_reg = λ r m ahead final. refl;
@@ -138,6 +151,7 @@ module _ {f : Function} {g : Fn} {active : List Active} {listed : List ℕ} {z :
     several = λ n. refl;
     gives = λ several. cc;
     few = λ n. omega arith;
+    low = λ short formed m ahead is. inr (record { low = omega arith; binds = leaf_binds refl refl refl refl; bare_there = λ none. cc; unfolded = refl });
     keys = omega arith;
     as_local = λ n r m ahead is. cc;
     to_reg = λ r m ahead final. refl;
@@ -156,6 +170,7 @@ module _ {f : Function} {g : Fn} {active : List Active} {listed : List ℕ} {z :
     several = λ n. refl;
     gives = λ several. refl;
     few = λ n. omega arith;
+    low = λ short formed m ahead is. inr (record { low = omega arith; binds = leaf_binds refl refl refl refl; bare_there = λ none. refl; unfolded = refl });
     keys = omega arith;
     as_local = λ n r m ahead is. cc;
     to_reg = λ r m ahead final. refl;
@@ -186,6 +201,11 @@ variable_single : (g : Fn) (text : Text) (w : Where) (v : Value) → IsVariable 
 variable_single g text (in_register x) v is = ap can_be_several is
 variable_single g text (in_upvalue slot) v is = ap can_be_several is
 variable_single g text in_globals v (number, has, is) = ap can_be_several is
+
+variable_bare : (at : Place) (n : ℕ) (g : Fn) (text : Text) (w : Where) (v : Value) → IsVariable g text w v → is_bare at n v ≡ true
+variable_bare at n g text (in_register x) v is = ap (is_bare at n) is
+variable_bare at n g text (in_upvalue slot) v is = ap (is_bare at n) is
+variable_bare at n g text in_globals v (number, has, is) = ap (is_bare at n) is
 
 -- a variable can be written, and it is written as its name
 pub record IsWritten (f : Function) (listed : List ℕ) (left : List (Option Inner)) (text : Text) (v : Value) : Type 0 where
@@ -234,6 +254,10 @@ module _ {f : Function} {g : Fn} {active : List Active} {listed : List ℕ} {z :
     several = λ n. ap (λ (w : Wording). is_multiple w.words) (written.word_is n) ∙ sym (variable_single g text w v is);
     gives = λ several. cc;
     few = λ n. omega (arith, ap (λ (w : Wording). w.levels) (written.word_is n));
+    low = λ short formed m ahead made_so.
+        let n = length m.constants in
+        subst (λ (w : Wording). IsInRoom (is_bare (place f.of listed f.short) n v) (name_expression line text) w) (sym (written.word_is n))
+        (inr (record { low = omega arith; binds = leaf_binds refl refl refl refl; bare_there = λ none. variable_bare (place f.of listed f.short) n g text w v is; unfolded = refl }));
     keys = omega (arith, written.keys);
     as_local = λ n r m ahead register. local_taken g text w v n r is (ap register_of (sym (next_means made text w [] m means ahead)) ∙ register);
     to_reg = λ r m ahead final. ap (λ (w : Wording). (coded w.words).to_reg r m) (written.word_is (length m.constants));
@@ -260,6 +284,7 @@ module _ {f : Function} {g : Fn} {active : List Active} {listed : List ℕ} {z :
     several = rewritten.several;
     gives = λ several. cc;
     few = λ n. omega (arith, rewritten.few n);
+    low = λ short formed m ahead is. parens_in _ line e (wording f listed z lefts before (length m.constants) v) (rewritten.low short formed m ahead (inside is));
     keys = omega (arith, rewritten.keys);
     as_local = rewritten.as_local;
     to_reg = rewritten.to_reg;
@@ -267,3 +292,8 @@ module _ {f : Function} {g : Fn} {active : List Active} {listed : List ℕ} {z :
     multi = λ several. cc;
     multi_taken = λ several. cc;
   }
+    where
+      inside : {m : Maker} → IsMadeAs (parenthesized line e) m z → IsMadeAs e m z
+      inside (inl made) = inl made
+      inside (inr (inl local)) = inr (inl local)
+      inside (inr (inr (several, op, want, final))) = cc

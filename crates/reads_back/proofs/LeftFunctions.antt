@@ -1,10 +1,11 @@
 -- The functions of a function, and those of them that are left where so many were made.
-use Rattle.std.proofs.Common.{◌≡◌, ℕ, zero, suc, ◌+◌, ◌<◌, List, [], ◌∷◌, length, Option, Some, None, refl, ap, subst, arith}
+use Rattle.std.proofs.Common.{◌≡◌, Bool, ℕ, zero, suc, ◌+◌, ◌<◌, List, [], ◌∷◌, length, Option, Some, None, refl, ap, subst, arith}
 use Rattle.std.specs.Prelude.{slice_get, slice_set}
 use Rattle.proto.specs.Chunk.{Chunk, Functions, and_function, function_at, function_count, no_functions}
 use Rattle.core_expr.specs.Values.{Inner}
 use Rattle.core_expr.specs.Writing.{function_left}
 use Rattle.reads_back.specs.ReadAs.{AreRead, IsRead}
+use Rattle.reads_back.proofs.ReadLoosely.{AreLooselyRead, IsLooselyRead}
 use Rattle.reads_back.proofs.FunctionsLeft.{EachLeft}
 
 -- the functions of a list that are left where the first so many were made
@@ -52,16 +53,16 @@ each_left Holds founds every made = each_from Holds 0 founds at made
         subst (λ n. Holds n found) same (every place found there)
 
 -- functions that are read, in order
-pub record AreAllRead (deep : ℕ) (functions : Functions) : Type 0 where
+pub record AreAllRead (short : Bool) (deep : ℕ) (functions : Functions) : Type 0 where
   pub founds : List Inner
-  pub are : AreRead deep functions (left_behind 0 founds)
+  pub are : AreLooselyRead short deep functions (left_behind 0 founds)
   pub as_many : length founds ≡ function_count functions
-  pub each : (number : ℕ) (c : Chunk) → function_at functions number ≡ Some c → (found : Inner) × (slice_get founds number ≡ Some found) × IsRead deep c found
-  pub back : (number : ℕ) (found : Inner) → slice_get founds number ≡ Some found → (c : Chunk) × (function_at functions number ≡ Some c) × IsRead deep c found
+  pub each : (number : ℕ) (c : Chunk) → function_at functions number ≡ Some c → (found : Inner) × (slice_get founds number ≡ Some found) × IsLooselyRead short deep c found
+  pub back : (number : ℕ) (found : Inner) → slice_get founds number ≡ Some found → (c : Chunk) × (function_at functions number ≡ Some c) × IsLooselyRead short deep c found
 
 -- one more function is read before them
-all_read_behind : (deep : ℕ) (first : Chunk) (rest : Functions) → (found : Inner) × IsRead deep first found → AreAllRead deep rest → AreAllRead deep (and_function first rest)
-all_read_behind deep first rest is others = record {
+all_read_behind : (short : Bool) (deep : ℕ) (first : Chunk) (rest : Functions) → (found : Inner) × IsLooselyRead short deep first found → AreAllRead short deep rest → AreAllRead short deep (and_function first rest)
+all_read_behind short deep first rest is others = record {
   founds = is.0 ∷ others.founds;
   are = (is.0, left_behind 0 others.founds, is.1, others.are, refl);
   as_many = ap suc others.as_many;
@@ -69,21 +70,30 @@ all_read_behind deep first rest is others = record {
   back = back_at;
 }
   where
-    each_at : (number : ℕ) (c : Chunk) → function_at (and_function first rest) number ≡ Some c → (found : Inner) × (slice_get (is.0 ∷ others.founds) number ≡ Some found) × IsRead deep c found
-    each_at zero c at = let same : first ≡ c = cc in (is.0, refl, subst (λ (c : Chunk). IsRead deep c is.0) same is.1)
+    each_at : (number : ℕ) (c : Chunk) → function_at (and_function first rest) number ≡ Some c → (found : Inner) × (slice_get (is.0 ∷ others.founds) number ≡ Some found) × IsLooselyRead short deep c found
+    each_at zero c at = let same : first ≡ c = cc in (is.0, refl, subst (λ (c : Chunk). IsLooselyRead short deep c is.0) same is.1)
     each_at (suc number) c at = others.each number c at
 
-    back_at : (number : ℕ) (found : Inner) → slice_get (is.0 ∷ others.founds) number ≡ Some found → (c : Chunk) × (function_at (and_function first rest) number ≡ Some c) × IsRead deep c found
-    back_at zero found there = let same : is.0 ≡ found = cc in (first, refl, subst (IsRead deep first) same is.1)
+    back_at : (number : ℕ) (found : Inner) → slice_get (is.0 ∷ others.founds) number ≡ Some found → (c : Chunk) × (function_at (and_function first rest) number ≡ Some c) × IsLooselyRead short deep c found
+    back_at zero found there = let same : is.0 ≡ found = cc in (first, refl, subst (IsLooselyRead short deep first) same is.1)
     back_at (suc number) found there = others.back number found there
 
 -- functions each of which is read are read in order
-pub all_read : (deep : ℕ) (functions : Functions) → ((number : ℕ) (c : Chunk) → function_at functions number ≡ Some c → (found : Inner) × IsRead deep c found) → AreAllRead deep functions
-all_read deep no_functions every = record {
+pub all_read : (short : Bool) (deep : ℕ) (functions : Functions) → ((number : ℕ) (c : Chunk) → function_at functions number ≡ Some c → (found : Inner) × IsLooselyRead short deep c found) → AreAllRead short deep functions
+all_read short deep no_functions every = record {
   founds = [];
   are = refl;
   as_many = refl;
   each = λ number c at. absurd cc;
   back = λ number found there. absurd cc;
 }
-all_read deep (and_function first rest) every = all_read_behind deep first rest (every 0 first refl) (all_read deep rest (λ number c at. every (suc number) c at))
+all_read short deep (and_function first rest) every = all_read_behind short deep first rest (every 0 first refl) (all_read short deep rest (λ number c at. every (suc number) c at))
+
+-- and with levels that are few enough, where each of them is
+pub all_strict : (short : Bool) (deep : ℕ) (functions : Functions) (founds : List Inner) → length founds ≡ function_count functions →
+    ((number : ℕ) (c : Chunk) (found : Inner) → function_at functions number ≡ Some c → slice_get founds number ≡ Some found → IsRead short deep c found) → AreRead short deep functions (left_behind 0 founds)
+all_strict short deep no_functions [] as_many every = refl
+all_strict short deep no_functions (found ∷ founds) as_many every = absurd (omega (arith, as_many))
+all_strict short deep (and_function c rest) [] as_many every = absurd (omega (arith, as_many))
+all_strict short deep (and_function c rest) (found ∷ founds) as_many every =
+    (found, left_behind 0 founds, every 0 c found refl refl, all_strict short deep rest founds (omega (arith, as_many)) (λ number c found. every (suc number) c found), refl)

@@ -1,4 +1,8 @@
 pub mod Tests
+pub mod ShortWords
+pub mod Rooms
+pub mod InRoom
+pub mod ReadLoosely
 pub mod Reaches
 pub mod WordsRead
 pub mod ValueWords
@@ -126,3 +130,4 @@ pub mod StraightSources
 pub mod FunctionStatements
 pub mod SameStatements
 pub mod FreeCaptured
+pub mod NoTables

@@ -1,15 +1,17 @@
 -- What is written of a list of values makes the same code as the expressions: each value goes to the next register, or the last one gives several; and a nil behind the values.
-use Rattle.std.proofs.Common.{◌≡◌, ℕ, suc, ◌+◌, ◌*◌, ◌≤◌, Bool, true, false, List, [], ◌++◌, length, Option, refl, sym, ap, ◌∙◌, subst, arith}
+use Rattle.reads_back.proofs.InRoom.{levels_in, closed_in}
+use Rattle.scheme.specs.Shapes.{room_of_expressions}
+use Rattle.std.proofs.Common.{◌≡◌, ℕ, suc, ◌+◌, ◌*◌, ◌≤◌, Bool, true, false, List, [], ◌++◌, length, Option, refl, sym, ap, ◌∙◌, subst, arith, inr}
 use Rattle.std.specs.Prelude.{◌&&◌, not}
 use Rattle.lua_tree.specs.OneLine.{one_line_expression, one_line_expressions}
 use Rattle.lua_tree.specs.Syntax as syntax
 use Rattle.lua_tree.specs.Syntax.{Expressions, no_expressions, Expression, nil_literal}
-use Rattle.lua_tree.specs.WellFormed.{depth_of_expressions}
+use Rattle.lua_tree.specs.WellFormed.{depth_of_expressions, formed_expressions, formed_expression}
 use Rattle.opcode.specs.declared.op.Op.{Op}
 use Rattle.core_expr.specs.Counting.{taken_behind, taken_behind_values, left_by, left_by_values}
 use Rattle.core_expr.specs.Places.{Place, place}
 use Rattle.core_expr.specs.Values.{Value, Values, no_values, and_value, Inner, nil_value}
-use Rattle.core_expr.specs.Writing.{can_write, can_write_values, ends_values, is_multiple as can_be_several, single as single_word, unless, word, word_values}
+use Rattle.core_expr.specs.Writing.{can_write, can_write_values, ends_values, is_multiple as can_be_several, single as single_word, unless, word, word_values, is_bare}
 use Rattle.recover_expr.specs.Entries.{and_last_value}
 use Rattle.recover_expr.specs.Lists.{value_count}
 use Rattle.recover_expr.specs.Situation.{Function}
@@ -25,9 +27,9 @@ use Rattle.reads_back.specs.Cores.{AllHaveCores, AreCores, ends_open}
 use Rattle.reads_back.proofs.GivenSame.{AllRewritten, closed_unless}
 use Rattle.reads_back.proofs.Mentions.{IsAhead, ahead_behind, ahead_front, mentions_in, mentions_in_all, made_behind}
 use Rattle.reads_back.proofs.PassedMentions.{mentions_passed, next_passes}
-use Rattle.reads_back.proofs.Rewriting.{code, wording}
-use Rattle.reads_back.proofs.Tests.{not_so}
-use Rattle.reads_back.proofs.WordsSame.{coded_is, levels_wrapped, next_same, next_taken, next_wrapped, same_multiple}
+use Rattle.reads_back.proofs.Rewriting.{code, wording, HasRoom}
+use Rattle.reads_back.proofs.Tests.{not_so, first_of_both, second_of_both}
+use Rattle.reads_back.proofs.WordsSame.{coded_is, levels_wrapped, next_same, next_taken, next_wrapped, same_multiple, next_low}
 
 -- the code of expressions on one line, and of what is written of values
 abbrev pub codes_of : Expressions → List Coded
@@ -98,6 +100,11 @@ pub cores_few : (f : Function) (g : Fn) (active : List Active) (listed : List �
 cores_few f g active listed z lefts es before behind vs all written are n =
     let deep = depth_of_expressions es in
     omega (arith, list_few (place f.of listed f.short) (3 * deep + 2) n (lefts before) vs all (cores_fine f g active listed z lefts deep es before behind vs (omega arith) written are n))
+
+-- where all values of the last one are wanted, no parentheses stand there
+pub stays_bare : (a b : Bool) → not ((a && false) && b) ≡ true
+stays_bare true b = refl
+stays_bare false b = refl
 
 -- ---- one more behind them
 
@@ -219,3 +226,67 @@ module _ (f : Function) (g : Fn) (active : List Active) (listed : List ℕ) (z :
       multi_all_taken op want (syntax.expression d es) between behind rest has.1 written.1 are ends (next_reg (code e) m) (others_ahead e others has m ahead first.makes) (others_final e others m final)
       ∙ ap (taken_behind_values rest) (next_taken first m (first_ahead e others has m ahead) (first_multi e others m op want final))
       ∙ ap (λ vs. taken_behind_values vs (length m.constants)) (sym is)
+
+  -- ---- the levels, in the forms of fewest levels
+
+  -- where all values of the last one are not wanted, it gives one
+  pub next_all_low : (es : Expressions) (before behind : ℕ) (vs : Values) (all : Bool) → AllHaveCores es → AllRewritten f g active listed z lefts es → AreCores g active es before behind vs → (all ≡ false → ends_open es ≡ false) → f.short ≡ true → formed_expressions es ≡ true →
+      (m : Maker) → IsAhead g active before (mentions_in_all es) m → Final (length m.labels) (all_next (codes_of es) m) z → (word_values (place f.of listed f.short) (length m.constants) (lefts before) vs all).levels ≤ room_of_expressions es
+  next_all_low no_expressions before behind vs all has written are closed short formed m ahead final = omega (arith, ap (λ vs. (word_values (place f.of listed f.short) (length m.constants) (lefts before) vs all).levels) are.1)
+  next_all_low (syntax.expression e no_expressions) before behind vs all has written (between, (v, rest, core, are, is)) closed short formed m ahead final = by all closed
+    where
+      n : ℕ
+      n = length m.constants
+
+      low : HasRoom f listed z lefts before n e v
+      low = next_low (written.0 before between v core) short (first_of_both _ _ formed) m (first_ahead e no_expressions has m ahead) (first_next e no_expressions m final)
+
+      by : (all : Bool) → (all ≡ false → is_multiple e ≡ false) → (word_values (place f.of listed f.short) n (lefts before) vs all).levels ≤ room_of_expressions (syntax.expression e no_expressions)
+      by true closed =
+          let words = ap (λ vs. (word_values (place f.of listed f.short) n (lefts before) vs true).levels) (is ∙ ap (and_value v) are.1) in
+          omega (arith, words, levels_in (is_bare (place f.of listed f.short) n v) e (wording f listed z lefts before n v) low)
+      by false closed =
+          let words = ap (λ vs. (word_values (place f.of listed f.short) n (lefts before) vs false).levels) (is ∙ ap (and_value v) are.1) in
+          omega (arith, words, closed_in (is_bare (place f.of listed f.short) n v) e (wording f listed z lefts before n v) (can_be_several v) low ((written.0 before between v core).several n) (closed refl))
+  next_all_low (syntax.expression e (syntax.expression d es)) before behind vs all has written (between, (v, rest, core, are, is)) closed short formed m ahead final =
+      let at = place f.of listed f.short in
+      let others = syntax.expression d es in
+      let first = written.0 before between v core in
+      let more = are.1 in
+      let mid = next_reg (code e) m in
+      let here = first_next e others m final in
+      let here_ahead = first_ahead e others has m ahead in
+      let n = length m.constants in
+      let words = ap (λ vs. (word_values at n (lefts before) vs all).levels) (is ∙ ap (and_value v) more.4) in
+      let low = levels_in (is_bare at n v) e (wording f listed z lefts before n v) (next_low first short (first_of_both _ _ formed) m here_ahead here) in
+      let rest_low = next_all_low (syntax.expression d es) between behind rest all has.1 written.1 are closed short (second_of_both (formed_expression e) _ formed) mid (others_ahead e others has m ahead first.makes) (others_final e others m final) in
+      let taken = ap (λ n. (word_values at n (left_by v (lefts before)) (and_value more.0 more.1) all).levels) (next_taken first m here_ahead here) in
+      let left = ap (λ fs. (word_values at (length mid.constants) fs (and_value more.0 more.1) all).levels) first.leaves in
+      let same = ap (λ vs. (word_values at (length mid.constants) (lefts between) vs all).levels) more.4 in
+      omega (arith, words, low, rest_low, taken, left, same)
+
+  -- all values of the last one are wanted
+  pub multi_all_low : (op : Op) (want : Want) (es : Expressions) (before behind : ℕ) (vs : Values) → AllHaveCores es → AllRewritten f g active listed z lefts es → AreCores g active es before behind vs → ends_open es ≡ true → f.short ≡ true → formed_expressions es ≡ true →
+      (m : Maker) → IsAhead g active before (mentions_in_all es) m → Final (length m.labels) (all_multi op want (codes_of es) m) z → (word_values (place f.of listed f.short) (length m.constants) (lefts before) vs true).levels ≤ room_of_expressions es
+  multi_all_low op want no_expressions before behind vs has written are ends short formed m ahead final = not_so ends
+  multi_all_low op want (syntax.expression e no_expressions) before behind vs has written (between, (v, rest, core, are, is)) ends short formed m ahead final =
+      let n = length m.constants in
+      let words = ap (λ vs. (word_values (place f.of listed f.short) n (lefts before) vs true).levels) (is ∙ ap (and_value v) are.1) in
+      let low = (written.0 before between v core).low short (first_of_both _ _ formed) m (ahead_front (mentions_in e) [] ahead) (inr (inr (ends, op, want, final))) in
+      omega (arith, words, levels_in (is_bare (place f.of listed f.short) n v) e (wording f listed z lefts before n v) low)
+  multi_all_low op want (syntax.expression e (syntax.expression d es)) before behind vs has written (between, (v, rest, core, are, is)) ends short formed m ahead final =
+      let at = place f.of listed f.short in
+      let others = syntax.expression d es in
+      let first = written.0 before between v core in
+      let more = are.1 in
+      let mid = next_reg (code e) m in
+      let here = first_multi e others m op want final in
+      let here_ahead = first_ahead e others has m ahead in
+      let n = length m.constants in
+      let words = ap (λ vs. (word_values at n (lefts before) vs true).levels) (is ∙ ap (and_value v) more.4) in
+      let low = levels_in (is_bare at n v) e (wording f listed z lefts before n v) (next_low first short (first_of_both _ _ formed) m here_ahead here) in
+      let rest_low = multi_all_low op want (syntax.expression d es) between behind rest has.1 written.1 are ends short (second_of_both (formed_expression e) _ formed) mid (others_ahead e others has m ahead first.makes) (others_final e others m final) in
+      let taken = ap (λ n. (word_values at n (left_by v (lefts before)) (and_value more.0 more.1) true).levels) (next_taken first m here_ahead here) in
+      let left = ap (λ fs. (word_values at (length mid.constants) fs (and_value more.0 more.1) true).levels) first.leaves in
+      let same = ap (λ vs. (word_values at (length mid.constants) (lefts between) vs true).levels) more.4 in
+      omega (arith, words, low, rest_low, taken, left, same)

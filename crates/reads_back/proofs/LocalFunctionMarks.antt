@@ -1,6 +1,6 @@
 -- What is written of a local function mentions the same: one that does not capture itself does not mention its name, and is given to its local.
 use Rattle.std.proofs.lemmas.Option.{same_Some}
-use Rattle.std.proofs.Common.{◌≡◌, ℕ, zero, suc, if◌then◌else◌, Bool, true, false, List, [], ◌∷◌, ◌++◌, Some, None, is_some, refl, sym, ap, ◌∙◌, subst, true≢false}
+use Rattle.std.proofs.Common.{◌≡◌, ◌≤◌, ℕ, zero, suc, if◌then◌else◌, Bool, true, false, List, [], ◌∷◌, ◌++◌, Some, None, is_some, refl, sym, ap, ◌∙◌, subst, true≢false}
 use Rattle.std.specs.Prelude.{◌||◌, slice_get}
 use Rattle.std.specs.Str.{bytes_eq}
 use Rattle.lua_num.specs.Bytes.{Text}
@@ -9,6 +9,7 @@ use Rattle.lua_tree.specs.OneLine.{one_line_body, one_line_statement}
 use Rattle.lua_tree.specs.Names.{is_name}
 use Rattle.lua_tree.specs.Outline.{Part, body_part, both, come, declares, statement_part}
 use Rattle.lua_tree.specs.Syntax.{FunctionBody, local_function}
+use Rattle.lua_tree.specs.WellFormed.{depth_of_body}
 use Rattle.proto.specs.Chunk.{own}
 use Rattle.core_expr.specs.Places.{as_name}
 use Rattle.core_expr.specs.Values.{Inner}
@@ -50,10 +51,10 @@ slot_among text (name ∷ names) zero is = first_or (bytes_eq text name) (is_amo
     by false is = cc
 slot_among text (name ∷ names) (suc slot) is = second_or (bytes_eq text name) (is_among text names) (slot_among text names slot is)
 
-module _ {f : Function} {g : Fn} {active : List Active} (is_function : IsFunction f g) (of : ℕ → Part) (text : Text) (body : FunctionBody) (listed : OwnListed f g active (local_function text body)) (parts : OwnPartsMade g active of (local_function text body)) (plain : IsPlainBody body) where
+module _ {f : Function} {g : Fn} {active : List Active} (is_function : IsFunction f g) (of : ℕ → Part) (text : Text) (body : FunctionBody) (listed : OwnListed f g active (local_function text body)) (parts : OwnPartsMade g active of (local_function text body)) (plain : IsPlainBody body) (low : depth_of_body body ≤ 199) where
   module _ (c : Coming) (next : IsOwnNext g active text body c) where
     inside_part : SamePart (of c.functions) (body_part false body)
-    inside_part = parts next.local c.ahead next.is_local body (inside_local text c) plain next.next
+    inside_part = parts next.local c.ahead next.is_local body (inside_local text c) plain low next.next
 
     captured_free : free_in_body text false body ≡ true → is_among text (own next.next.chunk).upvalue_names ≡ true
     captured_free free =

@@ -10,6 +10,7 @@ use Rattle.lua_num.specs.Bytes.{Text}
 use Rattle.lua_tree.specs.OneLine.{one_line_statement}
 use Rattle.lua_tree.specs.Scoping.{Use, global_use, local_use, upvalue_use}
 use Rattle.lua_tree.specs.Syntax.{FunctionBody, function_expression, local_function}
+use Rattle.lua_tree.specs.WellFormed.{depth_of_body}
 use Rattle.opcode.specs.declared.op.Op.{Op}
 use Rattle.proto.specs.Chunk.{Chunk, function_at, own}
 use Rattle.proto.specs.declared.parts.LocVar.{LocVar}
@@ -212,15 +213,15 @@ module _ {f : Function} {g : Fn} {active : List Active} {listed : List ℕ} {z :
           cc
       by (Some n) is = (n, is)
 
-  module _ (text : Text) (body : FunctionBody) (plain : IsPlainBody body) (own_listed : OwnListed f g active (local_function text body)) (before : ℕ) where
+  module _ (text : Text) (body : FunctionBody) (plain : IsPlainBody body) (low : depth_of_body body ≤ 199) (own_listed : OwnListed f g active (local_function text body)) (before : ℕ) where
     abbrev IsFound : (c : Coming) → IsOwnNext g active text body c → Type 0
-    IsFound c mine = (found : Inner) × (function_left (lefts before) before ≡ Some found) × IsAgain g (active ++ mine.local ∷ []) body false (inside_local text c) found
+    IsFound c mine = (found : Inner) × (function_left (lefts before) before ≡ Some found) × IsAgain f.short g (active ++ mine.local ∷ []) body false (inside_local text c) found
 
     found_at : (c : Coming) (mine : IsOwnNext g active text body c) → c.functions ≡ before → IsFound c mine
     found_at c mine as_many =
         let there = own_listed mine.local c.ahead mine.is_local in
-        subst (λ before. (found : Inner) × (function_left (lefts before) before ≡ Some found) × IsAgain g (active ++ mine.local ∷ []) body false (inside_local text c) found) as_many
-        (again.next (active ++ mine.local ∷ []) there.0 there.1 body false (inside_local text c) plain mine.next)
+        subst (λ before. (found : Inner) × (function_left (lefts before) before ≡ Some found) × IsAgain f.short g (active ++ mine.local ∷ []) body false (inside_local text c) found) as_many
+        (again.next (active ++ mine.local ∷ []) there.0 there.1 body false (inside_local text c) plain low mine.next)
 
     others_left : (c : Coming) → IsOwnNext g active text body c → c.functions ≡ before → slice_set (lefts before) before None ≡ lefts (suc before)
     others_left c mine as_many = subst (λ before. slice_set (lefts before) before None ≡ lefts (suc before)) as_many (again.others (active ++ mine.local ∷ []) body false (inside_local text c) plain mine.next)
@@ -307,6 +308,11 @@ module _ {f : Function} {g : Fn} {active : List Active} {listed : List ℕ} {z :
             let one = few_more found.0.levels in
             let two = few_more (one_more found.0.levels) in
             omega (arith, ap (λ left. levels_by left 1) found.1, one, two, found.2.few);
+        low = λ short formed m ahead final.
+            let found = found_at c mine as_many in
+            let one = few_more found.0.levels in
+            let two = few_more (one_more found.0.levels) in
+            omega (arith, ap (λ left. levels_by left 1) found.1, one, two, found.2.low short);
         made = λ m ahead final. itself_made m ahead;
         taken = λ m ahead final. none_taken m;
       }
@@ -322,6 +328,11 @@ module _ {f : Function} {g : Fn} {active : List Active} {listed : List ℕ} {z :
             let one = few_more found.0.levels in
             let two = few_more (max (one_more found.0.levels) 0) in
             omega (arith, ap (λ left. one_more (max (function_word left).levels 0)) found.1, one, two, found.2.few);
+        low = λ short formed m ahead final.
+            let found = found_at c mine as_many in
+            let one = few_more found.0.levels in
+            let two = few_more (max (one_more found.0.levels) 0) in
+            omega (arith, ap (λ left. one_more (max (function_word left).levels 0)) found.1, one, two, found.2.low short);
         made = λ m ahead final.
             let next : IsOwnNext g active text body (coming m) = ahead.meant.0 in
             beside_made m ahead (ap (λ (chunk : Chunk). is_among text (own chunk).upvalue_names) (same_chunk (coming m) c next mine ahead.made_are as_many) ∙ other);
@@ -329,14 +340,14 @@ module _ {f : Function} {g : Fn} {active : List Active} {listed : List ℕ} {z :
       }
 
   -- every local function
-  pub local_function_rewritten : (text : Text) (body : FunctionBody) → OwnListed f g active (local_function text body) → IsAct (local_function text body) → (before behind : ℕ) (acted : Acted) → IsActed g active (local_function text body) before behind acted →
+  pub local_function_rewritten : (text : Text) (body : FunctionBody) → OwnListed f g active (local_function text body) → IsAct (local_function text body) → depth_of_body body ≤ 199 → (before behind : ℕ) (acted : Acted) → IsActed g active (local_function text body) before behind acted →
       RewrittenAct f g active listed z lefts before behind (local_function text body) acted
-  local_function_rewritten text body own_listed is before behind (declared_function name number) (counts, c, as_many, mine, acts) =
+  local_function_rewritten text body own_listed is low before behind (declared_function name number) (counts, c, as_many, mine, acts) =
       subst (λ behind. RewrittenAct f g active listed z lefts before behind (local_function text body) (declared_function name number)) (sym counts)
-      (subst₂ (λ name number. RewrittenAct f g active listed z lefts before (suc before) (local_function text body) (declared_function name number)) (sym acts.1) (sym acts.2) (itself_rewritten text body is.1 own_listed before c mine as_many))
-  local_function_rewritten text body own_listed is before behind (declared texts vs all) (counts, c, as_many, mine, acts) =
+      (subst₂ (λ name number. RewrittenAct f g active listed z lefts before (suc before) (local_function text body) (declared_function name number)) (sym acts.1) (sym acts.2) (itself_rewritten text body is.1 low own_listed before c mine as_many))
+  local_function_rewritten text body own_listed is low before behind (declared texts vs all) (counts, c, as_many, mine, acts) =
       subst (λ behind. RewrittenAct f g active listed z lefts before behind (local_function text body) (declared texts vs all)) (sym counts)
       (subst₂ (λ texts vs. RewrittenAct f g active listed z lefts before (suc before) (local_function text body) (declared texts vs all)) (sym acts.1) (sym acts.2)
       (subst (λ all. RewrittenAct f g active listed z lefts before (suc before) (local_function text body) (declared (text ∷ []) (and_value (function_value before false) no_values) all)) (sym acts.3)
-      (beside_rewritten text body is.1 own_listed before c mine as_many acts.0)))
-  local_function_rewritten text body own_listed is before behind acted acts = absurd acts
+      (beside_rewritten text body is.1 low own_listed before c mine as_many acts.0)))
+  local_function_rewritten text body own_listed is low before behind acted acts = absurd acts

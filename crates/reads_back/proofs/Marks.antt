@@ -1,5 +1,6 @@
 -- What is written of the value of an expression mentions the same names in the same order as the expression, where each function that is left is the part of the source that has its number.
 use Rattle.std.proofs.Common.{◌≡◌, ℕ, Bool, true, false, ◌&&◌, List, [], ◌∷◌, ◌++◌, append-nil, append_assoc, Option, Some, None, is_some, refl, sym, ap, ap₂, ◌∙◌}
+use Rattle.std.proofs.lemmas.Option.{same_Some}
 use Rattle.std.specs.Prelude.{ℤ, pos, negsuc, ◌==◌, ◌-◌, ◌^◌, suc, not, if◌then◌else◌}
 use Rattle.lua_num.specs.Bytes.{Text}
 use Rattle.lua_tree.specs.Outline.{Mark, Part, Place as Where, Walk, both, dots, expression_part, expressions_part, arguments_part, body_part, fields_part, marked, mentions, nothing}
@@ -8,9 +9,9 @@ use Rattle.lua_tree.specs.declared.tree.Separator.{Separator}
 use Rattle.lua_tree.specs.declared.tree.UnaryOp.{UnaryOp}
 use Rattle.proto.specs.declared.parts.Constant.{Constant}
 use Rattle.core_expr.specs.Counting.{left_by, left_by_operand, taken_behind, taken_behind_operand, with_constant}
-use Rattle.core_expr.specs.Places.{Place, constant_at, constant_name, field_name, local_name, upvalue_name}
+use Rattle.core_expr.specs.Places.{Place, as_text, constant_at, constant_name, field_name, local_name, upvalue_name}
 use Rattle.core_expr.specs.Values.{Inner, ItemList, OperandList, OperandValue, Value, Values, and_keyed, and_operand, and_positional, and_value, binary_value, bool_value, call_value, concat_value, constant_operand, constant_value, function_value, global_value, index_value, local_value, method_value, nil_value, no_items, no_operands, no_values, table_value, unary_value, upvalue_value, value_operand, vararg_value}
-use Rattle.core_expr.specs.Writing.{ArgumentWording, FieldWording, Wording, Wordings, and_keyed_item, as_arguments, as_prefix, can_write_items, word_items, can_write, can_write_operand, can_write_operands, can_write_values, chained, constant_word, ends_values, function_left, function_word, is_bare, literal, name_word, number_word, numeral, truth, unless, with_binary, with_key, with_unary, word, word_each, word_keys, word_operand, word_values}
+use Rattle.core_expr.specs.Writing.{ArgumentWording, FieldWording, Wording, and_keyed_item, as_arguments, as_prefix, as_text_argument, can_write_items, word_items, can_write, can_write_operand, can_write_operands, can_write_values, chained, constant_word, ends_values, function_left, function_word, is_bare, literal, name_word, number_word, numeral, truth, unless, with_binary, with_key, with_unary, word, word_each, word_keys, word_only, word_operand, word_short, word_values}
 use Rattle.reads_back.proofs.FunctionsLeft.{EachLeft, each_by, each_by_operand, left_there}
 use Rattle.reads_back.proofs.Tests.{first_of_both, not_so, second_of_both}
 
@@ -136,11 +137,6 @@ chained_part at of w [] v (and_value next rest) first others = absurd others
 chained_part at of w (next ∷ ws) v no_values first others = absurd others
 chained_part at of w (next ∷ ws) v (and_value u rest) first others = both_same (part_then (unless_part _ w) first) (chained_part at of next ws u rest others.0 others.1)
 
--- a list of arguments, not in a short form
-list_part : (short all : Bool) (only : Option ArgumentWording) (ws : Wordings) → short ≡ false → SamePart (arguments_part (as_arguments (short && all) only ws).words) (expressions_part ws.words)
-list_part true all only ws natural place = cc
-list_part false all only ws natural place = refl
-
 keyed_item_part : (at : Place) (of : ℕ → Part) (n : ℕ) (fs : List (Option Inner)) (key : OperandValue) (name : Option Text) → field_name at key ≡ name → (item : Wording) (separator : Separator) (rest : FieldWording) (items : Part) (value : Part) →
     SamePart (expression_part (word_operand at n fs key).words) (part_of_operand at of key) → SamePart (expression_part item.words) value → SamePart (fields_part rest.words) items →
     SamePart (fields_part (and_keyed_item name (word_operand at n fs key) item separator rest).words) (both (both (part_of_operand at of key) value) items)
@@ -154,7 +150,33 @@ function_part : (of : ℕ → Part) (number : ℕ) (fs : List (Option Inner)) (f
 function_part of number fs None parts_left there some = not_so some
 function_part of number fs (Some found) parts_left there some = left_there (IsPartLeft of) number fs found parts_left there
 
-module _ (at : Place) (of : ℕ → Part) (natural : at.short ≡ false) where
+-- ---- a string or a constructor that is the only argument, without parentheses
+
+text_argument_part : (k : Option Constant) (args : ArgumentWording) → as_text_argument (as_text k) ≡ Some args → SamePart (arguments_part args.words) nothing
+text_argument_part (Some (Constant.Text text)) args is = λ place. ap (λ (args : ArgumentWording). arguments_part args.words place) (sym (same_Some _ args is))
+text_argument_part None args is = cc
+text_argument_part (Some Constant.Nil) args is = cc
+text_argument_part (Some (Constant.Bool b)) args is = cc
+text_argument_part (Some (Constant.Number n)) args is = cc
+
+module _ (at : Place) (n : ℕ) (fs : List (Option Inner)) where
+  only_part : (v : Value) (args : ArgumentWording) → word_only at n fs v ≡ Some args → SamePart (arguments_part args.words) (expressions_part (word_values at n fs (and_value v no_values) false).words)
+  only_part (constant_value k) args is = part_then (text_argument_part (constant_at at k) args is) (part_back (part_then (nothing_behind (expression_part (constant_word (constant_at at k)).words)) (constant_part (constant_at at k))))
+  only_part (table_value items all depth) args is = part_then (λ place. ap (λ (args : ArgumentWording). arguments_part args.words place) (sym (same_Some _ args is))) (part_back (nothing_behind (fields_part (word_items at n fs items all).words)))
+  only_part v args is = cc
+
+  short_part : (vs : Values) (only : Option ArgumentWording) → word_short at n fs vs ≡ only → SamePart (arguments_part (as_arguments true only (word_values at n fs vs false)).words) (expressions_part (word_values at n fs vs false).words)
+  short_part (and_value v no_values) (Some args) is = only_part v args is
+  short_part vs (Some args) is = cc
+  short_part vs None is = same_part (expressions_part (word_values at n fs vs false).words)
+
+  -- in the short form or not
+  given_part : (short : Bool) (vs : Values) (all : Bool) → SamePart (arguments_part (as_arguments (short && not all) (word_short at n fs vs) (word_values at n fs vs all)).words) (expressions_part (word_values at n fs vs all).words)
+  given_part true vs true = same_part (expressions_part (word_values at n fs vs true).words)
+  given_part true vs false = short_part vs (word_short at n fs vs) refl
+  given_part false vs all = same_part (expressions_part (word_values at n fs vs all).words)
+
+module _ (at : Place) (of : ℕ → Part) where
   mutual
     pub word_part : (v : Value) (n : ℕ) (fs : List (Option Inner)) → ArePartsLeft of fs → can_write at fs v ≡ true → SamePart (expression_part (word at n fs v).words) (part_of at of v)
     word_part nil_value n fs parts_left can = same_part nothing
@@ -179,11 +201,11 @@ module _ (at : Place) (of : ℕ → Part) (natural : at.short ≡ false) where
     word_part (call_value on args all depth) n fs parts_left can =
         let behind = each_by (IsPartLeft of) on fs parts_left in
         both_same (part_then (unless_part _ (word at n fs on)) (word_part on n fs parts_left (first_of_both _ _ can)))
-        (part_then (list_part at.short (not all) _ _ natural) (values_part args all (taken_behind on n) (left_by on fs) behind (second_of_both _ _ can)))
+        (part_then (given_part at (taken_behind on n) (left_by on fs) at.short args all) (values_part args all (taken_behind on n) (left_by on fs) behind (second_of_both _ _ can)))
     word_part (method_value on name args all depth) n fs parts_left can =
         let behind = each_by (IsPartLeft of) on fs parts_left in
         both_same (part_then (unless_part _ (word at n fs on)) (word_part on n fs parts_left (first_of_both _ _ can)))
-        (part_then (list_part at.short (not all) _ _ natural) (values_part args all (with_constant (taken_behind on n) name) (left_by on fs) behind (second_of_both (is_some (constant_name at name)) _ (second_of_both _ _ can))))
+        (part_then (given_part at (with_constant (taken_behind on n) name) (left_by on fs) at.short args all) (values_part args all (with_constant (taken_behind on n) name) (left_by on fs) behind (second_of_both (is_some (constant_name at name)) _ (second_of_both _ _ can))))
     word_part (table_value items all depth) n fs parts_left can = items_part items all n fs parts_left can
     word_part (function_value number itself) n fs parts_left can = function_part of number fs (function_left fs number) parts_left refl (second_of_both (not itself) _ can)
 

@@ -1,7 +1,6 @@
 -- The value of an expression has the names that the expression mentions, in the same order, where each function that is made is the part of the source that has its number.
-use Rattle.std.proofs.Common.{◌≡◌, ◌++◌, ◌∷◌, [], ℕ, suc, Bool, true, false, ◌&&◌, List, length, max, Option, Some, None, refl, sym, ap, ◌∙◌, inl, inr}
+use Rattle.std.proofs.Common.{◌≡◌, ◌≤◌, arith, ◌++◌, ◌∷◌, [], ℕ, suc, Bool, true, false, ◌&&◌, List, length, max, Option, Some, None, refl, sym, ap, ◌∙◌, inl, inr}
 use Rattle.std.specs.Prelude.{ℤ, nat_lt, if◌then◌else◌}
-use Rattle.lua_num.specs.declared.arith.ArithOp.{ArithOp}
 use Rattle.lua_num.specs.Bytes.{Text}
 use Rattle.lua_tree.specs.OneLine.{one_line_arguments, one_line_body, one_line_expression, one_line_expressions, one_line_fields}
 use Rattle.lua_tree.specs.Outline.{Part, arguments_part, body_part, both, expression_part, expressions_part, fields_part, mentions, nothing}
@@ -9,13 +8,13 @@ use Rattle.lua_tree.specs.Syntax as syntax
 use Rattle.lua_tree.specs.Syntax.{Arguments, Expression, Expressions, FunctionBody, function_expression, argument_list, binary_expression, call_expression, constructor, Fields, no_fields, positional, named, keyed, table_argument, false_literal, field_expression, index_expression, method_call, name_expression, nil_literal, no_expressions, number_literal, parenthesized, text_argument, text_literal, true_literal, unary_expression, vararg_expression, Statement, local_function}
 use Rattle.lua_tree.specs.Names.{is_name}
 use Rattle.lua_tree.specs.declared.tree.BinaryOp.{BinaryOp}
-use Rattle.lua_tree.specs.declared.tree.UnaryOp.{UnaryOp}
+use Rattle.lua_tree.specs.WellFormed.{depth_of_arguments, depth_of_body, depth_of_expression, depth_of_expressions, depth_of_fields}
 use Rattle.proto.specs.declared.parts.Constant.{Constant}
 use Rattle.core_expr.specs.Making.{and_last, deepest, deepest_item, depth_of, depth_of_operand, made_binary, made_call, made_index, made_method, made_over, made_table}
 use Rattle.core_expr.specs.Places.{Place, as_name, as_text, constant_name, place}
 use Rattle.core_expr.specs.Values.{binary_value, call_value, concat_value, method_value, unary_value, table_value, ItemList, no_items, OperandList, OperandValue, Value, Values, and_operand, and_value, global_value, index_value, local_value, no_operands, no_values, upvalue_value, value_operand}
 use Rattle.recover_expr.specs.Situation.{Function}
-use Rattle.scheme.specs.Expressions.{number_or, plain_literal, arith_op, fold, fold_binary, fold_unary, is_multiple, literal}
+use Rattle.scheme.specs.Expressions.{number_or, plain_literal, arith_op, fold, is_multiple, literal}
 use Rattle.scheme.specs.Making.{Where, in_globals, in_register, in_upvalue, Ahead}
 use Rattle.scheme.specs.declared.making.Active.{Active}
 use Rattle.scheme_stands.specs.Lists.{is_last_item}
@@ -25,6 +24,7 @@ use Rattle.reads_back.specs.Cores.{HasNumber, IsKey, IsSmall, IsVariable, AllHav
 use Rattle.reads_back.proofs.LiteralReads.{constant_there}
 use Rattle.reads_back.proofs.Marks.{SamePart, both_assoc, both_same, name_mentioned, nothing_behind, part_back, part_of, part_of_operand, part_then, parts_of, parts_of_items, parts_of_operands, same_part}
 use Rattle.reads_back.proofs.NameReads.{AreListed, IsListed}
+use Rattle.reads_back.proofs.Rooms.{folded_both, folded_one}
 use Rattle.reads_back.proofs.Tests.{given_is, not_so}
 use Rattle.reads_back.proofs.WordsRead.{IsFunction}
 
@@ -48,18 +48,6 @@ module _ (at : Place) (of : ℕ → Part) where
 
 -- ---- folded numbers mention nothing
 
-pub folded_both : (op : Option ArithOp) (a b : Option ℤ) (n : ℤ) → fold_binary op a b ≡ Some n → ((k : ℤ) × (a ≡ Some k)) × ((k : ℤ) × (b ≡ Some k))
-folded_both (Some op) (Some a) (Some b) n is = ((a, refl), (b, refl))
-folded_both (Some op) (Some a) None n is = cc
-folded_both (Some op) None b n is = cc
-folded_both None a b n is = cc
-
-pub folded_one : (op : UnaryOp) (a : Option ℤ) (n : ℤ) → fold_unary op a ≡ Some n → (k : ℤ) × (a ≡ Some k)
-folded_one UnaryOp.Neg (Some a) n is = (a, refl)
-folded_one UnaryOp.Neg None n is = cc
-folded_one UnaryOp.Not a n is = cc
-folded_one UnaryOp.Len a n is = cc
-
 folded_part : (e : Expression) (n : ℤ) → fold e ≡ Some n → SamePart (expression_part (one_line_expression e)) nothing
 folded_part (number_literal line k) n is = same_part nothing
 folded_part (parenthesized line e) n is = folded_part e n is
@@ -70,7 +58,7 @@ folded_part e n is = cc
 
 -- a function that is made is the part of the source that has its number
 abbrev pub ArePartsMade : (g : Fn) (active : List Active) (of : ℕ → Part) → Type 0
-ArePartsMade g active of = (body : FunctionBody) (c : Coming) → IsPlainBody body → IsMadeNext g active body false c → SamePart (of c.functions) (body_part false body)
+ArePartsMade g active of = (body : FunctionBody) (c : Coming) → IsPlainBody body → depth_of_body body ≤ 199 → IsMadeNext g active body false c → SamePart (of c.functions) (body_part false body)
 
 -- each function that is made in it is the part of the source that has its number
 abbrev pub OwnPartsMade : Fn → List Active → (of : ℕ → Part) → Statement → Type 0
@@ -198,70 +186,70 @@ module _ {f : Function} {g : Fn} {active : List Active} {listed : List ℕ} (is_
 
   -- ---- functions
 
-  closure_part : (body : FunctionBody) → IsPlainBody body → (before behind : ℕ) (v : Value) → IsClosure g active body false before behind v → SamePart (part_of at of v) (body_part false (one_line_body body))
-  closure_part body plain before behind v is =
-      let same = part_then (parts_made body is.2 plain is.4) (λ place. ap (λ body. body_part false body place) (sym plain.on_line)) in
+  closure_part : (body : FunctionBody) → IsPlainBody body → depth_of_body body ≤ 199 → (before behind : ℕ) (v : Value) → IsClosure g active body false before behind v → SamePart (part_of at of v) (body_part false (one_line_body body))
+  closure_part body plain few before behind v is =
+      let same = part_then (parts_made body is.2 plain few is.4) (λ place. ap (λ body. body_part false body place) (sym plain.on_line)) in
       part_then (is_part at of v _ is.1) (part_then (λ place. ap (λ number. of number place) (sym is.3)) same)
 
   mutual
-    pub marks_of : (e : Expression) → HasCore e → HasMarks e
-    marks_of (nil_literal line) has = alone_marks (nil_literal line) (λ before behind v is. is_part at of v _ is.1) (λ before behind vs is. is)
-    marks_of (true_literal line) has = alone_marks (true_literal line) (λ before behind v is. is_part at of v _ is.1) (λ before behind vs is. is)
-    marks_of (false_literal line) has = alone_marks (false_literal line) (λ before behind v is. is_part at of v _ is.1) (λ before behind vs is. is)
-    marks_of (vararg_expression line) has = alone_marks (vararg_expression line) (λ before behind v is. is_part at of v _ is.1) (λ before behind vs is. is)
-    marks_of (number_literal line n) has = alone_marks (number_literal line n) (λ before behind v is. constant_value_part (Constant.Number n) v is.1) (λ before behind vs is. is)
-    marks_of (text_literal line text) has = alone_marks (text_literal line text) (λ before behind v is. constant_value_part (Constant.Text text) v is.1) (λ before behind vs is. is)
-    marks_of (name_expression line text) has = alone_marks (name_expression line text) (λ before behind v is. let means = is.1 in named_part text v means.0 has (all.listed_as text means.0 means.1) means.2) (λ before behind vs is. is)
-    marks_of (function_expression line body) has = alone_marks (function_expression line body) (closure_part body has) (λ before behind vs is. is)
-    marks_of (index_expression line on key) has =
-        let first = marks_of on has.0 in
-        let second = marks_of key has.1 in
+    pub marks_of : (e : Expression) → HasCore e → depth_of_expression e ≤ 200 → HasMarks e
+    marks_of (nil_literal line) has few = alone_marks (nil_literal line) (λ before behind v is. is_part at of v _ is.1) (λ before behind vs is. is)
+    marks_of (true_literal line) has few = alone_marks (true_literal line) (λ before behind v is. is_part at of v _ is.1) (λ before behind vs is. is)
+    marks_of (false_literal line) has few = alone_marks (false_literal line) (λ before behind v is. is_part at of v _ is.1) (λ before behind vs is. is)
+    marks_of (vararg_expression line) has few = alone_marks (vararg_expression line) (λ before behind v is. is_part at of v _ is.1) (λ before behind vs is. is)
+    marks_of (number_literal line n) has few = alone_marks (number_literal line n) (λ before behind v is. constant_value_part (Constant.Number n) v is.1) (λ before behind vs is. is)
+    marks_of (text_literal line text) has few = alone_marks (text_literal line text) (λ before behind v is. constant_value_part (Constant.Text text) v is.1) (λ before behind vs is. is)
+    marks_of (name_expression line text) has few = alone_marks (name_expression line text) (λ before behind v is. let means = is.1 in named_part text v means.0 has (all.listed_as text means.0 means.1) means.2) (λ before behind vs is. is)
+    marks_of (function_expression line body) has few = alone_marks (function_expression line body) (closure_part body has (omega (arith, few))) (λ before behind vs is. is)
+    marks_of (index_expression line on key) has few =
+        let first = marks_of on has.0 (omega (arith, few)) in
+        let second = marks_of key has.1 (omega (arith, few)) in
         alone_marks (index_expression line on key) (λ before behind v is. let parts = is.1 in part_then (index_part at of parts.0 parts.1 v parts.4) (both_same (first.one before is.0 parts.0 parts.2) (of_operand key is.0 behind parts.1 (literal key) refl second.one parts.3))) (λ before behind vs is. is)
-    marks_of (field_expression line on text) has =
-        let first = marks_of on has in
+    marks_of (field_expression line on text) has few =
+        let first = marks_of on has (omega (arith, few)) in
         alone_marks (field_expression line on text) (λ before behind v is. let parts = is.1 in part_then (index_part at of parts.0 parts.1 v parts.4) (part_then (both_same (first.one before is.0 parts.0 parts.2) (key_part text is.0 behind parts.1 parts.3)) (nothing_behind (expression_part (one_line_expression on))))) (λ before behind vs is. is)
-    marks_of (call_expression line on args on_line) has =
-        let first = marks_of on has.0 in
-        alone_marks (call_expression line on args on_line) (λ before behind v is. let parts = is.1 in called_part on args parts.0 v parts.1 parts.2 parts.5 (first.one before is.0 parts.0 parts.3) (given_part args has.1 is.0 behind parts.1 parts.2 parts.4)) (λ before behind vs is. is)
-    marks_of (method_call line on name args on_line) has =
-        let first = marks_of on has.1 in
-        alone_marks (method_call line on name args on_line) (λ before behind v is. let parts = is.1 in method_part on args parts.0 v parts.1 parts.2 parts.3 parts.7 (first.one before is.0 parts.0 parts.4) (given_part args has.2 is.0 behind parts.2 parts.3 parts.6)) (λ before behind vs is. is)
-    marks_of (binary_expression line op left right) has =
-        let first = marks_of left has.1 in
-        let second = marks_of right has.2 in
+    marks_of (call_expression line on args on_line) has few =
+        let first = marks_of on has.0 (omega (arith, few)) in
+        alone_marks (call_expression line on args on_line) (λ before behind v is. let parts = is.1 in called_part on args parts.0 v parts.1 parts.2 parts.5 (first.one before is.0 parts.0 parts.3) (given_part args has.1 (omega (arith, few)) is.0 behind parts.1 parts.2 parts.4)) (λ before behind vs is. is)
+    marks_of (method_call line on name args on_line) has few =
+        let first = marks_of on has.1 (omega (arith, few)) in
+        alone_marks (method_call line on name args on_line) (λ before behind v is. let parts = is.1 in method_part on args parts.0 v parts.1 parts.2 parts.3 parts.7 (first.one before is.0 parts.0 parts.4) (given_part args has.2 (omega (arith, few)) is.0 behind parts.2 parts.3 parts.6)) (λ before behind vs is. is)
+    marks_of (binary_expression line op left right) has few =
+        let first = marks_of left has.1 (omega (arith, few)) in
+        let second = marks_of right has.2 (omega (arith, few)) in
         let e = binary_expression line op left right in
         let one : (before behind : ℕ) (v : Value) → IsCore g active e before behind v → SamePart (part_of at of v) (expression_part (one_line_expression e)) =
         λ before behind v is. folded_or_part (fold e) e _ before behind v refl (λ v is. operator_part op left right before behind v first second is) is in
         record { one = one; spine = spine_part op line left right first second one }
-    marks_of (unary_expression line op operand) has =
-        let first = marks_of operand has in
+    marks_of (unary_expression line op operand) has few =
+        let first = marks_of operand has (omega (arith, few)) in
         let e = unary_expression line op operand in
         alone_marks e (λ before behind v is. folded_or_part (fold e) e _ before behind v refl (λ v is. part_then (is_part at of v _ (over_made (depth_of is.0) (λ d. unary_value op is.0 d) v is.2)) (first.one before behind is.0 is.1)) is) (λ before behind vs is. is)
-    marks_of (constructor line fields) has = alone_marks (constructor line fields) (λ before behind v is. table_part is.0 is.1 v _ is.3 (items_marks fields has before behind is.0 is.1 is.2)) (λ before behind vs is. is)
-    marks_of (parenthesized line e) has = let first = marks_of e has in alone_marks (parenthesized line e) first.one (λ before behind vs is. is)
-    marks_of e has = absurd has
+    marks_of (constructor line fields) has few = alone_marks (constructor line fields) (λ before behind v is. table_part is.0 is.1 v _ is.3 (items_marks fields has (omega (arith, few)) before behind is.0 is.1 is.2)) (λ before behind vs is. is)
+    marks_of (parenthesized line e) has few = let first = marks_of e has (omega (arith, few)) in alone_marks (parenthesized line e) first.one (λ before behind vs is. is)
+    marks_of e has few = absurd has
 
-    given_part : (args : Arguments) → HaveCores args → (before behind : ℕ) (vs : Values) (open_last : Bool) → AreGiven g active args before behind vs open_last → SamePart (parts_of at of vs) (arguments_part (one_line_arguments args))
-    given_part (argument_list es) has before behind vs open_last is = list_part es has before behind vs is.0
-    given_part (text_argument text) has before behind vs open_last is =
+    given_part : (args : Arguments) → HaveCores args → depth_of_arguments args ≤ 200 → (before behind : ℕ) (vs : Values) (open_last : Bool) → AreGiven g active args before behind vs open_last → SamePart (parts_of at of vs) (arguments_part (one_line_arguments args))
+    given_part (argument_list es) has few before behind vs open_last is = list_part es has (omega (arith, few)) before behind vs is.0
+    given_part (text_argument text) has few before behind vs open_last is =
         let text_is = is.1.0 in
         part_then (first_part vs text_is.0 no_values nothing nothing text_is.2 (constant_value_part (Constant.Text text) text_is.0 text_is.1) (same_part nothing)) (nothing_behind nothing)
-    given_part (table_argument fields) has before behind vs open_last is =
+    given_part (table_argument fields) has few before behind vs open_last is =
         let table = is.0.1 in
-        part_then (first_part vs is.0.0 no_values _ nothing is.0.2 (table_part table.0 table.1 is.0.0 _ table.3 (items_marks fields has before behind table.0 table.1 table.2)) (same_part nothing)) (nothing_behind (fields_part (one_line_fields fields)))
+        part_then (first_part vs is.0.0 no_values _ nothing is.0.2 (table_part table.0 table.1 is.0.0 _ table.3 (items_marks fields has (omega (arith, few)) before behind table.0 table.1 table.2)) (same_part nothing)) (nothing_behind (fields_part (one_line_fields fields)))
 
-    items_marks : (fields : Fields) → HaveItems fields → (before behind : ℕ) (items : ItemList) (open_last : Bool) → AreItems g active fields before behind items open_last → SamePart (parts_of_items at of items) (fields_part (one_line_fields fields))
-    items_marks no_fields has before behind items open_last is = are_items items no_items nothing is.1 (same_part nothing)
-    items_marks (positional e separator rest) has before behind items open_last is =
-        item_part (is_last_item rest && is_multiple e) (IsCore g active e) (AreItems g active rest) before behind _ _ (marks_of e has.0).one (nothing_last rest (is_multiple e)) (items_marks rest has.1) items open_last is
-    items_marks (named text e separator rest) has before behind items open_last is =
-        part_then (keyed_part (IsKey g text) _ (AreItems g active rest) before behind nothing (expression_part (one_line_expression e)) _ (key_part text) (λ before behind o. of_operand e before behind o (literal e) refl (marks_of e has.0).one) (items_marks rest has.1) items open_last is) (same_part _)
-    items_marks (keyed key e separator rest) has before behind items open_last is =
-        keyed_part _ _ (AreItems g active rest) before behind _ _ _ (λ before behind o. of_operand key before behind o (literal key) refl (marks_of key has.0).one) (λ before behind o. of_operand e before behind o (literal e) refl (marks_of e has.1).one) (items_marks rest has.2) items open_last is
+    items_marks : (fields : Fields) → HaveItems fields → depth_of_fields fields ≤ 200 → (before behind : ℕ) (items : ItemList) (open_last : Bool) → AreItems g active fields before behind items open_last → SamePart (parts_of_items at of items) (fields_part (one_line_fields fields))
+    items_marks no_fields has few before behind items open_last is = are_items items no_items nothing is.1 (same_part nothing)
+    items_marks (positional e separator rest) has few before behind items open_last is =
+        item_part (is_last_item rest && is_multiple e) (IsCore g active e) (AreItems g active rest) before behind _ _ (marks_of e has.0 (omega (arith, few))).one (nothing_last rest (is_multiple e)) (items_marks rest has.1 (omega (arith, few))) items open_last is
+    items_marks (named text e separator rest) has few before behind items open_last is =
+        part_then (keyed_part (IsKey g text) _ (AreItems g active rest) before behind nothing (expression_part (one_line_expression e)) _ (key_part text) (λ before behind o. of_operand e before behind o (literal e) refl (marks_of e has.0 (omega (arith, few))).one) (items_marks rest has.1 (omega (arith, few))) items open_last is) (same_part _)
+    items_marks (keyed key e separator rest) has few before behind items open_last is =
+        keyed_part _ _ (AreItems g active rest) before behind _ _ _ (λ before behind o. of_operand key before behind o (literal key) refl (marks_of key has.0 (omega (arith, few))).one) (λ before behind o. of_operand e before behind o (literal e) refl (marks_of e has.1 (omega (arith, few))).one) (items_marks rest has.2 (omega (arith, few))) items open_last is
 
-    pub list_part : (es : Expressions) → AllHaveCores es → (before behind : ℕ) (vs : Values) → AreCores g active es before behind vs → SamePart (parts_of at of vs) (expressions_part (one_line_expressions es))
-    list_part no_expressions has before behind vs is = λ place. ap (λ vs. parts_of at of vs place) is.1
-    list_part (syntax.expression e es) has before behind vs is =
-        let first = marks_of e has.0 in
+    pub list_part : (es : Expressions) → AllHaveCores es → depth_of_expressions es ≤ 200 → (before behind : ℕ) (vs : Values) → AreCores g active es before behind vs → SamePart (parts_of at of vs) (expressions_part (one_line_expressions es))
+    list_part no_expressions has few before behind vs is = λ place. ap (λ vs. parts_of at of vs place) is.1
+    list_part (syntax.expression e es) has few before behind vs is =
+        let first = marks_of e has.0 (omega (arith, few)) in
         let parts = is.1 in
-        first_part vs parts.0 parts.1 _ _ parts.4 (first.one before is.0 parts.0 parts.2) (list_part es has.1 is.0 behind parts.1 parts.3)
+        first_part vs parts.0 parts.1 _ _ parts.4 (first.one before is.0 parts.0 parts.2) (list_part es has.1 (omega (arith, few)) is.0 behind parts.1 parts.3)

@@ -20,7 +20,7 @@ use Rattle.scheme_stands.specs.Relation.{ItemsAt, all_related, given_rel, relate
 use Rattle.scheme_stands.specs.Words as words
 use Rattle.scheme_stands.specs.Words.{Fn, Same, Spot, Stretch, WordAt, meaning}
 use Rattle.reads_back.specs.Cores.{AllHaveCores, HasCore, HaveCores, HaveItems}
-use Rattle.reads_back.proofs.MarksSame.{folded_both, folded_one}
+use Rattle.reads_back.proofs.Rooms.{folded_both, folded_one}
 use Rattle.reads_back.specs.Coming.{coming_at, IsMadeNext}
 use Rattle.reads_back.proofs.Mentions.{AreMeant, Mention, behind_both, both_meant, coming_behind, mentions_given, mentions_in, mentions_in_all, mentions_of_fields, name_mention, function_mention}
 use Rattle.lua_tree.specs.Scoping.{Use}

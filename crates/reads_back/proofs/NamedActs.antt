@@ -6,7 +6,7 @@ use Rattle.lua_num.specs.Bytes.{Text}
 use Rattle.lua_tree.specs.Names.{are_names, are_some_names, is_name}
 use Rattle.lua_tree.specs.Outline.{Part, body_part, both, mentions, nothing, path_part, statement_part}
 use Rattle.lua_tree.specs.Syntax.{FunctionBody, function_body, function_statement}
-use Rattle.lua_tree.specs.WellFormed.{depth_of_body, depth_of_statement, ends_block, formed_body, formed_expression, formed_statement, is_optional_name, statement_begins_with_paren}
+use Rattle.lua_tree.specs.WellFormed.{depth_of_body, depth_of_statement, ends_block, formed_body, formed_expression, formed_statement, is_optional_name}
 use Rattle.core_expr.specs.Places.{Place, constant_name, field_name, field_number, is_variable, local_name, name_of_number, upvalue_name, variable_name}
 use Rattle.core_expr.specs.Targets.{TargetValue, are_fields, can_write_target, field_names, field_path, global_target, index_target, local_target, long_path, path_of, upvalue_target}
 use Rattle.core_expr.specs.Values.{Inner, OperandList, OperandValue, Value, Values, and_operand, constant_operand, constant_value, global_value, index_value, local_value, no_operands, upvalue_value, value_operand}
@@ -63,10 +63,6 @@ depth_without_self (function_body params vararg block first last) = refl
 
 pub function_as_depth : (path : List Text) (body : FunctionBody) → depth_of_statement (function_as path body) ≡ 1 + depth_of_body body
 function_as_depth path body = function_as_holds (λ s. depth_of_statement s ≡ 1 + depth_of_body body) path body refl (λ long takes. ap (λ depth. 1 + depth) (depth_without_self body))
-
--- it begins with no parenthesis
-pub function_as_closed : (path : List Text) (body : FunctionBody) → statement_begins_with_paren (function_as path body) ≡ false
-function_as_closed path body = function_as_holds (λ s. statement_begins_with_paren s ≡ false) path body refl (λ long takes. refl)
 
 pub function_as_ends : (path : List Text) (body : FunctionBody) → ends_block (function_as path body) ≡ false
 function_as_ends path body = function_as_holds (λ s. ends_block s ≡ false) path body refl (λ long takes. refl)

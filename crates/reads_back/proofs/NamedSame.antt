@@ -1,5 +1,5 @@
 -- A function that goes alone to a target with a path makes the same words as a function statement of that path and as an assignment, and its levels are few.
-use Rattle.std.proofs.Common.{◌≡◌, ℕ, suc, ◌+◌, ◌*◌, ◌≤◌, Bool, true, false, max, nat_lt, List, [], ◌∷◌, ◌++◌, length, Option, Some, None, is_some, refl, sym, ap, ap₂, ◌∙◌, subst, arith, inl, inr, ◌⊎◌, not}
+use Rattle.std.proofs.Common.{◌≡◌, ℕ, suc, ◌≤◌, Bool, true, false, max, nat_lt, List, [], ◌∷◌, ◌++◌, length, Option, Some, None, is_some, refl, sym, ap, ap₂, ◌∙◌, subst, arith, inl, inr, ◌⊎◌, not}
 use Rattle.std.proofs.lemmas.Option.{same_Some}
 use Rattle.std.specs.Prelude.{◌&&◌, if◌then◌else◌, option_and_then}
 use Rattle.lua_num.specs.Bytes.{Text}
@@ -29,6 +29,8 @@ use Rattle.reads_back.specs.Cores.{IsCore, IsKey, HasNumber, IsVariable}
 use Rattle.reads_back.proofs.ConstantsSame.{constant_is}
 use Rattle.reads_back.proofs.Paths.{assign_same, coded_fields, fields_behind, function_alone, function_as_holds, function_there_yet, last_there, long_is, named_or_holds, params_part, path_leaves}
 use Rattle.reads_back.proofs.Rewriting.{IsMadeBy}
+use Rattle.scheme.specs.Shapes.{room_of_body, room_of_expression, room_of_expressions, room_of_statement}
+use Rattle.reads_back.proofs.Rooms.{lean_room_assignment}
 use Rattle.reads_back.proofs.Tests.{both_hold, first_of_both, given_is, not_below, second_of_both}
 
 -- ---- the words of a path
@@ -204,22 +206,22 @@ module _ (at : Place) (n : ℕ) (fs : List (Option Inner)) (vs : Values) (all : 
       let values_can = ap (λ fs. can_write_values at fs vs && can_write_last at (left_by_values vs fs) last) (sym (path_leaves at t path fs is)) ∙ second_of_both _ _ can in
       not_there (function_left fs number) (function_there_yet at fs number vs last only values_can) none
 
-  found_few : (ts : List TargetValue) (path : List Text) (number : ℕ) (found : Option Inner) (lean : ℕ) → path_to at ts ≡ Some path → function_in vs last ≡ Some number → function_left fs number ≡ found → can_act at fs (assigned ts vs all last) ≡ true →
-      value_levels ts ≤ 3 * lean + 3 → levels_by found (levels_of ts) ≤ 3 * lean + 4
-  found_few (t ∷ []) path number None lean is only there can few = absurd (is_there t path number is only can there)
-  found_few (t ∷ []) path number (Some found) lean is only there can few = omega (arith, few, ap (λ (w : Wordings). w.levels) (words_alone t path number found is only there))
-  found_few ts path number found lean is only there can few = cc
+  found_few : (ts : List TargetValue) (path : List Text) (number : ℕ) (found : Option Inner) (most : ℕ) → path_to at ts ≡ Some path → function_in vs last ≡ Some number → function_left fs number ≡ found → can_act at fs (assigned ts vs all last) ≡ true →
+      value_levels ts ≤ most → levels_by found (levels_of ts) ≤ suc most
+  found_few (t ∷ []) path number None most is only there can few = absurd (is_there t path number is only can there)
+  found_few (t ∷ []) path number (Some found) most is only there can few = omega (arith, few, ap (λ (w : Wordings). w.levels) (words_alone t path number found is only there))
+  found_few ts path number found most is only there can few = cc
 
-  few_by : (ts : List TargetValue) (number : Option ℕ) (path : Option (List Text)) (lean : ℕ) → function_in vs last ≡ number → path_to at ts ≡ path → can_act at fs (assigned ts vs all last) ≡ true →
-      (option_and_then (λ number. with_number number path) number ≡ None → levels_of ts ≤ 3 * lean + 4) → value_levels ts ≤ 3 * lean + 3 → levels_or fs (option_and_then (λ number. with_number number path) number) (levels_of ts) ≤ 3 * lean + 4
-  few_by ts None path lean only is can otherwise few = otherwise refl
-  few_by ts (Some number) None lean only is can otherwise few = otherwise refl
-  few_by ts (Some number) (Some path) lean only is can otherwise few = found_few ts path number (function_left fs number) lean is only refl can few
+  few_by : (ts : List TargetValue) (number : Option ℕ) (path : Option (List Text)) (most : ℕ) → function_in vs last ≡ number → path_to at ts ≡ path → can_act at fs (assigned ts vs all last) ≡ true →
+      (option_and_then (λ number. with_number number path) number ≡ None → levels_of ts ≤ suc most) → ((only : ℕ) → function_in vs last ≡ Some only → value_levels ts ≤ most) → levels_or fs (option_and_then (λ number. with_number number path) number) (levels_of ts) ≤ suc most
+  few_by ts None path most only is can otherwise few = otherwise refl
+  few_by ts (Some number) None most only is can otherwise few = otherwise refl
+  few_by ts (Some number) (Some path) most only is can otherwise few = found_few ts path number (function_left fs number) most is only refl can (few number only)
 
   -- a target that has a path needs no levels where a function goes to it
-  pub named_few : (ts : List TargetValue) (lean : ℕ) → can_act at fs (assigned ts vs all last) ≡ true → (named_by at ts vs last ≡ None → levels_of ts ≤ 3 * lean + 4) → value_levels ts ≤ 3 * lean + 3 →
-      act_levels at n fs (assigned ts vs all last) ≤ 3 * lean + 4
-  named_few ts lean can otherwise few = few_by ts (function_in vs last) (path_to at ts) lean refl refl can otherwise few
+  pub named_few : (ts : List TargetValue) (most : ℕ) → can_act at fs (assigned ts vs all last) ≡ true → (named_by at ts vs last ≡ None → levels_of ts ≤ suc most) → ((only : ℕ) → function_in vs last ≡ Some only → value_levels ts ≤ most) →
+      act_levels at n fs (assigned ts vs all last) ≤ suc most
+  named_few ts most can otherwise few = few_by ts (function_in vs last) (path_to at ts) most refl refl can otherwise few
 
 -- ---- a path has a path
 
@@ -327,6 +329,18 @@ module _ {f : Function} {g : Fn} {active : List Active} {listed : List ℕ} {z :
       lean_by (is_path target) target line body refl (λ is. said_alone target line body before behind ts to is stored none)
   lean_alone targets es before behind ts to stored none = omega arith
 
+  -- and has as much room
+  lean_room_by : (path : Bool) (target : Expression) (line : ℕ) (body : FunctionBody) → is_path target ≡ path → (is_path target ≡ true → ⊥) →
+      room_of_statement (syntax.assignment (syntax.expression target no_expressions) (syntax.expression (function_expression line body) no_expressions)) ≤ (if path then suc (room_of_body body) else max (room_of_expression target) (suc (room_of_body body)))
+  lean_room_by true target line body is other = absurd (other is)
+  lean_room_by false target line body is other = omega arith
+
+  pub lean_room_alone : (targets es : Expressions) (before behind : ℕ) (ts : List TargetValue) (to : Assigned) → AreAssigned g active targets es ts before behind to → named_by named_at ts to.values to.last ≡ None →
+      room_of_statement (syntax.assignment targets es) ≤ lean_room_assignment targets es
+  lean_room_alone (syntax.expression target no_expressions) (syntax.expression (function_expression line body) no_expressions) before behind ts to stored none =
+      lean_room_by (is_path target) target line body refl (λ is. said_alone target line body before behind ts to is stored none)
+  lean_room_alone targets es before behind ts to stored none = omega arith
+
 lean_values_by : (path : Bool) (target : Expression) (line : ℕ) (body : FunctionBody) → depth_of_expressions (syntax.expression (function_expression line body) no_expressions) ≤ (if path then suc (depth_of_body body) else max (depth_of_expression target) (suc (depth_of_body body)))
 lean_values_by true target line body = omega arith
 lean_values_by false target line body = omega arith
@@ -335,3 +349,11 @@ lean_values_by false target line body = omega arith
 pub lean_values : (targets es : Expressions) → depth_of_expressions es ≤ lean_assignment targets es
 lean_values (syntax.expression target no_expressions) (syntax.expression (function_expression line body) no_expressions) = lean_values_by (is_path target) target line body
 lean_values targets es = omega arith
+
+lean_room_values_by : (path : Bool) (target : Expression) (line : ℕ) (body : FunctionBody) → room_of_expressions (syntax.expression (function_expression line body) no_expressions) ≤ (if path then suc (room_of_body body) else max (room_of_expression target) (suc (room_of_body body)))
+lean_room_values_by true target line body = omega arith
+lean_room_values_by false target line body = omega arith
+
+pub lean_room_values : (targets es : Expressions) → room_of_expressions es ≤ lean_room_assignment targets es
+lean_room_values (syntax.expression target no_expressions) (syntax.expression (function_expression line body) no_expressions) = lean_room_values_by (is_path target) target line body
+lean_room_values targets es = omega arith

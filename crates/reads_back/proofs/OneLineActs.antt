@@ -1,9 +1,12 @@
--- An act or a function statement is one on one line too, as deep as before; and on one line it stays as it is.
-use Rattle.std.proofs.Common.{◌≡◌, true, refl, ap}
+-- An act or a function statement is one on one line too, as deep as before and with as much room; and on one line it stays as it is.
+use Rattle.std.proofs.Common.{◌≡◌, ℕ, ◌+◌, max, true, Option, is_some, if◌then◌else◌, refl, ap, ap₂}
+use Rattle.std.specs.Prelude.{ℤ}
 use Rattle.lua_tree.specs.OneLine.{one_line_arguments, one_line_expression, one_line_expressions, one_line_fields, one_line_statement, one_line_body}
 use Rattle.lua_tree.specs.Syntax as syntax
 use Rattle.lua_tree.specs.Syntax.{Arguments, Expression, Expressions, Statement, argument_list, assignment, binary_expression, call_expression, call_statement, constructor, Fields, no_fields, positional, named, keyed, table_argument, false_literal, field_expression, index_expression, local_statement, method_call, name_expression, nil_literal, no_expressions, number_literal, parenthesized, return_statement, text_argument, text_literal, true_literal, unary_expression, vararg_expression, FunctionBody, function_expression, function_statement, local_function}
 use Rattle.lua_tree.specs.WellFormed.{depth_of_arguments, depth_of_expression, depth_of_expressions, depth_of_fields, depth_of_statement, has_expressions, is_call, depth_of_body, formed_body}
+use Rattle.scheme.specs.Shapes.{room_of_arguments, room_of_body, room_of_expression, room_of_expressions, room_of_fields, room_of_statement}
+use Rattle.reads_back.proofs.WordsSame.{same_fold}
 use Rattle.reads_back.specs.Straight.{IsActBy, IsActTargetBy, AreActTargetsBy, IsStraightStatementBy, HasCoreBy, AllHaveCoresBy, HaveCoresBy, HaveItemsBy}
 
 -- an act is a statement that a straight block may have
@@ -28,6 +31,7 @@ pub record StayOnLine (P : FunctionBody → Type 0) : Type 0 where
   pub stays : (body : FunctionBody) → P body → P (one_line_body body)
   pub again : (body : FunctionBody) → P body → one_line_body (one_line_body body) ≡ one_line_body body
   pub as_deep : (body : FunctionBody) → P body → depth_of_body (one_line_body body) ≡ depth_of_body body
+  pub as_roomy : (body : FunctionBody) → P body → room_of_body (one_line_body body) ≡ room_of_body body
   pub formed : (body : FunctionBody) → P body → formed_body body ≡ true → formed_body (one_line_body body) ≡ true
 
 module _ {P : FunctionBody → Type 0} (kept : StayOnLine P) where
@@ -198,3 +202,54 @@ module _ {P : FunctionBody → Type 0} (kept : StayOnLine P) where
   pub straight_statement_as_deep : (s : Statement) → IsStraightStatementBy P s → depth_of_statement (one_line_statement s) ≡ depth_of_statement s
   straight_statement_as_deep (function_statement path method body) is = cc (kept.as_deep body is.1)
   straight_statement_as_deep s is = act_as_deep s is
+
+  -- ---- it has as much room
+
+  mutual
+    as_roomy : (e : Expression) → HasCoreBy P e → room_of_expression (one_line_expression e) ≡ room_of_expression e
+    as_roomy (nil_literal line) has = refl
+    as_roomy (true_literal line) has = refl
+    as_roomy (false_literal line) has = refl
+    as_roomy (vararg_expression line) has = refl
+    as_roomy (number_literal line n) has = refl
+    as_roomy (text_literal line text) has = refl
+    as_roomy (name_expression line text) has = refl
+    as_roomy (function_expression line body) has = ap (λ (room : ℕ). 1 + room) (kept.as_roomy body has)
+    as_roomy (index_expression line on key) has = ap₂ (λ (one other : ℕ). 1 + max one other) (as_roomy on has.0) (as_roomy key has.1)
+    as_roomy (field_expression line on text) has = ap (λ (room : ℕ). 1 + room) (as_roomy on has)
+    as_roomy (call_expression line on args on_line) has = ap₂ (λ (one other : ℕ). 1 + max one other) (as_roomy on has.0) (arguments_as_roomy args has.1)
+    as_roomy (method_call line on name args on_line) has = ap₂ (λ (one other : ℕ). 1 + max one other) (as_roomy on has.1) (arguments_as_roomy args has.2)
+    as_roomy (binary_expression line op left right) has =
+        let same = ap₂ (λ (one other : ℕ). 1 + max one other) (as_roomy left has.1) (as_roomy right has.2) in
+        ap₂ (λ (folded : Option ℤ) (depth : ℕ). if is_some folded then 4 else depth) (same_fold (binary_expression line op left right)) same
+    as_roomy (unary_expression line op e) has = ap₂ (λ (folded : Option ℤ) (depth : ℕ). if is_some folded then 4 else 1 + depth) (same_fold (unary_expression line op e)) (as_roomy e has)
+    as_roomy (constructor line fields) has = ap (λ (room : ℕ). 1 + room) (items_as_roomy fields has)
+    as_roomy (parenthesized line e) has = ap₂ (λ (folded : Option ℤ) (depth : ℕ). if is_some folded then 4 else 1 + depth) (same_fold e) (as_roomy e has)
+    as_roomy e has = absurd has
+
+    arguments_as_roomy : (args : Arguments) → HaveCoresBy P args → room_of_arguments (one_line_arguments args) ≡ room_of_arguments args
+    arguments_as_roomy (argument_list es) have = all_as_roomy es have
+    arguments_as_roomy (text_argument text) have = refl
+    arguments_as_roomy (table_argument fields) have = items_as_roomy fields have
+
+    items_as_roomy : (fields : Fields) → HaveItemsBy P fields → room_of_fields (one_line_fields fields) ≡ room_of_fields fields
+    items_as_roomy no_fields have = refl
+    items_as_roomy (positional e separator rest) have = ap₂ (λ (one others : ℕ). max one others) (as_roomy e have.0) (items_as_roomy rest have.1)
+    items_as_roomy (named text e separator rest) have = ap₂ (λ (one others : ℕ). max one others) (as_roomy e have.0) (items_as_roomy rest have.1)
+    items_as_roomy (keyed key e separator rest) have = ap₂ (λ (one others : ℕ). max one others) (ap₂ (λ (one other : ℕ). max one other) (as_roomy key have.0) (as_roomy e have.1)) (items_as_roomy rest have.2)
+
+    all_as_roomy : (es : Expressions) → AllHaveCoresBy P es → room_of_expressions (one_line_expressions es) ≡ room_of_expressions es
+    all_as_roomy no_expressions have = refl
+    all_as_roomy (syntax.expression e es) have = ap₂ (λ (one others : ℕ). max one others) (as_roomy e have.0) (all_as_roomy es have.1)
+
+  pub act_as_roomy : (s : Statement) → IsActBy P s → room_of_statement (one_line_statement s) ≡ room_of_statement s
+  act_as_roomy (call_statement e) is = as_roomy e is.1
+  act_as_roomy (assignment targets es) is = ap₂ (λ (one other : ℕ). max one other) (all_as_roomy targets (targets_have_cores P targets is.targets)) (all_as_roomy es is.values)
+  act_as_roomy (local_statement names es) is = all_as_roomy es is.1
+  act_as_roomy (local_function text body) is = ap (λ (room : ℕ). 1 + room) (kept.as_roomy body is.1)
+  act_as_roomy (return_statement es) is = all_as_roomy es is
+  act_as_roomy s is = absurd is
+
+  pub straight_statement_as_roomy : (s : Statement) → IsStraightStatementBy P s → room_of_statement (one_line_statement s) ≡ room_of_statement s
+  straight_statement_as_roomy (function_statement path method body) is = ap (λ (room : ℕ). 1 + room) (kept.as_roomy body is.1)
+  straight_statement_as_roomy s is = act_as_roomy s is

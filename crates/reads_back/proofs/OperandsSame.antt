@@ -1,12 +1,13 @@
 -- What is written of an operand has the same code: a constant with a small number, or a value, in parentheses where it would else be such a constant; and the name of a field as a key.
-use Rattle.std.proofs.Common.{◌≡◌, ℕ, ◌<◌, ◌≤◌, nat_le, nat_lt, not, Bool, true, false, ℤ, List, length, Option, Some, None, is_some, refl, sym, ap, ◌∙◌, subst, arith, true≢false, inl, inr}
+use Rattle.std.specs.List.{list_any}
+use Rattle.std.proofs.Common.{◌+◌, [], zero, if◌then◌else◌, ◌≡◌, ℕ, ◌<◌, ◌≤◌, nat_le, nat_lt, not, Bool, true, false, ℤ, List, length, Option, Some, None, is_some, refl, sym, ap, ◌∙◌, subst, arith, true≢false, inl, inr, ◌⊎◌, ◌∷◌, take, lt-ltb, suc}
 use Rattle.std.proofs.lemmas.Bool.Decides.{nat_tests}
 use Rattle.std.proofs.lemmas.Option.{same_Some}
 use Rattle.std.specs.Prelude.{◌||◌, slice_get}
 use Rattle.lua_num.specs.Bytes.{Text}
 use Rattle.lua_tree.specs.OneLine.{one_line_expression}
 use Rattle.lua_tree.specs.Syntax.{Expression, nil_literal, true_literal, false_literal, text_literal}
-use Rattle.proto.specs.Constants.{constant_number}
+use Rattle.proto.specs.Constants.{constant_number, same_constant}
 use Rattle.proto.specs.declared.parts.Constant.{Constant}
 use Rattle.core_expr.specs.Places.{as_text, place, text_at}
 use Rattle.core_expr.specs.Values.{Value, bool_value, constant_value, OperandValue, constant_operand, value_operand, Inner}
@@ -21,15 +22,17 @@ use Rattle.scheme_stands.proofs.Parts.{grows, grows_operand, grows_rk}
 use Rattle.scheme_stands.specs.Expressions.{IsLarge}
 use Rattle.scheme_stands.specs.Words.{Fn}
 use Rattle.reads_back.specs.Cores.{HasCore, HasNumber, IsConstant, IsCore, IsKey, IsOperand, IsOperandBy}
-use Rattle.reads_back.proofs.ConstantsSame.{before_load, constant_is, constant_taken, constant_word_is, literal_few, fold_numeral, large_there, loads, number_is, number_stands, numeral_folds, passes_among, small_there}
+use Rattle.reads_back.proofs.ConstantsSame.{before_load, constant_is, constant_taken, constant_word_is, literal_few, fold_numeral, large_there, loads, number_is, number_stands, numeral_folds, passes_among, small_there, numeral_few}
 use Rattle.reads_back.proofs.Deeper.{some_depth}
 use Rattle.reads_back.proofs.LeavesSame.{text_rewritten}
 use Rattle.reads_back.proofs.PlainWords.{IsLoadable, IsShown, is_constant, is_nil, is_no_literal, is_truth, shown}
 use Rattle.reads_back.proofs.Mentions.{IsAhead, mentions_in, made_behind}
+use Rattle.reads_back.proofs.InRoom.{IsInRoom, IsOperandInRoom, bare_in, operand_in}
+use Rattle.reads_back.proofs.Rooms.{folded_room}
 use Rattle.reads_back.proofs.Rewriting.{IsMadeBy, Rewritten, RewrittenOperand, code, operand_wording, wording}
-use Rattle.reads_back.proofs.Tests.{first_of_both, not_below, second_of_both}
+use Rattle.reads_back.proofs.Tests.{first_of_both, not_below, second_of_both, both_hold, not_so, or_first}
 use Rattle.reads_back.proofs.WholeNumbers.{IsWhole, folded_whole}
-use Rattle.reads_back.proofs.WordsSame.{fold_wrapped, levels_wrapped, operand_final, operand_same, operand_taken, operand_wrapped, rk_large, rk_plain, rk_small, same_literal}
+use Rattle.reads_back.proofs.WordsSame.{fold_wrapped, levels_wrapped, operand_final, operand_low, operand_same, operand_taken, operand_wrapped, rk_large, rk_plain, rk_small, same_literal}
 use Rattle.reads_back.proofs.MentionsMeant.{literal_nameless}
 
 -- ---- literals
@@ -138,6 +141,76 @@ module _ {f : Function} {g : Fn} {active : List Active} {listed : List ℕ} {z :
   plain_written lefts (text_literal line text) before behind k v is core n = loaded_text lefts before text v core.1 n ∙ is
   plain_written lefts e before behind k v is core n = cc
 
+  -- ---- a literal that is no small constant stands without parentheses
+
+  -- one of the first constants is such
+  among_first : (k : Constant) (constants : List Constant) (limit : ℕ) → list_any (is_literal k) (take limit constants) ≡ true → (i : ℕ) × (i < limit) × (slice_get constants i ≡ Some k)
+  among_first k [] limit passes = none_there limit passes
+    where
+      none_there : {A : Type 0} (limit : ℕ) → list_any (is_literal k) (take limit []) ≡ true → A
+      none_there zero passes = not_so passes
+      none_there (suc limit) passes = not_so passes
+  among_first k (c ∷ constants) zero passes = not_so passes
+  among_first k (c ∷ constants) (suc limit) passes = by (is_literal k c) refl passes (among_first k constants limit)
+    where
+      same_literal_is : (k c : Constant) → is_literal k c ≡ true → c ≡ k
+      same_literal_is Constant.Nil Constant.Nil is = refl
+      same_literal_is (Constant.Bool true) (Constant.Bool true) is = refl
+      same_literal_is (Constant.Bool false) (Constant.Bool false) is = refl
+      same_literal_is k c is = cc
+
+      by : (same : Bool) → is_literal k c ≡ same → (same || list_any (is_literal k) (take limit constants)) ≡ true → (list_any (is_literal k) (take limit constants) ≡ true → (i : ℕ) × (i < limit) × (slice_get constants i ≡ Some k)) → (i : ℕ) × (i < suc limit) × (slice_get (c ∷ constants) i ≡ Some k)
+      by true same passes others = (0, omega arith, ap (λ c. Some c) (same_literal_is k c same))
+      by false same passes others = let there = others passes in (suc there.0, omega (arith, there.1), there.2)
+
+  none_first : (k : Constant) → IsLarge g k → list_any (is_literal k) (take 256 f.of.constants) ≡ false
+  none_first k large = by (list_any (is_literal k) (take 256 f.of.constants)) refl
+    where
+      by : (any : Bool) → list_any (is_literal k) (take 256 f.of.constants) ≡ any → any ≡ false
+      by true is =
+          let there = among_first k f.of.constants 256 is in
+          let far = large there.0 (ap (λ constants. slice_get constants there.0) (sym made.is_function.constants) ∙ there.2) in
+          absurd (omega (arith, far, there.1))
+      by false is = refl
+
+  literal_bare : (e : Expression) (k : Constant) (v : Value) → plain_literal e ≡ Some k → IsLarge g k → (before behind : ℕ) → IsCore g active e before behind v → (n : ℕ) → 255 < n → bare_at f listed n v ≡ true
+  literal_bare (nil_literal line) k v is large before behind core n many = ap (bare_at f listed n) core.1 ∙ both_hold _ _ (lt-ltb 255 n many) (ap not (none_first Constant.Nil (subst (IsLarge g) (same_Some k Constant.Nil (sym is)) large)))
+  literal_bare (true_literal line) k v is large before behind core n many = ap (bare_at f listed n) core.1 ∙ both_hold _ _ (lt-ltb 255 n many) (ap not (none_first (Constant.Bool true) (subst (IsLarge g) (same_Some k (Constant.Bool true) (sym is)) large)))
+  literal_bare (false_literal line) k v is large before behind core n many = ap (bare_at f listed n) core.1 ∙ both_hold _ _ (lt-ltb 255 n many) (ap not (none_first (Constant.Bool false) (subst (IsLarge g) (same_Some k (Constant.Bool false) (sym is)) large)))
+  literal_bare (text_literal line text) k v is large before behind core n many =
+      let known = core.1 in
+      let far : 255 < known.0 = large known.0 (known.1.is ∙ is) in
+      ap (bare_at f listed n) known.2 ∙ or_first _ _ (lt-ltb 255 known.0 far)
+  literal_bare e k v is large before behind core n many = cc
+
+-- what has no small number comes behind many constants
+number_within : (k : Constant) (constants : List Constant) → constant_number k constants ≤ length constants
+number_within k [] = omega arith
+number_within k (c ∷ constants) = by (same_constant k c) (number_within k constants)
+  where
+    by : (same : Bool) → constant_number k constants ≤ length constants → (if not same then 1 + constant_number k constants else 0) ≤ suc (length constants)
+    by true within = omega arith
+    by false within = omega (arith, within)
+
+not_small_many : (k : Constant) (m : Maker) → is_small k m ≡ false → 255 < length m.constants
+not_small_many k m is = let within = number_within k m.constants in let far : 255 < constant_number k m.constants = grind (arith, nat_tests) in omega (arith, within, far)
+
+-- ---- the levels of a literal
+
+plain_in : (e : Expression) (k : Constant) → plain_literal e ≡ Some k → IsInRoom true e (literal_word k)
+plain_in (nil_literal line) k is = subst (λ k. IsInRoom true (nil_literal line) (literal_word k)) (same_Some Constant.Nil k is) (inr (record { low = omega arith; binds = record { prefix = refl; level = refl; unary = refl; several = refl }; bare_there = λ none. refl; unfolded = refl }))
+plain_in (true_literal line) k is = subst (λ k. IsInRoom true (true_literal line) (literal_word k)) (same_Some (Constant.Bool true) k is) (inr (record { low = omega arith; binds = record { prefix = refl; level = refl; unary = refl; several = refl }; bare_there = λ none. refl; unfolded = refl }))
+plain_in (false_literal line) k is = subst (λ k. IsInRoom true (false_literal line) (literal_word k)) (same_Some (Constant.Bool false) k is) (inr (record { low = omega arith; binds = record { prefix = refl; level = refl; unary = refl; several = refl }; bare_there = λ none. refl; unfolded = refl }))
+plain_in (text_literal line text) k is = subst (λ k. IsInRoom true (text_literal line text) (literal_word k)) (same_Some (Constant.Text text) k is) (inr (record { low = omega arith; binds = record { prefix = refl; level = refl; unary = refl; several = refl }; bare_there = λ none. refl; unfolded = refl }))
+plain_in e k is = cc
+
+literal_in : (e : Expression) (k : Constant) → literal e ≡ Some k → IsInRoom true e (literal_word k)
+literal_in e k is = by (fold e) refl is
+  where
+    by : (folded : Option ℤ) → fold e ≡ folded → number_or folded (plain_literal e) ≡ Some k → IsInRoom true e (literal_word k)
+    by (Some n) known is = subst (λ k. IsInRoom true e (literal_word k)) (same_Some (Constant.Number n) k is) (inl (omega (arith, numeral_few n, folded_room e n known)))
+    by None known is = plain_in e k is
+
 module _ {f : Function} {g : Fn} {active : List Active} {listed : List ℕ} {z : Maker} {lefts : ℕ → List (Option Inner)} {before behind : ℕ} (made : IsMadeBy f g active listed z) where
   -- ---- a constant with a small number
 
@@ -148,6 +221,7 @@ module _ {f : Function} {g : Fn} {active : List Active} {listed : List ℕ} {z :
     makes = same ∙ ap (λ mentions. made_behind mentions before) (sym (literal_nameless e k is));
     folded = λ n. fold_by (constant_word (slice_get f.of.constants number)).words ∙ ap number_in (word_literal ∙ sym is) ∙ sym (fold_by e);
     few = λ n. omega (arith, ap (λ (w : Wording). w.levels) word_is, literal_few k, some_depth e);
+    low = λ short formed m ahead final. subst (IsOperandInRoom e) (sym word_is) (bare_in e (literal_word k) (literal_in e k is));
     as_rk = λ m ahead final. rk_small (constant_word (slice_get f.of.constants number)).words k m word_literal (small_now m final) ∙ sym (is_small_constant m final);
     taken = λ m ahead final. ap (λ (got : Got ℕ). length got.after.constants) (is_small_constant m final) ∙ constant_taken made k number m has (subst (λ (got : Got ℕ). Final (length m.labels) got.after z) (is_small_constant m final) final);
   }
@@ -168,13 +242,17 @@ module _ {f : Function} {g : Fn} {active : List Active} {listed : List ℕ} {z :
 
   value_rewritten : (e : Expression) (v : Value) → Rewritten f g active listed z lefts before behind e v → ((m : Maker) → Final (length m.labels) (rk (code e) m).after z → rk (code e) m ≡ operand (code e) m) →
       ((m : Maker) (k : Constant) → IsAhead g active before (mentions_in e) m → Final (length m.labels) (rk (code e) m).after z → Final (length m.labels) (operand (code e) m).after z → literal (operand_wording f listed z lefts before (length m.constants) (value_operand v)).words ≡ Some k → is_small k m ≡ false) →
+      ((m : Maker) → fold e ≡ None → Final (length m.labels) (rk (code e) m).after z → (literal e ≡ None) ⊎ (bare_at f listed (length m.constants) v ≡ true)) →
       RewrittenOperand f g active listed z lefts before behind e (value_operand v)
-  value_rewritten e v rewritten own large = record {
+  value_rewritten e v rewritten own large stays = record {
     can = rewritten.can;
     leaves = rewritten.leaves;
     makes = rewritten.makes;
     folded = λ n. fold_wrapped (bare_at f listed n v) (wording f listed z lefts before n v) ∙ rewritten.folded n;
     few = λ n. omega (arith, levels_wrapped (bare_at f listed n v) (wording f listed z lefts before n v), rewritten.few n);
+    low = λ short formed m ahead final.
+        let final' = subst (λ (got : Got ℕ). Final (length m.labels) got.after z) (own m final) final in
+        operand_in (bare_at f listed (length m.constants) v) e (wording f listed z lefts before (length m.constants) v) (operand_low rewritten short formed m ahead final') (λ alike. stays m alike.unfolded final);
     as_rk = λ m ahead final.
         let n = length m.constants in
         let final' = subst (λ (got : Got ℕ). Final (length m.labels) got.after z) (own m final) final in
@@ -208,6 +286,7 @@ module _ {f : Function} {g : Fn} {active : List Active} {listed : List ℕ} {z :
       let n = length m.constants in
       let same = wrapped_literal (bare_at f listed n v) (wording f listed z lefts before n v) k other (written_literal e k v is core rewritten n) wrapped in
       subst (λ (k : Constant). is_small k m ≡ false) (sym same) (large_now m final))
+      (λ m unfolded final. inr (literal_bare made e k v (plain_by (fold e) (plain_literal e) (Some k) unfolded is) large before behind core (length m.constants) (not_small_many k m (large_now m final))))
     where
       large_now : (m : Maker) → Final (length m.labels) (rk (code e) m).after z → is_small k m ≡ false
       large_now m final = large_there made k m large (λ small. subst (λ (got : Got ℕ). Final (length m.labels) got.after z) (rk_small (one_line_expression e) k m (same_literal e ∙ is) small) final)
@@ -267,6 +346,7 @@ module _ {f : Function} {g : Fn} {active : List Active} {listed : List ℕ} {z :
       value_rewritten e v rewritten
       (λ m final. rk_plain (one_line_expression e) m (same_literal e ∙ is))
       (λ m k ahead final final' wrapped. by m k ahead final' (is_bare (place f.of listed f.short) (length m.constants) v) refl wrapped)
+      (λ m unfolded final. inl is)
     where
       none : fold e ≡ None
       none = fold_by e ∙ ap number_in is

@@ -1,5 +1,5 @@
 -- What is written of an operator on values has the same code as the operator on the expressions.
-use Rattle.std.proofs.Common.{◌≡◌, ℕ, suc, ◌+◌, ◌*◌, ◌≤◌, Bool, true, false, List, ◌++◌, length, max, refl, sym, ap, ◌∙◌, subst, arith, nat_lt}
+use Rattle.std.proofs.Common.{◌≡◌, ℕ, suc, ◌+◌, ◌*◌, ◌≤◌, Bool, true, false, List, ◌++◌, length, max, inr, refl, sym, ap, ◌∙◌, subst, arith, nat_lt}
 use Rattle.std.specs.Prelude.{Option, Some, None}
 use Rattle.std.proofs.lemmas.Bool.{and_from}
 use Rattle.lua_num.specs.declared.arith.ArithOp.{ArithOp}
@@ -8,7 +8,7 @@ use Rattle.lua_tree.specs.declared.tree.UnaryOp.{UnaryOp}
 use Rattle.lua_tree.specs.OneLine.{one_line_expression}
 use Rattle.lua_tree.specs.Precedence.{is_right_associative, left_binds, level_of_op, right_binds}
 use Rattle.lua_tree.specs.Syntax.{Expression, binary_expression, unary_expression}
-use Rattle.lua_tree.specs.WellFormed.{depth_of_expression}
+use Rattle.lua_tree.specs.WellFormed.{depth_of_expression, formed_expression}
 use Rattle.opcode.specs.declared.op.Op.{Op}
 use Rattle.proto.specs.declared.parts.Constant.{Constant}
 use Rattle.core_expr.specs.Counting.{one_more, taken_behind, taken_behind_operand, left_by_operand}
@@ -16,11 +16,12 @@ use Rattle.core_expr.specs.Making.{depth_of, depth_of_operand, made_binary, made
 use Rattle.core_expr.specs.Places.{constant_at, place}
 use Rattle.core_expr.specs.Values as values
 use Rattle.core_expr.specs.Values.{Value, OperandValue, constant_operand, value_operand, Inner}
-use Rattle.core_expr.specs.Writing.{Wording, applied, constant_word, truth, can_write_operand, is_power, joined, on_left, on_right, unless, word, word_operand}
+use Rattle.core_expr.specs.Writing.{Wording, applied, constant_word, truth, can_write_operand, is_bare, is_power, joined, on_left, on_right, unless, word, word_operand}
 use Rattle.recover_expr.specs.Situation.{Function}
 use Rattle.scheme.specs.Making.{Maker, free_from, freeing, put}
 use Rattle.scheme.specs.Expressions.{Coded, arith_op, arithmetic, binary_value, fold, fold_binary, fold_unary, load_or, operand, rk, unary_value, unary_word}
 use Rattle.scheme.specs.Scheme.{coded}
+use Rattle.scheme.specs.Shapes.{room_of_expression}
 use Rattle.scheme.specs.declared.making.Active.{Active}
 use Rattle.scheme.specs.declared.making.Piece.{Piece}
 use Rattle.scheme_stands.proofs.Growth.{calm, Final, before as before_part, before_free, before_put, later}
@@ -30,9 +31,11 @@ use Rattle.reads_back.proofs.ConstantsSame.{literal_few}
 use Rattle.reads_back.proofs.Deeper.{some_depth}
 use Rattle.reads_back.proofs.Mentions.{IsAhead, ahead_behind, ahead_front, mentions_in, made_behind, made_both}
 use Rattle.reads_back.proofs.PassedMentions.{PassesMentions, rk_passes}
-use Rattle.reads_back.proofs.Tests.{given_is}
-use Rattle.reads_back.proofs.WordsSame.{fold_wrapped, levels_wrapped, operand_same, operand_taken, operand_wrapped, rk_on_left, rk_on_right, same_fold}
-use Rattle.reads_back.proofs.Rewriting.{Rewritten, RewrittenOperand, code, operand_wording, wording}
+use Rattle.reads_back.proofs.Tests.{first_of_both, given_is, second_of_both}
+use Rattle.reads_back.proofs.WordsSame.{fold_wrapped, levels_wrapped, made_plainly, operand_low, operand_same, operand_taken, operand_wrapped, rk_on_left, rk_on_right, same_fold}
+use Rattle.reads_back.proofs.InRoom.{left_in}
+use Rattle.reads_back.proofs.Rooms.{unfolded_room}
+use Rattle.reads_back.proofs.Rewriting.{HasRoom, Rewritten, RewrittenOperand, code, operand_wording, wording}
 
 -- ---- one level more
 
@@ -151,9 +154,34 @@ module _ {f : Function} {g : Fn} {active : List Active} {listed : List ℕ} {z :
         ∙ second.taken (rk (code l) m).after (behind_ahead m ahead) (behind_of line to m final)
         ∙ ap (taken_behind_operand y) (first.taken m (ahead_front (mentions_in l) (mentions_in r) ahead) (front_of line to m final))
 
-    binary_rewritten : (line depth : ℕ) → ((n : ℕ) → (operand_wording f listed z lefts before n x).levels ≤ 3 * depth_of_expression l + 2) → ((n : ℕ) → (operand_wording f listed z lefts mid n y).levels ≤ 3 * depth_of_expression r + 2) →
+    -- in the forms of fewest levels
+    binary_low : (line depth : ℕ) → is_power op ≡ is_right_associative op → f.short ≡ true → formed_expression (binary_expression line op l r) ≡ true → (to : ℕ) (m : Maker) → IsAhead g active before (mentions_in l ++ mentions_in r) m →
+        Final (length m.labels) ((code (binary_expression line op l r)).to_reg to m) z → HasRoom f listed z lefts before (length m.constants) (binary_expression line op l r) (values.binary_value op x y depth)
+    binary_low line depth power short formed to m ahead final =
+        let n = length m.constants in
+        let w = operand_wording f listed z lefts before n x in
+        let u = second_wording f listed (lefts before) n x y in
+        let m1 = (rk (code l) m).after in
+        let ahead_first = ahead_front (mentions_in l) (mentions_in r) ahead in
+        let front = front_of line to m final in
+        let binds = second_of_both (left_binds (level_of_op op) (is_right_associative op) l) _ formed in
+        let parts = second_of_both (right_binds (level_of_op op) (is_right_associative op) r) _ binds in
+        let one = (first.low short (first_of_both _ _ parts) m ahead_first front).left op (first_of_both _ _ formed) in
+        let same = second_is f listed z lefts before mid n (length m1.constants) x y first.leaves (sym (first.taken m ahead_first front)) in
+        let other = (second.low short (second_of_both (formed_expression l) _ parts) m1 (behind_ahead m ahead) (behind_of line to m final)).right op (ap (λ power. right_binds (level_of_op op) power r) power ∙ first_of_both _ _ binds) in
+        let other_same = ap (λ (w : Wording). (on_right op w).levels) same in
+        let all = few_more (max (on_left op w).levels (on_right op u).levels) in
+        let room = unfolded_room (binary_expression line op l r) (1 + max (room_of_expression l) (room_of_expression r)) none in
+        inr (record {
+          low = omega (arith, one, other, other_same, all, room);
+          binds = record { prefix = refl; level = refl; unary = refl; several = refl };
+          bare_there = λ literal. refl;
+          unfolded = none;
+        })
+
+    binary_rewritten : (line depth : ℕ) → is_power op ≡ is_right_associative op → ((n : ℕ) → (operand_wording f listed z lefts before n x).levels ≤ 3 * depth_of_expression l + 2) → ((n : ℕ) → (operand_wording f listed z lefts mid n y).levels ≤ 3 * depth_of_expression r + 2) →
         Rewritten f g active listed z lefts before behind (binary_expression line op l r) (values.binary_value op x y depth)
-    binary_rewritten line depth few_first few_second = record {
+    binary_rewritten line depth power few_first few_second = record {
       can = and_from _ _ first.can (ap (λ fs. can_write_operand (place f.of listed f.short) fs y) first.leaves ∙ second.can);
       leaves = ap (left_by_operand y) first.leaves ∙ second.leaves;
       makes = second.makes ∙ ap (made_behind (mentions_in r)) first.makes ∙ sym (made_both (mentions_in l) (mentions_in r) before);
@@ -162,6 +190,7 @@ module _ {f : Function} {g : Fn} {active : List Active} {listed : List ℕ} {z :
       several = λ n. refl;
       gives = λ is. cc;
       few = binary_few few_first few_second;
+      low = λ short formed m ahead is. made_plainly (binary_expression line op l r) m refl refl (λ to final. binary_low line depth power short formed to m ahead final) is;
       keys = omega arith;
       as_local = λ n r m ahead is. cc;
       to_reg = binary_to line;
@@ -180,12 +209,12 @@ module _ {f : Function} {g : Fn} {active : List Active} {listed : List ℕ} {z :
       subst (Rewritten f g active listed z lefts before behind (binary_expression line op l r)) (given_is (nat_lt (max (depth_of_operand x) (depth_of_operand y)) 400) _ v made) (by_op op is none (suc (max (depth_of_operand x) (depth_of_operand y))))
     where
       by_op : (op : BinaryOp) → arith_op op ≡ Some kind → fold (binary_expression line op l r) ≡ None → (depth : ℕ) → Rewritten f g active listed z lefts before behind (binary_expression line op l r) (values.binary_value op x y depth)
-      by_op BinaryOp.Add is none depth = binary_rewritten first second BinaryOp.Add kept Op.Add refl none line depth few_first few_second
-      by_op BinaryOp.Sub is none depth = binary_rewritten first second BinaryOp.Sub kept Op.Sub refl none line depth few_first few_second
-      by_op BinaryOp.Mul is none depth = binary_rewritten first second BinaryOp.Mul kept Op.Mul refl none line depth few_first few_second
-      by_op BinaryOp.Div is none depth = binary_rewritten first second BinaryOp.Div kept Op.Div refl none line depth few_first few_second
-      by_op BinaryOp.Rem is none depth = binary_rewritten first second BinaryOp.Rem kept Op.Mod refl none line depth few_first few_second
-      by_op BinaryOp.Pow is none depth = binary_rewritten first second BinaryOp.Pow kept Op.Pow refl none line depth few_first few_second
+      by_op BinaryOp.Add is none depth = binary_rewritten first second BinaryOp.Add kept Op.Add refl none line depth refl few_first few_second
+      by_op BinaryOp.Sub is none depth = binary_rewritten first second BinaryOp.Sub kept Op.Sub refl none line depth refl few_first few_second
+      by_op BinaryOp.Mul is none depth = binary_rewritten first second BinaryOp.Mul kept Op.Mul refl none line depth refl few_first few_second
+      by_op BinaryOp.Div is none depth = binary_rewritten first second BinaryOp.Div kept Op.Div refl none line depth refl few_first few_second
+      by_op BinaryOp.Rem is none depth = binary_rewritten first second BinaryOp.Rem kept Op.Mod refl none line depth refl few_first few_second
+      by_op BinaryOp.Pow is none depth = binary_rewritten first second BinaryOp.Pow kept Op.Pow refl none line depth refl few_first few_second
       by_op op is none depth = cc
 
 -- ---- unary operators
@@ -224,6 +253,20 @@ module _ {f : Function} {g : Fn} {active : List Active} {listed : List ℕ} {z :
     unary_taken : length ((code (unary_expression line op e)).to_reg to m).constants ≡ taken_behind of (length m.constants)
     unary_taken = ap (λ n. length n.constants) unary_code ∙ operand_taken inside m ahead operand_final
 
+    unary_low : (depth : ℕ) → f.short ≡ true → formed_expression (unary_expression line op e) ≡ true → HasRoom f listed z lefts before (length m.constants) (unary_expression line op e) (values.unary_value op of depth)
+    unary_low depth short formed =
+        let n = length m.constants in
+        let w = wording f listed z lefts before n of in
+        let one = left_in (is_bare (place f.of listed f.short) n of) e w 7 false (operand_low inside short (second_of_both (left_binds 7 false e) _ formed) m ahead operand_final) (first_of_both _ _ formed) in
+        let all = few_more (unless (left_binds 7 false w.words) w).levels in
+        let room = unfolded_room (unary_expression line op e) (1 + room_of_expression e) none in
+        inr (record {
+          low = omega (arith, one, all, room);
+          binds = record { prefix = refl; level = refl; unary = refl; several = refl };
+          bare_there = λ literal. refl;
+          unfolded = none;
+        })
+
 module _ {f : Function} {g : Fn} {active : List Active} {listed : List ℕ} {z : Maker} {lefts : ℕ → List (Option Inner)} {before behind : ℕ} where
   -- unary operators that are not folded
   pub unary_rewritten : (line : ℕ) (op : UnaryOp) (e : Expression) (of v : Value) → fold (unary_expression line op e) ≡ None → Rewritten f g active listed z lefts before behind e of →
@@ -237,6 +280,7 @@ module _ {f : Function} {g : Fn} {active : List Active} {listed : List ℕ} {z :
     several = λ n. refl;
     gives = λ is. cc;
     few = unary_few inside op;
+    low = λ short formed m ahead is. made_plainly (unary_expression line op e) m refl refl (λ to final. unary_low inside op none line to m ahead final (suc (depth_of of)) short formed) is;
     keys = omega arith;
     as_local = λ n r m ahead is. cc;
     to_reg = unary_same inside op none line;

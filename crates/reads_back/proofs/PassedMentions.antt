@@ -15,7 +15,7 @@ use Rattle.scheme.specs.Making.{Asks, Maker, Part, Where, in_globals, in_registe
 use Rattle.scheme.specs.Scheme.{all_coded, coded, entries, given, inner}
 use Rattle.scheme.specs.declared.making.Piece.{Piece}
 use Rattle.reads_back.specs.Cores.{AllHaveCores, HasCore, HaveCores, HaveItems}
-use Rattle.reads_back.proofs.MarksSame.{folded_both, folded_one}
+use Rattle.reads_back.proofs.Rooms.{folded_both, folded_one}
 use Rattle.reads_back.proofs.Mentions.{AskingPasses, Passed, Passes, mentions_given, mentions_in, mentions_in_all, mentions_of_fields, passed_none, passed_then, Mention, name_mention, function_mention}
 use Rattle.reads_back.proofs.Rewriting.{code}
 use Rattle.reads_back.proofs.Tests.{first_of_both, second_of_both}

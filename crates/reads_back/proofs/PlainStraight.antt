@@ -1,5 +1,5 @@
 -- The plain form of a straight source is straight and well formed, and each of its statements is on one line.
-use Rattle.std.proofs.Common.{◌≡◌, ℕ, zero, ◌≤◌, Bool, true, false, refl, sym, ap₂, ◌∙◌, subst, suc, ap}
+use Rattle.std.proofs.Common.{◌≡◌, ◌+◌, max, ℕ, zero, ◌≤◌, Bool, true, false, refl, sym, ap₂, ◌∙◌, subst, suc, ap}
 use Rattle.std.specs.Prelude.{◌&&◌, not}
 use Rattle.lua_tree.specs.Names.{is_name, are_names, are_some_names}
 use Rattle.lua_tree.specs.OneLine.{on_one_line, one_line_statements, one_line_arguments, one_line_expression, one_line_expressions, one_line_fields, one_line_statement, one_line_body}
@@ -8,42 +8,44 @@ use Rattle.lua_tree.specs.Syntax as syntax
 use Rattle.lua_tree.specs.Syntax.{Arguments, Expression, Expressions, Source, Statement, Statements, and_expression, argument_list, assignment, binary_expression, call_expression, call_statement, constructor, Fields, no_fields, positional, named, keyed, table_argument, false_literal, field_expression, index_expression, local_statement, method_call, name_expression, nil_literal, no_expressions, no_statements, number_literal, or_expression, parenthesized, repeat_loop, return_statement, text_argument, text_literal, true_literal, unary_expression, vararg_expression, FunctionBody, function_expression, function_body, function_statement, local_function}
 use Rattle.lua_tree.specs.WellFormed.{WellFormed, are_targets, begins_with_paren, depth_of_statements, ends_block, ends_item, formed_arguments, formed_expression, formed_expressions, formed_fields, formed_statement, formed_statements, has_expressions, is_call, is_optional_name, is_prefix, is_target, last_takes_arguments, may_follow, on_its_line, statement_begins_with_paren, statement_takes_arguments, takes_arguments, depth_of_body, formed_body}
 use Rattle.lua_tree.specs.declared.tree.Separator.{Separator}
-use Rattle.reads_back.specs.Straight.{AllBeginWithName, AreStraightBy, BeginsWithName, IsStraightBody, StatementBeginsWithName, Straight, IsActBy, IsStraightStatementBy, HasCoreBy, AllHaveCoresBy, HaveCoresBy, HaveItemsBy}
-use Rattle.reads_back.proofs.OneLineActs.{StayOnLine, act_on_line, straight_statement_as_deep, straight_statement_on_line, straight_statement_again, targets_have_cores}
+use Rattle.scheme.specs.Shapes.{room_of_body, room_of_statements}
+use Rattle.reads_back.specs.Straight.{AllIndexNoTables, AreStraightBy, IndexesNoTable, IsStraightBody, StatementIndexesNoTable, Straight, IsActBy, IsStraightStatementBy, HasCoreBy, AllHaveCoresBy, HaveCoresBy, HaveItemsBy, is_constructor}
+use Rattle.reads_back.proofs.OneLineActs.{StayOnLine, act_on_line, straight_statement_as_deep, straight_statement_as_roomy, straight_statement_on_line, straight_statement_again, targets_have_cores}
 use Rattle.reads_back.proofs.Tests.{both_hold, first_of_both, second_of_both}
 
 -- ---- it is straight
 
-name_begins : (e : Expression) → BeginsWithName e → BeginsWithName (one_line_expression e)
-name_begins (name_expression line text) begins = begins
-name_begins (index_expression line on key) begins = name_begins on begins
-name_begins (field_expression line on text) begins = name_begins on begins
-name_begins (call_expression line on args on_line) begins = name_begins on begins
-name_begins (method_call line on name args on_line) begins = name_begins on begins
-name_begins (parenthesized line e) begins = name_begins e begins
-name_begins e begins = absurd begins
+same_constructor : (e : Expression) → is_constructor (one_line_expression e) ≡ is_constructor e
+same_constructor (parenthesized line e) = same_constructor e
+same_constructor (nil_literal line) = refl
+same_constructor e = refl
 
-all_begin : (targets : Expressions) → AllBeginWithName targets → AllBeginWithName (one_line_expressions targets)
-all_begin no_expressions begins = begins
-all_begin (syntax.expression e targets) begins = (name_begins e begins.0, all_begin targets begins.1)
+indexes_none : (e : Expression) → IndexesNoTable e → IndexesNoTable (one_line_expression e)
+indexes_none (index_expression line on key) none = same_constructor on ∙ none
+indexes_none (field_expression line on text) none = same_constructor on ∙ none
+indexes_none (nil_literal line) none = tt
+indexes_none e none = tt
 
-statement_begins : (s : Statement) → StatementBeginsWithName s → StatementBeginsWithName (one_line_statement s)
-statement_begins (call_statement e) begins = name_begins e begins
-statement_begins (assignment targets values) begins = all_begin targets begins
-statement_begins (local_statement names es) begins = begins
-statement_begins (local_function text body) begins = begins
-statement_begins (return_statement es) begins = begins
-statement_begins (function_statement path method body) begins = begins
-statement_begins s begins = absurd begins
+all_index_none : (targets : Expressions) → AllIndexNoTables targets → AllIndexNoTables (one_line_expressions targets)
+all_index_none no_expressions none = none
+all_index_none (syntax.expression e targets) none = (indexes_none e none.0, all_index_none targets none.1)
+
+statement_indexes_none : (s : Statement) → StatementIndexesNoTable s → StatementIndexesNoTable (one_line_statement s)
+statement_indexes_none (assignment targets values) none = all_index_none targets none
+statement_indexes_none s none = none
 
 module _ {P : FunctionBody → Type 0} (kept : StayOnLine P) where
   straight_on_line : (block : Statements) → AreStraightBy P block → AreStraightBy P (one_line_statements block)
   straight_on_line no_statements are = are
-  straight_on_line (syntax.statement line semi s rest) are = ((straight_statement_on_line kept s are.0.0, statement_begins s are.0.1), straight_on_line rest are.1)
+  straight_on_line (syntax.statement line semi s rest) are = ((straight_statement_on_line kept s are.0.0, statement_indexes_none s are.0.1), straight_on_line rest are.1)
 
   block_as_deep : (block : Statements) → AreStraightBy P block → depth_of_statements (one_line_statements block) ≡ depth_of_statements block
   block_as_deep no_statements are = refl
   block_as_deep (syntax.statement line semi s rest) are = cc (straight_statement_as_deep kept s are.0.0, block_as_deep rest are.1)
+
+  block_as_roomy : (block : Statements) → AreStraightBy P block → room_of_statements (one_line_statements block) ≡ room_of_statements block
+  block_as_roomy no_statements are = refl
+  block_as_roomy (syntax.statement line semi s rest) are = ap₂ (λ (one others : ℕ). max (1 + one) others) (straight_statement_as_roomy kept s are.0.0) (block_as_roomy rest are.1)
 
 -- ---- each statement is on one line already
 
@@ -265,15 +267,18 @@ body_again deep kept (function_body params vararg block first last) straight = a
 body_as_deep : (deep : ℕ) → StayOnLine (IsStraightBody deep) → (body : FunctionBody) → IsStraightBody (suc deep) body → depth_of_body (one_line_body body) ≡ depth_of_body body
 body_as_deep deep kept (function_body params vararg block first last) straight = block_as_deep kept block straight
 
+body_as_roomy : (deep : ℕ) → StayOnLine (IsStraightBody deep) → (body : FunctionBody) → IsStraightBody (suc deep) body → room_of_body (one_line_body body) ≡ room_of_body body
+body_as_roomy deep kept (function_body params vararg block first last) straight = block_as_roomy kept block straight
+
 body_formed : (deep : ℕ) → StayOnLine (IsStraightBody deep) → (body : FunctionBody) → IsStraightBody (suc deep) body → formed_body body ≡ true → formed_body (one_line_body body) ≡ true
 body_formed deep kept (function_body params vararg block first last) straight formed =
     both_hold _ _ (first_of_both _ _ formed) (block_formed kept block straight (second_of_both (are_names params) _ formed))
 
 bodies_stay : (deep : ℕ) → StayOnLine (IsStraightBody deep)
-bodies_stay zero = record { stays = λ body none. absurd none; again = λ body none. absurd none; as_deep = λ body none. absurd none; formed = λ body none. absurd none }
+bodies_stay zero = record { stays = λ body none. absurd none; again = λ body none. absurd none; as_deep = λ body none. absurd none; as_roomy = λ body none. absurd none; formed = λ body none. absurd none }
 bodies_stay (suc deep) =
     let kept = bodies_stay deep in
-    record { stays = body_stays deep kept; again = body_again deep kept; as_deep = body_as_deep deep kept; formed = body_formed deep kept }
+    record { stays = body_stays deep kept; again = body_again deep kept; as_deep = body_as_deep deep kept; as_roomy = body_as_roomy deep kept; formed = body_formed deep kept }
 
 -- ---- sources
 
@@ -281,7 +286,7 @@ pub plain_straight : (source : Source) → Straight source → Straight (on_one_
 plain_straight source straight = record {
   deep = straight.deep;
   acts = straight_on_line (bodies_stay straight.deep) source.body straight.acts;
-  shallow = subst (λ (depth : ℕ). depth ≤ 66) (sym (block_as_deep (bodies_stay straight.deep) source.body straight.acts)) straight.shallow;
+  room = subst (λ (room : ℕ). room ≤ 200) (sym (block_as_roomy (bodies_stay straight.deep) source.body straight.acts)) straight.room;
 }
 
 pub source_on_line : (source : Source) → Straight source → AreOnLine (one_line_statements source.body)

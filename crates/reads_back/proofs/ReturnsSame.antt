@@ -1,5 +1,5 @@
 -- What is written of a return makes the same code as the statement; and what names a return passes.
-use Rattle.std.proofs.Common.{◌≡◌, ℕ, ◌+◌, ◌*◌, ◌≤◌, Bool, true, false, List, [], ◌∷◌, length, Option, None, refl, sym, ap, ◌∙◌, subst, arith}
+use Rattle.std.proofs.Common.{inr, ◌≡◌, ℕ, ◌+◌, ◌*◌, ◌≤◌, Bool, true, false, List, [], ◌∷◌, length, Option, None, refl, sym, ap, ◌∙◌, subst, arith}
 use Rattle.std.specs.Prelude.{◌&&◌, ◌||◌, not, if◌then◌else◌}
 use Rattle.lua_tree.specs.OneLine.{one_line_expression, one_line_expressions, one_line_statement}
 use Rattle.lua_tree.specs.Syntax as syntax
@@ -8,7 +8,7 @@ use Rattle.lua_tree.specs.WellFormed.{depth_of_expressions, is_call}
 use Rattle.opcode.specs.declared.op.Op.{Op}
 use Rattle.core_expr.specs.Places.{place}
 use Rattle.core_expr.specs.Values.{Value, vararg_value, Values, no_values, and_value, Inner}
-use Rattle.core_expr.specs.Writing.{is_multiple as can_be_several, unless, word_values}
+use Rattle.core_expr.specs.Writing.{is_bare, is_multiple as can_be_several, unless, word_values}
 use Rattle.recover_expr.specs.Situation.{Function}
 use Rattle.scheme.specs.Expressions.{Coded, count_field, is_multiple, is_vararg, operand}
 use Rattle.scheme.specs.Lists.{list_count, open_list}
@@ -22,13 +22,14 @@ use Rattle.scheme_stands.specs.Words.{Fn}
 use Rattle.reads_back.specs.Acted.{returned}
 use Rattle.reads_back.specs.Cores.{AllHaveCores, AreCores, HasCore, IsCore, ends_open}
 use Rattle.reads_back.proofs.ActsFormed.{called_is}
-use Rattle.reads_back.proofs.GivenSame.{AllRewritten, closed_unless, list_rewritten}
+use Rattle.reads_back.proofs.GivenSame.{AllRewritten, ListLow, closed_unless, list_low, list_rewritten}
 use Rattle.reads_back.proofs.ListsSame.{cores_few}
 use Rattle.reads_back.proofs.Mentions.{Passed, ahead_front, mentions_in, mentions_in_all, passed_none, passed_then, made_both}
 use Rattle.reads_back.proofs.PassedMentions.{given_passed, mentions_passed, operand_passes}
 use Rattle.reads_back.proofs.Rewriting.{IsMadeBy, Rewritten, RewrittenAct, RewrittenGiven, code, wording}
-use Rattle.reads_back.proofs.Tests.{both_hold}
-use Rattle.reads_back.proofs.WordsSame.{coded_is, levels_wrapped, operand_same, operand_taken, operand_wrapped, same_multiple}
+use Rattle.reads_back.proofs.Tests.{both_hold, first_of_both}
+use Rattle.reads_back.proofs.InRoom.{closed_in, levels_in}
+use Rattle.reads_back.proofs.WordsSame.{coded_is, levels_wrapped, operand_low, operand_same, operand_taken, operand_wrapped, same_multiple}
 
 -- ---- what is returned of one value
 
@@ -97,6 +98,10 @@ module _ {f : Function} {g : Fn} {active : List Active} {listed : List ℕ} {z :
     leaves = written.leaves;
     makes = written.makes ∙ sym (made_both (mentions_in e) [] before);
     few = λ n. omega (arith, written.few n);
+    low = λ short formed m ahead final.
+        let n = length m.constants in
+        let low = levels_in (is_bare (place f.of listed f.short) n v) e (wording f listed z lefts before n v) (written.low short (first_of_both _ _ formed) m (ahead_front (mentions_in e) [] ahead) (inr (inr (several, Op.TailCall, None, inner m final)))) in
+        omega (arith, low);
     made = λ m ahead final.
         let w = (wording f listed z lefts before (length m.constants) v).words in
         as_call (coded w) m (ap is_call (coded_is w) ∙ written_call (length m.constants))
@@ -117,6 +122,11 @@ module _ {f : Function} {g : Fn} {active : List Active} {listed : List ℕ} {z :
     leaves = written.leaves;
     makes = written.makes ∙ sym (made_both (mentions_in e) [] before);
     few = λ n. omega (arith, written.few n, levels_wrapped (not (true && can_be_several v)) (wording f listed z lefts before n v));
+    low = λ short formed m ahead final.
+        let n = length m.constants in
+        let low = operand_low written short (first_of_both _ _ formed) m (ahead_front (mentions_in e) [] ahead) (inner m final) in
+        let one = closed_in (is_bare (place f.of listed f.short) n v) e (wording f listed z lefts before n v) (can_be_several v) low (written.several n) single in
+        omega (arith, one);
     made = λ m ahead final.
         let w = wording f listed z lefts before (length m.constants) v in
         let one = unless (not (true && can_be_several v)) w in
@@ -135,6 +145,7 @@ module _ {f : Function} {g : Fn} {active : List Active} {listed : List ℕ} {z :
     leaves = ap lefts (sym same);
     makes = same;
     few = λ n. omega arith;
+    low = λ short formed m ahead final. omega arith;
     made = λ m ahead final. refl;
     taken = λ m ahead final. refl;
   })
@@ -155,6 +166,7 @@ module _ {f : Function} {g : Fn} {active : List Active} {listed : List ℕ} {z :
     leaves = ap lefts (sym same);
     makes = same;
     few = λ n. omega arith;
+    low = λ short formed m ahead final. omega arith;
     made = λ m ahead final. refl;
     taken = λ m ahead final. refl;
   }
@@ -163,12 +175,13 @@ module _ {f : Function} {g : Fn} {active : List Active} {listed : List ℕ} {z :
   returns_list : (e d : Expression) (es : Expressions) (v w : Value) (rest : Values) (all : Bool) → let all_es = syntax.expression e (syntax.expression d es) in
       RewrittenGiven f g active listed z lefts before behind (argument_list all_es) (depth_of_expressions all_es) (and_value v (and_value w rest)) all →
       ((n : ℕ) → (word_values (place f.of listed f.short) n (lefts before) (and_value v (and_value w rest)) all).levels ≤ 3 * depth_of_expressions all_es + 3) →
-      RewrittenAct f g active listed z lefts before behind (return_statement all_es) (returned (and_value v (and_value w rest)) all)
-  returns_list e d es v w rest all given few = record {
+      ListLow f g active listed z lefts before all_es all (and_value v (and_value w rest)) → RewrittenAct f g active listed z lefts before behind (return_statement all_es) (returned (and_value v (and_value w rest)) all)
+  returns_list e d es v w rest all given few low = record {
     can = given.can;
     leaves = given.leaves;
     makes = given.makes;
     few = λ n. omega (arith, few n);
+    low = λ short formed m ahead final. let low = low short formed m ahead (inner m final) in omega (arith, low);
     made = λ m ahead final.
         let written = all_coded (word_values (place f.of listed f.short) (length m.constants) (lefts before) (and_value v (and_value w rest)) all).words in
         ap (λ count. put 1 (Piece.Abc Op.Return m.free (count_field 1 count) 0) (open_list written m)) (given.counts (length m.constants))
@@ -201,4 +214,5 @@ module _ {f : Function} {g : Fn} {active : List Active} {listed : List ℕ} {z :
       subst (λ vs. RewrittenAct f g active listed z lefts before behind (return_statement all_es) (returned vs all)) (sym same)
       (returns_list e d es first.0 more.0 more.1 all
       (subst (λ vs. RewrittenGiven f g active listed z lefts before behind (argument_list all_es) (depth_of_expressions all_es) vs all) same (list_rewritten lefts made all_es before behind vs all has written are is))
-      (subst (λ vs. (n : ℕ) → (word_values (place f.of listed f.short) n (lefts before) vs all).levels ≤ 3 * depth_of_expressions all_es + 3) same (cores_few f g active listed z lefts all_es before behind vs all written are)))
+      (subst (λ vs. (n : ℕ) → (word_values (place f.of listed f.short) n (lefts before) vs all).levels ≤ 3 * depth_of_expressions all_es + 3) same (cores_few f g active listed z lefts all_es before behind vs all written are))
+      (subst (λ vs. ListLow f g active listed z lefts before all_es all vs) same (list_low lefts made all_es before behind vs all has written are is)))

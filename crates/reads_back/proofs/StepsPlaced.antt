@@ -27,18 +27,23 @@ KindIs listed (local_function text body) kind = (first : ℕ) × (kind ≡ Draft
 KindIs listed (return_statement es) kind = kind ≡ DraftKind.Return
 KindIs listed s kind = kind ≡ DraftKind.Act
 
--- a step that is read of a statement, where so many locals are listed, with no more than so many levels
-pub record IsDraftOf (listed most : ℕ) (s : Statement) (draft : Drafted) : Type 0 where
+-- a step that is read of a statement, where so many locals are listed, with such levels
+pub record IsDraftOf (listed : ℕ) (Low : ℕ → Type 0) (s : Statement) (draft : Drafted) : Type 0 where
   pub kind : KindIs listed s draft.kind
   pub part : draft.part ≡ part_of s
   pub enough : suc (depth_of_statement s) ≤ draft.levels
-  pub few : draft.levels ≤ most
+  pub low : Low draft.levels
 
 -- the steps of a block, one for each statement
-abbrev pub AreDraftsOf : (listed most : ℕ) → Statements → List Drafted → Type 0
-AreDraftsOf listed most no_statements drafts = drafts ≡ []
-AreDraftsOf listed most (statement line semi s rest) [] = ⊥
-AreDraftsOf listed most (statement line semi s rest) (draft ∷ drafts) = IsDraftOf listed most s draft × AreDraftsOf listed most rest drafts
+abbrev pub AreDraftsOf : (listed : ℕ) → (Low : ℕ → Type 0) → Statements → List Drafted → Type 0
+AreDraftsOf listed Low no_statements drafts = drafts ≡ []
+AreDraftsOf listed Low (statement line semi s rest) [] = ⊥
+AreDraftsOf listed Low (statement line semi s rest) (draft ∷ drafts) = IsDraftOf listed Low s draft × AreDraftsOf listed Low rest drafts
+
+-- each step has such levels
+abbrev pub AreLow : (Low : ℕ → Type 0) → List Step → Type 0
+AreLow Low [] = Unit {0}
+AreLow Low (step ∷ steps) = Low step.levels × AreLow Low steps
 
 -- what is known where all steps are read: every listed local ends at the last word
 pub record AreEnding (f : Function) : Type 0 where
@@ -114,26 +119,28 @@ module _ (f : Function) (scope : Scope) (ending : AreEnding f) (numbers : Number
   kind_is_placed s kind are = (StepKind.Act, ap (kind_placed f scope numbers) are, refl)
 
   -- behind steps that are placed, those of a block
-  record ArePlaced (most : ℕ) (highest : List ℕ) (sofar : Steps) (block : Statements) (drafts : List Drafted) : Type 0 where
+  record ArePlaced (Low : ℕ → Type 0) (highest : List ℕ) (sofar : Steps) (block : Statements) (drafts : List Drafted) : Type 0 where
     steps : List Step
     placed : steps_placed f scope numbers highest drafts sofar ≡ Some (record sofar { steps = sofar.steps ++ steps; parts = sofar.parts ++ parts_of block })
     as_many : length steps ≡ length drafts
-    are : AreStepsOf number most block steps
+    are : AreStepsOf number block steps
+    low : AreLow Low steps
 
-  block_placed : (most : ℕ) (highest : List ℕ) (sofar : Steps) (block : Statements) (drafts : List Drafted) → AreDraftsOf (length f.of.locals) most block drafts → ArePlaced most highest sofar block drafts
-  block_placed most highest sofar no_statements drafts are = record {
+  block_placed : (Low : ℕ → Type 0) (highest : List ℕ) (sofar : Steps) (block : Statements) (drafts : List Drafted) → AreDraftsOf (length f.of.locals) Low block drafts → ArePlaced Low highest sofar block drafts
+  block_placed Low highest sofar no_statements drafts are = record {
     steps = [];
     placed =
         ap (λ (drafts : List Drafted). steps_placed f scope numbers highest drafts sofar) are
         ∙ ap₂ (λ (steps : List Step) (parts : List Part). Some (record sofar { steps = steps; parts = parts })) (sym (append-nil sofar.steps)) (sym (append-nil sofar.parts));
     as_many = sym (ap length are);
     are = refl;
+    low = tt;
   }
-  block_placed most highest sofar (statement line semi s rest) [] are = absurd are
-  block_placed most highest sofar (statement line semi s rest) (draft ∷ drafts) are =
+  block_placed Low highest sofar (statement line semi s rest) [] are = absurd are
+  block_placed Low highest sofar (statement line semi s rest) (draft ∷ drafts) are =
       let one = kind_is_placed s draft.kind are.0.kind in
       let step : Step = step_of_kind one.0 (up_to highest draft.innermost) draft in
-      let others : ArePlaced most highest (and_step draft step sofar) rest drafts = block_placed most highest (and_step draft step sofar) rest drafts are.1 in
+      let others : ArePlaced Low highest (and_step draft step sofar) rest drafts = block_placed Low highest (and_step draft step sofar) rest drafts are.1 in
       record {
         steps = step ∷ others.steps;
         placed =
@@ -142,11 +149,12 @@ module _ (f : Function) (scope : Scope) (ending : AreEnding f) (numbers : Number
             ∙ ap₂ (λ (steps : List Step) (parts : List Part). Some (record sofar { steps = steps; parts = parts })) (append_assoc sofar.steps (step ∷ []) others.steps)
             (append_assoc sofar.parts (draft.part ∷ []) (parts_of rest) ∙ ap (λ part. sofar.parts ++ part ∷ parts_of rest) are.0.part);
         as_many = ap suc others.as_many;
-        are = (record { kind = one.2; enough = are.0.enough; levels = are.0.few }, others.are);
+        are = (record { kind = one.2; enough = are.0.enough }, others.are);
+        low = (are.0.low, others.low);
       }
 
-pub steps_are_placed : (f : Function) (scope : Scope) → AreEnding f → (most : ℕ) (params : List Text) (block : Statements) (drafts : List Drafted) → AreDraftsOf (length f.of.locals) most block drafts →
-    (steps : List Step) × (placed f scope params drafts ≡ Some (record { params = params; steps = steps; parts = parts_of block })) × AreStepsOf (length steps) most block steps
-steps_are_placed f scope ending most params block drafts are =
-    let all = block_placed f scope ending (numbers_of f drafts) (length drafts) (last_number f drafts ending.within) most (highest_captured scope) (record { params = params; steps = []; parts = [] }) block drafts are in
-    (all.steps, all.placed, subst (λ (count : ℕ). AreStepsOf count most block all.steps) (sym all.as_many) all.are)
+pub steps_are_placed : (f : Function) (scope : Scope) → AreEnding f → (Low : ℕ → Type 0) (params : List Text) (block : Statements) (drafts : List Drafted) → AreDraftsOf (length f.of.locals) Low block drafts →
+    (steps : List Step) × (placed f scope params drafts ≡ Some (record { params = params; steps = steps; parts = parts_of block })) × AreStepsOf (length steps) block steps × AreLow Low steps
+steps_are_placed f scope ending Low params block drafts are =
+    let all = block_placed f scope ending (numbers_of f drafts) (length drafts) (last_number f drafts ending.within) Low (highest_captured scope) (record { params = params; steps = []; parts = [] }) block drafts are in
+    (all.steps, all.placed, subst (λ (count : ℕ). AreStepsOf count block all.steps) (sym all.as_many) all.are, all.low)

@@ -1,21 +1,20 @@
 -- What is known of each statement of a straight block where it is made: it is read as what it is, and what is written of it is well formed, has the same names and makes the same code.
-use Rattle.std.proofs.Common.{◌≡◌, ℕ, suc, ◌≤◌, false, true, List, [], length, None, arith, Option, ◌*◌, ◌+◌, ◌∷◌, ◌++◌}
+use Rattle.std.proofs.Common.{◌≡◌, ℕ, suc, ◌≤◌, true, List, [], length, None, arith, Option, ◌*◌, ◌+◌, ◌∷◌, ◌++◌}
 use Rattle.lua_tree.specs.OneLine.{one_line_statement}
 use Rattle.lua_tree.specs.Outline.{Part, statement_part}
 use Rattle.lua_tree.specs.Syntax as syntax
 use Rattle.lua_tree.specs.Syntax.{Expression, Expressions, Statement, assignment, call_statement, field_expression, index_expression, name_expression, local_statement, no_expressions, return_statement, function_expression, local_function}
-use Rattle.lua_tree.specs.WellFormed.{depth_of_expression, depth_of_expressions, depth_of_statement, ends_block, formed_statement, statement_begins_with_paren}
+use Rattle.lua_tree.specs.WellFormed.{depth_of_expression, depth_of_expressions, depth_of_statement, ends_block, formed_statement}
 use Rattle.core_expr.specs.Places.{Place, place}
-use Rattle.core_expr.specs.Values.{Value, table_value, Inner}
+use Rattle.core_expr.specs.Values.{Inner}
 use Rattle.recover_expr.specs.Situation.{Function, Situation}
 use Rattle.scheme.specs.Making.{Maker}
 use Rattle.scheme.specs.declared.making.Active.{Active}
 use Rattle.scheme_stands.specs.Relation.{StatementAt}
 use Rattle.scheme_stands.specs.Words.{Fn, Spot}
-use Rattle.reads_back.specs.Cores.{IsCore}
 use Rattle.reads_back.specs.Acted.{Acted, AreActTargets, IsAct, IsActTarget, IsActed, act_levels, act_statement, lean_depth}
-use Rattle.reads_back.specs.Straight.{AllBeginWithName, BeginsWithName, StatementBeginsWithName}
-use Rattle.reads_back.proofs.ActsFormed.{BeginsWithVariable, act_closed, act_ends, act_formed, act_shallow, name_begins}
+use Rattle.reads_back.specs.Straight.{AllIndexNoTables, IndexesNoTable, StatementIndexesNoTable}
+use Rattle.reads_back.proofs.ActsFormed.{act_ends, act_formed, act_shallow}
 use Rattle.reads_back.proofs.ActsMarks.{act_marks}
 use Rattle.reads_back.proofs.ActsRead.{ActRead, CanAct, call_statement_read}
 use Rattle.reads_back.proofs.ActsRewritten.{AllWritten, act_rewritten}
@@ -25,7 +24,7 @@ use Rattle.reads_back.proofs.FunctionStatements.{lean_is_less}
 use Rattle.reads_back.proofs.Marks.{SamePart, ArePartsLeft}
 use Rattle.reads_back.proofs.MarksSame.{ArePartsMade}
 use Rattle.reads_back.proofs.AssignmentStands.{assignment_forward, assignment_read}
-use Rattle.reads_back.proofs.PartsRead.{IsNoTable}
+use Rattle.reads_back.proofs.NoTables.{no_table}
 use Rattle.reads_back.proofs.ReturnsRead.{return_forward, return_read}
 use Rattle.reads_back.proofs.LocalFunctionsRead.{local_function_forward, local_function_read}
 use Rattle.reads_back.proofs.MarksSame.{OwnPartsMade}
@@ -42,12 +41,6 @@ use Rattle.reads_back.proofs.WrittenFormed.{AreFineLeft}
 pub lean_low : (s : Statement) → lean_depth s ≤ depth_of_statement s
 lean_low (assignment targets es) = lean_is_less targets es
 lean_low s = omega arith
-
--- ---- what begins with a name
-
-begun_none : (v : Value) → BeginsWithVariable v → IsNoTable v
-begun_none (table_value items all depth) begins = begins
-begun_none v begins = tt
 
 -- the locals that it declares start behind its words
 abbrev pub StartsWith : Function → Statement → Situation → (last : ℕ) → Type 0
@@ -80,9 +73,9 @@ module _ {f : Function} {g : Fn} {active : List Active} {listed : List ℕ} {z :
 
   -- ---- what is written
 
-  module _ (s : Statement) (is : IsAct s) (few : depth_of_statement s ≤ 65) (own : OwnListed f g active s) where
+  module _ (s : Statement) (is : IsAct s) (few : depth_of_statement s ≤ 199) (own : OwnListed f g active s) where
     pub written : (before behind : ℕ) (acted : Acted) → IsActed g active s before behind acted → RewrittenAct f g active listed z lefts before behind s acted
-    written before behind acted acts = act_rewritten lefts made left.again 65 s before behind acted (all_written 65 (omega arith)) few is own acts
+    written before behind acted acts = act_rewritten lefts made left.again 199 s before behind acted (all_written 199 (omega arith)) (omega arith) few is own acts
 
     can : CanAct f g active listed lefts s
     can = record { can = λ before behind acted acts. (written before behind acted acts).can }
@@ -100,31 +93,24 @@ module _ {f : Function} {g : Fn} {active : List Active} {listed : List ℕ} {z :
         act_shallow at g active s before behind acted n (lefts before) (left.fine before) is acts (written before behind acted acts).can (omega (arith, levels, few, lean_low s))
 
     pub written_marks : (before behind : ℕ) (acted : Acted) (n : ℕ) → IsActed g active s before behind acted → SamePart (statement_part 1 (act_statement at n (lefts before) acted)) (statement_part 1 (one_line_statement s))
-    written_marks before behind acted n acts = act_marks made.is_function made.all of (left.made active listed made.all) s own (own_parts s own) before behind acted n (lefts before) (left.parts before) is acts (written before behind acted acts).can
-
-    pub written_closed : StatementBeginsWithName s → (before behind : ℕ) (acted : Acted) (n : ℕ) → IsActed g active s before behind acted → statement_begins_with_paren (act_statement at n (lefts before) acted) ≡ false
-    written_closed begins before behind acted n acts = act_closed at g active s before behind acted n (lefts before) begins is acts (written before behind acted acts).can
+    written_marks before behind acted n acts = act_marks made.is_function made.all of (left.made active listed made.all) s (omega (arith, few)) own (own_parts s own) before behind acted n (lefts before) (left.parts before) is acts (written before behind acted acts).can
 
     pub written_ends : (before behind : ℕ) (acted : Acted) (n : ℕ) → IsActed g active s before behind acted → ends_block (act_statement at n (lefts before) acted) ≡ ends_block s
     written_ends before behind acted n acts = act_ends at g active s before behind acted n (lefts before) acts
 
   -- ---- what is read
 
-  -- what begins with a name is no table
-  no_table : (e : Expression) → BeginsWithName e → (before behind : ℕ) (v : Value) → IsCore g active e before behind v → IsNoTable v
-  no_table e begins before behind v is = begun_none v (name_begins g active e before behind v begins is)
-
-  target_reads : (target : Expression) → IsActTarget target → BeginsWithName target → depth_of_expression target ≤ 200 → ReadsTarget f g active listed target
+  target_reads : (target : Expression) → IsActTarget target → IndexesNoTable target → depth_of_expression target ≤ 200 → ReadsTarget f g active listed target
   target_reads (name_expression line text) is begins few = tt
-  target_reads (index_expression line on key) is begins few = ((reads_all made.is_function made.all on is.0 (omega (arith, few))).one, (reads_all made.is_function made.all key is.1 (omega (arith, few))).one, no_table on begins)
-  target_reads (field_expression line on text) is begins few = ((reads_all made.is_function made.all on is (omega (arith, few))).one, no_table on begins)
+  target_reads (index_expression line on key) is begins few = ((reads_all made.is_function made.all on is.0 (omega (arith, few))).one, (reads_all made.is_function made.all key is.1 (omega (arith, few))).one, no_table g active on begins)
+  target_reads (field_expression line on text) is begins few = ((reads_all made.is_function made.all on is (omega (arith, few))).one, no_table g active on begins)
   target_reads target is begins few = absurd is
 
-  targets_read : (targets : Expressions) → AreActTargets targets → AllBeginWithName targets → depth_of_expressions targets ≤ 200 → ReadsTargets f g active listed targets
+  targets_read : (targets : Expressions) → AreActTargets targets → AllIndexNoTables targets → depth_of_expressions targets ≤ 200 → ReadsTargets f g active listed targets
   targets_read no_expressions are begins few = tt
   targets_read (syntax.expression target targets) are begins few = (target_reads target are.0 begins.0 (omega (arith, few)), targets_read targets are.1 begins.1 (omega (arith, few)))
 
-  pub act_forward : (s : Statement) → IsAct s → StatementBeginsWithName s → depth_of_statement s ≤ 65 → (after : List Active) (p q : Spot) → StatementAt g None s active after p q → p.pc ≤ q.pc
+  pub act_forward : (s : Statement) → IsAct s → StatementIndexesNoTable s → depth_of_statement s ≤ 199 → (after : List Active) (p q : Spot) → StatementAt g None s active after p q → p.pc ≤ q.pc
   act_forward (call_statement e) is begins few after p q stands = (call_read made.is_function made.all e is.0 is.1 (omega (arith, few))).1.forward (length active) _ _ p q stands.part_at
   act_forward (assignment targets es) is begins few after p q stands =
       assignment_forward made.is_function made.all targets es is (targets_read targets is.targets begins (omega (arith, few))) (omega (arith, few)) p q stands.part_at
@@ -133,7 +119,7 @@ module _ {f : Function} {g : Fn} {active : List Active} {listed : List ℕ} {z :
   act_forward (local_function text body) is begins few after p q stands = local_function_forward made.is_function made.all text body after p q stands
   act_forward s is begins few after p q stands = absurd is
 
-  pub act_read : (s : Statement) → IsAct s → StatementBeginsWithName s → depth_of_statement s ≤ 65 → OwnListed f g active s → length listed ≡ length active → (after : List Active) (p q : Spot) → StatementAt g None s active after p q → (now : Situation) → HasLocals active listed now → now.left ≡ lefts p.functions → now.entries ≡ [] → now.taken ≡ now.seen →
+  pub act_read : (s : Statement) → IsAct s → StatementIndexesNoTable s → depth_of_statement s ≤ 199 → OwnListed f g active s → length listed ≡ length active → (after : List Active) (p q : Spot) → StatementAt g None s active after p q → (now : Situation) → HasLocals active listed now → now.left ≡ lefts p.functions → now.entries ≡ [] → now.taken ≡ now.seen →
       IsQuiet f now.scope p.pc q.pc → StartsWith f s now q.pc → ActRead f g active s p.functions q.functions now p.pc q.pc
   act_read (call_statement e) is begins few own as_many after p q stands now locals left_is empty taken quiet starts =
       let call = call_read made.is_function made.all e is.0 is.1 (omega (arith, few)) in

@@ -1,6 +1,6 @@
 -- A straight block in a function that is being made: what is known before each of its statements, and that what is written of them makes the same function.
 use Rattle.std.proofs.Common.{◌≡◌, ◌+◌, ◌∷◌, ◌++◌, [], length-append, ℕ, ◌≤◌, true, false, not, ◌&&◌, List, length, map, append_assoc, None, Some, refl, sym, ap, ◌∙◌, subst, arith, suc}
-use Rattle.std.specs.Prelude.{Bool, Option}
+use Rattle.std.specs.Prelude.{◌||◌, Bool, Option}
 use Rattle.lua_tree.specs.OneLine.{one_line_statement}
 use Rattle.lua_tree.specs.Outline.{Part, statement_part, statements_part}
 use Rattle.lua_num.specs.Bytes.{Text}
@@ -21,7 +21,7 @@ use Rattle.scheme.specs.declared.making.Active.{Active}
 use Rattle.scheme_stands.specs.Words.{Fn, Names}
 use Rattle.reads_back.specs.Acted.{Acted, IsActed, act_statement, taken_behind_act, AreActs, lean_depth_of}
 use Rattle.reads_back.specs.Coming.{declared_local}
-use Rattle.reads_back.specs.ReadAs.{ArePlain}
+use Rattle.reads_back.specs.ReadAs.{ArePlain, begin_with_paren}
 use Rattle.reads_back.proofs.ActsRead.{numbers_from}
 use Rattle.reads_back.proofs.BlockMakers.{AllStand, AreAllActs, all_made, entries_by, entries_from, made_by, statement_listed, statement_moves, actives_by}
 use Rattle.reads_back.proofs.ListedLocals.{ended, listed_behind}
@@ -31,9 +31,9 @@ use Rattle.reads_back.proofs.StatementsMeant.{statement_meant}
 use Rattle.reads_back.proofs.OwnLocals.{listed_same}
 use Rattle.reads_back.proofs.PlainStraight.{AreOnLine}
 use Rattle.reads_back.proofs.Rewriting.{IsMadeBy, mentions_of_statement, OwnListed}
-use Rattle.reads_back.proofs.StraightActs.{few_levels, lean_low, written, written_closed, written_ends, written_formed, written_marks, written_shallow, AreLeft}
+use Rattle.reads_back.proofs.StraightActs.{lean_low, written, written_ends, written_formed, written_marks, AreLeft}
 use Rattle.reads_back.proofs.StraightScopes.{IsListing, are_listed, is_certain, AreNamed}
-use Rattle.reads_back.proofs.Tests.{and_not, both_hold, first_of_both, second_of_both}
+use Rattle.reads_back.proofs.Tests.{both_hold, first_of_both, second_of_both}
 use Rattle.reads_back.proofs.WordsRead.{IsFunction}
 use Rattle.reads_back.proofs.InnerNames.{AreKnown}
 use Rattle.core_expr.specs.Values.{Inner}
@@ -72,7 +72,7 @@ pub record ComesNext (f : Function) (g : Fn) (z : Maker) (block : Statements) (m
   pub final : Final (length m.labels) (all_made block m) z
   pub stand : AllStand g block m
   pub straight : AreActs block
-  pub shallow : depth_of_statements block ≤ 66
+  pub shallow : depth_of_statements block ≤ 200
   pub on_line : AreOnLine block
 
 -- the places in the list of the locals that are active
@@ -129,7 +129,7 @@ module _ {f : Function} {g : Fn} {z : Maker} (whole : IsMadeWhole f g z) where
       on_line = next.on_line.2;
     }
 
-    pub low : depth_of_statement s ≤ 65
+    pub low : depth_of_statement s ≤ 199
     low = omega (arith, next.shallow)
 
 -- the local of a local function is listed behind the others
@@ -162,12 +162,12 @@ module _ {f : Function} {g : Fn} {z : Maker} (whole : IsMadeWhole f g z) where
 
 -- ---- what is written of a block
 
--- statements on line 1 without semicolons, each of which is written of the act that a statement is, where so many constants were taken before the first
+-- statements on line 1, with semicolons where they are needed, each of which is written of the act that a statement is, where so many constants were taken before the first
 abbrev pub AreWritten : Function → Fn → (lefts : ℕ → List (Option Inner)) → (taken : ℕ) → (block written : Statements) → Maker → Type 0
 AreWritten f g lefts n no_statements written m = written ≡ no_statements
 AreWritten f g lefts n (syntax.statement line semi s rest) written m =
     (acted : Acted) × (others : Statements) × IsActed g m.active s (length m.functions) (length (made_by s m).functions) acted × AreWritten f g lefts (taken_behind_act acted n) rest others (settle (made_by s m))
-    × (written ≡ syntax.statement 1 false (act_statement (place f.of (listed_by m) f.short) n (lefts (length m.functions)) acted) others)
+    × (written ≡ syntax.statement 1 (begin_with_paren others) (act_statement (place f.of (listed_by m) f.short) n (lefts (length m.functions)) acted) others)
 
 module _ {f : Function} {g : Fn} {z : Maker} {lefts : ℕ → List (Option Inner)} {of : ℕ → Part} (whole : IsWhole f g z lefts of) where
   pub block_same : (block tree : Statements) (taken : ℕ) (m : Maker) → ComesNext f g z block m → AreWritten f g lefts taken block tree m → taken ≡ length m.constants → statements_made tree None m ≡ all_made block m
@@ -184,10 +184,14 @@ module _ {f : Function} {g : Fn} {z : Maker} {lefts : ℕ → List (Option Inner
 
   -- ---- the rules of form
 
-  -- what follows begins with no parenthesis
-  follows : (s next : Statement) (line : ℕ) (semi : Bool) (rest : Statements) → ends_block s ≡ false → statement_begins_with_paren next ≡ false → may_follow s false (syntax.statement line semi next rest) ≡ true
-  follows s next line semi rest goes_on closed =
-      both_hold _ _ (ap not goes_on) (ap (λ begins. not (statement_takes_arguments s && begins)) closed ∙ ap not (and_not (statement_takes_arguments s)))
+  -- what begins with a parenthesis stands behind a semicolon
+  follows : (s next : Statement) (line : ℕ) (semi : Bool) (rest : Statements) → ends_block s ≡ false → may_follow s (statement_begins_with_paren next) (syntax.statement line semi next rest) ≡ true
+  follows s next line semi rest goes_on = both_hold _ _ (ap not goes_on) (by (statement_takes_arguments s) (statement_begins_with_paren next))
+    where
+      by : (takes begins : Bool) → (begins || not (takes && begins)) ≡ true
+      by takes true = refl
+      by true false = refl
+      by false false = refl
 
   goes_on : (s next : Statement) (line : ℕ) (semi other : Bool) (rest : Statements) → may_follow s semi (syntax.statement line other next rest) ≡ true → ends_block s ≡ false
   goes_on s next line semi other rest may = by (ends_block s) (first_of_both _ _ may)
@@ -200,7 +204,7 @@ module _ {f : Function} {g : Fn} {z : Maker} {lefts : ℕ → List (Option Inner
   block_formed no_statements tree taken m next formed are = ap formed_statements are
   block_formed (syntax.statement line semi s no_statements) tree taken m next formed are =
       let one = written_formed (made_there whole.made next) whole.left s next.straight.0.0 (low whole.made next) (own_listed whole.made next) (length m.functions) (length (made_by s m).functions) are.0 taken are.2 in
-      ap formed_statements (are.4 ∙ ap (syntax.statement 1 false (act_statement (place f.of (listed_by m) f.short) taken (lefts (length m.functions)) are.0)) are.3) ∙ both_hold _ true one refl
+      ap formed_statements (are.4 ∙ ap (λ others. syntax.statement 1 (begin_with_paren others) (act_statement (place f.of (listed_by m) f.short) taken (lefts (length m.functions)) are.0) others) are.3) ∙ both_hold _ true one refl
   block_formed (syntax.statement line semi s (syntax.statement line' semi' s' rest)) tree taken m next formed are =
       let more = comes_behind whole.made next in
       let made = made_there whole.made next in
@@ -208,22 +212,11 @@ module _ {f : Function} {g : Fn} {z : Maker} {lefts : ℕ → List (Option Inner
       let one = written_formed made whole.left s next.straight.0.0 (low whole.made next) (own_listed whole.made next) (length m.functions) (length (made_by s m).functions) are.0 taken are.2 in
       let on = written_ends made whole.left s next.straight.0.0 (low whole.made next) (own_listed whole.made next) (length m.functions) (length (made_by s m).functions) are.0 taken are.2 ∙ goes_on s s' line' semi semi' rest (first_of_both _ _ (second_of_both (formed_statement s) _ formed)) in
       let behind_taken = taken_behind_act are.0 taken in
-      let closed = written_closed (made_there whole.made more) whole.left s' more.straight.0.0 (low whole.made more) (own_listed whole.made more) more.straight.0.1 (length (made_by s m).functions) (length (made_by s' (settle (made_by s m))).functions) are.3.0 behind_taken are.3.2 in
       let first = act_statement (place f.of (listed_by m) f.short) taken (lefts (length m.functions)) are.0 in
       ap formed_statements are.4
       ∙ both_hold _ _ one
-      (both_hold _ _ (ap (may_follow first false) are.3.4 ∙ follows first (act_statement (place f.of (listed_by (settle (made_by s m))) f.short) behind_taken (lefts (length (made_by s m).functions)) are.3.0) 1 false are.3.1 on closed)
+      (both_hold _ _ (ap (λ others. may_follow first (begin_with_paren others) others) are.3.4 ∙ follows first (act_statement (place f.of (listed_by (settle (made_by s m))) f.short) behind_taken (lefts (length (made_by s m).functions)) are.3.0) 1 (begin_with_paren are.3.1) are.3.1 on)
       (block_formed (syntax.statement line' semi' s' rest) are.1 behind_taken (settle (made_by s m)) more others are.3))
-
-  pub block_shallow : (block tree : Statements) (taken : ℕ) (m : Maker) → ComesNext f g z block m → AreWritten f g lefts taken block tree m → depth_of_statements tree ≤ 200
-  block_shallow no_statements tree taken m next are = omega (arith, ap depth_of_statements are)
-  block_shallow (syntax.statement line semi s rest) tree taken m next are =
-      let levels = few_levels (made_there whole.made next) whole.left s next.straight.0.0 (low whole.made next) (own_listed whole.made next) (length m.functions) (length (made_by s m).functions) are.0 taken are.2 in
-      let deep = low whole.made next in
-      let lean = lean_low s in
-      let one = written_shallow (made_there whole.made next) whole.left s next.straight.0.0 (low whole.made next) (own_listed whole.made next) (length m.functions) (length (made_by s m).functions) are.0 taken are.2 in
-      let others = block_shallow rest are.1 (taken_behind_act are.0 taken) (settle (made_by s m)) (comes_behind whole.made next) are.3 in
-      omega (arith, ap depth_of_statements are.4, one, levels, lean, deep, others)
 
   -- ---- the names
 
@@ -241,5 +234,4 @@ module _ {f : Function} {g : Fn} {z : Maker} {lefts : ℕ → List (Option Inner
   pub block_plain : (block tree : Statements) (taken : ℕ) (m : Maker) → ComesNext f g z block m → AreWritten f g lefts taken block tree m → ArePlain tree
   block_plain no_statements tree taken m next are = subst ArePlain (sym are) tt
   block_plain (syntax.statement line semi s rest) tree taken m next are =
-      let closed = written_closed (made_there whole.made next) whole.left s next.straight.0.0 (low whole.made next) (own_listed whole.made next) next.straight.0.1 (length m.functions) (length (made_by s m).functions) are.0 taken are.2 in
-      subst ArePlain (sym are.4) (refl, refl, closed, block_plain rest are.1 (taken_behind_act are.0 taken) (settle (made_by s m)) (comes_behind whole.made next) are.3)
+      subst ArePlain (sym are.4) (refl, refl, block_plain rest are.1 (taken_behind_act are.0 taken) (settle (made_by s m)) (comes_behind whole.made next) are.3)

@@ -34,15 +34,16 @@ use Rattle.reads_back.specs.Acted.{AreActs, lean_depth_of}
 use Rattle.reads_back.specs.ReadAs.{ArePlain, AreStepsOf, IsTold, is_vararg, parts_of}
 use Rattle.reads_back.proofs.ActsRead.{numbers_from}
 use Rattle.reads_back.proofs.BlockMakers.{AreAllActs, made_by, statement_moves, all_made, all_stand, block_is, block_listed, block_locals, entries_from}
-use Rattle.reads_back.proofs.BlockReads.{IsThere, StepsRead, block_read, later_starts}
+use Rattle.reads_back.proofs.BlockReads.{IsLow, IsThere, StepsRead, block_read, later_starts}
 use Rattle.reads_back.proofs.InnerNames.{AreKnown}
 use Rattle.reads_back.proofs.ListedLocals.{active_end, ended}
 use Rattle.reads_back.proofs.Marks.{SamePart}
 use Rattle.reads_back.proofs.ParametersRead.{BeginsWith, ParametersAreRead, begins_with, params_listed, params_read}
 use Rattle.reads_back.proofs.PlainStraight.{AreOnLine}
+use Rattle.reads_back.proofs.Rooms.{lean_room_of}
 use Rattle.reads_back.proofs.StartingLocals.{StartFrom}
 use Rattle.recover_expr.specs.declared.steps.Step.{Step}
-use Rattle.reads_back.proofs.StepsPlaced.{AreEnding, steps_are_placed}
+use Rattle.reads_back.proofs.StepsPlaced.{AreEnding, AreLow, steps_are_placed}
 use Rattle.reads_back.proofs.StraightActs.{AreLeft}
 use Rattle.reads_back.proofs.StraightBlocks.{ComesNext, IsMadeWhole, IsWhole, all_acts, block_formed, block_marks, block_plain, block_same}
 use Rattle.reads_back.proofs.WordsRead.{IsFunction, abc_is_read}
@@ -107,7 +108,7 @@ pub record IsStraightFunction (n : Names) (heading : Heading) (params : List Tex
   pub on_line : AreOnLine block
   pub plain : AreActs block
   pub formed : formed_statements block ≡ true
-  pub shallow : depth_of_statements block ≤ 66
+  pub shallow : depth_of_statements block ≤ 200
   pub good : are_names params ≡ true
   pub known : AreKnown n
   pub named : (text : Text) (slot : ℕ) → slice_get n.upvalues slot ≡ Some text → as_name (slice_get names slot) ≡ Some text
@@ -121,19 +122,20 @@ pub record IsStraightFunction (n : Names) (heading : Heading) (params : List Tex
   pub short : length (own chunk).code < 2 ^ 32
 
 -- what is written of it, where these functions are left to it
-pub record IsWrittenFrom (heading : Heading) (params : List Text) (block : Statements) (names : List Text) (ahead : Ahead) (chunk : Chunk) (left : List (Option Inner)) : Type 0 where
+pub record IsWrittenFrom (short : Bool) (heading : Heading) (params : List Text) (block : Statements) (names : List Text) (ahead : Ahead) (chunk : Chunk) (left : List (Option Inner)) : Type 0 where
   pub steps : Steps
   pub written : Statements
-  pub read : read_steps chunk left false ≡ Some steps
+  pub read : read_steps chunk left short ≡ Some steps
   pub params_are : steps.params ≡ params
   pub parts : steps.parts ≡ parts_of written
-  pub are : AreStepsOf (length steps.steps) (3 * lean_depth_of block + 1) written steps.steps
+  pub are : AreStepsOf (length steps.steps) written steps.steps
+  pub low : AreLow (IsLow short (3 * lean_depth_of block + 1) (lean_room_of block)) steps.steps
   pub plain : ArePlain written
   pub formed : formed_statements written ≡ true
   pub part : SamePart (statements_part written) (statements_part block)
   pub made : statements_made written None (begun_of params names ahead) ≡ statements_made block None (begun_of params names ahead)
 
-module _ {n : Names} {heading : Heading} {params : List Text} {block : Statements} {names : List Text} {ahead : Ahead} {chunk : Chunk} (of : IsStraightFunction n heading params block names ahead chunk) where
+module _ {n : Names} {heading : Heading} {params : List Text} {block : Statements} {names : List Text} {ahead : Ahead} {chunk : Chunk} (short : Bool) (of : IsStraightFunction n heading params block names ahead chunk) where
   abbrev first : Maker
   first = begun_of params names ahead
 
@@ -191,7 +193,7 @@ module _ {n : Names} {heading : Heading} {params : List Text} {block : Statement
   -- ---- it is read
 
   abbrev pub f : Function
-  f = as_function chunk false (length (own chunk).code - 1)
+  f = as_function chunk short (length (own chunk).code - 1)
 
   last_is : f.last ≡ length block_end.items
   last_is = omega (arith, words_count)
@@ -204,7 +206,6 @@ module _ {n : Names} {heading : Heading} {params : List Text} {block : Statement
     constants = ap (λ (own : Own). own.constants) same_own;
     upvalues = as_many_upvalues chunk (chunk_of heading z) of.same;
     told = ap (λ (own : Own). own.upvalue_names) same_own;
-    natural = refl;
     short = omega (arith, of.short);
     few = of.at.limits.registers;
   }
@@ -276,10 +277,11 @@ module _ {n : Names} {heading : Heading} {params : List Text} {block : Statement
       declared = params_are.declared ∙ sym begins.as_many;
       active = λ some. params_are.active (omega (arith, some)) ∙ ap (numbers_from 0) (sym begins.as_many);
       left = ap lefts (sym none_before);
+      seen = sym (ap length begins.constants);
     }
 
-    is_read : StepsRead whole (3 * lean_depth_of block + 1) block first [] before
-    is_read = block_read whole (3 * lean_depth_of block + 1) block first [] before first_next (omega arith) (sym last_is) there
+    is_read : StepsRead whole (3 * lean_depth_of block + 1) (lean_room_of block) block first [] before
+    is_read = block_read whole (3 * lean_depth_of block + 1) (lean_room_of block) block first [] before first_next of.formed (omega arith) (omega arith) (sym last_is) there
 
     within : f.last < length f.of.code
     within = omega (arith, words_count)
@@ -287,8 +289,8 @@ module _ {n : Names} {heading : Heading} {params : List Text} {block : Statement
     ending : AreEnding f
     ending = record { entries = first.locals ++ entries_from block first; listed = listed; within = within }
 
-    all_placed : (steps : List Step) × (placed f is_read.behind.scope params is_read.more ≡ Some (record { params = params; steps = steps; parts = parts_of is_read.written })) × AreStepsOf (length steps) (3 * lean_depth_of block + 1) is_read.written steps
-    all_placed = steps_are_placed f is_read.behind.scope ending (3 * lean_depth_of block + 1) params is_read.written is_read.more is_read.drafts_are
+    all_placed : (steps : List Step) × (placed f is_read.behind.scope params is_read.more ≡ Some (record { params = params; steps = steps; parts = parts_of is_read.written })) × AreStepsOf (length steps) is_read.written steps × AreLow (IsLow short (3 * lean_depth_of block + 1) (lean_room_of block)) steps
+    all_placed = steps_are_placed f is_read.behind.scope ending (IsLow short (3 * lean_depth_of block + 1) (lean_room_of block)) params is_read.written is_read.more is_read.drafts_are
 
     abbrev steps : Steps
     steps = record { params = params; steps = all_placed.0; parts = parts_of is_read.written }
@@ -310,7 +312,7 @@ module _ {n : Names} {heading : Heading} {params : List Text} {block : Statement
         ∙ ap returns of.at.end.has
         ∙ ap (is_so (is_return 0 1)) (abc_is_read is_function of.at.end)
 
-    pub is_written : IsWrittenFrom heading params block names ahead chunk (lefts 0)
+    pub is_written : IsWrittenFrom short heading params block names ahead chunk (lefts 0)
     is_written = record {
       steps = steps;
       written = is_read.written;
@@ -318,6 +320,7 @@ module _ {n : Names} {heading : Heading} {params : List Text} {block : Statement
       params_are = refl;
       parts = refl;
       are = all_placed.2;
+      low = all_placed.3;
       plain = block_plain whole block is_read.written 0 first first_next is_read.are;
       formed = block_formed whole block is_read.written 0 first first_next of.formed is_read.are;
       part = block_marks whole block is_read.written 0 first first_next is_read.are;

@@ -1,5 +1,5 @@
 -- The chunk of a straight source is read as what is written of its statements, and so is each function in it.
-use Rattle.std.proofs.Common.{◌≡◌, true, [], Some, None, refl, sym, ap, ◌∙◌, subst, subst₂, arith}
+use Rattle.std.proofs.Common.{◌≡◌, ◌≤◌, Bool, true, [], Some, None, refl, sym, ap, ◌∙◌, subst, subst₂, arith}
 use Rattle.std.specs.Prelude.{IsSome}
 use Rattle.lua_num.specs.Bytes.{Text}
 use Rattle.lua_tree.specs.OneLine.{on_one_line}
@@ -19,7 +19,7 @@ use Rattle.scheme_stands.proofs.Makers.{begun, block_final, no_names, statements
 use Rattle.scheme_stands.specs.Functions.{FunctionAt}
 use Rattle.scheme_stands.specs.Relation.{MainAt, StatementsAt}
 use Rattle.scheme_stands.specs.Words.{asking}
-use Rattle.reads_back.specs.ReadAs.{IsSourceRead, IsStraightChunk, StraightSourcesAreRead}
+use Rattle.reads_back.specs.ReadAs.{IsSourceRead, IsSourceReadAs, IsStraightChunk, StraightSourcesAreRead}
 use Rattle.reads_back.specs.Straight.{Straight}
 use Rattle.reads_back.proofs.FunctionsRead.{AreTheActs, each_read, the_acts}
 use Rattle.reads_back.proofs.InnerNames.{none_known}
@@ -61,7 +61,7 @@ module _ (stand : NamesStand) (semicolons : SemicolonsDoNotMatter) (mine : Own) 
   heading = record { source = Some of.name; first_line = 0; last_line = 0; params = 0; vararg = true }
 
   acts : AreTheActs [] [] (ahead_of (resolved plain)) plain.body
-  acts = the_acts [] [] (ahead_of (resolved plain)) straight_plain.deep plain.body straight_plain.acts formed_plain.formed (source_on_line of.source of.straight) straight_plain.shallow
+  acts = the_acts [] [] (ahead_of (resolved plain)) straight_plain.deep plain.body straight_plain.acts formed_plain.formed (source_on_line of.source of.straight) formed_plain.shallow
 
   is_main : IsStraightFunction no_names heading [] (as_assignments plain.body) [] (ahead_of (resolved plain)) (function mine functions)
   is_main =
@@ -84,42 +84,48 @@ module _ (stand : NamesStand) (semicolons : SemicolonsDoNotMatter) (mine : Own) 
         short = short.0.code;
       }
 
-  is_read : IsFunctionRead 66 heading [] (as_assignments plain.body) [] (ahead_of (resolved plain)) (function mine functions)
-  is_read = function_read 66 functions (each_read functions short.2) is_main (omega (arith, acts.lean, straight_plain.shallow))
+  -- ---- the tree that is read, in these forms
 
-  -- ---- the tree that is read
+  module _ (fewest : Bool) where
+    is_read : IsFunctionRead fewest 200 heading [] (as_assignments plain.body) [] (ahead_of (resolved plain)) (function mine functions)
+    is_read = function_read fewest 200 functions (each_read fewest functions short.2) is_main (omega (arith, acts.lean, formed_plain.shallow))
 
-  abbrev tree : Source
-  tree = record { body = is_read.written; last_line = 1 }
+    abbrev tree : Source
+    tree = record { body = is_read.written; last_line = 1 }
 
-  formed : WellFormed tree
-  formed = record { formed = is_read.formed; shallow = omega (arith, is_read.shallow, is_read.few, acts.lean, straight_plain.shallow) }
+    formed : is_read.found.levels ≤ 200 → WellFormed tree
+    formed low = record { formed = is_read.formed; shallow = omega (arith, is_read.shallow, low) }
 
-  outline_same : outline tree ≡ outline plain
-  outline_same = ap (λ walk. walk.marks) (part_then is_read.part acts.part beginning)
+    outline_same : outline tree ≡ outline plain
+    outline_same = ap (λ walk. walk.marks) (part_then is_read.part acts.part beginning)
 
-  scheme_same : (name : Text) → scheme_of tree name ≡ scheme_of plain name
-  scheme_same name =
-      let main : Heading = record { source = Some name; first_line = 0; last_line = 0; params = 0; vararg = true } in
-      ap (λ marks. function_from main 1 [] (statements_made is_read.written None) [] (ahead_of (resolved_by marks))) outline_same
-      ∙ ap (λ m. finished main (whole_function 1 [] (λ n. m) (begun plain))) (is_read.made ∙ acts.made)
+    scheme_same : (name : Text) → scheme_of tree name ≡ scheme_of plain name
+    scheme_same name =
+        let main : Heading = record { source = Some name; first_line = 0; last_line = 0; params = 0; vararg = true } in
+        ap (λ marks. function_from main 1 [] (statements_made is_read.written None) [] (ahead_of (resolved_by marks))) outline_same
+        ∙ ap (λ m. finished main (whole_function 1 [] (λ n. m) (begun plain))) (is_read.made ∙ acts.made)
 
-  tree_alike : AreAlike of.source tree
-  tree_alike = record {
-    scoped = λ scoped. ap (first_breach []) outline_same ∙ alike.scoped scoped;
-    fits = λ fits. ap (λ (made : Finished). made.misfits) (scheme_same []) ∙ alike.fits fits;
-    same = λ name. alike.same name ∙ sym (ap (λ (made : Finished). each no_lines made.chunk) (scheme_same name));
-  }
+    tree_alike : AreAlike of.source tree
+    tree_alike = record {
+      scoped = λ scoped. ap (first_breach []) outline_same ∙ alike.scoped scoped;
+      fits = λ fits. ap (λ (made : Finished). made.misfits) (scheme_same []) ∙ alike.fits fits;
+      same = λ name. alike.same name ∙ sym (ap (λ (made : Finished). each no_lines made.chunk) (scheme_same name));
+    }
+
+    read_as : IsSourceReadAs fewest of.source (function mine functions)
+    read_as = record {
+      found = is_read.found;
+      read = is_read.strict (λ is. omega (arith, acts.roomy, straight_plain.room));
+      tree = tree;
+      body = is_read.body;
+      formed = formed;
+      alike = tree_alike;
+    }
 
   source_read : IsSourceRead of.source (function mine functions)
   source_read = record {
     named = subst IsSome (sym (ap (λ (own : Own). own.source) (own_of_same (function mine functions) (scheme plain of.name) (of.same ∙ alike.same of.name)))) refl;
-    found = is_read.found;
-    read = is_read.read;
-    tree = tree;
-    body = is_read.body;
-    formed = formed;
-    alike = tree_alike;
+    read = read_as;
   }
 
 pub straight_sources_read : NamesStand → SemicolonsDoNotMatter → StraightSourcesAreRead

@@ -1,34 +1,39 @@
 -- What is written of a constructor has the code of the constructor: item by item, where so many values are pending.
-use Rattle.std.proofs.Common.{◌≡◌, ℕ, suc, ◌*◌, ◌+◌, ◌-◌, ◌/◌, ◌≤◌, max, nat_lt, nat_le, Bool, true, false, not, cond, ◌&&◌, List, [], ◌∷◌, ◌++◌, length, Option, Some, None, refl, sym, ap, ap₂, ◌∙◌, subst, arith, eq-eqb}
+use Rattle.std.proofs.Common.{inr, ◌≡◌, ℕ, suc, ◌*◌, ◌+◌, ◌-◌, ◌/◌, ◌≤◌, max, nat_lt, nat_le, Bool, true, false, not, cond, ◌&&◌, List, [], ◌∷◌, ◌++◌, length, Option, Some, None, refl, sym, ap, ap₂, ◌∙◌, subst, arith}
 use Rattle.std.specs.Prelude.{◌==◌}
 use Rattle.lua_num.specs.Bytes.{Text}
 use Rattle.lua_tree.specs.OneLine.{one_line_expression, one_line_fields}
 use Rattle.lua_tree.specs.Syntax.{Expression, table_argument, Fields, no_fields, positional, named, keyed, constructor}
-use Rattle.lua_tree.specs.WellFormed.{depth_of_expression, depth_of_fields}
+use Rattle.lua_tree.specs.WellFormed.{depth_of_expression, depth_of_fields, ends_item, formed_expression, formed_fields}
+use Rattle.lua_tree.specs.Names.{is_name}
+use Rattle.scheme.specs.Shapes.{room_of_expression, room_of_fields}
+use Rattle.reads_back.proofs.InRoom.{levels_in, unless_in}
+use Rattle.reads_back.proofs.Rooms.{some_room}
 use Rattle.lua_tree.specs.declared.tree.Separator.{Separator}
 use Rattle.opcode.specs.declared.op.Op.{Op}
 use Rattle.core_expr.specs.Counting.{left_by, left_by_items, left_by_operand, taken_behind, taken_behind_items, taken_behind_operand}
 use Rattle.core_expr.specs.Places.{Place, field_name, place}
 use Rattle.core_expr.specs.Values.{ItemList, OperandValue, Value, and_keyed, and_positional, and_value, no_items, no_values, table_value, Inner}
-use Rattle.core_expr.specs.Writing.{FieldWording, Wording, and_keyed_item, as_value, can_write_items, can_write_operand, ends_items, is_multiple as can_be_several, separator_before, word_items, word_operand}
+use Rattle.core_expr.specs.Writing.{FieldWording, Wording, and_keyed_item, as_arguments, as_table_argument, is_bare, unless, word_values, as_value, can_write_items, can_write_operand, ends_items, is_multiple as can_be_several, separator_before, word_items, word_operand}
 use Rattle.recover_expr.specs.Situation.{Function}
 use Rattle.scheme.specs.Expressions.{Coded, is_multiple, next_reg, rk, rk_text}
-use Rattle.scheme.specs.Lists.{coded_table, moved, Entry, positional_entry, entries_from, full_end, is_last, keyed_item, large_block, open_entry, other_count, pending_after, positional_count, set_list, size_hint, small_block, table_at}
+use Rattle.scheme.specs.Lists.{moved, Entry, positional_entry, entries_from, full_end, is_last, keyed_item, large_block, open_entry, other_count, pending_after, positional_count, set_list, size_hint, small_block, table_at}
 use Rattle.scheme.specs.Making.{Asks, Got, Maker, Part, free_from, freeing, put, take_registers, when}
 use Rattle.scheme.specs.Scheme.{coded, entries}
 use Rattle.scheme.specs.declared.making.Active.{Active}
 use Rattle.scheme.specs.declared.making.Piece.{Piece}
 use Rattle.scheme_stands.proofs.Growth.{Final, Grown, before as before_part, before_free, before_put, calm, later}
-use Rattle.scheme_stands.proofs.Parts.{EntriesGrow, grow_entries, grows, grows_entries, grows_next, grows_rk, grows_set_list, grows_when}
+use Rattle.scheme_stands.proofs.Parts.{grow_entries, grows, grows_entries, grows_next, grows_rk, grows_set_list, grows_when}
 use Rattle.scheme_stands.specs.Lists.{is_last_item}
 use Rattle.scheme_stands.specs.Words.{Fn}
 use Rattle.reads_back.specs.Cores.{HasCore}
 use Rattle.reads_back.proofs.IndexSame.{KeySame, key_asks, key_asks_same}
 use Rattle.reads_back.proofs.Mentions.{IsAhead, Passed, ahead_behind, ahead_front, mentions_in, mentions_of_fields, Mention, made_behind, made_both}
 use Rattle.reads_back.proofs.PassedMentions.{PassesMentions, mentions_passed, item_passes, next_passes, set_list_passes, when_passes}
-use Rattle.reads_back.proofs.Rewriting.{Rewritten, RewrittenGiven, RewrittenOperand, code, operand_wording, wording}
-use Rattle.reads_back.proofs.Tests.{both_hold}
-use Rattle.reads_back.proofs.WordsSame.{coded_is, same_multiple, levels_wrapped, next_same, next_taken, next_wrapped}
+use Rattle.reads_back.proofs.Rewriting.{HasRoom, Rewritten, RewrittenGiven, RewrittenOperand, code, operand_wording, wording}
+use Rattle.reads_back.proofs.ShortWords.{begun, next_table}
+use Rattle.reads_back.proofs.Tests.{both_hold, first_of_both, second_of_both}
+use Rattle.reads_back.proofs.WordsSame.{coded_is, same_multiple, levels_wrapped, made_plainly, next_low, next_same, next_taken, next_wrapped}
 
 -- ---- the entries of fields
 
@@ -49,6 +54,11 @@ set_list_constants t n done m = let block = (done - 1) / 50 + 1 in cond_constant
 when_constants : (b : Bool) (part : Part) (m : Maker) → (part m).constants ≡ m.constants → (when b part m).constants ≡ m.constants
 when_constants true part m same = same
 when_constants false part m same = refl
+
+-- no items have no entries
+items_end : (at : Place) (n : ℕ) (fs : List (Option Inner)) (items : ItemList) (all : Bool) → ends_items items ≡ true → is_last (entries (word_items at n fs items all).words) ≡ true
+items_end at n fs no_items all ends = refl
+items_end at n fs items all ends = cc
 
 -- an item that is not open
 abbrev closed_from : (t done pending : ℕ) → Coded → List Entry → Part
@@ -72,6 +82,8 @@ module _ (f : Function) (g : Fn) (active : List Active) (listed : List ℕ) (z :
     pub leaves : left_by_items items (lefts before) ≡ lefts behind
     pub makes : behind ≡ made_behind (mentions_of_fields fields) before
     pub few : (n : ℕ) → (items_wording f listed z lefts before n items all).levels ≤ 3 * deep + 3
+    pub low : f.short ≡ true → formed_fields fields ≡ true → (t done pending : ℕ) (m : Maker) → IsAhead g active before (mentions_of_fields fields) m → Final (length m.labels) (entries_from 1 t done pending (entries (one_line_fields fields)) m) z →
+        (items_wording f listed z lefts before (length m.constants) items all).levels ≤ room_of_fields fields
     pub last : (n : ℕ) → is_last (entries (items_wording f listed z lefts before n items all).words) ≡ is_last (entries (one_line_fields fields))
     pub positions : (n : ℕ) → positional_count (entries (items_wording f listed z lefts before n items all).words) ≡ positional_count (entries (one_line_fields fields))
     pub others : (n : ℕ) → other_count (entries (items_wording f listed z lefts before n items all).words) ≡ other_count (entries (one_line_fields fields))
@@ -89,6 +101,7 @@ module _ {f : Function} {g : Fn} {active : List Active} {listed : List ℕ} {z :
     leaves = ap lefts (sym same);
     makes = same;
     few = λ n. omega arith;
+    low = λ short formed t done pending m ahead final. omega arith;
     last = λ n. refl;
     positions = λ n. refl;
     others = λ n. refl;
@@ -105,6 +118,11 @@ module _ {f : Function} {g : Fn} {active : List Active} {listed : List ℕ} {z :
     leaves = written.leaves;
     makes = written.makes ∙ sym (made_both (mentions_in e) [] before);
     few = λ n. omega (arith, written.few n, deeper);
+    low = λ short formed t done pending m ahead final.
+        let n = length m.constants in
+        let good = first_of_both _ _ (second_of_both (ends_item separator no_fields) _ formed) in
+        let low = levels_in (is_bare (place f.of listed f.short) n v) e (wording f listed z lefts before n v) (written.low short good m (ahead_front (mentions_in e) [] ahead) (inr (inr (is, Op.Call, None, inner t done pending m final)))) in
+        omega (arith, low);
     last = λ n. refl;
     positions = λ n. ap (λ (b : Bool). cond b 0 1) (several n) ∙ sym (ap (λ (b : Bool). cond b 0 1) of_code);
     others = λ n. refl;
@@ -145,6 +163,17 @@ module _ {f : Function} {g : Fn} {active : List Active} {listed : List ℕ} {z :
     few = λ n.
         let same = ap (λ (w : FieldWording). w.levels) (behind_is n) in
         omega (arith, same, first.few n, deeper, levels_wrapped (not ((ends_items items && not all) && can_be_several v)) (wording f listed z lefts before n v), others.few (taken_behind v n));
+    low = λ short formed t done pending m ahead final.
+        let n = length m.constants in
+        let parts = second_of_both (ends_item separator rest) _ formed in
+        let on = between t done pending m in
+        let on_first = first_final t done pending m final in
+        let same : length on.constants ≡ taken_behind v n = ap (λ ks. length ks) (between_constants t done pending m) ∙ next_taken first m (ahead_front (mentions_in e) (mentions_of_fields rest) ahead) on_first in
+        let one = item_low n (next_low first short (first_of_both _ _ parts) m (ahead_front (mentions_in e) (mentions_of_fields rest) ahead) on_first) in
+        let other = others.low short (second_of_both (formed_expression e) _ parts) t (suc done) (pending_after (suc pending)) on (rest_ahead t done pending m ahead) (here t done pending m final) in
+        let left = ap (λ (w : FieldWording). w.levels) (behind_is n) in
+        let taken = ap (λ n. (items_wording f listed z lefts mid n items all).levels) same in
+        omega (arith, one, other, left, taken);
     last = λ n. refl;
     positions = λ n.
         ap (λ (w : FieldWording). positional_count (positional_entry (coded (item n).words) ∷ entries w.words)) (behind_is n)
@@ -187,6 +216,30 @@ module _ {f : Function} {g : Fn} {active : List Active} {listed : List ℕ} {z :
 
       code_closed : (is_last (entries (one_line_fields rest)) && is_multiple (code e).e) ≡ false
       code_closed = ap₂ (λ (a b : Bool). a && b) (last_is rest) (ap is_multiple (coded_is (one_line_expression e)) ∙ same_multiple e) ∙ closed
+
+      -- where one value of the last item is wanted, the expression gives one
+      single_there : (n : ℕ) → ends_items items ≡ true → is_multiple e ≡ false
+      single_there n ends =
+          let last_item : is_last_item rest ≡ true = sym (last_is rest) ∙ sym (others.last n) ∙ items_end (place f.of listed f.short) n (lefts mid) items all ends in
+          ap (λ (last : Bool). last && is_multiple e) (sym last_item) ∙ closed
+
+      item_low : (n : ℕ) → HasRoom f listed z lefts before n e v → (item n).levels ≤ room_of_expression e
+      item_low n low = by (ends_items items) refl
+        where
+          wanted_one : Bool → Bool
+          wanted_one ends = not ((ends && not all) && can_be_several v)
+
+          wrapped : (ends : Bool) → ((unless (wanted_one ends) (wording f listed z lefts before n v)).levels ≤ room_of_expression e) → ends_items items ≡ ends → (item n).levels ≤ room_of_expression e
+          wrapped ends low is = let same = ap (λ (ends : Bool). (unless (wanted_one ends) (wording f listed z lefts before n v)).levels) is in omega (arith, low, same)
+
+          stays : (open_last : Bool) → can_be_several v ≡ false → not (not open_last && can_be_several v) ≡ true
+          stays true single = refl
+          stays false single = ap not single
+
+          by : (ends : Bool) → ends_items items ≡ ends → (item n).levels ≤ room_of_expression e
+          by true is =
+              wrapped true (unless_in (is_bare (place f.of listed f.short) n v) e (wording f listed z lefts before n v) (wanted_one true) low (λ alike. stays all (sym (first.several n) ∙ alike.several ∙ single_there n is))) is
+          by false is = wrapped false (levels_in (is_bare (place f.of listed f.short) n v) e (wording f listed z lefts before n v) low) is
 
       between : (t done pending : ℕ) → Part
       between t done pending m = full_end 1 t (suc done) (suc pending) (next_reg (code e) m)
@@ -244,21 +297,42 @@ keyed_few None key item separator rest n first second others = omega (arith, fir
 keyed_few (Some name) key item separator rest n first second others = omega (arith, second, others)
 
 -- the fields begin with an item that asks so for its key, by these names
-pub record IsKeyed (fields : Fields) (asked : Asks ℕ) (mentions : List Mention) (e : Expression) (rest : Fields) : Type 0 where
+pub record IsKeyed (fields : Fields) (asked : Asks ℕ) (mentions : List Mention) (e : Expression) (rest : Fields) (good : Bool) (roomy : ℕ) : Type 0 where
   names : mentions_of_fields fields ≡ (mentions ++ mentions_in e) ++ mentions_of_fields rest
   from : (t done pending : ℕ) (m : Maker) → entries_from 1 t done pending (entries (one_line_fields fields)) m ≡ keyed_from t done pending asked (code e) (entries (one_line_fields rest)) m
   last : is_last (entries (one_line_fields fields)) ≡ false
   positions : positional_count (entries (one_line_fields fields)) ≡ positional_count (entries (one_line_fields rest))
   others : other_count (entries (one_line_fields fields)) ≡ suc (other_count (entries (one_line_fields rest)))
+  parts : formed_fields fields ≡ true → (good ≡ true) × (formed_expression e ≡ true) × (formed_fields rest ≡ true)
+  room : max roomy (max (room_of_expression e) (room_of_fields rest)) ≤ room_of_fields fields
 
-pub named_keyed : (text : Text) (e : Expression) (separator : Separator) (rest : Fields) → IsKeyed (named text e separator rest) (rk_text 1 text) [] e rest
-named_keyed text e separator rest = record { names = refl; from = λ t done pending m. refl; last = refl; positions = refl; others = refl }
+pub named_keyed : (text : Text) (e : Expression) (separator : Separator) (rest : Fields) → IsKeyed (named text e separator rest) (rk_text 1 text) [] e rest true 1
+named_keyed text e separator rest = record {
+  names = refl;
+  from = λ t done pending m. refl;
+  last = refl;
+  positions = refl;
+  others = refl;
+  parts = λ formed. let parts = second_of_both (is_name text) _ (second_of_both (ends_item separator rest) _ formed) in (refl, first_of_both _ _ parts, second_of_both (formed_expression e) _ parts);
+  room = omega (arith, some_room e);
+}
 
-pub keyed_keyed : (key e : Expression) (separator : Separator) (rest : Fields) → IsKeyed (keyed key e separator rest) (rk (code key)) (mentions_in key) e rest
-keyed_keyed key e separator rest = record { names = refl; from = λ t done pending m. refl; last = refl; positions = refl; others = refl }
+pub keyed_keyed : (key e : Expression) (separator : Separator) (rest : Fields) → IsKeyed (keyed key e separator rest) (rk (code key)) (mentions_in key) e rest (formed_expression key) (room_of_expression key)
+keyed_keyed key e separator rest = record {
+  names = refl;
+  from = λ t done pending m. refl;
+  last = refl;
+  positions = refl;
+  others = refl;
+  parts = λ formed.
+      let behind = second_of_both (ends_item separator rest) _ formed in
+      let parts = second_of_both (formed_expression key) _ behind in
+      (first_of_both _ _ behind, first_of_both _ _ parts, second_of_both (formed_expression e) _ parts);
+  room = omega arith;
+}
 
-module _ {f : Function} {g : Fn} {active : List Active} {listed : List ℕ} {z : Maker} {lefts : ℕ → List (Option Inner)} {before mid last behind : ℕ} (fields : Fields) (asked : Asks ℕ) (mentions : List Mention) (e : Expression) (rest : Fields) (k o : OperandValue) (items : ItemList) (all : Bool) (deep : ℕ)
-    (is : IsKeyed fields asked mentions e rest) (e_passes : PassesMentions (mentions_in e) (code e)) (key_same : KeySame f g active listed z lefts before mid asked mentions k deep) (e_same : RewrittenOperand f g active listed z lefts mid last e o) (deeper : depth_of_expression e ≤ deep)
+module _ {f : Function} {g : Fn} {active : List Active} {listed : List ℕ} {z : Maker} {lefts : ℕ → List (Option Inner)} {before mid last behind : ℕ} (fields : Fields) (asked : Asks ℕ) (mentions : List Mention) (e : Expression) (rest : Fields) (k o : OperandValue) (items : ItemList) (all : Bool) (deep : ℕ) (good : Bool) (roomy : ℕ)
+    (is : IsKeyed fields asked mentions e rest good roomy) (e_passes : PassesMentions (mentions_in e) (code e)) (key_same : KeySame f g active listed z lefts before mid asked mentions k deep good roomy) (e_same : RewrittenOperand f g active listed z lefts mid last e o) (deeper : depth_of_expression e ≤ deep)
     (rest_same : RewrittenItems f g active listed z lefts last behind rest deep items all) where
   abbrev at : Place
   at = place f.of listed f.short
@@ -357,6 +431,22 @@ module _ {f : Function} {g : Fn} {active : List Active} {listed : List ℕ} {z :
         behind_key : Got ℕ → Coded → List Entry → Maker
         behind_key key c others = behind_item key (rk c key.after) others
 
+    -- in the forms of fewest levels
+    keyed_low : f.short ≡ true → formed_fields fields ≡ true → (items_wording f listed z lefts before (length m.constants) (and_keyed k o items) all).levels ≤ room_of_fields fields
+    keyed_low short formed =
+        let n = length m.constants in
+        let n1 = taken_behind_operand k n in
+        let n2 = taken_behind_operand o n1 in
+        let parts = is.parts formed in
+        let one = key_same.written.low short parts.0 m key_ahead key_final in
+        let other = (e_same.low short parts.1 key_got.after e_ahead e_later).low in
+        let rest_low = rest_same.low short parts.2 t done pending behind_it rest_ahead rest_later in
+        let e_taken = ap (λ n. (e_words n).levels) key_count in
+        let rest_taken = ap (λ n. (rest_words n).levels) e_count in
+        let room = is.room in
+        let all_low = keyed_few (field_name at k) (key_words n) (e_words n1) (separator_before items) (rest_words n2) (room_of_fields fields) (omega (arith, one, room)) (omega (arith, other, e_taken, room)) (omega (arith, rest_low, rest_taken, room)) in
+        omega (arith, ap (λ (w : FieldWording). w.levels) (written_is n), all_low)
+
     keyed_taken : length (entries_from 1 t done pending (entries (one_line_fields fields)) m).constants ≡ taken_behind_items (and_keyed k o items) (length m.constants)
     keyed_taken = ap (λ (n : Maker). length n.constants) (is.from t done pending m) ∙ rest_same.taken t done pending behind_it rest_ahead rest_later ∙ ap (taken_behind_items items) e_count
 
@@ -370,6 +460,7 @@ module _ {f : Function} {g : Fn} {active : List Active} {listed : List ℕ} {z :
         let same = ap (λ (w : FieldWording). w.levels) (written_is n) in
         let low = keyed_few (field_name at k) (key_words n) (e_words n1) (separator_before items) (rest_words (taken_behind_operand o n1)) (3 * deep + 3) (key_same.written.few n) (omega (arith, e_same.few n1, deeper)) (rest_same.few (taken_behind_operand o n1)) in
         omega (arith, same, low);
+    low = λ short formed t done pending m ahead final. keyed_low t done pending m ahead final short formed;
     last = λ n. ap (λ (w : FieldWording). is_last (entries w.words)) (written_is n) ∙ keyed_last (field_name at k) _ _ _ _ ∙ sym is.last;
     positions = λ n. ap (λ (w : FieldWording). positional_count (entries w.words)) (written_is n) ∙ keyed_positions (field_name at k) _ _ _ _ ∙ rest_same.positions (taken_behind_operand o (taken_behind_operand k n)) ∙ sym is.positions;
     others = λ n. ap (λ (w : FieldWording). other_count (entries w.words)) (written_is n) ∙ keyed_others (field_name at k) _ _ _ _ ∙ ap suc (rest_same.others (taken_behind_operand o (taken_behind_operand k n))) ∙ sym is.others;
@@ -378,10 +469,6 @@ module _ {f : Function} {g : Fn} {active : List Active} {listed : List ℕ} {z :
   }
 
 -- ---- the whole
-
--- a new table, in the next register
-abbrev begun : List Entry → Part
-begun others m = take_registers 1 (put 1 (Piece.Abc Op.NewTable m.free (size_hint (positional_count others)) (size_hint (other_count others))) m)
 
 module _ {f : Function} {g : Fn} {active : List Active} {listed : List ℕ} {z : Maker} {lefts : ℕ → List (Option Inner)} {before behind : ℕ} {fields : Fields} {deep : ℕ} {items : ItemList} {all : Bool} (same : RewrittenItems f g active listed z lefts before behind fields deep items all) where
   abbrev written : ℕ → List Entry
@@ -427,6 +514,10 @@ module _ {f : Function} {g : Fn} {active : List Active} {listed : List ℕ} {z :
     several = λ n. refl;
     gives = λ several. cc;
     few = λ n. omega (arith, same.few n, is_deep);
+    low = λ short formed m ahead as_made.
+        made_plainly (constructor line fields) m refl refl (λ r final.
+        let low = same.low short formed m.free 0 0 (begun (entries (one_line_fields fields)) m) (begun_ahead m ahead) (items_final m (inner r m final)) in
+        inr (record { low = omega (arith, low); binds = record { prefix = refl; level = refl; unary = refl; several = refl }; bare_there = λ none. refl; unfolded = refl })) as_made;
     keys = omega arith;
     as_local = λ n r m ahead is. cc;
     to_reg = λ r m ahead final. ap (λ n. free_from m.free (moved 1 m.free r n)) (table_same m ahead (inner r m final));
@@ -441,21 +532,18 @@ module _ {f : Function} {g : Fn} {active : List Active} {listed : List ℕ} {z :
 
   -- ---- as the only argument
 
-  -- its register is the next one
-  next_table : (others : List Entry) → EntriesGrow calm others → (of : Fields) (m : Maker) → next_reg (coded_table 1 of others) m ≡ table_at 1 others m
-  next_table others grow of m =
-      let at = table_at 1 others m in
-      let grown = grows_entries {v = calm} 1 m.free 0 0 others grow (begun others m) in
-      let high : max at.high (m.free + 1) ≡ at.high = omega (arith, grown.high) in
-      ap (λ (same : Bool). take_registers 1 (free_from m.free (when (not same) (put 1 (Piece.Abc Op.Move m.free m.free 0)) at))) (eq-eqb m.free m.free refl)
-      ∙ ap (λ (high : ℕ). record at { free = m.free + 1; high = high }) high
-
   pub table_rewritten_given : (depth : ℕ) → depth_of_fields fields ≡ deep → RewrittenGiven f g active listed z lefts before behind (table_argument fields) deep (and_value (table_value items all depth) no_values) false
   table_rewritten_given depth is_deep = record {
     can = both_hold _ true same.can refl;
     leaves = same.leaves;
     makes = same.makes;
     few = λ n. omega (arith, same.few n);
+    low = λ short formed shallow m ahead final.
+        let n = length m.constants in
+        let list = word_values (place f.of listed f.short) n (lefts before) (and_value (table_value items all depth) no_values) false in
+        let form = ap (λ (short : Bool). (as_arguments (short && true) (Some (as_table_argument (items_wording f listed z lefts before n items all))) list).levels) short in
+        let low = same.low short formed m.free 0 0 (begun (entries (one_line_fields fields)) m) (begun_ahead m ahead) (items_final m final) in
+        omega (arith, form, low);
     counts = λ n. refl;
     part = λ m ahead final. next_table (written (length m.constants)) (grow_entries calm (items_wording f listed z lefts before (length m.constants) items all).words) (items_wording f listed z lefts before (length m.constants) items all).words m ∙ table_same m ahead final;
     taken = λ m ahead final. table_taken m ahead final;

@@ -5,7 +5,9 @@ use Rattle.lua_tree.specs.Names.{is_name as is_good_name}
 use Rattle.lua_tree.specs.OneLine.{one_line_expression, one_line_expressions}
 use Rattle.lua_tree.specs.Syntax as syntax
 use Rattle.lua_tree.specs.Syntax.{Expressions, no_expressions, Expression, parenthesized, name_expression, index_expression, field_expression, text_literal}
-use Rattle.lua_tree.specs.WellFormed.{depth_of_expression, depth_of_expressions, is_prefix}
+use Rattle.lua_tree.specs.WellFormed.{depth_of_expression, depth_of_expressions, formed_expression, formed_expressions, is_prefix}
+use Rattle.scheme.specs.Shapes.{room_of_expression, room_of_expressions}
+use Rattle.reads_back.proofs.InRoom.{prefix_in}
 use Rattle.proto.specs.declared.parts.Constant.{Constant}
 use Rattle.core_expr.specs.Counting.{taken_behind, taken_behind_operand, left_by_operand}
 use Rattle.core_expr.specs.Places.{Place, constant_at, field_name, place}
@@ -25,15 +27,15 @@ use Rattle.reads_back.specs.Acted.{IsVariableTarget, can_write_targets, is_part,
 use Rattle.reads_back.specs.Cores.{HasCore, IsCore, IsKey, IsOperand, IsOperandBy}
 use Rattle.reads_back.proofs.ConstantsSame.{numeral_plain}
 use Rattle.reads_back.proofs.Deeper.{some_depth}
-use Rattle.reads_back.proofs.IndexSame.{KeySame, expression_key, key_asks, key_asks_same, key_few, named_key, text_key}
+use Rattle.reads_back.proofs.IndexSame.{KeySame, IsIndexing, field_indexing, index_indexing, expression_key, key_asks, key_asks_same, key_few, named_key, text_key}
 use Rattle.reads_back.proofs.LeavesSame.{next_means, text_rewritten, variable_written}
 use Rattle.reads_back.proofs.ListsSame.{codes_of}
 use Rattle.reads_back.proofs.Mentions.{AskingPasses, IsAhead, Passed, ahead_behind, ahead_front, mentions_in, mentions_in_all, passed_none, passed_then, Mention, made_behind, made_both}
 use Rattle.reads_back.proofs.OperandsSame.{key_rewritten, operand_rewritten}
 use Rattle.reads_back.proofs.PassedMentions.{PassesMentions, mentions_passed, operand_passes, pass_passes}
 use Rattle.reads_back.proofs.Rewriting.{IsMadeBy, Rewritten, code, operand_wording, wording}
-use Rattle.reads_back.proofs.Tests.{both_hold}
-use Rattle.reads_back.proofs.WordsSame.{coded_is, levels_wrapped, name_wrapped, operand_same, operand_taken, operand_wrapped, same_name}
+use Rattle.reads_back.proofs.Tests.{both_hold, first_of_both, second_of_both}
+use Rattle.reads_back.proofs.WordsSame.{coded_is, levels_wrapped, name_wrapped, operand_low, operand_same, operand_taken, operand_wrapped, same_name}
 
 -- ---- places that values go to
 
@@ -160,6 +162,7 @@ module _ (f : Function) (g : Fn) (active : List Active) (listed : List ℕ) (z :
     pub leaves : left_by_target t (lefts before) ≡ lefts behind
     pub makes : behind ≡ made_behind (mentions_in target) before
     pub few : (n : ℕ) → (word_target (place f.of listed f.short) n (lefts before) t).levels ≤ 3 * depth_of_expression target + 3
+    pub low : f.short ≡ true → formed_expression target ≡ true → (m : Maker) → IsAhead g active before (mentions_in target) m → Final (length m.labels) ((code target).target m).after z → (word_target (place f.of listed f.short) (length m.constants) (lefts before) t).levels ≤ room_of_expression target
     pub passes : AskingPasses (mentions_in target) (code target).target
     pub same : (m : Maker) → IsAhead g active before (mentions_in target) m → Final (length m.labels) ((code target).target m).after z → (coded (word_target (place f.of listed f.short) (length m.constants) (lefts before) t).words).target m ≡ (code target).target m
     pub taken : (m : Maker) → IsAhead g active before (mentions_in target) m → Final (length m.labels) ((code target).target m).after z → length ((code target).target m).after.constants ≡ taken_behind_target t (length m.constants)
@@ -194,15 +197,16 @@ module _ {f : Function} {g : Fn} {active : List Active} {listed : List ℕ} {z :
         leaves = written.unused (lefts before);
         makes = refl;
         few = λ n. omega (arith, ap (λ (w : Wording). w.levels) (written.word_is n (lefts before)));
+        low = λ short formed m ahead final. omega (arith, ap (λ (w : Wording). w.levels) (written.word_is (length m.constants) (lefts before)));
         passes = pass_passes text;
         same = λ m ahead final. ap (λ (w : Wording). (coded w.words).target m) (written.word_is (length m.constants) (lefts before));
         taken = λ m ahead final. sym (written.taken (length m.constants));
         is_place = λ m ahead. subst (λ w. IsVariableTarget g text w t) (sym (next_means made text w [] m means ahead)) is;
       }
 
-module _ {f : Function} {g : Fn} {active : List Active} {listed : List ℕ} {z : Maker} {lefts : ℕ → List (Option Inner)} {before mid behind : ℕ} (target on : Expression) (x : Value) (k : OperandValue) (asked : Asks ℕ) (key_named : Bool) (mentions : List Mention) (deep : ℕ)
-    (first : Rewritten f g active listed z lefts before mid on x) (second : KeySame f g active listed z lefts mid behind asked mentions k deep) (named : (n : ℕ) → is_name (operand_wording f listed z lefts mid n k).words ≡ key_named)
-    (on_passes : PassesMentions (mentions_in on) (code on)) (mentioned : mentions_in target ≡ mentions_in on ++ mentions) (deeper : suc (max (depth_of_expression on) deep) ≤ depth_of_expression target)
+module _ {f : Function} {g : Fn} {active : List Active} {listed : List ℕ} {z : Maker} {lefts : ℕ → List (Option Inner)} {before mid behind : ℕ} (target on : Expression) (x : Value) (k : OperandValue) (asked : Asks ℕ) (key_named : Bool) (mentions : List Mention) (deep : ℕ) (good : Bool) (roomy : ℕ)
+    (first : Rewritten f g active listed z lefts before mid on x) (second : KeySame f g active listed z lefts mid behind asked mentions k deep good roomy) (named : (n : ℕ) → is_name (operand_wording f listed z lefts mid n k).words ≡ key_named)
+    (on_passes : PassesMentions (mentions_in on) (code on)) (mentioned : mentions_in target ≡ mentions_in on ++ mentions) (deeper : suc (max (depth_of_expression on) deep) ≤ depth_of_expression target) (indexing : IsIndexing target on good roomy)
     (target_is : (m : Maker) → (code target).target m ≡ part_at (code on) asked (is_name (code on).e) key_named m) where
   abbrev words_at : ℕ → Wording
   words_at n = with_key (field_name (place f.of listed f.short) k) (as_prefix (wording f listed z lefts before n x)) (operand_wording f listed z lefts mid (taken_behind x n) k)
@@ -279,6 +283,18 @@ module _ {f : Function} {g : Fn} {active : List Active} {listed : List ℕ} {z :
         (key_asks_same at (length on_at.after.constants) (lefts mid) k on_at.after ∙ second.written.as_rk on_at.after key_ahead key_later)
         ∙ sym (target_is m)
 
+    part_low : f.short ≡ true → formed_expression target ≡ true → (word_target (place f.of listed f.short) (length m.constants) (lefts before) (index_target x k)).levels ≤ room_of_expression target
+    part_low short formed =
+        let n = length m.constants in
+        let parts = indexing.parts formed in
+        let w = wording f listed z lefts before n x in
+        let u = operand_wording f listed z lefts mid (length on_at.after.constants) k in
+        let one = prefix_in (is_bare (place f.of listed f.short) n x) on w (operand_low first short parts.1 m on_ahead on_final) parts.0 in
+        let all = key_few (field_name (place f.of listed f.short) k) (as_prefix w) u (room_of_expression on) roomy one (second.written.low short parts.2 on_at.after key_ahead key_later) in
+        let same = ap (λ (w : Wording). w.levels) (words_are n) in
+        let taken = ap (λ n. (with_key (field_name (place f.of listed f.short) k) (as_prefix w) (operand_wording f listed z lefts mid n k)).levels) on_taken in
+        omega (arith, same, taken, all, indexing.roomier)
+
     part_taken : length ((code target).target m).after.constants ≡ taken_behind_target (index_target x k) (length m.constants)
     part_taken = ap (λ (to : Got Target). length to.after.constants) (target_is m) ∙ second.written.taken on_at.after key_ahead key_later ∙ ap (taken_behind_operand k) on_taken
 
@@ -288,6 +304,7 @@ module _ {f : Function} {g : Fn} {active : List Active} {listed : List ℕ} {z :
     leaves = ap (left_by_operand k) first.leaves ∙ second.written.leaves;
     makes = second.written.makes ∙ ap (made_behind mentions) first.makes ∙ sym (made_both (mentions_in on) mentions before) ∙ ap (λ mentions. made_behind mentions before) (sym mentioned);
     few = part_few;
+    low = λ short formed m ahead final. part_low m ahead final short formed;
     passes = part_passes;
     same = part_same;
     taken = part_taken;
@@ -299,15 +316,15 @@ module _ {f : Function} {g : Fn} {active : List Active} {listed : List ℕ} {z :
       ((v : Value) → IsCore g active key mid behind v → Rewritten f g active listed z lefts mid behind key v) → IsOperand g active key mid behind k →
       TargetSame f g active listed z lefts before behind (index_expression line on key) (index_target x k)
   index_same line on key before mid behind x k on_has key_has first written is =
-      part_target_same (index_expression line on key) on x k (rk (code key)) (is_name (code key).e) (mentions_in key) (depth_of_expression key) first
+      part_target_same (index_expression line on key) on x k (rk (code key)) (is_name (code key).e) (mentions_in key) (depth_of_expression key) (formed_expression key) (room_of_expression key) first
       (expression_key key k (mentions_passed key key_has) (operand_rewritten lefts made key mid behind k key_has is written))
-      (λ n. operand_named key k is written n ∙ sym (same_name key) ∙ sym (ap is_name (coded_is (one_line_expression key)))) (mentions_passed on on_has) refl (omega arith) (λ m. refl)
+      (λ n. operand_named key k is written n ∙ sym (same_name key) ∙ sym (ap is_name (coded_is (one_line_expression key)))) (mentions_passed on on_has) refl (omega arith) (index_indexing line on key) (λ m. refl)
 
   pub field_same : (line : ℕ) (on : Expression) (text : Text) (before mid behind : ℕ) (x : Value) (k : OperandValue) → HasCore on → Rewritten f g active listed z lefts before mid on x → IsKey g text mid behind k →
       TargetSame f g active listed z lefts before behind (field_expression line on text) (index_target x k)
   field_same line on text before mid behind x k has first is =
-      part_target_same (field_expression line on text) on x k (rk_text 1 text) false [] 1 first (text_key 1 text k (key_rewritten lefts made 1 text mid behind k is))
-      (operand_named (text_literal 1 text) k is (λ v core. subst (λ (behind : ℕ). Rewritten f g active listed z lefts mid behind (text_literal 1 text) v) (sym core.0) (text_rewritten made 1 text v core.1))) (mentions_passed on has) (sym (append-nil (mentions_in on))) (omega (arith, some_depth on)) (λ m. refl)
+      part_target_same (field_expression line on text) on x k (rk_text 1 text) false [] 1 true 1 first (text_key 1 text k (key_rewritten lefts made 1 text mid behind k is))
+      (operand_named (text_literal 1 text) k is (λ v core. subst (λ (behind : ℕ). Rewritten f g active listed z lefts mid behind (text_literal 1 text) v) (sym core.0) (text_rewritten made 1 text v core.1))) (mentions_passed on has) (sym (append-nil (mentions_in on))) (omega (arith, some_depth on)) (field_indexing line on text) (λ m. refl)
 
 -- ---- all targets
 
@@ -317,6 +334,7 @@ module _ (f : Function) (g : Fn) (active : List Active) (listed : List ℕ) (z :
     pub leaves : left_by_targets ts (lefts before) ≡ lefts behind
     pub makes : behind ≡ made_behind (mentions_in_all targets) before
     pub few : (n : ℕ) → (words_targets (place f.of listed f.short) n (lefts before) ts).levels ≤ 3 * depth_of_expressions targets + 3
+    pub low : f.short ≡ true → formed_expressions targets ≡ true → (m : Maker) → IsAhead g active before (mentions_in_all targets) m → Final (length m.labels) (all_targets (codes_of targets) m).after z → (words_targets (place f.of listed f.short) (length m.constants) (lefts before) ts).levels ≤ room_of_expressions targets
     pub count : length (codes_of targets) ≡ length ts
     pub passes : AskingPasses (mentions_in_all targets) (all_targets (codes_of targets))
     pub same : (m : Maker) → IsAhead g active before (mentions_in_all targets) m → Final (length m.labels) (all_targets (codes_of targets) m).after z →
@@ -339,7 +357,7 @@ and_targets one others = record { value = one.value ∷ others.value; after = ot
 
 module _ {f : Function} {g : Fn} {active : List Active} {listed : List ℕ} {z : Maker} {lefts : ℕ → List (Option Inner)} {before behind : ℕ} where
   pub none_same : behind ≡ before → TargetsSame f g active listed z lefts before behind no_expressions []
-  none_same same = record { can = refl; leaves = ap lefts (sym same); makes = same; few = λ n. omega arith; count = refl; passes = λ m. passed_none; same = λ m ahead final. refl; taken = λ m ahead final. refl; are_places = λ m ahead. tt }
+  none_same same = record { can = refl; leaves = ap lefts (sym same); makes = same; few = λ n. omega arith; low = λ short formed m ahead final. omega arith; count = refl; passes = λ m. passed_none; same = λ m ahead final. refl; taken = λ m ahead final. refl; are_places = λ m ahead. tt }
 
 module _ {f : Function} {g : Fn} {active : List Active} {listed : List ℕ} {z : Maker} {lefts : ℕ → List (Option Inner)} {before mid behind : ℕ} where
   pub more_same : (target : Expression) (targets : Expressions) (t : TargetValue) (ts : List TargetValue) → TargetSame f g active listed z lefts before mid target t → TargetsSame f g active listed z lefts mid behind targets ts →
@@ -349,6 +367,12 @@ module _ {f : Function} {g : Fn} {active : List Active} {listed : List ℕ} {z :
     leaves = ap (left_by_targets ts) first.leaves ∙ others.leaves;
     makes = others.makes ∙ ap (made_behind (mentions_in_all targets)) first.makes ∙ sym (made_both (mentions_in target) (mentions_in_all targets) before);
     few = λ n. omega (arith, first.few n, ap (λ fs. (words_targets at (taken_behind_target t n) fs ts).levels) first.leaves, others.few (taken_behind_target t n));
+    low = λ short formed m ahead final.
+        let one_low = first.low short (first_of_both _ _ formed) m (first_ahead m ahead) (first_final m final) in
+        let other = others.low short (second_of_both (formed_expression target) _ formed) (one m).after (others_ahead m ahead) (others_final m final) in
+        let left = ap (λ fs. (words_targets at (taken_behind_target t (length m.constants)) fs ts).levels) first.leaves in
+        let taken = ap (λ n. (words_targets at n (lefts mid) ts).levels) (first.taken m (first_ahead m ahead) (first_final m final)) in
+        omega (arith, one_low, other, left, taken);
     count = ap suc others.count;
     passes = λ m. passed_then (mentions_in target) (mentions_in_all targets) (first.passes m) (others.passes (one m).after);
     same = λ m ahead final.

@@ -1,5 +1,5 @@
 -- Where a word stands as the scheme lays it down, it is read as its instruction.
-use Rattle.std.proofs.Common.{◌≡◌, ℕ, suc, ◌^◌, ◌<◌, ◌≤◌, nat_lt, nat_le, false, List, Some, None, ap, ◌∙◌, subst, arith, lt-ltb, lt_of_lt_of_le}
+use Rattle.std.proofs.Common.{◌≡◌, ℕ, suc, ◌^◌, ◌<◌, ◌≤◌, nat_lt, nat_le, List, Some, None, ap, ◌∙◌, subst, arith, lt-ltb, lt_of_lt_of_le}
 use Rattle.std.specs.Prelude.{option_and_then, option_map, slice_get, if◌then◌else◌}
 use Rattle.opcode.specs.Reading.{instr_of}
 use Rattle.opcode.specs.declared.op.Op.{Op}
@@ -24,7 +24,6 @@ pub record IsFunction (f : Function) (g : Fn) : Type 0 where
   pub upvalues : (number : ℕ) (chunk : Chunk) → function_at g.functions number ≡ Some chunk → upvalues_in f number ≡ Some (own chunk).upvalues
   -- and its own have the same names
   pub told : f.of.upvalue_names ≡ g.upvalue_names
-  pub natural : f.short ≡ false
   pub short : f.last < 2 ^ 32
   pub few : g.size ≤ 250
 

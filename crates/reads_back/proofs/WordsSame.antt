@@ -3,22 +3,24 @@ use Rattle.std.proofs.Common.{◌≡◌, ℕ, suc, ◌≤◌, Bool, true, false,
 use Rattle.std.proofs.lemmas.Option.{none-some}
 use Rattle.std.specs.Prelude.{◌+◌, ◌||◌, ℤ, not}
 use Rattle.lua_tree.specs.OneLine.{one_line_expression}
+use Rattle.lua_tree.specs.WellFormed.{formed_expression}
 use Rattle.lua_tree.specs.Precedence.{binds, is_right_associative, is_unary, left_binds, level_of, level_of_op, right_binds}
 use Rattle.lua_tree.specs.Syntax.{Expression, binary_expression, and_expression, nil_literal, or_expression, parenthesized, unary_expression}
 use Rattle.lua_tree.specs.declared.tree.BinaryOp.{BinaryOp}
+use Rattle.opcode.specs.declared.op.Op.{Op}
 use Rattle.proto.specs.declared.parts.Constant.{Constant}
 use Rattle.core_expr.specs.Counting.{taken_behind}
 use Rattle.core_expr.specs.Values.{Value, Inner}
 use Rattle.core_expr.specs.Writing.{Wording, is_power, on_left, on_right, unless}
 use Rattle.recover_expr.specs.Situation.{Function}
-use Rattle.scheme.specs.Expressions.{arith_op, fold, fold_binary, fold_unary, in_next_reg, is_multiple, is_name, is_small, literal, local_register, next_reg, number_or, operand, operand_by, plain_literal, register_of, rk, rk_by, small_constant}
+use Rattle.scheme.specs.Expressions.{Want, arith_op, fold, fold_binary, fold_unary, in_next_reg, is_multiple, is_name, is_small, literal, local_register, next_reg, number_or, operand, operand_by, plain_literal, register_of, rk, rk_by, small_constant}
 use Rattle.scheme.specs.Making.{Got, Maker, next_name, pass_name, take_registers}
 use Rattle.scheme.specs.Scheme.{coded}
 use Rattle.scheme.specs.declared.making.Active.{Active}
 use Rattle.scheme_stands.proofs.Growth.{Final, before_take}
 use Rattle.scheme_stands.specs.Words.{Fn}
 use Rattle.reads_back.proofs.Mentions.{IsAhead, mentions_in}
-use Rattle.reads_back.proofs.Rewriting.{Rewritten, code, wording}
+use Rattle.reads_back.proofs.Rewriting.{HasRoom, IsMadeAs, Rewritten, code, wording}
 
 -- ---- on one line
 
@@ -69,6 +71,18 @@ same_local x y m named = ap (λ named. cond named (register_of (next_name m)) No
 -- what is no name is no local
 pub no_local : {A : Type 0} (e : Expression) (r : ℕ) (m : Maker) → is_name e ≡ false → local_register (one_line_expression e) m ≡ Some r → A
 no_local e r m other is = absurd (none-some r (sym (ap (λ named. cond named (register_of (next_name m)) None) (same_name e ∙ other)) ∙ is))
+
+-- how what is no name and gives one value is made
+pub made_plainly : {A : Type 0} {z : Maker} (e : Expression) (m : Maker) → is_name e ≡ false → is_multiple e ≡ false → ((r : ℕ) → Final (length m.labels) ((code e).to_reg r m) z → A) → IsMadeAs e m z → A
+made_plainly e m plain single make (inl (r, final)) = make r final
+made_plainly e m plain single make (inr (inl (r, local))) = no_local e r m plain local
+made_plainly e m plain single make (inr (inr (several, op, want, final))) = absurd (true≢false (sym several ∙ single))
+
+-- how a call is made, or `...`
+pub made_called : {A : Type 0} {z : Maker} (e : Expression) (m : Maker) → is_name e ≡ false → ((r : ℕ) → Final (length m.labels) ((code e).to_reg r m) z → A) → ((op : Op) (want : Want) → Final (length m.labels) ((code e).multi op want m) z → A) → IsMadeAs e m z → A
+made_called e m plain make several (inl (r, final)) = make r final
+made_called e m plain make several (inr (inl (r, local))) = no_local e r m plain local
+made_called e m plain make several (inr (inr (is, op, want, final))) = several op want final
 
 -- ---- a literal as an operand
 
@@ -209,3 +223,15 @@ module _ {f : Function} {g : Fn} {active : List Active} {listed : List ℕ} {z :
       by : (local : Option ℕ) → local_register one_line m ≡ local → length (operand (code e) m).after.constants ≡ taken_behind v (length m.constants)
       by (Some r) is = ap (λ (got : Got ℕ). length got.after.constants) (operand_local one_line r m is) ∙ sym (rewritten.as_local (length m.constants) r m ahead is)
       by None is = ap (λ (got : Got ℕ). length got.after.constants) (operand_next one_line m is) ∙ rewritten.taken m.free m ahead (operand_final one_line m is final)
+
+  -- ---- how many levels it needs
+
+  pub next_low : f.short ≡ true → formed_expression e ≡ true → (m : Maker) → IsAhead g active before (mentions_in e) m → Final (length m.labels) (next_reg (code e) m) z → HasRoom f listed z lefts before (length m.constants) e v
+  next_low short formed m ahead final = rewritten.low short formed m ahead (inl (m.free, before_take 1 ((code e).to_reg m.free m) final))
+
+  pub operand_low : f.short ≡ true → formed_expression e ≡ true → (m : Maker) → IsAhead g active before (mentions_in e) m → Final (length m.labels) (operand (code e) m).after z → HasRoom f listed z lefts before (length m.constants) e v
+  operand_low short formed m ahead final = by (local_register one_line m) refl
+    where
+      by : (local : Option ℕ) → local_register one_line m ≡ local → HasRoom f listed z lefts before (length m.constants) e v
+      by (Some r) is = rewritten.low short formed m ahead (inr (inl (r, is)))
+      by None is = rewritten.low short formed m ahead (inl (m.free, operand_final one_line m is final))

@@ -25,7 +25,7 @@ use Rattle.reads_back.proofs.Tests.{both_hold, first_of_both, given_is, not_so, 
 -- a function that is left is well formed, and no deeper than its levels tell
 pub record IsFineFunction (found : Inner) : Type 0 where
   pub formed : formed_body found.body ≡ true
-  pub shallow : found.levels ≤ 400 → depth_of_body found.body ≤ found.levels
+  pub shallow : found.levels ≤ 1000 → depth_of_body found.body ≤ found.levels
 
 -- each is
 abbrev pub AreFineLeft : List (Option Inner) → Type 0
@@ -35,20 +35,20 @@ AreFineLeft left = EachLeft (λ number found. IsFineFunction found) 0 left
 
 pub record IsFine (w : Wording) : Type 0 where
   pub formed : formed_expression w.words ≡ true
-  pub shallow : w.levels ≤ 400 → depth_of_expression w.words ≤ w.levels
+  pub shallow : w.levels ≤ 1000 → depth_of_expression w.words ≤ w.levels
 
 pub record AreFine (ws : Wordings) : Type 0 where
   pub formed : formed_expressions ws.words ≡ true
-  pub shallow : ws.levels ≤ 400 → depth_of_expressions ws.words ≤ ws.levels
+  pub shallow : ws.levels ≤ 1000 → depth_of_expressions ws.words ≤ ws.levels
 
 record AreGiven (args : ArgumentWording) : Type 0 where
   formed : formed_arguments args.words ≡ true
   on_line : on_its_line args.words 1 1 ≡ true
-  shallow : args.levels ≤ 400 → depth_of_arguments args.words ≤ args.levels
+  shallow : args.levels ≤ 1000 → depth_of_arguments args.words ≤ args.levels
 
 record AreFields (ws : FieldWording) : Type 0 where
   formed : formed_fields ws.words ≡ true
-  shallow : ws.levels ≤ 400 → depth_of_fields ws.words ≤ ws.levels
+  shallow : ws.levels ≤ 1000 → depth_of_fields ws.words ≤ ws.levels
 
 parenthesized_fine : (w : Wording) → IsFine w → IsFine (in_parentheses w)
 parenthesized_fine w fine = record { formed = fine.formed; shallow = λ few. let low = fine.shallow (omega (arith, few)) in omega (arith, low, few) }

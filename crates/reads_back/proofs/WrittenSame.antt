@@ -5,7 +5,8 @@ use Rattle.lua_num.specs.declared.arith.ArithOp.{ArithOp}
 use Rattle.lua_num.specs.Bytes.{Text}
 use Rattle.lua_tree.specs.Syntax as syntax
 use Rattle.lua_tree.specs.Syntax.{Expression, Expressions, argument_list, binary_expression, call_expression, false_literal, field_expression, index_expression, method_call, name_expression, nil_literal, no_expressions, number_literal, parenthesized, text_argument, text_literal, true_literal, unary_expression, vararg_expression, constructor, table_argument, Fields, no_fields, positional, named, keyed, function_expression}
-use Rattle.lua_tree.specs.WellFormed.{depth_of_expression, depth_of_expressions, depth_of_fields}
+use Rattle.lua_tree.specs.WellFormed.{depth_of_expression, depth_of_expressions, depth_of_fields, formed_expression}
+use Rattle.scheme.specs.Shapes.{room_of_expression}
 use Rattle.lua_tree.specs.declared.tree.BinaryOp.{BinaryOp}
 use Rattle.lua_tree.specs.declared.tree.Separator.{Separator}
 use Rattle.lua_tree.specs.declared.tree.UnaryOp.{UnaryOp}
@@ -14,14 +15,14 @@ use Rattle.core_expr.specs.Making.{deepest_item, made_concat}
 use Rattle.core_expr.specs.Values.{Inner, OperandValue, Value, Values, ItemList, and_positional, and_value, no_items, no_values, table_value}
 use Rattle.core_expr.specs.Writing.{as_value, ends_items, ends_values, is_multiple as can_be_several}
 use Rattle.recover_expr.specs.Situation.{Function}
-use Rattle.scheme.specs.Expressions.{arith_op, fold, is_comparison, is_multiple, literal, next_reg, rk, rk_text}
+use Rattle.scheme.specs.Expressions.{arith_op, fold, is_comparison, is_multiple, literal, rk, rk_text}
 use Rattle.scheme.specs.Making.{Maker}
 use Rattle.scheme.specs.declared.making.Active.{Active}
 use Rattle.scheme_stands.specs.Lists.{is_last_item}
 use Rattle.scheme_stands.specs.Words.{Fn}
 use Rattle.reads_back.specs.Cores.{AllHaveCores, HasCore, IsCore, IsFirst, IsFoldedOr, IsOnly, IsOperand, IsOperandBy, IsOperator, IsSpineBy, core, HaveItems, AreItems, IsItem, IsTableGiven, Counted, arithmetic_by, first_and, unary_by, only, still, table_by, AreGiven}
 use Rattle.reads_back.proofs.CallsSame.{call_rewritten, list_within, method_rewritten, table_within, text_within}
-use Rattle.reads_back.proofs.ConcatsSame.{is_joined, code_alone, concat_rewritten, spine_of_first, spine_of_one}
+use Rattle.reads_back.proofs.ConcatsSame.{is_joined, concat_rewritten, spine_of_first, spine_of_one}
 use Rattle.reads_back.proofs.Deeper.{some_depth}
 use Rattle.reads_back.proofs.GivenSame.{AllRewritten, closed_unless, list_rewritten, text_rewritten_given}
 use Rattle.reads_back.proofs.PassedMentions.{mentions_passed}
@@ -99,7 +100,7 @@ module _ (lefts : ℕ → List (Option Inner)) {f : Function} {g : Fn} {active :
       still_rewritten (unary_expression line op e) before behind v is.0 (number_rewritten made (unary_expression line op e) n v (folded_whole (unary_expression line op e) has n folded) folded is.1)
   unary_of None line op e before behind v folded has of is = unary_rewritten line op e is.0 v folded (of.value before behind is.0 is.1) is.2
 
-  only_of : (e : Expression) → ((before behind : ℕ) (v : Value) → IsCore g active e before behind v → Rewritten f g active listed z lefts before behind e v) → ((m : Maker) → (code e).spine m ≡ next_reg (code e) m) →
+  only_of : (e : Expression) → ((before behind : ℕ) (v : Value) → IsCore g active e before behind v → Rewritten f g active listed z lefts before behind e v) → is_joined e ≡ false →
       (before behind : ℕ) (vs : Values) → only (IsCore g active e) before behind vs → RewrittenSpine f g active listed z lefts before behind e vs
   only_of e value alone before behind vs is = subst (RewrittenSpine f g active listed z lefts before behind e) (sym is.2) (spine_of_one e is.0 (value before behind is.0 is.1) alone)
 
@@ -109,17 +110,17 @@ module _ (lefts : ℕ → List (Option Inner)) {f : Function} {g : Fn} {active :
   spine_by BinaryOp.Concat line l r has first second value before behind vs (mid, (one, rest, core, are, is)) =
       subst (RewrittenSpine f g active listed z lefts before behind (binary_expression line BinaryOp.Concat l r)) (sym is)
       (spine_of_first line l r one rest (first.value before mid one core) (second.spine mid behind rest are) (spine_some g active r mid behind rest are) (mentions_passed l has))
-  spine_by BinaryOp.Add line l r has first second value before behind vs is = only_of (binary_expression line BinaryOp.Add l r) value (code_alone (binary_expression line BinaryOp.Add l r) refl) before behind vs is
-  spine_by BinaryOp.Sub line l r has first second value before behind vs is = only_of (binary_expression line BinaryOp.Sub l r) value (code_alone (binary_expression line BinaryOp.Sub l r) refl) before behind vs is
-  spine_by BinaryOp.Mul line l r has first second value before behind vs is = only_of (binary_expression line BinaryOp.Mul l r) value (code_alone (binary_expression line BinaryOp.Mul l r) refl) before behind vs is
-  spine_by BinaryOp.Div line l r has first second value before behind vs is = only_of (binary_expression line BinaryOp.Div l r) value (code_alone (binary_expression line BinaryOp.Div l r) refl) before behind vs is
-  spine_by BinaryOp.Rem line l r has first second value before behind vs is = only_of (binary_expression line BinaryOp.Rem l r) value (code_alone (binary_expression line BinaryOp.Rem l r) refl) before behind vs is
-  spine_by BinaryOp.Pow line l r has first second value before behind vs is = only_of (binary_expression line BinaryOp.Pow l r) value (code_alone (binary_expression line BinaryOp.Pow l r) refl) before behind vs is
-  spine_by op line l r has first second value before behind vs is = only_of (binary_expression line op l r) value (code_alone (binary_expression line op l r) refl) before behind vs is
+  spine_by BinaryOp.Add line l r has first second value before behind vs is = only_of (binary_expression line BinaryOp.Add l r) value refl before behind vs is
+  spine_by BinaryOp.Sub line l r has first second value before behind vs is = only_of (binary_expression line BinaryOp.Sub l r) value refl before behind vs is
+  spine_by BinaryOp.Mul line l r has first second value before behind vs is = only_of (binary_expression line BinaryOp.Mul l r) value refl before behind vs is
+  spine_by BinaryOp.Div line l r has first second value before behind vs is = only_of (binary_expression line BinaryOp.Div l r) value refl before behind vs is
+  spine_by BinaryOp.Rem line l r has first second value before behind vs is = only_of (binary_expression line BinaryOp.Rem l r) value refl before behind vs is
+  spine_by BinaryOp.Pow line l r has first second value before behind vs is = only_of (binary_expression line BinaryOp.Pow l r) value refl before behind vs is
+  spine_by op line l r has first second value before behind vs is = only_of (binary_expression line op l r) value refl before behind vs is
 
   alone_all : (e : Expression) → is_joined e ≡ false → ((before behind : ℕ) (v : Value) → IsCore g active e before behind v → Rewritten f g active listed z lefts before behind e v) →
       ((before behind : ℕ) (vs : Values) → (core g active e).spine before behind vs → only (IsCore g active e) before behind vs) → RewrittenAll e
-  alone_all e alone value is_only = record { value = value; spine = λ before behind vs is. only_of e value (code_alone e alone) before behind vs (is_only before behind vs is) }
+  alone_all e alone value is_only = record { value = value; spine = λ before behind vs is. only_of e value alone before behind vs (is_only before behind vs is) }
 
   -- what makes no function, alone
   still_all : (e : Expression) → is_joined e ≡ false → (Is : Value → Type 0) → ((before behind : ℕ) (v : Value) → IsCore g active e before behind v → still Is before behind v) → ((before : ℕ) (v : Value) → Is v → Rewritten f g active listed z lefts before before e v) →
@@ -195,26 +196,26 @@ module _ (lefts : ℕ → List (Option Inner)) {f : Function} {g : Fn} {active :
         alone_all (call_expression line on (argument_list es) on_line) refl
         (λ before behind v is.
         let parts = is.1 in
-        call_rewritten made on (argument_list es) line on_line (depth_of_expressions es) parts.0 parts.1 parts.2 v has.0 (first.value before is.0 parts.0 parts.3) (list_rewritten lefts made es is.0 behind parts.1 parts.2 has.1 each parts.4.0 parts.4.1) (list_within on es) parts.5) (λ before behind vs is. is)
+        call_rewritten made on (argument_list es) line on_line (depth_of_expressions es) parts.0 parts.1 parts.2 v has.0 (first.value before is.0 parts.0 parts.3) (list_rewritten lefts made es is.0 behind parts.1 parts.2 has.1 each parts.4.0 parts.4.1) (list_within on es) (omega (arith, few)) parts.5) (λ before behind vs is. is)
     rewritten_all (call_expression line on (text_argument text) on_line) has few =
         let first = rewritten_all on has.0 (omega (arith, few)) in
         alone_all (call_expression line on (text_argument text) on_line) refl
         (λ before behind v is.
         let parts = is.1 in
-        call_rewritten made on (text_argument text) line on_line 1 parts.0 parts.1 parts.2 v has.0 (first.value before is.0 parts.0 parts.3) (string_given text is.0 behind parts.1 parts.2 parts.4) (text_within on text) parts.5) (λ before behind vs is. is)
+        call_rewritten made on (text_argument text) line on_line 1 parts.0 parts.1 parts.2 v has.0 (first.value before is.0 parts.0 parts.3) (string_given text is.0 behind parts.1 parts.2 parts.4) (text_within on text) (omega arith) parts.5) (λ before behind vs is. is)
     rewritten_all (method_call line on name (argument_list es) on_line) has few =
         let first = rewritten_all on has.1 (omega (arith, few)) in
         let each = each_rewritten es has.2 (omega (arith, few)) in
         alone_all (method_call line on name (argument_list es) on_line) refl
         (λ before behind v is.
         let parts = is.1 in
-        method_rewritten made on (argument_list es) line on_line (depth_of_expressions es) parts.1 name parts.0 parts.2 parts.3 v has.1 (first.value before is.0 parts.0 parts.4) (list_rewritten lefts made es is.0 behind parts.2 parts.3 has.2 each parts.6.0 parts.6.1) (list_within on es) parts.5 has.0 parts.7) (λ before behind vs is. is)
+        method_rewritten made on (argument_list es) line on_line (depth_of_expressions es) parts.1 name parts.0 parts.2 parts.3 v has.1 (first.value before is.0 parts.0 parts.4) (list_rewritten lefts made es is.0 behind parts.2 parts.3 has.2 each parts.6.0 parts.6.1) (list_within on es) (omega (arith, few)) parts.5 has.0 parts.7) (λ before behind vs is. is)
     rewritten_all (method_call line on name (text_argument text) on_line) has few =
         let first = rewritten_all on has.1 (omega (arith, few)) in
         alone_all (method_call line on name (text_argument text) on_line) refl
         (λ before behind v is.
         let parts = is.1 in
-        method_rewritten made on (text_argument text) line on_line 1 parts.1 name parts.0 parts.2 parts.3 v has.1 (first.value before is.0 parts.0 parts.4) (string_given text is.0 behind parts.2 parts.3 parts.6) (text_within on text) parts.5 has.0 parts.7) (λ before behind vs is. is)
+        method_rewritten made on (text_argument text) line on_line 1 parts.1 name parts.0 parts.2 parts.3 v has.1 (first.value before is.0 parts.0 parts.4) (string_given text is.0 behind parts.2 parts.3 parts.6) (text_within on text) (omega arith) parts.5 has.0 parts.7) (λ before behind vs is. is)
     rewritten_all (binary_expression line op l r) has few =
         let first = rewritten_all l has.1 (omega (arith, few)) in
         let second = rewritten_all r has.2 (omega (arith, few)) in
@@ -230,20 +231,20 @@ module _ (lefts : ℕ → List (Option Inner)) {f : Function} {g : Fn} {active :
         (λ before behind v is.
         let parts = is.1 in
         call_rewritten made on (table_argument fields) line on_line (depth_of_fields fields) parts.0 parts.1 parts.2 v has.0 (first.value before is.0 parts.0 parts.3)
-        (table_given fields is.0 behind parts.1 parts.2 (items_rewritten fields has.1 (omega (arith, few)) (depth_of_fields fields) (omega arith)) parts.4) (table_within on fields) parts.5) (λ before behind vs is. is)
+        (table_given fields is.0 behind parts.1 parts.2 (items_rewritten fields has.1 (omega (arith, few)) (depth_of_fields fields) (omega arith)) parts.4) (table_within on fields) (omega (arith, few)) parts.5) (λ before behind vs is. is)
     rewritten_all (method_call line on name (table_argument fields) on_line) has few =
         let first = rewritten_all on has.1 (omega (arith, few)) in
         alone_all (method_call line on name (table_argument fields) on_line) refl
         (λ before behind v is.
         let parts = is.1 in
         method_rewritten made on (table_argument fields) line on_line (depth_of_fields fields) parts.1 name parts.0 parts.2 parts.3 v has.1 (first.value before is.0 parts.0 parts.4)
-        (table_given fields is.0 behind parts.2 parts.3 (items_rewritten fields has.2 (omega (arith, few)) (depth_of_fields fields) (omega arith)) parts.6) (table_within on fields) parts.5 has.0 parts.7) (λ before behind vs is. is)
+        (table_given fields is.0 behind parts.2 parts.3 (items_rewritten fields has.2 (omega (arith, few)) (depth_of_fields fields) (omega arith)) parts.6) (table_within on fields) (omega (arith, few)) parts.5 has.0 parts.7) (λ before behind vs is. is)
     rewritten_all (constructor line fields) has few =
         alone_all (constructor line fields) refl (table_alone line fields (items_rewritten fields has (omega (arith, few)) (depth_of_fields fields) (omega arith))) (λ before behind vs is. is)
     rewritten_all (parenthesized line e) has few =
         let of = rewritten_all e has (omega (arith, few)) in
         alone_all (parenthesized line e) refl (λ before behind v is. parenthesized_rewritten line e v (of.value before behind v is)) (λ before behind vs is. is)
-    rewritten_all (function_expression line body) has few = alone_all (function_expression line body) refl (λ before behind v is. function_rewritten made again line body before behind v has is) (λ before behind vs is. is)
+    rewritten_all (function_expression line body) has few = alone_all (function_expression line body) refl (λ before behind v is. function_rewritten made again line body before behind v has (omega (arith, few)) is) (λ before behind vs is. is)
     rewritten_all e has few = absurd has
 
     items_rewritten : (fields : Fields) → HaveItems fields → depth_of_fields fields ≤ 200 → (deep : ℕ) → depth_of_fields fields ≤ deep →
@@ -264,7 +265,7 @@ module _ (lefts : ℕ → List (Option Inner)) {f : Function} {g : Fn} {active :
         let item = rewritten_all e has.0 (omega (arith, few)) in
         let others = items_rewritten rest has.1 (omega (arith, few)) deep (omega (arith, low)) last behind more all are in
         subst (λ (items : ItemList). RewrittenItems f g active listed z lefts before behind (named text e separator rest) deep items all) (sym is)
-        (keyed_rewritten (named text e separator rest) (rk_text 1 text) [] e rest key of more all deep (named_keyed text e separator rest) (mentions_passed e has.0)
+        (keyed_rewritten (named text e separator rest) (rk_text 1 text) [] e rest key of more all deep true 1 (named_keyed text e separator rest) (mentions_passed e has.0)
         (key_deeper (omega (arith, low, some_depth e)) (text_key 1 text key (key_rewritten lefts made 1 text before mid key is_key)))
         (operand_rewritten lefts made e mid last of has.0 is_item (item.value mid last)) (omega (arith, low)) others)
     items_rewritten (keyed key e separator rest) has few deep low before behind items all (mid, last, (by, of, more, is_key, is_item, are, is)) =
@@ -272,7 +273,7 @@ module _ (lefts : ℕ → List (Option Inner)) {f : Function} {g : Fn} {active :
         let item = rewritten_all e has.1 (omega (arith, few)) in
         let others = items_rewritten rest has.2 (omega (arith, few)) deep (omega (arith, low)) last behind more all are in
         subst (λ (items : ItemList). RewrittenItems f g active listed z lefts before behind (keyed key e separator rest) deep items all) (sym is)
-        (keyed_rewritten (keyed key e separator rest) (rk (code key)) (mentions_in key) e rest by of more all deep (keyed_keyed key e separator rest) (mentions_passed e has.1)
+        (keyed_rewritten (keyed key e separator rest) (rk (code key)) (mentions_in key) e rest by of more all deep (formed_expression key) (room_of_expression key) (keyed_keyed key e separator rest) (mentions_passed e has.1)
         (key_deeper (omega (arith, low)) (expression_key key by (mentions_passed key has.0) (operand_rewritten lefts made key before mid by has.0 is_key (first.value before mid))))
         (operand_rewritten lefts made e mid last of has.1 is_item (item.value mid last)) (omega (arith, low)) others)
 

@@ -21,7 +21,7 @@ use Rattle.scheme_stands.specs.Words.{Fn, Means, is_among}
 use Rattle.proto.specs.Chunk.{own}
 use Rattle.reads_back.specs.Coming.{Coming, IsOwnNext}
 use Rattle.reads_back.specs.Cores.{Counted, HasNumber, core, IsCore, first_and, AreCores, IsOperand, IsKey, ends_open, IsPlainBody}
-use Rattle.reads_back.specs.Straight.{IsActTargetBy, AreActTargetsBy, AssignsBy, IsActBy, StatementBeginsWithName}
+use Rattle.reads_back.specs.Straight.{IsActTargetBy, AreActTargetsBy, AssignsBy, IsActBy, StatementIndexesNoTable}
 
 -- a call as a statement; values that go to targets, locals that are declared with values, or a return of values, where the last one gives all its values or one; behind the values that go to targets an operand may stand that goes to the last target, a part of a table
 pub data Acted : Type 0 where
@@ -276,7 +276,7 @@ IsAct s = IsActBy IsPlainBody s
 -- statements that are acts, with no function statements
 abbrev pub AreActsBy : (FunctionBody → Type 0) → Statements → Type 0
 AreActsBy P no_statements = Unit {0}
-AreActsBy P (syntax.statement line semi s rest) = (IsActBy P s × StatementBeginsWithName s) × AreActsBy P rest
+AreActsBy P (syntax.statement line semi s rest) = (IsActBy P s × StatementIndexesNoTable s) × AreActsBy P rest
 
 abbrev pub AreActs : Statements → Type 0
 AreActs block = AreActsBy IsPlainBody block

@@ -4,7 +4,7 @@ use Rattle.lua_num.specs.Bytes.{Text}
 use Rattle.lua_tree.specs.Syntax as syntax
 use Rattle.lua_tree.specs.OneLine.{one_line_body}
 use Rattle.lua_tree.specs.Syntax.{FunctionBody, Expressions, no_expressions, Arguments, argument_list, text_argument, table_argument, Expression, nil_literal, true_literal, false_literal, vararg_expression, number_literal, text_literal, name_expression, function_expression, index_expression, field_expression, call_expression, method_call, and_expression, or_expression, binary_expression, unary_expression, constructor, parenthesized, Fields, no_fields, positional, named, keyed}
-use Rattle.lua_tree.specs.WellFormed.{depth_of_body, formed_body}
+use Rattle.lua_tree.specs.WellFormed.{formed_body}
 use Rattle.lua_tree.specs.declared.tree.BinaryOp.{BinaryOp}
 use Rattle.lua_tree.specs.declared.tree.UnaryOp.{UnaryOp}
 use Rattle.proto.specs.Constants.{constant_number}
@@ -265,13 +265,12 @@ IsOperand g active e = IsOperandBy (literal e) g (IsCore g active e)
 
 -- ---- expressions that have one
 
--- a function as it is read: straight, well formed and on one line, with few levels
+-- a function as it is read: straight, well formed and on one line
 pub record IsPlainBody (body : FunctionBody) : Type 0 where
   pub deep : ℕ
   pub straight : IsStraightBody deep body
   pub formed : formed_body body ≡ true
   pub on_line : one_line_body body ≡ body
-  pub shallow : depth_of_body body ≤ 65
 
 abbrev pub HasCore : Expression → Type 0
 HasCore e = HasCoreBy IsPlainBody e

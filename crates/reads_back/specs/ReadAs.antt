@@ -45,16 +45,15 @@ abbrev pub parts_of : Statements → List Part
 parts_of no_statements = []
 parts_of (statement line semi s rest) = part_of s ∷ parts_of rest
 
--- its levels are enough for the statement, and no more than so many
-pub record IsStepOf (count most : ℕ) (s : Statement) (step : Step) : Type 0 where
+-- its levels are enough for the statement
+pub record IsStepOf (count : ℕ) (s : Statement) (step : Step) : Type 0 where
   pub kind : IsKindOf count s step.kind
   pub enough : suc (depth_of_statement s) ≤ step.levels
-  pub levels : step.levels ≤ most
 
-abbrev pub AreStepsOf : (count most : ℕ) → Statements → List Step → Type 0
-AreStepsOf count most no_statements steps = steps ≡ []
-AreStepsOf count most (statement line semi s rest) [] = ⊥
-AreStepsOf count most (statement line semi s rest) (step ∷ steps) = IsStepOf count most s step × AreStepsOf count most rest steps
+abbrev pub AreStepsOf : (count : ℕ) → Statements → List Step → Type 0
+AreStepsOf count no_statements steps = steps ≡ []
+AreStepsOf count (statement line semi s rest) [] = ⊥
+AreStepsOf count (statement line semi s rest) (step ∷ steps) = IsStepOf count s step × AreStepsOf count rest steps
 
 -- the levels of the step that needs most
 abbrev pub most_levels : List Step → ℕ
@@ -63,10 +62,15 @@ most_levels (step ∷ steps) = max step.levels (most_levels steps)
 
 -- ---- functions
 
--- statements on line 1, without semicolons, of which none begins with a parenthesis
+-- the first of these statements begins with a parenthesis
+abbrev pub begin_with_paren : Statements → Bool
+begin_with_paren no_statements = false
+begin_with_paren (statement line semi s rest) = statement_begins_with_paren s
+
+-- statements on line 1, with a semicolon alone before one that begins with a parenthesis
 abbrev pub ArePlain : Statements → Type 0
 ArePlain no_statements = Unit {0}
-ArePlain (statement line semi s rest) = (line ≡ 1) × (semi ≡ false) × (statement_begins_with_paren s ≡ false) × ArePlain rest
+ArePlain (statement line semi s rest) = (line ≡ 1) × (semi ≡ begin_with_paren rest) × ArePlain rest
 
 -- the line of each word and the name of each upvalue are told
 pub record IsTold (f : Own) : Type 0 where
@@ -77,40 +81,45 @@ pub record IsTold (f : Own) : Type 0 where
 abbrev pub is_vararg : Own → Bool
 is_vararg f = not (f.flags == 0)
 
--- the words of a function are read, where these functions are left to it, as the statements of a body, one step each, with no more levels than a tree may have
-pub record IsReadFrom (chunk : Chunk) (left : List (Option Inner)) (found : Inner) : Type 0 where
+-- the words of a function are read, where these functions are left to it, as the statements of a body, one step each; in the forms of fewest levels these are no more than a tree may have
+pub record IsReadFrom (short : Bool) (chunk : Chunk) (left : List (Option Inner)) (found : Inner) : Type 0 where
   pub told : IsTold (own chunk)
   pub steps : Steps
   pub written : Statements
-  pub read : read_steps chunk left false ≡ Some steps
+  pub read : read_steps chunk left short ≡ Some steps
   pub parts : steps.parts ≡ parts_of written
-  pub are : AreStepsOf (length steps.steps) 200 written steps.steps
+  pub are : AreStepsOf (length steps.steps) written steps.steps
   pub plain : ArePlain written
   pub formed : formed_statements written ≡ true
   pub body : found.body ≡ function_body steps.params (is_vararg (own chunk)) written 1 1
   pub levels : found.levels ≡ most_levels steps.steps
+  pub low : short ≡ true → found.levels ≤ 200
 
 -- and those of each function in it, which are left to it by their numbers, where no more than so many stand in one another
 abbrev mutual
-  pub IsRead : (deep : ℕ) → Chunk → Inner → Type 0
-  IsRead zero chunk found = ⊥
-  IsRead (suc deep) (function f inner) found = (left : List (Option Inner)) × AreRead deep inner left × IsReadFrom (function f inner) left found
+  pub IsRead : (short : Bool) → (deep : ℕ) → Chunk → Inner → Type 0
+  IsRead short zero chunk found = ⊥
+  IsRead short (suc deep) (function f inner) found = (left : List (Option Inner)) × AreRead short deep inner left × IsReadFrom short (function f inner) left found
 
-  pub AreRead : (deep : ℕ) → Functions → List (Option Inner) → Type 0
-  AreRead deep no_functions left = left ≡ []
-  AreRead deep (and_function c rest) left = (found : Inner) × (others : List (Option Inner)) × IsRead deep c found × AreRead deep rest others × (left ≡ Some found ∷ others)
+  pub AreRead : (short : Bool) → (deep : ℕ) → Functions → List (Option Inner) → Type 0
+  AreRead short deep no_functions left = left ≡ []
+  AreRead short deep (and_function c rest) left = (found : Inner) × (others : List (Option Inner)) × IsRead short deep c found × AreRead short deep rest others × (left ≡ Some found ∷ others)
 
 -- ---- sources
 
--- the chunk tells the name of its source; and what its words are read as is a tree that keeps the rules of form, and is alike to the source in all else
-pub record IsSourceRead (source : Source) (chunk : Chunk) : Type 0 where
-  pub named : IsSome (own chunk).source
+-- in these forms the words of a chunk are read as a tree that keeps the rules of form, where it is not too deep, and is alike to the source in all else
+pub record IsSourceReadAs (short : Bool) (source : Source) (chunk : Chunk) : Type 0 where
   pub found : Inner
-  pub read : IsRead 67 chunk found
+  pub read : IsRead short 201 chunk found
   pub tree : Source
   pub body : found.body ≡ function_body [] true tree.body 1 1
-  pub formed : WellFormed tree
+  pub formed : found.levels ≤ 200 → WellFormed tree
   pub alike : AreAlike source tree
+
+-- the chunk tells the name of its source, and is read in natural forms and in those of fewest levels
+pub record IsSourceRead (source : Source) (chunk : Chunk) : Type 0 where
+  pub named : IsSome (own chunk).source
+  pub read : (short : Bool) → IsSourceReadAs short source chunk
 
 -- 32 bits count the entries of each list, as they do in every chunk that is built: no pc is read that is a greater number
 abbrev pub StraightSourcesAreRead : Type 0

@@ -1,10 +1,11 @@
 -- To be believed. Straight sources: calls, assignments, function statements, local functions and declarations of locals, one after the other, and maybe a return at the end; and so in each function that stands in one.
-use Rattle.std.specs.Prelude.{◌≡◌, ◌≤◌, ℕ, zero, suc, true, length, false}
+use Rattle.std.specs.Prelude.{◌≡◌, ◌≤◌, ℕ, zero, suc, Bool, true, length, false}
 use Rattle.lua_tree.specs.Names.{are_some_names, is_name}
 use Rattle.lua_tree.specs.Syntax as syntax
 use Rattle.lua_tree.specs.Syntax.{FunctionBody, function_body, Expression, Expressions, no_expressions, Source, Statement, Statements, Arguments, argument_list, text_argument, table_argument, Fields, no_fields, positional, named, keyed, nil_literal, true_literal, false_literal, vararg_expression, number_literal, text_literal, name_expression, function_expression, index_expression, field_expression, call_expression, method_call, binary_expression, unary_expression, constructor, parenthesized, assignment, call_statement, function_statement, local_function, local_statement, no_statements, return_statement}
-use Rattle.lua_tree.specs.WellFormed.{depth_of_statements, has_expressions, is_call, is_numeral_value}
+use Rattle.lua_tree.specs.WellFormed.{has_expressions, is_call, is_numeral_value}
 use Rattle.scheme.specs.Expressions.{is_comparison}
+use Rattle.scheme.specs.Shapes.{Room}
 
 -- ---- expressions: no `and`, `or` and comparisons
 
@@ -71,28 +72,25 @@ IsActBy P (local_function text body) = (is_name text ≡ true) × P body
 IsActBy P (return_statement es) = AllHaveCoresBy P es
 IsActBy P statement = ⊥
 
--- what is called, indexed or assigned to begins with a name, in parentheses or not
-abbrev pub BeginsWithName : Expression → Type 0
-BeginsWithName (name_expression line text) = Unit {0}
-BeginsWithName (index_expression line on key) = BeginsWithName on
-BeginsWithName (field_expression line on text) = BeginsWithName on
-BeginsWithName (call_expression line on args on_line) = BeginsWithName on
-BeginsWithName (method_call line on name args on_line) = BeginsWithName on
-BeginsWithName (parenthesized line e) = BeginsWithName e
-BeginsWithName e = ⊥
+-- a constructor, in parentheses or not
+abbrev pub is_constructor : Expression → Bool
+is_constructor (constructor line items) = true
+is_constructor (parenthesized line e) = is_constructor e
+is_constructor e = false
 
-abbrev pub AllBeginWithName : Expressions → Type 0
-AllBeginWithName no_expressions = Unit {0}
-AllBeginWithName (syntax.expression e es) = BeginsWithName e × AllBeginWithName es
+-- what a target indexes is no constructor
+abbrev pub IndexesNoTable : Expression → Type 0
+IndexesNoTable (index_expression line on key) = is_constructor on ≡ false
+IndexesNoTable (field_expression line on text) = is_constructor on ≡ false
+IndexesNoTable e = Unit {0}
 
-abbrev pub StatementBeginsWithName : Statement → Type 0
-StatementBeginsWithName (call_statement e) = BeginsWithName e
-StatementBeginsWithName (assignment targets es) = AllBeginWithName targets
-StatementBeginsWithName (local_statement names es) = Unit {0}
-StatementBeginsWithName (local_function text body) = Unit {0}
-StatementBeginsWithName (return_statement es) = Unit {0}
-StatementBeginsWithName (function_statement path method body) = Unit {0}
-StatementBeginsWithName statement = ⊥
+abbrev pub AllIndexNoTables : Expressions → Type 0
+AllIndexNoTables no_expressions = Unit {0}
+AllIndexNoTables (syntax.expression e es) = IndexesNoTable e × AllIndexNoTables es
+
+abbrev pub StatementIndexesNoTable : Statement → Type 0
+StatementIndexesNoTable (assignment targets es) = AllIndexNoTables targets
+StatementIndexesNoTable statement = Unit {0}
 
 -- ---- blocks, functions and sources
 
@@ -101,18 +99,18 @@ abbrev pub IsStraightStatementBy : (FunctionBody → Type 0) → Statement → T
 IsStraightStatementBy P (function_statement path method body) = (length path ≤ 64) × P body
 IsStraightStatementBy P s = IsActBy P s
 
--- each is such and begins with a name, where the functions in them are such
+-- each is such, and none stores to an element of a constructor, where the functions in them are such
 abbrev pub AreStraightBy : (FunctionBody → Type 0) → Statements → Type 0
 AreStraightBy P no_statements = Unit {0}
-AreStraightBy P (syntax.statement line semi s rest) = (IsStraightStatementBy P s × StatementBeginsWithName s) × AreStraightBy P rest
+AreStraightBy P (syntax.statement line semi s rest) = (IsStraightStatementBy P s × StatementIndexesNoTable s) × AreStraightBy P rest
 
 -- a function with a straight block, where no more than so many stand in one another
 abbrev pub IsStraightBody : (deep : ℕ) → FunctionBody → Type 0
 IsStraightBody zero body = ⊥
 IsStraightBody (suc deep) (function_body params vararg block first last) = AreStraightBy (IsStraightBody deep) block
 
--- with fewer than a third of the levels that a tree may have
+-- with room: numerals and folded expressions count for four levels
 pub record Straight (source : Source) : Type 0 where
   pub deep : ℕ
   pub acts : AreStraightBy (IsStraightBody deep) source.body
-  pub shallow : depth_of_statements source.body ≤ 66
+  pub room : Room source

@@ -1,12 +1,12 @@
 -- Statements of steps, a return among them, are built one behind the other.
-use Rattle.std.proofs.Common.{◌≡◌, ◌∙◌, refl, sym, ap, ℕ, zero, suc, ◌+◌, ◌<◌, true, false, List, [], ◌∷◌, slice_get, slice_set, Some, add-one, arith, if◌then◌else◌}
+use Rattle.std.proofs.Common.{◌≡◌, ◌∙◌, refl, sym, ap, ℕ, zero, suc, ◌+◌, ◌<◌, Bool, true, false, List, [], ◌∷◌, slice_get, slice_set, Some, add-one, arith, if◌then◌else◌}
 use Rattle.std.specs.Prelude.{option_map, option_and_then}
 use Rattle.lua_tree.specs.Joins.{join_statements}
 use Rattle.lua_tree.specs.Syntax.{Statements, no_statements, statement, Statement, return_statement, Expressions}
 use Rattle.recover_expr.specs.Drafts.{Part, nothing_part}
 use Rattle.recover_expr.specs.declared.steps.Step.{Step}
 use Rattle.recover_expr.specs.declared.steps.StepKind.{StepKind}
-use Rattle.recover_flow.specs.Acts.{AreStepsOf, plan_of, plans_of, NoneOpen, is_return, is_return_step, part_of_statement, parts_of_statements, without_semicolons, ActsAreBuilt}
+use Rattle.recover_flow.specs.Acts.{AreStepsOf, begin_open, plan_of, plans_of, is_return, is_return_step, part_of_statement, parts_of_statements, with_separators, ActsAreBuilt}
 use Rattle.recover_flow.specs.Built.{built_from, built_plan, in_block}
 use Rattle.recover_flow.specs.Parts.{begins_open, separated, appended, left_without, part_or_nothing, statement_in, values_in}
 use Rattle.recover_flow.specs.Plans.{Plans, step_plan, end_plan}
@@ -62,13 +62,31 @@ plan_built kind made step parts same there =
 
 -- ---- what is appended
 
--- no semicolon stands before it
-plainly_appended : (before : Statements) (kind : Statement) → begins_open kind ≡ false → appended before kind ≡ join_statements before (statement 1 false kind no_statements)
-plainly_appended before kind closed = ap (λ b. join_statements (if b then separated before else before) (statement 1 false kind no_statements)) closed
+-- statements, with a semicolon behind the last one where this holds
+abbrev separated_where : Bool → Statements → Statements
+separated_where true before = separated before
+separated_where false before = before
 
-one_more_behind : (before more : Statements) (kind : Statement) → join_statements (join_statements before (statement 1 false kind no_statements)) more ≡ join_statements before (statement 1 false kind more)
-one_more_behind no_statements more kind = refl
-one_more_behind (statement line semicolon first rest) more kind = ap (statement line semicolon first) (one_more_behind rest more kind)
+separated_last : (before : Statements) (kind : Statement) → separated (join_statements before (statement 1 false kind no_statements)) ≡ join_statements before (statement 1 true kind no_statements)
+separated_last no_statements kind = refl
+separated_last (statement line semicolon first no_statements) kind = refl
+separated_last (statement line semicolon first (statement line' semicolon' second rest)) kind = ap (statement line semicolon first) (separated_last (statement line' semicolon' second rest) kind)
+
+one_more_behind : (before more : Statements) (semicolon : Bool) (kind : Statement) → join_statements (join_statements before (statement 1 semicolon kind no_statements)) more ≡ join_statements before (statement 1 semicolon kind more)
+one_more_behind no_statements more semicolon kind = refl
+one_more_behind (statement line separator first rest) more semicolon kind = ap (statement line separator first) (one_more_behind rest more semicolon kind)
+
+-- the last one is separated where what stands behind it begins with a parenthesis
+last_separated : (separate : Bool) (before more : Statements) (kind : Statement) → join_statements (separated_where separate (join_statements before (statement 1 false kind no_statements))) more ≡ join_statements before (statement 1 separate kind more)
+last_separated true before more kind = ap (λ before. join_statements before more) (separated_last before kind) ∙ one_more_behind before more true kind
+last_separated false before more kind = one_more_behind before more false kind
+
+is_appended : (before : Statements) (kind : Statement) → appended before kind ≡ join_statements (separated_where (begins_open kind) before) (statement 1 false kind no_statements)
+is_appended before kind = by (begins_open kind)
+  where
+    by : (separate : Bool) → join_statements (if separate then separated before else before) (statement 1 false kind no_statements) ≡ join_statements (separated_where separate before) (statement 1 false kind no_statements)
+    by true = refl
+    by false = refl
 
 none_behind : (before : Statements) → join_statements before no_statements ≡ before
 none_behind no_statements = refl
@@ -77,20 +95,27 @@ none_behind (statement line semicolon first rest) = ap (statement line semicolon
 -- ---- all of them
 
 -- statements behind others
-built_behind : (statements before : Statements) (steps : List Step) (step : ℕ) (parts : List Part) → NoneOpen statements → AreStepsOf statements steps → StandFrom step statements parts
-    → (behind : List Part) × (built_from before (plans_of step steps) parts ≡ Some (join_statements before (without_semicolons statements), behind))
-built_behind no_statements before steps step parts closed are stand =
+built_behind : (statements before : Statements) (steps : List Step) (step : ℕ) (parts : List Part) → AreStepsOf statements steps → StandFrom step statements parts
+    → (behind : List Part) × (built_from before (plans_of step steps) parts ≡ Some (join_statements (separated_where (begin_open statements) before) (with_separators statements), behind))
+built_behind no_statements before steps step parts are stand =
     (parts, ap (λ left. built_from before (plans_of step left) parts) are ∙ ap (λ s. Some (s, parts)) (sym (none_behind before)))
-built_behind (statement line semicolon kind rest) before [] step parts closed are stand = absurd are
-built_behind (statement line semicolon kind rest) before (first ∷ steps) step parts closed are stand =
+built_behind (statement line semicolon kind rest) before [] step parts are stand = absurd are
+built_behind (statement line semicolon kind rest) before (first ∷ steps) step parts are stand =
     let later : Plans = plans_of (step + 1) steps in
-    let made = built_behind rest (join_statements before (statement 1 false kind no_statements)) steps (step + 1) (left_without step parts) closed.1 are.1 (still_stand rest parts step (step + 1) (omega arith) stand.1) in (
+    let front = separated_where (begins_open kind) before in
+    let made = built_behind rest (join_statements front (statement 1 false kind no_statements)) steps (step + 1) (left_without step parts) are.1 (still_stand rest parts step (step + 1) (omega arith) stand.1) in (
       made.0,
       ap (λ o. option_and_then (λ taken. built_from (appended before taken.0) later taken.1) o) (plan_built kind first.kind step parts are.0 stand.0)
-          ∙ ap (λ s. built_from s later (left_without step parts)) (plainly_appended before kind closed.0)
+          ∙ ap (λ s. built_from s later (left_without step parts)) (is_appended before kind)
           ∙ made.1
-          ∙ ap (λ s. Some (s, made.0)) (one_more_behind before (without_semicolons rest) kind),
+          ∙ ap (λ s. Some (s, made.0)) (last_separated (begin_open rest) front (with_separators rest) kind),
     )
 
 pub acts_built : ActsAreBuilt
-acts_built statements steps closed are = built_behind statements no_statements steps 0 (parts_of_statements statements) closed are (stand_first statements)
+acts_built statements steps are =
+    let made = built_behind statements no_statements steps 0 (parts_of_statements statements) are (stand_first statements) in
+    (made.0, made.1 ∙ ap (λ s. Some (s, made.0)) (front_alone (begin_open statements) (with_separators statements)))
+  where
+    front_alone : (separate : Bool) (statements : Statements) → join_statements (separated_where separate no_statements) statements ≡ statements
+    front_alone true statements = refl
+    front_alone false statements = refl

@@ -7,7 +7,7 @@ use Rattle.std.proofs.lemmas.Option.{none-some, same_Some}
 use Rattle.core_expr.specs.Counting.{one_more}
 use Rattle.recover_expr.specs.declared.steps.Step.{Step}
 use Rattle.recover_expr.specs.declared.steps.StepKind.{StepKind}
-use Rattle.recover_flow.specs.Acts.{IsPlain, ArePlain, AreLow, plan_of, plans_of, ActsAreFound, ActsAreLow}
+use Rattle.recover_flow.specs.Acts.{IsPlain, ArePlain, plan_of, plans_of, ActsAreFound}
 use Rattle.recover_flow.specs.Asked.{break_exit, closing_exit, goes_back, is_closed, is_other, is_single, is_this, kind_at, last_back, number_before, target_of}
 use Rattle.recover_flow.specs.Cutting.{begun_behind, behind_kind, behind_place, behind_step, cut_behind, ends_with_body, locals_reach, pieces_from, pieces_of, reach_to, turn_behind, within}
 use Rattle.recover_flow.specs.Forms.{choice_at, choice_of_kind, choice_of_step, ending, is_own, loop_or_straight, may_stand}
@@ -312,21 +312,3 @@ one_body steps plain (and_plan plan rest) (apart, (piece, pieces, are, stands)) 
 
 pub acts_found : ActsAreFound
 acts_found steps plain = (body_stands steps plain, one_body steps plain)
-
--- ---- levels
-
-levels_of : (steps : List Step) (kind : StepKind) (place : ℕ) → plan_levels steps (plan_of kind place) ≡ step_levels steps place
-levels_of steps StepKind.Return place = refl
-levels_of steps kind place = refl
-
-low_at : (levels : ℕ) (steps : List Step) → AreLow levels steps → (place : ℕ) → step_levels steps place ≤ levels
-low_at levels [] low place = omega arith
-low_at levels (step ∷ steps) low zero = low.0
-low_at levels (step ∷ steps) low (suc place) = low_at levels steps low.1 place
-
-low_from : (levels : ℕ) (steps : List Step) → 1 ≤ levels → AreLow levels steps → (rest : List Step) (place : ℕ) → body_levels steps (plans_of place rest) ≤ levels
-low_from levels steps one low [] place = omega arith
-low_from levels steps one low (step ∷ rest) place = omega (arith, one, levels_of steps step.kind place, low_at levels steps low place, low_from levels steps one low rest (place + 1))
-
-pub acts_low : ActsAreLow
-acts_low levels steps one low = low_from levels steps one low steps 0

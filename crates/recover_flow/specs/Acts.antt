@@ -1,12 +1,12 @@
 -- Serves the laws. Functions whose steps are all statements by themselves, of which the last one may be a return: what stands there, and what is built of it.
-use Rattle.std.specs.Prelude.{◌≡◌, ◌≤◌, ◌+◌, ◌⊎◌, ℕ, Bool, true, false, List, [], ◌∷◌, length, Some}
+use Rattle.std.specs.Prelude.{◌≡◌, ◌+◌, ◌⊎◌, ℕ, Bool, true, false, List, [], ◌∷◌, length, Some}
 use Rattle.lua_tree.specs.Syntax.{Statements, no_statements, statement, Statement, return_statement}
 use Rattle.recover_expr.specs.Drafts.{Part, statement_part, values_part}
 use Rattle.recover_expr.specs.declared.steps.Step.{Step}
 use Rattle.recover_expr.specs.declared.steps.StepKind.{StepKind}
 use Rattle.recover_flow.specs.Built.{built_body}
 use Rattle.recover_flow.specs.Parts.{begins_open}
-use Rattle.recover_flow.specs.Plans.{Plans, no_plans, and_plan, PlanTree, step_plan, end_plan, body_levels}
+use Rattle.recover_flow.specs.Plans.{Plans, no_plans, and_plan, PlanTree, step_plan, end_plan}
 use Rattle.recover_flow.specs.Searching.{whole_body}
 use Rattle.recover_flow.specs.Standing.{BodyStands}
 use Rattle.recover_flow.specs.declared.plan.End.{End}
@@ -21,11 +21,6 @@ ArePlain count [] = Unit {0}
 ArePlain count (step ∷ []) = IsPlain count step.kind ⊎ (step.kind ≡ StepKind.Return)
 ArePlain count (step ∷ next ∷ steps) = IsPlain count step.kind × ArePlain count (next ∷ steps)
 
--- each step needs at most so many levels
-abbrev pub AreLow : (levels : ℕ) → List Step → Type 0
-AreLow levels [] = Unit {0}
-AreLow levels (step ∷ steps) = (step.levels ≤ levels) × AreLow levels steps
-
 -- a step is a statement by itself
 abbrev pub plan_of : StepKind → (step : ℕ) → PlanTree
 plan_of StepKind.Return step = end_plan (End.Return step) false
@@ -36,10 +31,10 @@ abbrev pub plans_of : (from : ℕ) → List Step → Plans
 plans_of from [] = no_plans
 plans_of from (step ∷ steps) = and_plan (plan_of step.kind from) (plans_of (from + 1) steps)
 
--- none of these statements begins with a parenthesis
-abbrev pub NoneOpen : Statements → Type 0
-NoneOpen no_statements = Unit {0}
-NoneOpen (statement line semicolon kind rest) = (begins_open kind ≡ false) × NoneOpen rest
+-- the first of these statements begins with a parenthesis
+abbrev pub begin_open : Statements → Bool
+begin_open no_statements = false
+begin_open (statement line semicolon kind rest) = begins_open kind
 
 -- what stands of a statement in its step
 abbrev pub part_of_statement : Statement → Part
@@ -64,10 +59,10 @@ AreStepsOf no_statements steps = steps ≡ []
 AreStepsOf (statement line semicolon kind rest) [] = ⊥
 AreStepsOf (statement line semicolon kind rest) (step ∷ steps) = (is_return_step step.kind ≡ is_return kind) × AreStepsOf rest steps
 
--- these statements on line 1, with no semicolons
-abbrev pub without_semicolons : Statements → Statements
-without_semicolons no_statements = no_statements
-without_semicolons (statement line semicolon kind rest) = statement 1 false kind (without_semicolons rest)
+-- these statements on line 1, with a semicolon alone before one that begins with a parenthesis
+abbrev pub with_separators : Statements → Statements
+with_separators no_statements = no_statements
+with_separators (statement line semicolon kind rest) = statement 1 (begin_open rest) kind (with_separators rest)
 
 -- one body stands there, of these statements
 abbrev pub ActsAreFound : Type 0
@@ -78,9 +73,5 @@ ActsAreFound =
 -- they are built of their parts
 abbrev pub ActsAreBuilt : Type 0
 ActsAreBuilt =
-    (statements : Statements) (steps : List Step) → NoneOpen statements → AreStepsOf statements steps
-    → (behind : List Part) × (built_body (plans_of 0 steps) (parts_of_statements statements) ≡ Some (without_semicolons statements, behind))
-
--- they need no more levels than their steps, and one at least
-abbrev pub ActsAreLow : Type 0
-ActsAreLow = (levels : ℕ) (steps : List Step) → 1 ≤ levels → AreLow levels steps → body_levels steps (plans_of 0 steps) ≤ levels
+    (statements : Statements) (steps : List Step) → AreStepsOf statements steps
+    → (behind : List Part) × (built_body (plans_of 0 steps) (parts_of_statements statements) ≡ Some (with_separators statements, behind))

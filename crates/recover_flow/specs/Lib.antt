@@ -8,8 +8,10 @@ pub mod Debug
 pub mod Forms
 pub mod Held
 pub mod Joining
+pub mod Logic
 pub mod Loops
 pub mod Lost
+pub mod Lying
 pub mod Parts
 pub mod Plans
 pub mod Recovering

@@ -12,6 +12,7 @@ mod forms;
 mod function;
 mod loops;
 mod lost;
+mod lying;
 mod memory;
 mod parts;
 mod plan;
@@ -23,4 +24,5 @@ mod tables;
 
 pub use acts::acts_are_found;
 pub use lost::Lost;
+pub use lying::{conditions_are_found, what_stands_lies};
 pub use recovering::recover;

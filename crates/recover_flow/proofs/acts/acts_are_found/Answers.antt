@@ -1,5 +1,5 @@
 use Rattle.recover_flow.proofs.ActsBuilt.{acts_built}
-use Rattle.recover_flow.proofs.ActsFound.{acts_found, acts_low}
+use Rattle.recover_flow.proofs.ActsFound.{acts_found}
 use Rattle.recover_flow.proofs.acts.acts_are_found.Goals as goal
 
 pub returns-clause-found : goal.returns-clause-found
@@ -7,6 +7,3 @@ returns-clause-found c = acts_found
 
 pub returns-clause-built : goal.returns-clause-built
 returns-clause-built c = acts_built
-
-pub returns-clause-levels : goal.returns-clause-levels
-returns-clause-levels c = acts_low

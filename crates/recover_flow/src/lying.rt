@@ -1,0 +1,14 @@
+// What holds of what stands among the steps, and of what lies there.
+
+ghost use Rattle.recover_flow.specs.Logic.{LogicIsFound};
+ghost use Rattle.recover_flow.specs.Lying.{WhatStandsLies};
+
+/// A plan that stands as the body of a function lies on all its steps: the code of its statements is these steps, as the scheme has it, one after the other. A law, with nothing to run.
+pub fn what_stands_lies()
+    ensures { WhatStandsLies }
+{}
+
+/// Where a condition lies on at most 100 steps and goes to no place among them, one is found there, with at most two levels more for each `and`, `or` and `not`. A law, with nothing to run.
+pub fn conditions_are_found()
+    ensures { LogicIsFound }
+{}
