@@ -1,0 +1,12 @@
+pub mod ArmsBuilt
+pub mod BlocksBuilt
+pub mod BuiltLaid
+pub mod CapturesKept
+pub mod ForsBuilt
+pub mod LoopsBuilt
+pub mod PartsTaken
+pub mod PlansBuilt
+pub mod RepeatsBuilt
+pub mod StatementsBuilt
+pub mod StepsTold
+pub mod TestsBuilt
