@@ -308,7 +308,7 @@ found_between holds from (suc n) is = by (nat_le from n && holds n) refl is (fou
     by true here e behind = let both = and_parts (nat_le from n) (holds n) here in (n, below_or_same from n both.0, both.1)
     by false here e behind = behind e
 
-one_between : (holds : ℕ → Bool) (from to n : ℕ) → from ≤ n → n < to → holds n ≡ true → any_between holds from to ≡ true
+pub one_between : (holds : ℕ → Bool) (from to n : ℕ) → from ≤ n → n < to → holds n ≡ true → any_between holds from to ≡ true
 one_between holds from zero n low high is = absurd (omega (arith, high))
 one_between holds from (suc m) n low high is =
     ⊎_elim
@@ -319,7 +319,7 @@ one_between holds from (suc m) n low high is =
     (λ h. ap (λ b. (nat_le from m && holds m) || b) (one_between holds from m n low h.1 is) ∙ or-true (nat_le from m && holds m))
     (leb_tells m n)
 
-ending_kind : (end : ℕ) (kind : Option StepKind) → ends_there end kind ≡ true → kind ≡ Some (StepKind.Declaration end true)
+pub ending_kind : (end : ℕ) (kind : Option StepKind) → ends_there end kind ≡ true → kind ≡ Some (StepKind.Declaration end true)
 ending_kind end (Some (StepKind.Declaration to true)) is = ap (λ n. Some (StepKind.Declaration n true)) (same_numbers to end is)
 ending_kind end (Some (StepKind.Declaration to false)) is = absurd (false≢true is)
 ending_kind end None is = absurd (false≢true is)

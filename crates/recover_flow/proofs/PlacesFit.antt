@@ -85,10 +85,10 @@ raised_kind steps at place base (StepKind.Head numeric foot end variables_end ca
 raised_kind steps at place base (StepKind.Foot numeric target) reach after is = raised_jump steps at.exit place target reach after is
 
 -- behind a place it reaches past the place, and not past the end of the body
-record IsPast (at : BodyAt) (place : ℕ) (before after : Reach) : Type 0 where
-  begin : after.begin ≡ before.begin
-  past : place + 1 ≤ after.far
-  fits : after.far ≤ at.to
+pub record IsPast (at : BodyAt) (place : ℕ) (before after : Reach) : Type 0 where
+  pub begin : after.begin ≡ before.begin
+  pub past : place + 1 ≤ after.far
+  pub fits : after.far ≤ at.to
 
 past_within : (at : BodyAt) (place : ℕ) (before reach after : Reach) → reach.begin ≡ before.begin → place + 1 ≤ reach.far → within at reach ≡ Some after → IsPast at place before after
 past_within at place before reach after begin past is =
@@ -106,7 +106,7 @@ past_step steps at place before after step is =
     let raised = raised_kind steps at place step.base step.kind turned reach kind in
     past_within at place before reach after (raised.0 ∙ behind.0) (omega (arith, behind.1, raised.1)) fits)
 
-past_place : (steps : List Step) (at : BodyAt) (place : ℕ) (before after : Reach) → behind_place steps at place before ≡ Some after → IsPast at place before after
+pub past_place : (steps : List Step) (at : BodyAt) (place : ℕ) (before after : Reach) → behind_place steps at place before ≡ Some after → IsPast at place before after
 past_place steps at place before after is = option_and_then_some (behind_step steps at place before) _ after is (λ step there behind. past_step steps at place before after step behind)
 
 -- ---- pieces
@@ -261,7 +261,7 @@ jump_found : (found : Option StepKind) (target : ℕ) → is_this (option_and_th
 jump_found None target is = absurd (false≢true is)
 jump_found (Some kind) target is = ap Some (jump_of_kind kind target is)
 
-jump_there : (steps : List Step) (place target : ℕ) → jumps_to steps place target ≡ true → Jumps steps place target
+pub jump_there : (steps : List Step) (place target : ℕ) → jumps_to steps place target ≡ true → Jumps steps place target
 jump_there steps place target is = jump_found (kind_at steps place) target is
 
 before_fits : (steps : List Step) (at : BranchesAt) (place : ℕ) (tests : Tests) (way : Way) → TestsFit place at.to tests → way_before steps at tests ≡ Some way → WayFits steps at place way

@@ -5,6 +5,7 @@ pub mod Built
 pub mod Conditions
 pub mod Cutting
 pub mod Debug
+pub mod Flow
 pub mod Forms
 pub mod Held
 pub mod Joining

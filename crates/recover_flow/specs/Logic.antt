@@ -1,5 +1,5 @@
 -- Serves the laws. Conditions as a source has them, by the steps of their tests: where they stand, and that the condition which is found there is no deeper than they may be.
-use Rattle.std.specs.Prelude.{◌≡◌, ◌≤◌, ◌⊎◌, ◌+◌, ◌*◌, ◌-◌, not, ℕ, suc, max, Bool, true, false, List, length, Some, slice_get, if◌then◌else◌}
+use Rattle.std.specs.Prelude.{◌≡◌, ◌≤◌, ◌⊎◌, ◌&&◌, ◌+◌, ◌*◌, ◌-◌, not, ℕ, suc, max, Bool, true, false, List, length, Some, slice_get, if◌then◌else◌}
 use Rattle.std.specs.Bool.{beq}
 use Rattle.recover_expr.specs.declared.steps.Step.{Step}
 use Rattle.recover_expr.specs.declared.steps.StepKind.{StepKind}
@@ -37,6 +37,16 @@ operators (literal_logic truth) = 0
 operators (not_logic inner) = suc (operators inner)
 operators (and_logic left right) = suc (operators left + operators right)
 operators (or_logic left right) = suc (operators left + operators right)
+
+-- a condition never has this truth, whatever its tests find, as the literals tell with which it ends: `true` never fails, nor does `a or true`
+abbrev pub is_never : (sense : Bool) → Logic → Bool
+is_never sense (test_logic step negated) = false
+is_never sense (literal_logic truth) = not (beq truth sense)
+is_never sense (not_logic inner) = is_never (not sense) inner
+is_never false (and_logic left right) = is_never false left && is_never false right
+is_never true (and_logic left right) = is_never true right
+is_never true (or_logic left right) = is_never true left && is_never true right
+is_never false (or_logic left right) = is_never false right
 
 -- a test has at most two levels more where it is negated
 abbrev pub IsLevelled : (levels : ℕ) → StepKind → Type 0

@@ -24,5 +24,5 @@ mod tables;
 
 pub use acts::acts_are_found;
 pub use lost::Lost;
-pub use lying::{conditions_are_found, what_stands_lies};
+pub use lying::{conditions_are_found, flow_comes_apart, flow_is_found, what_stands_lies};
 pub use recovering::recover;
