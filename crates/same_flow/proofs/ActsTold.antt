@@ -13,17 +13,19 @@ use Rattle.same_flow.specs.SameFlow.{HasPlainParts}
 use Rattle.same_flow.specs.Told.{IsActPart, IsDeclarationPart}
 use Rattle.same_flow.proofs.Followed.{Run, Follows, nought, LastTo, last_weaker, followed}
 use Rattle.same_flow.proofs.BlocksFollowed.{close_step}
-use Rattle.same_flow.proofs.StepsTold.{before, Told, told_both, told_to, before_same, before_active, step_told, jump_told, close_told}
+use Rattle.same_flow.proofs.StepsTold.{before, Told, told_both, told_to, before_same, before_active, parted, step_told, jump_told, close_told}
 
 pub act_told : {run : Run} (s : Statement) → IsActPart s → (m : Maker) (ends : List ℕ) (from to : ℕ) → Follows run nought nought m ends from → ActLaid run.code m s from to → LastTo to ends →
     Told run from to
 act_told {run} s fits m ends from to F (H, t) l =
-    told_to t (step_told run m.active from StepKind.Act (statement_part s) H (before_active F (subst (λ x. LastTo x ends) t l)) fits tt tt)
+    let last = subst (λ x. LastTo x ends) t l in
+    told_to t (step_told run m.active from StepKind.Act (statement_part s) H (before_active F last) (parted F last) fits tt tt)
 
 pub return_told : {run : Run} (es : Expressions) (m : Maker) (ends : List ℕ) (from to : ℕ) → Follows run nought nought m ends from →
     HasStep run.code m.active from StepKind.Return (values_part es) × (to ≡ suc from) → LastTo to ends → Told run from to
 return_told {run} es m ends from to F (H, t) l =
-    told_to t (step_told run m.active from StepKind.Return (values_part es) H (before_active F (subst (λ x. LastTo x ends) t l)) tt tt tt)
+    let last = subst (λ x. LastTo x ends) t l in
+    told_to t (step_told run m.active from StepKind.Return (values_part es) H (before_active F last) (parted F last) tt tt tt)
 
 -- the locals of a declaration end at a place behind it
 pub declaration_told : {run : Run} → StatementsRename → HasPlainParts run.code → (s : Statement) → IsDeclarationPart s → (m : Maker) (ends : List ℕ) (stop from to : ℕ) →
@@ -36,7 +38,7 @@ declaration_told {run} renames plain s fits m ends stop from to F (H, t) l h =
     let equal = before_same F last in
     let renamed = renames.statements nought [] s 1 None is.0 is.1 in
     let active : (made m).active ≡ (made now).active = ap (λ (x : Maker). x.active) (renamed.same m ∙ ap made equal ∙ sym (renamed.same now)) in
-    told_to t (step_told run m.active from (StepKind.Declaration stop (captured_from (active_count m) (made m))) (statement_part s) H (before_active F last) fits
+    told_to t (step_told run m.active from (StepKind.Declaration stop (captured_from (active_count m) (made m))) (statement_part s) H (before_active F last) (parted F last) fits
     (ap₂ (λ (a b : List Active). any_captured (drop (length a) b)) (ap (λ (x : Maker). x.active) equal) active) (omega arith))
 
 pub break_told : {run : Run} (exit : Option Exit) (m : Maker) (ends : List ℕ) (from to : ℕ) → Follows run nought nought m ends from → LeavesTo run.code exit m from to → LastTo to ends → Told run from to

@@ -15,7 +15,7 @@ use Rattle.same_flow.specs.Laid.{HasStep, IsClose, Exit, LeavesTo, IsBlock, ActL
 use Rattle.same_flow.specs.Performed.{kind_at, part_at, kind_made, ends_of}
 use Rattle.same_flow.specs.Renaming.{IsOneStep, StatementsRename}
 use Rattle.same_flow.specs.SameFlow.{HasPlainParts}
-use Rattle.same_flow.proofs.KeptActive.{all_kept, return_kept}
+use Rattle.same_flow.proofs.KeptActive.{active_kept, all_kept, return_kept}
 use Rattle.same_flow.proofs.Endings.{numbered, alike_put, labels_kept}
 use Rattle.same_flow.proofs.Followed.{Run, Goes, OneStep, EndBy, LastTo, last_weaker, append_nothing, settle_same, ◌onward◌, within, made_as, ends_as, at_place, settling, one_step, ended}
 use Rattle.same_flow.proofs.TestsFollowed.{kind_there, none_new, plain_step, jump_step}
@@ -139,7 +139,7 @@ module _ (run : Run) (renames : StatementsRename) where
       ends_by = tt;
       lasts = tt;
       goes = act_step (act_one (return_statement es) tt (plain from (values_part es) H.1) loop (λ n. refl) m from StepKind.Return (values_part es) (kind_there H.0) H.1 (λ n. refl)
-          (ap (λ (a : List Active). length a) ((return_kept 1 (all_coded es) (all_kept es)).kept m) ∙ none_new (active_count m)) refl) t l;
+          (ap (λ (a : List Active). length a) (active_kept (return_kept 1 (all_coded es) (all_kept es)) m) ∙ none_new (active_count m)) refl) t l;
     }
 
     -- a declaration, whose locals end at a place

@@ -24,7 +24,7 @@ swap_one here zero (suc j) (x ∷ xs) = refl
 swap_one here (suc i) zero (x ∷ xs) = refl
 swap_one here (suc i) (suc j) (x ∷ xs) = ap (λ (ys : List LocVar). x ∷ ys) (swap_one here i j xs)
 
-swap_all : (here i : ℕ) (xs : List Active) (entries : List LocVar) → end_all here xs (end_one here i entries) ≡ end_one here i (end_all here xs entries)
+pub swap_all : (here i : ℕ) (xs : List Active) (entries : List LocVar) → end_all here xs (end_one here i entries) ≡ end_one here i (end_all here xs entries)
 swap_all here i [] entries = refl
 swap_all here i (x ∷ xs) entries = ap (end_all here xs) (swap_one here x.listed i entries) ∙ swap_all here i xs (end_one here x.listed entries)
 

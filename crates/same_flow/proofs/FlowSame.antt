@@ -36,16 +36,16 @@ abbrev direct_words : (pc : ℕ) → List Item → List ℕ
 direct_words pc [] = []
 direct_words pc (item ∷ items) = direct_word pc item.piece ∷ direct_words (suc pc) items
 
-abbrev direct_reach_at : (pc : ℕ) → Piece → ℕ
+abbrev pub direct_reach_at : (pc : ℕ) → Piece → ℕ
 direct_reach_at pc (Piece.Jump op a target) = unsigned_abs (distance pc target)
 direct_reach_at pc piece = 0
 
-abbrev direct_reach : (pc : ℕ) → List Item → ℕ
+abbrev pub direct_reach : (pc : ℕ) → List Item → ℕ
 direct_reach pc [] = 0
 direct_reach pc (item ∷ items) = max (direct_reach_at pc item.piece) (direct_reach (suc pc) items)
 
 -- the place of a label
-abbrev place_of : List ℕ → ℕ → ℕ
+abbrev pub place_of : List ℕ → ℕ → ℕ
 place_of labels label = get_or labels label 0
 
 word_same : (labels : List ℕ) (pc : ℕ) (piece : Piece) → word_at labels pc piece ≡ direct_word pc (renamed_piece (place_of labels) piece)
@@ -64,7 +64,7 @@ reach_at_same labels pc (Piece.Abx op a bx) = refl
 reach_at_same labels pc (Piece.Jump op a label) = refl
 reach_at_same labels pc (Piece.Bare n) = refl
 
-reach_same : (labels : List ℕ) (pc : ℕ) (items : List Item) → reach_from labels pc items ≡ direct_reach pc (map (renamed_item (place_of labels)) items)
+pub reach_same : (labels : List ℕ) (pc : ℕ) (items : List Item) → reach_from labels pc items ≡ direct_reach pc (map (renamed_item (place_of labels)) items)
 reach_same labels pc [] = refl
 reach_same labels pc (item ∷ items) = ap₂ max (reach_at_same labels pc item.piece) (reach_same labels (suc pc) items)
 
@@ -98,7 +98,7 @@ finished_by heading m words lines reach =
           ++ unless_within 262144 (length m.functions) (too_many_functions line (length m.functions)));
     }
 
-abbrev direct_finished : Heading → Maker → Finished
+abbrev pub direct_finished : Heading → Maker → Finished
 direct_finished heading m = finished_by heading m (direct_words 0 m.items) (lines_of m.items) (direct_reach 0 m.items)
 
 finished_direct : (heading : Heading) (m : Maker) → finished heading m ≡ direct_finished heading (numbered (place_of m.labels) m)
@@ -120,18 +120,18 @@ there f before (x ∷ xs) =
 
 -- ---- the beginning
 
-declared_items : (texts : List Text) (m : Maker) → (declare texts m).after.items ≡ m.items
+pub declared_items : (texts : List Text) (m : Maker) → (declare texts m).after.items ≡ m.items
 declared_items [] m = refl
 declared_items (text ∷ texts) m = declared_items texts _
 
-declared_count : (texts : List Text) (m : Maker) → length (declare texts m).value ≡ length texts
+pub declared_count : (texts : List Text) (m : Maker) → length (declare texts m).value ≡ length texts
 declared_count [] m = refl
 declared_count (text ∷ texts) m = ap suc (declared_count texts _)
 
-no_items : (params names : List Text) (ahead : Ahead) → (begun_of params names ahead).items ≡ []
+pub no_items : (params names : List Text) (ahead : Ahead) → (begun_of params names ahead).items ≡ []
 no_items params names ahead = activated_items (declare params (empty_maker ahead names)).value (declare params (empty_maker ahead names)).after ∙ declared_items params (empty_maker ahead names)
 
-begun_settled : (params names : List Text) (ahead : Ahead) → (begun_of params names ahead).free ≡ active_count (begun_of params names ahead)
+pub begun_settled : (params names : List Text) (ahead : Ahead) → (begun_of params names ahead).free ≡ active_count (begun_of params names ahead)
 begun_settled params names ahead =
     let empty = empty_maker ahead names in
     let declared = declare params empty in
@@ -154,7 +154,7 @@ module _ (code : Steps) (params names : List Text) (ahead : Ahead) where
   abbrev ends : List ℕ
   ends = replicate (active_count begun) last
 
-  abbrev run : Run
+  abbrev pub run : Run
   run = record { code = code; first = record { maker = begun; ends = ends } }
 
   starts : (f g : ℕ → ℕ) → Follows run f g begun ends 0
@@ -169,24 +169,31 @@ module _ (code : Steps) (params names : List Text) (ahead : Ahead) where
   }
 
   -- all is made, and the last word
-  abbrev closed : Maker → Maker
+  abbrev pub closed : Maker → Maker
   closed m = put 1 (Piece.Abc Op.Return 0 1 0) (end_locals 0 m)
+
+  -- what the tree makes is what the steps make, with the pcs of labels for their names
+  pub steps_made : StatementsRename → HasPlainParts code → (block : Statements) → AreLaid code params names ahead block →
+      let made = statements_made block None begun in numbered (place_of made.labels) made ≡ numbered (pc_of run) (settle (end_locals (active_count made) (at_step run last).maker))
+  steps_made renames plain block laid =
+      let made = statements_made block None begun in
+      let G = body_goes run renames plain block None last None begun ends 0 last (starts nought nought) tt (replicate_lasts (active_count begun) last) (omega arith) laid in
+      let pcs = pc_of run in
+      let tied = subst (λ (ls : List ℕ). Tied (place_of ls) pcs (label_of begun) G.goes.numbers) (sym (G.goes.labels (starts nought nought))) (there pcs begun.labels G.goes.numbers) in
+      (G.goes.follows (place_of made.labels) pcs tt tied (starts (place_of made.labels) pcs)).same
 
   module _ (renames : StatementsRename) (plain : HasPlainParts code) (heading : Heading) where
     -- what the steps make in a row
-    function_of_steps : (block : Statements) → AreLaid code params names ahead block →
+    pub function_of_steps : (block : Statements) → AreLaid code params names ahead block →
         function_from heading 1 params (statements_made block None) names ahead ≡ direct_finished heading (numbered (pc_of run) (closed (free_from 0 (at_step run last).maker)))
     function_of_steps block laid =
         let made = statements_made block None begun in
-        let G = body_goes run renames plain block None last None begun ends 0 last (starts nought nought) tt (replicate_lasts (active_count begun) last) (omega arith) laid in
         let pcs = pc_of run in
-        let tied = subst (λ (ls : List ℕ). Tied (place_of ls) pcs (label_of begun) G.goes.numbers) (sym (G.goes.labels (starts nought nought))) (there pcs begun.labels G.goes.numbers) in
-        let F = G.goes.follows (place_of made.labels) pcs tt tied (starts (place_of made.labels) pcs) in
         let now = (at_step run last).maker in
         let f = place_of made.labels in
         finished_direct heading (closed made)
         ∙ ap (direct_finished heading) ((alike_put f pcs 1 (Piece.Abc Op.Return 0 1 0) (Piece.Abc Op.Return 0 1 0) refl).alike (end_locals 0 made)
-        (end_locals 0 (settle (end_locals (active_count made) now))) ((alike_end f pcs 0).alike made (settle (end_locals (active_count made) now)) F.same))
+        (end_locals 0 (settle (end_locals (active_count made) now))) ((alike_end f pcs 0).alike made (settle (end_locals (active_count made) now)) (steps_made renames plain block laid)))
         ∙ ap (λ (m : Maker). direct_finished heading (numbered pcs (put 1 (Piece.Abc Op.Return 0 1 0) (free_from 0 m)))) (end_twice 0 (active_count made) now (omega arith))
 
 pub same_flow : StatementsRename → SameFlow

@@ -234,7 +234,8 @@ counted_yes : (n k : ℕ) (b : Bool) → b ≡ true → n ≡ k → cond b (1 + 
 counted_yes n k true h e = let d : 1 + n ≡ suc k = omega arith in d
 counted_yes n k false h e = cc
 
-still : (p : ℕ) (ends behind : List ℕ) → LastTo (suc p) ends → EndBy p behind → still_active p (ends ++ behind) ≡ length ends
+-- the locals that end behind a step, and those that end there or have ended
+pub still : (p : ℕ) (ends behind : List ℕ) → LastTo (suc p) ends → EndBy p behind → still_active p (ends ++ behind) ≡ length ends
 still p [] [] l e = refl
 still p [] (x ∷ xs) l e = counted_no _ (nat_lt p x) (let a = e.0 in grind (arith, nat_tests))
 still p (x ∷ xs) behind l e = counted_yes (still_active p (xs ++ behind)) (length xs) (nat_lt p x) (let a = l.0 in grind (arith, nat_tests)) (still p xs behind l.1 e)

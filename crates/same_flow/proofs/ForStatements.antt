@@ -37,7 +37,7 @@ kept_active run plain m n ends p q F G h l =
     ap (λ (x : Maker). x.active) G.same ∙ ap (λ k. take k (at_step run q).maker.active) (sym G.count) ∙ after.same
 
 -- the variables end
-variables_go : {run : Run} (hidden : List Active) (n : Maker) (ends variables : List ℕ) (count : ℕ) (b : Bool) (end foot : ℕ) → captured_from count n ≡ b → length ends ≡ count → EndBy end variables →
+pub variables_go : {run : Run} (hidden : List Active) (n : Maker) (ends variables : List ℕ) (count : ℕ) (b : Bool) (end foot : ℕ) → captured_from count n ≡ b → length ends ≡ count → EndBy end variables →
     LastTo foot ends →
     VariablesEnd run.code hidden count b end foot → Goes run [] n (ends ++ variables) end (end_block 1 count n) ends foot
 variables_go hidden n ends variables count false end foot c e h l V = at_place (sym V) (made_as (end_plain count n c) (ended count variables e h))
@@ -104,7 +104,7 @@ numeric_foot {run} hidden inside label base foot from c K = record {
   new_ends = refl;
 }
 
-names_there : (run : Run) (es : Expressions) (names : List Text) (from : ℕ) → part_at run.code from ≡ Some (head_part es names) → length names ≡ names_in (part_at run.code (suc from - 1))
+pub names_there : (run : Run) (es : Expressions) (names : List Text) (from : ℕ) → part_at run.code from ≡ Some (head_part es names) → length names ≡ names_in (part_at run.code (suc from - 1))
 names_there run es names from p = let e : from ≡ suc from - 1 = omega arith in sym (ap names_in p) ∙ ap (λ x. names_in (part_at run.code x)) e
 
 generic_foot : {run : Run} (hidden : List Active) (inside : Maker) (es : Expressions) (names : List Text) (label base foot from : ℕ) → active_count inside ≡ base + 3 →

@@ -25,7 +25,7 @@ pub at_begun : {run : Run} {m begun : Maker} {from label foot to variables_end :
     Follows run f g m ends from → Follows run f g begun (for_ends ends to H.variables variables_end) (suc from)
 at_begun {begun = begun} H l f g t F = relabelled begun.labels (step_follows H.step l f g (t, tt) F)
 
-three_more : (xs : List ℕ) (a : ℕ) → length (xs ++ a ∷ 0 ∷ 0 ∷ []) ≡ suc (suc (suc (length xs)))
+pub three_more : (xs : List ℕ) (a : ℕ) → length (xs ++ a ∷ 0 ∷ 0 ∷ []) ≡ suc (suc (suc (length xs)))
 three_more xs a = length_both xs (a ∷ 0 ∷ 0 ∷ []) ∙ (let n = length xs in let e : length (a ∷ 0 ∷ 0 ∷ []) ≡ 3 = refl in omega arith)
 
 module _ {run : Run} (m begun inside : Maker) (foot_part : Maker → Maker) (ends : List ℕ) (n from label foot to variables_end : ℕ) (H : Head run m from label foot to variables_end begun)

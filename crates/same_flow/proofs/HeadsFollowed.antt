@@ -21,7 +21,7 @@ use Rattle.same_flow.specs.Laid.{HasStep, label_of, with_new_labels, numeric_val
 use Rattle.same_flow.specs.Performed.{kind_at, part_at, kind_made, counted_values}
 use Rattle.same_flow.specs.Renaming.{Renames, StatementsRename}
 use Rattle.same_flow.specs.SameFlow.{HasPlainParts}
-use Rattle.same_flow.proofs.KeptActive.{kept, all_kept, next_kept, adjust_kept}
+use Rattle.same_flow.proofs.KeptActive.{active_kept, kept, all_kept, next_kept, adjust_kept}
 use Rattle.same_flow.proofs.Endings.{numbered, put_numbered, alike_by, alike_put, alike_activate, alike_declare, same_declared, labels_kept}
 use Rattle.same_flow.proofs.Followed.{Run, OneStep, length_both, settle_same}
 use Rattle.same_flow.proofs.TestsFollowed.{kind_there}
@@ -56,7 +56,7 @@ pub declared_free : (texts : List Text) (m : Maker) → (declare texts m).after.
 declared_free [] m = refl
 declared_free (text ∷ texts) m = declared_free texts _
 
-declared_labels : (texts : List Text) (m : Maker) → (declare texts m).after.labels ≡ m.labels
+pub declared_labels : (texts : List Text) (m : Maker) → (declare texts m).after.labels ≡ m.labels
 declared_labels [] m = refl
 declared_labels (text ∷ texts) m = declared_labels texts _
 
@@ -142,11 +142,11 @@ head_step numeric names m ready other from label foot to variables_end some part
 
 -- ---- values
 
-first_of : (a b : Bool) → a && b ≡ true → a ≡ true
+pub first_of : (a b : Bool) → a && b ≡ true → a ≡ true
 first_of true b e = refl
 first_of false b e = cc
 
-second_of : (a b : Bool) → a && b ≡ true → b ≡ true
+pub second_of : (a b : Bool) → a && b ≡ true → b ≡ true
 second_of true b e = e
 second_of false b e = cc
 
@@ -180,7 +180,7 @@ module _ (renames : StatementsRename) where
 
   step_kept : (by : ForStep) (m : Maker) → (step_part 1 (step_coded by) m).active ≡ m.active
   step_kept no_step m = refl
-  step_kept (by_step e) m = (next_kept (kept e)).kept m
+  step_kept (by_step e) m = active_kept (next_kept (kept e)) m
 
   -- a loop over numbers, before its variable is active
   abbrev numeric_ready : Text → (first last : Expression) → ForStep → Maker → Maker
@@ -208,7 +208,7 @@ module _ (renames : StatementsRename) where
         free = let a = next_free first declared in let b = next_free last one in let c = step_free 1 by two in omega arith;
         count =
             let a = activated_count numeric_names three in
-            let b : active_count three ≡ active_count m = ap (λ (x : List Active). length x) (step_kept by two ∙ (next_kept (kept last)).kept one ∙ (next_kept (kept first)).kept declared) in
+            let b : active_count three ≡ active_count m = ap (λ (x : List Active). length x) (step_kept by two ∙ active_kept (next_kept (kept last)) one ∙ active_kept (next_kept (kept first)) declared) in
             let c : length numeric_names ≡ 3 = refl in
             let d : active_count (numeric_ready name first last by m) ≡ active_count (activate numeric_names three) = refl in
             omega arith;
@@ -265,7 +265,7 @@ module _ (renames : StatementsRename) where
         free = activated_free generic_names adjusted ∙ adjust_free 1 es 3 declared ∙ ap (λ n. n + 3) (declared_free names m);
         count =
             let a = activated_count generic_names adjusted in
-            let b : active_count adjusted ≡ active_count m = ap (λ (x : List Active). length x) ((adjust_kept 1 (all_coded es) (all_kept es) 3).kept declared ∙ declared_active names m) in
+            let b : active_count adjusted ≡ active_count m = ap (λ (x : List Active). length x) (active_kept (adjust_kept 1 (all_coded es) (all_kept es) 3) declared ∙ declared_active names m) in
             let c : length generic_names ≡ 3 = refl in
             let d : active_count (generic_ready names es m) ≡ active_count (activate generic_names adjusted) = refl in
             omega arith;

@@ -1,5 +1,5 @@
--- Expressions, assignments and returns leave the active locals as they are.
-use Rattle.std.proofs.Common.{◌≡◌, ℕ, zero, suc, ◌+◌, ◌-◌, Bool, true, false, cond, not, List, [], ◌∷◌, length, refl, ◌∙◌}
+-- Expressions, assignments and returns leave the active locals and the list of locals as they are.
+use Rattle.std.proofs.Common.{◌≡◌, ℕ, zero, suc, ◌+◌, ◌-◌, Bool, true, false, cond, not, List, [], ◌∷◌, length, refl, ap, ◌∙◌}
 use Rattle.std.specs.Prelude.{Option, Some, None, ℤ, ◌/◌, nat_lt, nat_le, ◌==◌, ◌&&◌, is_some, if◌then◌else◌}
 use Rattle.std.specs.Bool.{beq}
 use Rattle.lua_num.specs.Bytes.{Text}
@@ -12,19 +12,31 @@ use Rattle.lua_tree.specs.Scoping.{Use}
 use Rattle.opcode.specs.declared.op.Op.{Op}
 use Rattle.opcode.specs.Word.{truth_field}
 use Rattle.proto.specs.declared.parts.Constant.{Constant}
+use Rattle.proto.specs.declared.parts.LocVar.{LocVar}
 use Rattle.scheme.specs.Making.{Maker, Part, Asks, ◌>>=◌, ◌>>◌, nothing, answer, read, put, new_label, place, jump_to, take_registers, free_from, freeing, constant, Where, in_register, in_upvalue, in_globals, name, active_count, when}
 use Rattle.scheme.specs.Expressions.{Coded, Want, count_field, Target, name_target, part_target, next_reg, in_next_reg, local_register, operand_by, operand, is_small, small_constant, is_local, rk_by, rk, load, next_text, rk_text, comparison_word, compare, test, is_true_constant, test_by, literal, is_vararg, is_multiple, is_comparison, plain_multi, no_target, single, read_where, name_value, coded_name, indexed_value, indexed_target, coded_index, coded_field, coded_paren, fold, load_or, arithmetic, concat, truth_value, binary_value, binary_spine, coded_binary, unary_word, unary_value, unary_jump, coded_unary, decide, logic_here, logic_jump, logic_moved, logic_value, coded_logic}
 use Rattle.scheme.specs.Lists.{all_next, ends_open, all_multi, open_list, list_count, Given, results_at, call_at, method_at, by_base, coded_call, vararg_at, coded_vararg, Entry, positional_entry, named_entry, keyed_entry, is_last, positional_count, other_count, size_hint, set_list, keyed_item, pending_after, entries_from, table_at, nils, filled, adjust}
 use Rattle.scheme.specs.Functions.{Inner, further_words, closure, coded_function, next_sources}
 use Rattle.scheme.specs.Statements.{set_where, store_register, store_operand, store, all_targets, clashes, copied, copies, each_stored, stored_from, assign_adjusted, assign_part, with_fields, path_from, with_method, return_operand, return_call, return_list, return_part}
 use Rattle.scheme.specs.Scheme.{all_coded, coded, given, entries, inner}
+use Rattle.scheme.specs.declared.making.Active.{Active}
 use Rattle.scheme.specs.declared.making.Piece.{Piece}
 
+-- the active locals, and the list of locals
+abbrev scope_of : Maker → List Active × List LocVar
+scope_of m = (m.active, m.locals)
+
 pub record Keeps (part : Part) : Type 0 where
-  pub kept : (m : Maker) → (part m).active ≡ m.active
+  pub kept : (m : Maker) → scope_of (part m) ≡ scope_of m
 
 pub record KeepsAsks {A : Type 0} (ask : Asks A) : Type 0 where
-  pub kept : (m : Maker) → (ask m).after.active ≡ m.active
+  pub kept : (m : Maker) → scope_of (ask m).after ≡ scope_of m
+
+pub active_kept : {part : Part} → Keeps part → (m : Maker) → (part m).active ≡ m.active
+active_kept k m = ap (λ (scope : List Active × List LocVar). scope.0) (k.kept m)
+
+pub locals_kept : {part : Part} → Keeps part → (m : Maker) → (part m).locals ≡ m.locals
+locals_kept k m = ap (λ (scope : List Active × List LocVar). scope.1) (k.kept m)
 
 bind : {A : Type 0} {ask : Asks A} {rest : A → Part} → KeepsAsks ask → ((x : A) → Keeps (rest x)) → Keeps (ask >>= rest)
 bind {A} {ask} {rest} a b = record { kept = λ m. (b (ask m).value).kept (ask m).after ∙ a.kept m }
@@ -347,7 +359,7 @@ filled_kept line cs s missing = either (ends_open cs) (all_multi_kept Op.Call (S
 pub adjust_kept : (line : ℕ) (cs : List Coded) → AllKept cs → (n : ℕ) → Keeps (adjust line cs n)
 adjust_kept line cs s n = record { kept = λ m. (either (nat_lt (length cs) n) (filled_kept line cs s (n - length cs)) (all_next_kept cs s then freed (m.free + n))).kept m }
 
-further_kept : (line : ℕ) (uses : List Use) (m : Maker) → (further_words line uses m).active ≡ m.active
+further_kept : (line : ℕ) (uses : List Use) (m : Maker) → scope_of (further_words line uses m) ≡ scope_of m
 further_kept line [] m = refl
 further_kept line (use' ∷ uses) m = further_kept line uses _
 

@@ -13,10 +13,15 @@ pub mod HeadsFollowed
 pub mod Kept
 pub mod KeptActive
 pub mod Laying
+pub mod ListedLocals
+pub mod ListedRun
+pub mod ListedSteps
+pub mod LocalsListed
 pub mod Loops
 pub mod LoopsFollowed
 pub mod LoopsTold
 pub mod MarksSame
+pub mod PartsAlike
 pub mod RenamedExpressions
 pub mod RenamedLists
 pub mod RenamedMakers
@@ -26,6 +31,7 @@ pub mod StatementsFollowed
 pub mod StatementsPlaced
 pub mod StatementsTold
 pub mod Steady
+pub mod StepsAlike
 pub mod StepsTold
 pub mod Tests
 pub mod TestsFollowed

@@ -170,7 +170,7 @@ mutual
 
 -- ---- a function
 
-whole_walk : (code : Steps) (params names : List Text) (ahead : Ahead) (block : Statements) → AreLaid code params names ahead block → (place : Place) →
+pub whole_walk : (code : Steps) (params names : List Text) (ahead : Ahead) (block : Statements) → AreLaid code params names ahead block → (place : Place) →
     let walk = statements_part block place in Goes code 0 (length code.steps) (state_of place []) walk.marks (state_of (passed place walk.next) [])
 whole_walk code params names ahead block laid place =
     let all = length code.steps in

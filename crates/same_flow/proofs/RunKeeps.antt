@@ -18,7 +18,7 @@ use Rattle.scheme.specs.declared.making.Active.{Active}
 use Rattle.same_flow.specs.Performed.{Performance, kind_at, part_at, part_made, counted_values, head_made, kind_made, still_active, ended_before, ends_of, behind_step}
 use Rattle.same_flow.specs.Renaming.{IsOneStep}
 use Rattle.same_flow.specs.SameFlow.{IsPlainPart, HasPlainParts}
-use Rattle.same_flow.proofs.KeptActive.{kept, all_kept, next_kept, adjust_kept, closure_kept, assignment_kept, function_statement_kept, return_kept}
+use Rattle.same_flow.proofs.KeptActive.{active_kept, kept, all_kept, next_kept, adjust_kept, closure_kept, assignment_kept, function_statement_kept, return_kept}
 use Rattle.same_flow.proofs.Endings.{take_less}
 use Rattle.same_flow.proofs.Followed.{Run, at_step, at_most, LastTo, last_weaker, append_nothing, append_again, length_both}
 
@@ -51,20 +51,20 @@ activated (local ∷ locals) m =
 -- ---- a step
 
 pub one_step_extends : (s : Statement) → IsOneStep s → (line : ℕ) (loop : Option Loop) (m : Maker) → Extends m (statement_made s line loop m)
-one_step_extends (assignment targets es) o line loop m = unchanged ((assignment_kept line targets es).kept m)
-one_step_extends (call_statement e) o line loop m = unchanged (((kept e).multi Op.Call (Some 0)).kept m)
-one_step_extends (function_statement path method body) o line loop m = unchanged ((function_statement_kept line path method body).kept m)
+one_step_extends (assignment targets es) o line loop m = unchanged (active_kept (assignment_kept line targets es) m)
+one_step_extends (call_statement e) o line loop m = unchanged (active_kept ((kept e).multi Op.Call (Some 0)) m)
+one_step_extends (function_statement path method body) o line loop m = unchanged (active_kept (function_statement_kept line path method body) m)
 one_step_extends (local_function text body) o line loop m =
     let locals = (declare (text ∷ []) m).value in
     let taken = take_registers 1 (declare (text ∷ []) m).after in
     let x = activated locals taken in
-    (x.0, (closure_kept line (inner body false) m.free).kept (activate locals taken) ∙ x.1)
+    (x.0, active_kept (closure_kept line (inner body false) m.free) (activate locals taken) ∙ x.1)
 one_step_extends (local_statement names es) o line loop m =
     let declared = (declare names m).after in
     let valued = adjust line (all_coded es) (length names) declared in
     let x = activated (declare names m).value valued in
-    (x.0, x.1 ∙ ap (λ (l : List Active). l ++ x.0) ((adjust_kept line (all_coded es) (all_kept es) (length names)).kept declared ∙ declared_active names m))
-one_step_extends (return_statement es) o line loop m = unchanged ((return_kept line (all_coded es) (all_kept es)).kept m)
+    (x.0, x.1 ∙ ap (λ (l : List Active). l ++ x.0) (active_kept (adjust_kept line (all_coded es) (all_kept es) (length names)) declared ∙ declared_active names m))
+one_step_extends (return_statement es) o line loop m = unchanged (active_kept (return_kept line (all_coded es) (all_kept es)) m)
 one_step_extends s o line loop m = absurd o
 
 part_extends : (part : Part) → IsPlainPart part → (m : Maker) → Extends m (part_made part m)
@@ -72,9 +72,9 @@ part_extends (statement_part s) is m = one_step_extends s is.0 1 None m
 part_extends (values_part es) is m = one_step_extends (return_statement es) tt 1 None m
 part_extends part is m = unchanged refl
 
-counted_kept : (es : Expressions) (m : Maker) → (counted_values es m).active ≡ m.active
-counted_kept (expression first (expression last no_expressions)) m = (next_kept (kept last)).kept _ ∙ (next_kept (kept first)).kept m
-counted_kept (expression first (expression last (expression by rest))) m = (next_kept (kept by)).kept _ ∙ (next_kept (kept last)).kept _ ∙ (next_kept (kept first)).kept m
+pub counted_kept : (es : Expressions) (m : Maker) → (counted_values es m).active ≡ m.active
+counted_kept (expression first (expression last no_expressions)) m = active_kept (next_kept (kept last)) _ ∙ active_kept (next_kept (kept first)) m
+counted_kept (expression first (expression last (expression by rest))) m = active_kept (next_kept (kept by)) _ ∙ active_kept (next_kept (kept last)) _ ∙ active_kept (next_kept (kept first)) m
 counted_kept no_expressions m = refl
 counted_kept (expression first no_expressions) m = refl
 
@@ -92,7 +92,7 @@ head_extends true foot (head_part values names) m =
 head_extends false foot (head_part values names) m =
     let declared = (declare names m).after in
     let valued = adjust 1 (all_coded values) 3 declared in
-    let same : valued.active ≡ m.active = (adjust_kept 1 (all_coded values) (all_kept values) 3).kept declared ∙ declared_active names m in
+    let same : valued.active ≡ m.active = active_kept (adjust_kept 1 (all_coded values) (all_kept values) 3) declared ∙ declared_active names m in
     let put_one = put 1 (Piece.Jump Op.Jmp 0 foot) (activate generic_names valued) in
     let x = activated generic_names valued in
     let y = activated (declare names m).value (record put_one { high = _ }) in
@@ -111,7 +111,7 @@ module _ (run : Run) (plain : HasPlainParts run.code) where
   kind_extends StepKind.Act part is m = part_extends part is m
   kind_extends StepKind.Return part is m = part_extends part is m
   kind_extends (StepKind.Declaration end captured) part is m = part_extends part is m
-  kind_extends (StepKind.Test when target levels) (condition_part e) is m = unchanged (((kept e).jump_if when target).kept m)
+  kind_extends (StepKind.Test when target levels) (condition_part e) is m = unchanged (active_kept ((kept e).jump_if when target) m)
   kind_extends (StepKind.Test when target levels) nothing_part is m = unchanged refl
   kind_extends (StepKind.Test when target levels) (statement_part s) is m = unchanged refl
   kind_extends (StepKind.Test when target levels) (values_part es) is m = unchanged refl
@@ -143,7 +143,7 @@ module _ (run : Run) (plain : HasPlainParts run.code) where
   taken_front zero (x ∷ xs) ys h = absurd (omega arith)
   taken_front (suc n) (x ∷ xs) ys h = let t = taken_front n xs ys (omega arith) in (t.0, ap (λ l. x ∷ l) t.1)
 
-  begins_before : (active : List Active) (ends : List ℕ) (p : ℕ) (now : Performance) → LastTo (suc p) ends → Begins active ends now → Begins active ends (ended_before p now)
+  pub begins_before : (active : List Active) (ends : List ℕ) (p : ℕ) (now : Performance) → LastTo (suc p) ends → Begins active ends now → Begins active ends (ended_before p now)
   begins_before active ends p now l B =
       let s = still_active p now.ends in
       let enough : length ends ≤ s = subst (λ (es : List ℕ). length ends ≤ still_active p es) (sym B.all_ends) (still_more p ends B.behind l) in

@@ -11,7 +11,7 @@ use Rattle.scheme.specs.declared.making.Active.{Active}
 use Rattle.same_flow.specs.Laid.{Exit, IsBlock, ArmEnds, BodyLaid, StatementLaid, BranchesLaid, OtherwiseLaid, label_of, with_new_labels, while_begun, repeat_begun, arm_begun, loop_of, exit_to, numeric_valued, numeric_begun, generic_valued, generic_begun, for_loop_of}
 use Rattle.same_flow.specs.Renaming.{StatementsRename}
 use Rattle.same_flow.specs.SameFlow.{HasPlainParts}
-use Rattle.same_flow.proofs.KeptActive.{kept, assignment_kept, function_statement_kept}
+use Rattle.same_flow.proofs.KeptActive.{active_kept, kept, assignment_kept, function_statement_kept}
 use Rattle.same_flow.proofs.Followed.{Run, Follows, nought, Goes, LastTo, last_weaker, last_both, end_append, append_again, relabelled, stays, ◌onward◌, within, made_as, ends_as, at_place, settling, followed, label_ends}
 use Rattle.same_flow.proofs.TestsFollowed.{jump_step, test_goes}
 use Rattle.same_flow.proofs.BlocksFollowed.{outer_of, Matches, Grows, no_growth, block_ends, act_goes, return_goes, declaration_goes, break_goes}
@@ -60,11 +60,11 @@ module _ (run : Run) (renames : StatementsRename) (plain : HasPlainParts run.cod
         LastTo stop ends → to ≤ stop →
         StatementLaid run.code exit stop s loop m from to → Grows run (outer_of loop exit) m ends stop from (settle (statement_made s 1 loop m)) to
     statement_goes (assignment targets es) exit stop loop m ends from to F e l h S =
-        act_goes run renames plain (assignment targets es) loop (λ n. refl) m ends stop from to ((assignment_kept 1 targets es).kept m) S (last_weaker to stop ends h l)
+        act_goes run renames plain (assignment targets es) loop (λ n. refl) m ends stop from to (active_kept (assignment_kept 1 targets es) m) S (last_weaker to stop ends h l)
     statement_goes (call_statement x) exit stop loop m ends from to F e l h S =
-        act_goes run renames plain (call_statement x) loop (λ n. refl) m ends stop from to (((kept x).multi Op.Call (Some 0)).kept m) S (last_weaker to stop ends h l)
+        act_goes run renames plain (call_statement x) loop (λ n. refl) m ends stop from to (active_kept ((kept x).multi Op.Call (Some 0)) m) S (last_weaker to stop ends h l)
     statement_goes (function_statement path method body) exit stop loop m ends from to F e l h S =
-        act_goes run renames plain (function_statement path method body) loop (λ n. refl) m ends stop from to ((function_statement_kept 1 path method body).kept m) S (last_weaker to stop ends h l)
+        act_goes run renames plain (function_statement path method body) loop (λ n. refl) m ends stop from to (active_kept (function_statement_kept 1 path method body) m) S (last_weaker to stop ends h l)
     statement_goes (local_function name body) exit stop loop m ends from to F e l h S =
         declaration_goes run renames plain (local_function name body) loop (λ n. refl) m ends stop from to S (last_weaker to stop ends h l)
     statement_goes (local_statement names es) exit stop loop m ends from to F e l h S =

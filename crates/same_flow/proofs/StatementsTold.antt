@@ -7,26 +7,25 @@ use Rattle.lua_tree.specs.Syntax as syntax
 use Rattle.lua_tree.specs.Syntax.{Statements, no_statements, Statement, assignment, call_statement, do_block, while_loop, repeat_loop, if_statement, numeric_for, generic_for, function_statement, local_function, local_statement, return_statement, break_statement, Branches, no_branches, branch, Otherwise, no_otherwise, otherwise}
 use Rattle.recover_expr.specs.Drafts.{head_part}
 use Rattle.recover_expr.specs.Placing.{Steps}
-use Rattle.scheme.specs.Making.{Ahead, Maker, new_label, place, captured_from, declare, active_count}
+use Rattle.scheme.specs.Making.{Ahead, Maker, new_label, place, captured_from, active_count}
 use Rattle.scheme.specs.Statements.{Loop, end_block, block_part, settle, arm_part}
-use Rattle.scheme.specs.Functions.{empty_maker}
 use Rattle.scheme.specs.Scheme.{coded, has_branch, has_otherwise, statement_made, statements_made, branches_made}
 use Rattle.scheme.specs.declared.making.Active.{Active}
 use Rattle.same_flow.specs.Laid.{Exit, IsBlock, BodyLaid, StatementLaid, BranchesLaid, OtherwiseLaid, label_of, with_new_labels, while_begun, repeat_begun, arm_begun, loop_of, exit_to, head_values, numeric_valued, numeric_begun, generic_valued, generic_begun, for_loop_of}
 use Rattle.same_flow.specs.Renaming.{StatementsRename}
-use Rattle.same_flow.specs.SameFlow.{HasPlainParts, begun_of}
+use Rattle.same_flow.specs.SameFlow.{AreLaid, HasPlainParts, begun_of}
 use Rattle.same_flow.specs.Told.{at_beginning, LaidAreTold}
 use Rattle.same_flow.proofs.Endings.{numbered, end_none}
-use Rattle.same_flow.proofs.Followed.{Run, Follows, nought, LastTo, last_weaker, last_both, append_nothing, settle_same, relabelled, made_as, followed}
+use Rattle.same_flow.proofs.Followed.{Run, Follows, nought, EndBy, LastTo, end_append, last_weaker, last_both, append_nothing, settle_same, relabelled, made_as, followed}
 use Rattle.same_flow.proofs.TestsFollowed.{test_goes}
-use Rattle.same_flow.proofs.RunKeeps.{declared_active}
-use Rattle.same_flow.proofs.BlocksFollowed.{outer_of, Matches, Grows, block_ends, replicated, replicate_lasts}
-use Rattle.same_flow.proofs.HeadsFollowed.{numeric_head_goes, generic_head_goes, activated_count, activated_free, declared_free}
+use Rattle.same_flow.proofs.BlocksFollowed.{outer_of, Matches, Grows, block_ends, replicated, replicate_ends, replicate_lasts}
+use Rattle.same_flow.proofs.HeadsFollowed.{numeric_head_goes, generic_head_goes}
 use Rattle.same_flow.proofs.ForsFollowed.{for_ends, at_begun}
 use Rattle.same_flow.proofs.ForStatements.{for_last}
 use Rattle.same_flow.proofs.StatementsFollowed.{body_goes}
 use Rattle.same_flow.proofs.RenamedStatements.{statements_rename}
 use Rattle.same_flow.proofs.StepsTold.{Told, told_nowhere, told_both, same_active, block_told}
+use Rattle.same_flow.proofs.FlowSame.{begun_settled}
 use Rattle.same_flow.proofs.TestsTold.{test_told}
 use Rattle.same_flow.proofs.ActsTold.{act_told, return_told, declaration_told, break_told}
 use Rattle.same_flow.proofs.LoopsTold.{Passes, jump_passes, arm_passes, arm_order, captured_told}
@@ -34,13 +33,13 @@ use Rattle.same_flow.proofs.ForsTold.{counted_fits, numeric_hidden, generic_hidd
 
 module _ (run : Run) (renames : StatementsRename) (plain : HasPlainParts run.code) where
   -- one statement goes as the block of it alone
-  statement_grows : (s : Statement) (exit : Option Exit) (stop : ℕ) (loop : Option Loop) (m : Maker) (ends : List ℕ) (from to : ℕ) → Follows run nought nought m ends from → Matches loop exit →
+  pub statement_grows : (s : Statement) (exit : Option Exit) (stop : ℕ) (loop : Option Loop) (m : Maker) (ends : List ℕ) (from to : ℕ) → Follows run nought nought m ends from → Matches loop exit →
       LastTo stop ends → to ≤ stop → from ≤ to → StatementLaid run.code exit stop s loop m from to → Grows run (outer_of loop exit) m ends stop from (settle (statement_made s 1 loop m)) to
   statement_grows s exit stop loop m ends from to F e l h a S =
       body_goes run renames plain (syntax.statement 1 false s no_statements) exit stop loop m ends from to F e l h (refl, to, a, omega arith, S, refl)
 
   -- what follows behind a block
-  block_follows : (block : Statements) (exit : Option Exit) (loop : Option Loop) (m : Maker) (ends : List ℕ) (n : ℕ) (active : List Active) (from to : ℕ) → Follows run nought nought m ends from →
+  pub block_follows : (block : Statements) (exit : Option Exit) (loop : Option Loop) (m : Maker) (ends : List ℕ) (n : ℕ) (active : List Active) (from to : ℕ) → Follows run nought nought m ends from →
       length ends ≡ n → Matches loop exit → LastTo to ends →
       IsBlock run.code active n (captured_from n (statements_made block loop m)) (λ stop end. BodyLaid run.code exit stop block loop m from end) from to →
       Follows run nought nought (block_part 1 (statements_made block loop) m) ends to
@@ -145,7 +144,7 @@ module _ (run : Run) (renames : StatementsRename) (plain : HasPlainParts run.cod
         (inner_told block (exit_to to m) around begun all (active_count begun) begun.active (suc from) variables_end start refl start.count refl (lasting.1 head.variables)
         (λ x k D. body_told block (exit_to to m) x around begun all (suc from) x start refl k (omega arith) D) B)
 
-    branches_passed : (branches : Branches) (exit : Option Exit) (more : Bool) (label end : ℕ) (loop : Option Loop) (m : Maker) (ends : List ℕ) (from to : ℕ) → Follows run nought nought m ends from →
+    pub branches_passed : (branches : Branches) (exit : Option Exit) (more : Bool) (label end : ℕ) (loop : Option Loop) (m : Maker) (ends : List ℕ) (from to : ℕ) → Follows run nought nought m ends from →
         Matches loop exit → LastTo to ends → BranchesLaid run.code exit branches more label end loop m from to → Passes run from (branches_made branches 1 loop label more m) ends to
     branches_passed no_branches exit more label end loop m ends from to F e l B =
         record { told = told_nowhere run from to B; follows = subst (λ x. Follows run nought nought m ends x) (sym B) F }
@@ -177,28 +176,11 @@ module _ (run : Run) (renames : StatementsRename) (plain : HasPlainParts run.cod
 
 -- ---- a function
 
-declared_count : (texts : List Text) (m : Maker) → length (declare texts m).value ≡ length texts
-declared_count [] m = refl
-declared_count (text ∷ texts) m = ap suc (declared_count texts _)
-
-begun_settled : (params names : List Text) (ahead : Ahead) → (begun_of params names ahead).free ≡ active_count (begun_of params names ahead)
-begun_settled params names ahead =
-    let empty = empty_maker ahead names in
-    let declared = declare params empty in
-    let a = activated_free declared.value declared.after in
-    let b = declared_free params empty in
-    let c = activated_count declared.value declared.after in
-    let d : active_count declared.after ≡ 0 = ap (λ (l : List Active). length l) (declared_active params empty) in
-    let e = declared_count params empty in
-    let n = length params in
-    let z : empty.free ≡ 0 = refl in
-    omega arith
-
 module _ (code : Steps) (params names : List Text) (ahead : Ahead) where
-  abbrev run : Run
+  abbrev pub run : Run
   run = record { code = code; first = at_beginning code params names ahead }
 
-  starts : Follows run nought nought run.first.maker run.first.ends 0
+  pub starts : Follows run nought nought run.first.maker run.first.ends 0
   starts =
       let begun = run.first.maker in
       record {
@@ -209,9 +191,24 @@ module _ (code : Steps) (params names : List Text) (ahead : Ahead) where
         same = ap (numbered nought) (sym (ap settle (end_none begun) ∙ settle_same begun (begun_settled params names ahead)));
       }
 
-pub laid_are_told : LaidAreTold
-laid_are_told code plain params names ahead block laid at step there =
+pub laid_tell : (code : Steps) → HasPlainParts code → (params names : List Text) (ahead : Ahead) (block : Statements) → AreLaid code params names ahead block →
+    Told (run code params names ahead) 0 (length code.steps)
+laid_tell code plain params names ahead block laid =
     let all = run code params names ahead in
     let last = length code.steps in
-    (body_told all statements_rename plain block None last None all.first.maker all.first.ends 0 last (starts code params names ahead) tt
-    (replicate_lasts (active_count all.first.maker) last) (omega arith) laid).each at step (omega arith) (slice_get_within code.steps at step there) there
+    body_told all statements_rename plain block None last None all.first.maker all.first.ends 0 last (starts code params names ahead) tt
+    (replicate_lasts (active_count all.first.maker) last) (omega arith) laid
+
+-- what is made follows all steps, and the locals that are active there end there
+pub laid_follow : (code : Steps) → HasPlainParts code → (params names : List Text) (ahead : Ahead) (block : Statements) → AreLaid code params names ahead block →
+    (ends : List ℕ) × EndBy (length code.steps) ends × Follows (run code params names ahead) nought nought (statements_made block None (begun_of params names ahead)) ends (length code.steps)
+laid_follow code plain params names ahead block laid =
+    let all = run code params names ahead in
+    let last = length code.steps in
+    let G = body_goes all statements_rename plain block None last None all.first.maker all.first.ends 0 last (starts code params names ahead) tt
+    (replicate_lasts (active_count all.first.maker) last) (omega arith) laid in
+    (all.first.ends ++ G.new, end_append last all.first.ends G.new (replicate_ends (active_count all.first.maker) last) G.ends_by, followed G.goes (starts code params names ahead))
+
+pub laid_are_told : LaidAreTold
+laid_are_told code plain params names ahead block laid at step there =
+    ((laid_tell code plain params names ahead block laid).each at step (omega arith) (slice_get_within code.steps at step there) there).told

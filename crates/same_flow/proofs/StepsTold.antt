@@ -1,5 +1,5 @@
 -- Where a function in the making stands before a step, the step tells of its locals: jumps, closes, and the ends of blocks.
-use Rattle.std.proofs.Common.{◌≡◌, ℕ, suc, ◌+◌, ◌≤◌, ◌<◌, Bool, true, false, cond, List, [], ◌∷◌, ◌++◌, length, take, refl, sym, ap, ◌∙◌, arith, subst}
+use Rattle.std.proofs.Common.{◌≡◌, ℕ, suc, ◌≤◌, ◌<◌, Bool, true, false, List, [], ◌++◌, length, take, refl, sym, ap, ◌∙◌, arith, subst}
 use Rattle.std.proofs.lemmas.Bool.Decides.{nat_tests}
 use Rattle.std.proofs.lemmas.Option.{same_Some}
 use Rattle.std.specs.Prelude.{Some, slice_get, nat_lt}
@@ -14,7 +14,7 @@ use Rattle.same_flow.specs.Performed.{ended_to, ended_before, kind_made, still_a
 use Rattle.same_flow.specs.SameFlow.{HasPlainParts}
 use Rattle.same_flow.specs.Told.{FlagTells, EndsBehind, PartFits, IsTold}
 use Rattle.same_flow.proofs.Endings.{numbered}
-use Rattle.same_flow.proofs.Followed.{Run, at_step, Follows, nought, EndBy, LastTo, last_weaker, followed, ended}
+use Rattle.same_flow.proofs.Followed.{Run, at_step, Follows, nought, EndBy, LastTo, last_weaker, still, followed, ended}
 use Rattle.same_flow.proofs.RunKeeps.{Begins, keeps}
 use Rattle.same_flow.proofs.BlocksFollowed.{Grows}
 
@@ -22,9 +22,41 @@ use Rattle.same_flow.proofs.BlocksFollowed.{Grows}
 abbrev pub before : Run → ℕ → Maker
 before run at = (ended_before at (at_step run at)).maker
 
+-- the first locals that are active before a step end behind it, and the others end there or have ended
+pub record Parted (run : Run) (at : ℕ) : Type 0 where
+  pub ends : List ℕ
+  pub behind : List ℕ
+  pub all_ends : (at_step run at).ends ≡ ends ++ behind
+  pub lasts : LastTo (suc at) ends
+  pub gone : EndBy at behind
+
+pub parted : {run : Run} {f g : ℕ → ℕ} {m : Maker} {ends : List ℕ} {p : ℕ} → Follows run f g m ends p → LastTo (suc p) ends → Parted run p
+parted {ends = ends} F l = record { ends = ends; behind = F.behind; all_ends = F.all_ends; lasts = l; gone = F.gone }
+
+-- the locals that a step brings into scope end behind it
+abbrev pub EndLater : (at : ℕ) → StepKind → Type 0
+EndLater at (StepKind.Declaration end captured) = at < end
+EndLater at (StepKind.Head numeric foot end variables_end captured) = (at < end) × (at < variables_end)
+EndLater at kind = Unit {0}
+
+ends_behind : (at : ℕ) (kind : StepKind) → EndLater at kind → EndsBehind at kind
+ends_behind at (StepKind.Declaration end captured) later = later
+ends_behind at (StepKind.Head numeric foot end variables_end captured) later = tt
+ends_behind at StepKind.Act later = tt
+ends_behind at StepKind.Return later = tt
+ends_behind at (StepKind.Test when target levels) later = tt
+ends_behind at (StepKind.Jump target) later = tt
+ends_behind at (StepKind.Close register declared) later = tt
+ends_behind at (StepKind.Foot numeric target) later = tt
+
+pub record Tell (run : Run) (at : ℕ) (step : Step) : Type 0 where
+  pub told : IsTold run.code (before run at) at step
+  pub parted : Parted run at
+  pub later : EndLater at step.kind
+
 -- each step from one place to another tells
 pub record Told (run : Run) (from to : ℕ) : Type 0 where
-  pub each : (at : ℕ) (step : Step) → from ≤ at → at < to → slice_get run.code.steps at ≡ Some step → IsTold run.code (before run at) at step
+  pub each : (at : ℕ) (step : Step) → from ≤ at → at < to → slice_get run.code.steps at ≡ Some step → Tell run at step
 
 pub told_nowhere : (run : Run) (from to : ℕ) → to ≡ from → Told run from to
 told_nowhere run from to e = record { each = λ at step h l s. absurd (omega arith) }
@@ -32,7 +64,7 @@ told_nowhere run from to e = record { each = λ at step h l s. absurd (omega ari
 pub told_both : (run : Run) (from mid to : ℕ) → Told run from mid → Told run mid to → Told run from to
 told_both run from mid to one two = record { each = λ at step h l s. by at step h l s (nat_lt at mid) refl }
   where
-    by : (at : ℕ) (step : Step) → from ≤ at → at < to → slice_get run.code.steps at ≡ Some step → (b : Bool) → nat_lt at mid ≡ b → IsTold run.code (before run at) at step
+    by : (at : ℕ) (step : Step) → from ≤ at → at < to → slice_get run.code.steps at ≡ Some step → (b : Bool) → nat_lt at mid ≡ b → Tell run at step
     by at step h l s true e = one.each at step h (grind (arith, nat_tests)) s
     by at step h l s false e = two.each at step (grind (arith, nat_tests)) l s
 
@@ -40,19 +72,6 @@ pub told_to : {run : Run} {from mid to : ℕ} → to ≡ mid → Told run from m
 told_to {run} {from} e told = subst (λ x. Told run from x) (sym e) told
 
 -- ---- before a step
-
-counted_no : (n : ℕ) (b : Bool) → b ≡ false → cond b (1 + n) 0 ≡ 0
-counted_no n true h = cc
-counted_no n false h = refl
-
-counted_yes : (n k : ℕ) (b : Bool) → b ≡ true → n ≡ k → cond b (1 + n) 0 ≡ suc k
-counted_yes n k true h e = let d : 1 + n ≡ suc k = omega arith in d
-counted_yes n k false h e = cc
-
-still : (p : ℕ) (ends behind : List ℕ) → LastTo (suc p) ends → EndBy p behind → still_active p (ends ++ behind) ≡ length ends
-still p [] [] l e = refl
-still p [] (x ∷ xs) l e = counted_no _ (nat_lt p x) (let a = e.0 in grind (arith, nat_tests))
-still p (x ∷ xs) behind l e = counted_yes (still_active p (xs ++ behind)) (length xs) (nat_lt p x) (let a = l.0 in grind (arith, nat_tests)) (still p xs behind l.1 e)
 
 -- the locals that have ended are those that the run ends here
 pub before_is : {run : Run} {f g : ℕ → ℕ} {m : Maker} {ends : List ℕ} {p : ℕ} (F : Follows run f g m ends p) → LastTo (suc p) ends →
@@ -65,21 +84,25 @@ before_same {g = g} F l = F.same ∙ ap (numbered g) (sym (before_is F l))
 pub before_active : {run : Run} {f g : ℕ → ℕ} {m : Maker} {ends : List ℕ} {p : ℕ} (F : Follows run f g m ends p) → LastTo (suc p) ends → (before run p).active ≡ m.active
 before_active F l = sym (ap (λ (n : Maker). n.active) (before_same F l))
 
-pub step_told : (run : Run) (active : List Active) (p : ℕ) (kind : StepKind) (part : Part) → HasStep run.code active p kind part → (before run p).active ≡ active → PartFits kind part →
-    FlagTells kind (before run p) (kind_made run.code kind part (before run p)) → EndsBehind p kind → Told run p (suc p)
-step_told run active p kind part H is fits flag ends = record {
+pub step_told : (run : Run) (active : List Active) (p : ℕ) (kind : StepKind) (part : Part) → HasStep run.code active p kind part → (before run p).active ≡ active → Parted run p →
+    PartFits kind part → FlagTells kind (before run p) (kind_made run.code kind part (before run p)) → EndLater p kind → Told run p (suc p)
+step_told run active p kind part H is parts fits flag later = record {
   each = λ at step h l s.
-      subst (λ x. slice_get run.code.steps x ≡ Some step → IsTold run.code (before run x) x step) (omega arith)
+      subst (λ x. slice_get run.code.steps x ≡ Some step → Tell run x step) (omega arith)
       (λ there.
       let same : H.0.step ≡ step = same_Some H.0.step step (sym H.0.there ∙ there) in
       let k : kind ≡ step.kind = sym H.0.is ∙ ap (λ (it : Step). it.kind) same in
       record {
-        part = part;
-        there = H.1;
-        fits = subst (λ it. PartFits it part) k fits;
-        tells = subst (λ (it : Step). Tells it (before run p).active) same (subst (λ (a : List Active). Tells H.0.step a) (sym is) H.0.tells);
-        flag = subst (λ it. FlagTells it (before run p) (kind_made run.code it part (before run p))) k flag;
-        ends = subst (λ it. EndsBehind p it) k ends;
+        told = record {
+          part = part;
+          there = H.1;
+          fits = subst (λ it. PartFits it part) k fits;
+          tells = subst (λ (it : Step). Tells it (before run p).active) same (subst (λ (a : List Active). Tells H.0.step a) (sym is) H.0.tells);
+          flag = subst (λ it. FlagTells it (before run p) (kind_made run.code it part (before run p))) k flag;
+          ends = subst (λ it. EndsBehind p it) k (ends_behind p kind later);
+        };
+        parted = parts;
+        later = subst (λ it. EndLater p it) k later;
       }) s;
 }
 
@@ -99,11 +122,11 @@ same_active {run} plain {m} {n} {ends} {p} {q} F G h l =
 
 pub jump_told : {run : Run} {active : List Active} {m : Maker} {ends : List ℕ} {p target : ℕ} → Follows run nought nought m ends p → LastTo (suc p) ends → m.active ≡ active →
     IsJump run.code active p target → Told run p (suc p)
-jump_told {run} {active} {p = p} {target = target} F l is J = step_told run active p (StepKind.Jump target) J.0 J.1 (before_active F l ∙ is) tt tt tt
+jump_told {run} {active} {p = p} {target = target} F l is J = step_told run active p (StepKind.Jump target) J.0 J.1 (before_active F l ∙ is) (parted F l) tt tt tt
 
 pub close_told : {run : Run} {active : List Active} {m : Maker} {ends : List ℕ} {p n : ℕ} → Follows run nought nought m ends p → LastTo (suc p) ends → m.active ≡ active →
     IsClose run.code active p n → Told run p (suc p)
-close_told {run} {active} {p = p} {n = n} F l is C = step_told run active p (StepKind.Close n C.0) C.1.0 C.1.1 (before_active F l ∙ is) tt tt tt
+close_told {run} {active} {p = p} {n = n} F l is C = step_told run active p (StepKind.Close n C.0) C.1.0 C.1.1 (before_active F l ∙ is) (parted F l) tt tt tt
 
 -- ---- blocks
 

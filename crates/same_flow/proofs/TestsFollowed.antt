@@ -25,7 +25,7 @@ use Rattle.same_flow.specs.Laid.{IsStep, HasStep, IsJump, IsNegated, IsSaid, Lit
 use Rattle.same_flow.specs.Performed.{kind_at}
 use Rattle.same_flow.specs.Renaming.{StatementsRename}
 use Rattle.same_flow.specs.SameFlow.{HasPlainParts}
-use Rattle.same_flow.proofs.KeptActive.{kept}
+use Rattle.same_flow.proofs.KeptActive.{active_kept, kept}
 use Rattle.same_flow.proofs.Endings.{numbered, alike_put, labels_kept}
 use Rattle.same_flow.proofs.Followed.{Run, Goes, OneStep, LastTo, last_weaker, append_nothing, settle_same, stays, ◌onward◌, within, made_as, ends_as, label_ends, one_step}
 
@@ -95,7 +95,7 @@ unary_leaf : (line : ℕ) (op : UnaryOp) (e : Expression) →
 unary_leaf line op e is = let it = unary_expression line op e in leaf_by line it (load_or (fold it) line (unary_value line op (coded e))) is (λ h. sym (ap line_of h))
 
 -- `and`, `or`, `not` and parentheses are tested by what is in them
-abbrev IsLeaf : Expression → Type 0
+abbrev pub IsLeaf : Expression → Type 0
 IsLeaf (and_expression line left right) = ⊥
 IsLeaf (or_expression line left right) = ⊥
 IsLeaf (unary_expression line UnaryOp.Not e) = ⊥
@@ -189,9 +189,9 @@ module _ (run : Run) (renames : StatementsRename) (plain : HasPlainParts run.cod
         makes = λ f g o n free h.
             (one f [] tested t when label).same m ∙ ap₂ (λ x (k : Maker). (coded tested).jump_if when x k) o.0 h ∙ sym ((one g [] tested t when target).same n)
             ∙ ap (numbered g) (sym (settle_same ((coded tested).jump_if when target n) (jump_free tested when target n ∙ free
-            ∙ ap (λ (a : List Active). length a) (sym (((kept tested).jump_if when target).kept n)))));
+            ∙ ap (λ (a : List Active). length a) (sym (active_kept ((kept tested).jump_if when target) n)))));
         labels = labels_kept _ m (one (λ n. n) m.labels tested t when label);
-        count = ap (λ (a : List Active). length a) (((kept tested).jump_if when label).kept m) ∙ none_new (active_count m);
+        count = ap (λ (a : List Active). length a) (active_kept ((kept tested).jump_if when label) m) ∙ none_new (active_count m);
         new_ends = refl;
       }) l)
 

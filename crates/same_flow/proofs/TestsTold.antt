@@ -17,7 +17,7 @@ use Rattle.same_flow.specs.SameFlow.{HasPlainParts}
 use Rattle.same_flow.specs.Told.{IsLeaf}
 use Rattle.same_flow.proofs.Followed.{Run, Follows, nought, LastTo, last_weaker, followed}
 use Rattle.same_flow.proofs.TestsFollowed.{test_goes}
-use Rattle.same_flow.proofs.StepsTold.{Told, told_nowhere, told_both, told_to, before_active, step_told, same_active, jump_told}
+use Rattle.same_flow.proofs.StepsTold.{Told, told_nowhere, told_both, told_to, before_active, parted, step_told, same_active, jump_told}
 
 -- `==` is no literal
 negated_leaf : (tested e : Expression) → IsNegated tested e → IsLeaf tested
@@ -37,7 +37,8 @@ alone_told : {run : Run} (active : List Active) (m : Maker) (ends : List ℕ) (e
     Follows run nought nought m ends from → m.active ≡ active → AloneLaid run.code active o e sense target from to → LastTo to ends → Told run from to
 alone_told active m ends e (Some k) leaf sense target from to F is H l = literal_told active m ends (beq sense (is_true_constant k)) target from to F is H.1 l
 alone_told {run} active m ends e None leaf sense target from to F is (when, levels, tested, H, s, t) l =
-    told_to t (step_told run active from (StepKind.Test when target levels) (condition_part tested) H (before_active F (subst (λ x. LastTo x ends) t l) ∙ is)
+    let last = subst (λ x. LastTo x ends) t l in
+    told_to t (step_told run active from (StepKind.Test when target levels) (condition_part tested) H (before_active F last ∙ is) (parted F last)
     (said_leaf e sense tested when s (leaf refl)) tt tt)
 
 module _ (run : Run) (renames : StatementsRename) (plain : HasPlainParts run.code) where

@@ -53,7 +53,7 @@ pub record Said : Type 0 where
   pub marks : List Mark
   pub after : State
 
-abbrev quiet : State → Said
+abbrev pub quiet : State → Said
 quiet state = record { marks = []; after = state }
 
 abbrev pub walked : outline.Part → State → Said
@@ -77,11 +77,11 @@ says (StepKind.Test when target negated) (condition_part e) = walked (expression
 says (StepKind.Head numeric foot end variables_end captured) (head_part es names) = walked_until variables_end (heads names es)
 says kind part = quiet
 
-abbrev says_at : Option StepKind → Option Part → State → Said
+abbrev pub says_at : Option StepKind → Option Part → State → Said
 says_at (Some kind) (Some part) = says kind part
 says_at kind part = quiet
 
-abbrev said_at : Steps → (at : ℕ) → State → Said
+abbrev pub said_at : Steps → (at : ℕ) → State → Said
 said_at code at = says_at (kind_at code.steps at) (part_at code at)
 
 -- so many steps

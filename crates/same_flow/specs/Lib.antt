@@ -1,5 +1,7 @@
+pub mod Alike
 pub mod Blocks
 pub mod Laid
+pub mod Listed
 pub mod Performed
 pub mod Renaming
 pub mod SameFlow
