@@ -19,7 +19,7 @@ use Rattle.same_flow.specs.Laid.{IsBlock, ArmEnds, BodyLaid, BranchesLaid, Other
 use Rattle.same_flow.specs.SameFlow.{HasPlainParts}
 use Rattle.same_flow.specs.Told.{AreTold}
 use Rattle.same_flow.proofs.Followed.{Run, Follows, nought, last_weaker, relabelled, followed}
-use Rattle.same_flow.proofs.KeptActive.{kept}
+use Rattle.same_flow.proofs.KeptActive.{active_kept, kept}
 use Rattle.same_flow.proofs.RenamedStatements.{statements_rename}
 use Rattle.same_flow.proofs.TestsFollowed.{test_goes, jump_step}
 use Rattle.built_flow.specs.BuiltLaid.{ComparedOnOne}
@@ -75,7 +75,7 @@ module _ (code : Steps) (params names : List Text) (ahead : Ahead) (told : AreTo
         lasts = last_weaker last around_block.stop around_block.ends b around_block.lasts;
       } in
       let whole_standing = whole_block code params names ahead told plain body builds own_block test.1 test_standing.left lies_there made f in
-      let same : (arm_begun x n).active ≡ n.active = ((kept x).jump_if false (label_of n)).kept (with_new_labels 1 n) in
+      let same : (arm_begun x n).active ≡ n.active = active_kept ((kept x).jump_if false (label_of n)) (with_new_labels 1 n) in
       record { test = test_standing.laid; laid = block_for code params names ahead told plain own_block made.0 made.1 n.active same whole_standing; behind = whole_standing.behind; same = whole_standing.kept ∙ same; left = whole_standing.left }
 
   -- what the arms behind one do

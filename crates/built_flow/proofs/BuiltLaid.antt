@@ -1,20 +1,18 @@
 -- What is built of a plan that lies on the steps of a function stands on them, where comparisons are on line 1 and the registers of variables are numbers of a step.
-use Rattle.std.proofs.Common.{◌≡◌, ℕ, suc, false, List, [], ◌∷◌, length, map, refl, sym, ap, ◌∙◌, arith}
+use Rattle.std.proofs.Common.{ℕ, false, List, [], length, map, sym, ap, ◌∙◌, arith}
 use Rattle.std.specs.Prelude.{None, replicate}
 use Rattle.lua_num.specs.Bytes.{Text}
 use Rattle.lua_tree.specs.Syntax.{no_statements}
 use Rattle.recover_expr.specs.Placing.{Steps}
-use Rattle.scheme.specs.Functions.{empty_maker}
-use Rattle.scheme.specs.Making.{Ahead, Maker, declare, active_count}
+use Rattle.scheme.specs.Making.{Ahead, Maker, active_count}
 use Rattle.scheme.specs.Statements.{settle}
 use Rattle.scheme.specs.declared.making.Item.{Item}
 use Rattle.same_flow.specs.Renaming.{renamed_item}
 use Rattle.same_flow.specs.SameFlow.{begun_of}
+use Rattle.same_flow.proofs.FlowSame.{begun_settled, no_items}
 use Rattle.same_flow.proofs.BlocksFollowed.{replicated, replicate_lasts}
 use Rattle.same_flow.proofs.Endings.{numbered, end_none}
 use Rattle.same_flow.proofs.Followed.{Follows, nought, append_nothing, settle_same}
-use Rattle.same_flow.proofs.HeadsFollowed.{activated_count, activated_free, activated_items, declared_free}
-use Rattle.same_flow.proofs.RunKeeps.{declared_active}
 use Rattle.built_flow.specs.BuiltLaid.{BuiltAreLaid}
 use Rattle.built_flow.proofs.BlocksBuilt.{Block}
 use Rattle.built_flow.proofs.ForsBuilt.{for_stands}
@@ -24,30 +22,6 @@ use Rattle.built_flow.proofs.PlansBuilt.{body_built}
 use Rattle.built_flow.proofs.StepsTold.{run_of}
 
 -- ---- the beginning
-
-declared_items : (texts : List Text) (m : Maker) → (declare texts m).after.items ≡ m.items
-declared_items [] m = refl
-declared_items (text ∷ texts) m = declared_items texts _
-
-declared_count : (texts : List Text) (m : Maker) → length (declare texts m).value ≡ length texts
-declared_count [] m = refl
-declared_count (text ∷ texts) m = ap suc (declared_count texts _)
-
-no_items : (params names : List Text) (ahead : Ahead) → (begun_of params names ahead).items ≡ []
-no_items params names ahead = activated_items (declare params (empty_maker ahead names)).value (declare params (empty_maker ahead names)).after ∙ declared_items params (empty_maker ahead names)
-
-begun_settled : (params names : List Text) (ahead : Ahead) → (begun_of params names ahead).free ≡ active_count (begun_of params names ahead)
-begun_settled params names ahead =
-    let empty = empty_maker ahead names in
-    let declared = declare params empty in
-    let a = activated_free declared.value declared.after in
-    let b = declared_free params empty in
-    let c = activated_count declared.value declared.after in
-    let d : active_count declared.after ≡ 0 = ap (λ (l : List _). length l) (declared_active params empty) in
-    let e = declared_count params empty in
-    let n = length params in
-    let z : empty.free ≡ 0 = refl in
-    omega arith
 
 module _ (code : Steps) (params names : List Text) (ahead : Ahead) where
   abbrev begun : Maker

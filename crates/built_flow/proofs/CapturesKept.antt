@@ -1,8 +1,9 @@
 -- Statements but declarations bring no locals into scope, the locals before a statement stay, and which of them are captured.
 use Rattle.std.proofs.Common.{◌≡◌, ℕ, zero, suc, ◌+◌, ◌≤◌, ◌<◌, Bool, true, false, cond, List, [], ◌∷◌, ◌++◌, length, take, drop, refl, sym, ap, ap₂, ◌∙◌, arith, subst}
+use Rattle.std.proofs.lemmas.Bool.Decides.{nat_tests}
 use Rattle.std.proofs.lemmas.List.{take-append-drop, drop-append-le}
 use Rattle.std.proofs.lemmas.List.Folds.{list_any-append}
-use Rattle.std.specs.Prelude.{Option, None, Some, ◌||◌}
+use Rattle.std.specs.Prelude.{Option, None, Some, ◌||◌, nat_lt}
 use Rattle.opcode.specs.declared.op.Op.{Op}
 use Rattle.lua_tree.specs.Syntax.{Statement, assignment, call_statement, do_block, while_loop, repeat_loop, if_statement, numeric_for, generic_for, function_statement, local_function, local_statement, return_statement, break_statement, Branches, no_branches, branch, Otherwise, no_otherwise, otherwise, Expression}
 use Rattle.scheme.specs.Making.{Maker, any_captured, captured_from, active_count, end_locals, when, declare, place, jump_to}
@@ -14,7 +15,7 @@ use Rattle.same_flow.specs.SameFlow.{HasPlainParts}
 use Rattle.same_flow.specs.Told.{IsDeclarationPart}
 use Rattle.same_flow.proofs.Endings.{take_less}
 use Rattle.same_flow.proofs.Followed.{Run, at_step, Follows, nought, LastTo, length_both, next_label}
-use Rattle.same_flow.proofs.KeptActive.{kept, all_kept, assignment_kept, function_statement_kept, return_kept}
+use Rattle.same_flow.proofs.KeptActive.{active_kept, all_kept, assignment_kept, function_statement_kept, kept, return_kept}
 use Rattle.same_flow.proofs.RunKeeps.{Begins, keeps, declared_active}
 
 -- ---- the locals before stay
@@ -63,7 +64,7 @@ arms_most (branch e block rest) loop label more m =
     let inside = statements_made block loop (arm_begun e m) in
     let here : active_count (arm_part 1 label further (coded e) (statements_made block loop) m) ≤ active_count (arm_begun e m) =
     by_active (jumped_active further label (end_block 1 (active_count (arm_begun e m)) inside)) (block_most (active_count (arm_begun e m)) inside) in
-    let before : active_count (arm_begun e m) ≡ active_count m = ap (λ (a : List Active). length a) (((kept e).jump_if false (label_of m)).kept (with_new_labels 1 m)) in
+    let before : active_count (arm_begun e m) ≡ active_count m = ap (λ (a : List Active). length a) (active_kept ((kept e).jump_if false (label_of m)) (with_new_labels 1 m)) in
     let behind = arms_most rest loop label more (arm_part 1 label further (coded e) (statements_made block loop) m) in
     omega arith
 
@@ -81,16 +82,16 @@ break_most (Some loop) m = by_active (closed_active (captured_from loop.before m
 
 -- a statement that declares no locals
 pub quiet : (s : Statement) → (IsDeclarationPart s → ⊥) → (loop : Option Loop) (m : Maker) → active_count (statement_made s 1 loop m) ≤ active_count m
-quiet (assignment targets es) undeclared loop m = by_active ((assignment_kept 1 targets es).kept m) (omega arith)
-quiet (call_statement e) undeclared loop m = by_active (((kept e).multi Op.Call (Some 0)).kept m) (omega arith)
-quiet (function_statement path method body) undeclared loop m = by_active ((function_statement_kept 1 path method body).kept m) (omega arith)
+quiet (assignment targets es) undeclared loop m = by_active (active_kept (assignment_kept 1 targets es) m) (omega arith)
+quiet (call_statement e) undeclared loop m = by_active (active_kept ((kept e).multi Op.Call (Some 0)) m) (omega arith)
+quiet (function_statement path method body) undeclared loop m = by_active (active_kept (function_statement_kept 1 path method body) m) (omega arith)
 quiet (local_function name body) undeclared loop m = absurd (undeclared tt)
 quiet (local_statement names es) undeclared loop m = absurd (undeclared tt)
-quiet (return_statement es) undeclared loop m = by_active ((return_kept 1 (all_coded es) (all_kept es)).kept m) (omega arith)
+quiet (return_statement es) undeclared loop m = by_active (active_kept (return_kept 1 (all_coded es) (all_kept es)) m) (omega arith)
 quiet break_statement undeclared loop m = break_most loop m
 quiet (do_block block) undeclared loop m = block_most (active_count m) (statements_made block loop m)
 quiet (while_loop e block) undeclared loop m =
-    let before : active_count (while_begun e m) ≡ active_count m = ap (λ (a : List Active). length a) (((kept e).jump_if false (label_of m)).kept (place (suc (label_of m)) (with_new_labels 2 m))) in
+    let before : active_count (while_begun e m) ≡ active_count m = ap (λ (a : List Active). length a) (active_kept ((kept e).jump_if false (label_of m)) (place (suc (label_of m)) (with_new_labels 2 m))) in
     let most = block_most (active_count (while_begun e m)) (statements_made block (loop_of m) (while_begun e m)) in
     let same : active_count (statement_made (while_loop e block) 1 loop m) ≡ active_count (end_block 1 (active_count (while_begun e m)) (statements_made block (loop_of m) (while_begun e m))) = while_same in
     omega arith
@@ -186,3 +187,50 @@ captured_high (suc n) below (x ∷ xs) h = captured_high n (suc below) xs (by (a
     by : (b : Bool) → any_captured xs ≡ b → suc below + n < highest_captured (suc below) xs
     by true e = let d = deeper below x xs e in omega arith
     by false e = let d = shallow below x xs e in absurd (omega arith)
+
+-- ---- the highest captured local
+
+-- it is one of the active ones
+pub highest_most : (below : ℕ) (xs : List Active) → highest_captured below xs ≤ below + length xs
+highest_most below [] = omega arith
+highest_most below (x ∷ xs) = by (any_captured (x ∷ xs)) (any_captured xs) (highest_most (suc below) xs)
+  where
+    by : (a b : Bool) → highest_captured (suc below) xs ≤ suc below + length xs → cond a (cond b (highest_captured (suc below) xs) (suc below)) 0 ≤ below + suc (length xs)
+    by true true h = let n = length xs in let k = highest_captured (suc below) xs in omega arith
+    by true false h = let n = length xs in omega arith
+    by false b h = omega arith
+
+pub or_false : (b : Bool) → (b || false) ≡ b
+or_false true = refl
+or_false false = refl
+
+-- behind others of which none is captured it stays
+pub highest_stays : (below : ℕ) (xs ys : List Active) → any_captured ys ≡ false → highest_captured below (xs ++ ys) ≡ highest_captured below xs
+highest_stays below [] ys h = highest_none below ys h
+highest_stays below (x ∷ xs) ys h =
+    let one : any_captured (xs ++ ys) ≡ any_captured xs = list_any-append (λ (one : Active). one.local.captured) xs ys ∙ ap (λ b. any_captured xs || b) h ∙ or_false (any_captured xs) in
+    ap₂ (λ b n. cond (x.local.captured || b) (cond b n (suc below)) 0) one (highest_stays (suc below) xs ys h)
+
+-- where none from a place on is captured, the highest is below it
+pub highest_low : (n : ℕ) (xs : List Active) → any_captured (drop n xs) ≡ false → highest_captured 0 xs ≤ n
+highest_low n xs h = by (nat_lt n (highest_captured 0 xs)) refl
+  where
+    by : (b : Bool) → nat_lt n (highest_captured 0 xs) ≡ b → highest_captured 0 xs ≤ n
+    by true e =
+        let less : 0 + n < highest_captured 0 xs = grind (arith, nat_tests) in
+        let some = captured_high n 0 xs less in
+        let both : true ≡ false = sym some ∙ h in
+        cc
+    by false e = grind (arith, nat_tests)
+
+-- and where one is, the highest is not
+pub highest_high : (n : ℕ) (xs : List Active) → any_captured (drop n xs) ≡ true → n < highest_captured 0 xs
+highest_high n xs h = by (nat_lt n (highest_captured 0 xs)) refl
+  where
+    by : (b : Bool) → nat_lt n (highest_captured 0 xs) ≡ b → n < highest_captured 0 xs
+    by true e = grind (arith, nat_tests)
+    by false e =
+        let less : highest_captured 0 xs ≤ 0 + n = grind (arith, nat_tests) in
+        let none = captured_low n 0 xs less in
+        let both : true ≡ false = sym h ∙ none in
+        cc

@@ -30,7 +30,7 @@ use Rattle.same_flow.proofs.BlocksFollowed.{replicate_ends, replicate_lasts}
 use Rattle.same_flow.proofs.Followed.{Run, Follows, nought, LastTo, last_weaker, last_both, length_both, append_again}
 use Rattle.same_flow.proofs.ForsFollowed.{for_ends, hidden_to, at_begun}
 use Rattle.same_flow.proofs.HeadsFollowed.{Head, activated_count, numeric_head_goes, generic_head_goes}
-use Rattle.same_flow.proofs.KeptActive.{kept, all_kept, next_kept, adjust_kept}
+use Rattle.same_flow.proofs.KeptActive.{active_kept, adjust_kept, all_kept, kept, next_kept}
 use Rattle.same_flow.proofs.RenamedStatements.{statements_rename}
 use Rattle.same_flow.proofs.RunKeeps.{declared_active, activated}
 use Rattle.built_flow.specs.BuiltLaid.{ComparedOnOne, FewLocals}
@@ -74,19 +74,19 @@ low a b h = omega arith
 
 step_active : (by : ForStep) (m : Maker) → (step_part 1 (step_coded by) m).active ≡ m.active
 step_active no_step m = refl
-step_active (by_step e) m = (next_kept (kept e)).kept m
+step_active (by_step e) m = active_kept (next_kept (kept e)) m
 
 numeric_count : (name : Text) (first last : Expression) (by : ForStep) (m : Maker) → active_count (numeric_valued 1 name first last by m) ≡ active_count m + 3
 numeric_count name first last by m =
     let declared = (declare (name ∷ []) m).after in
     let two = next_reg (coded last) (next_reg (coded first) declared) in
-    let same = ap (λ (a : List Active). length a) (step_active by two ∙ (next_kept (kept last)).kept (next_reg (coded first) declared) ∙ (next_kept (kept first)).kept declared ∙ declared_active (name ∷ []) m) in
+    let same = ap (λ (a : List Active). length a) (step_active by two ∙ active_kept (next_kept (kept last)) (next_reg (coded first) declared) ∙ active_kept (next_kept (kept first)) declared ∙ declared_active (name ∷ []) m) in
     activated_count numeric_names (step_part 1 (step_coded by) two) ∙ ap (λ n. n + 3) same
 
 generic_count : (names : List Text) (es : Expressions) (m : Maker) → active_count (generic_valued 1 names es m) ≡ active_count m + 3
 generic_count names es m =
     let declared = (declare names m).after in
-    let same = ap (λ (a : List Active). length a) ((adjust_kept 1 (all_coded es) (all_kept es) 3).kept declared ∙ declared_active names m) in
+    let same = ap (λ (a : List Active). length a) (active_kept (adjust_kept 1 (all_coded es) (all_kept es) 3) declared ∙ declared_active names m) in
     activated_count generic_names (adjust 1 (all_coded es) 3 declared) ∙ ap (λ n. n + 3) same
 
 front_of : (n : ℕ) (before after : List Active) → ((rest : List Active) × (after ≡ before ++ rest)) → length before ≡ n → take n after ≡ before

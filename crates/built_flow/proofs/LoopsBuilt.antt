@@ -21,7 +21,7 @@ use Rattle.same_flow.specs.Laid.{IsBlock, BodyLaid, label_of, with_new_labels, w
 use Rattle.same_flow.specs.SameFlow.{HasPlainParts}
 use Rattle.same_flow.specs.Told.{AreTold}
 use Rattle.same_flow.proofs.Followed.{Run, LastTo, last_weaker, relabelled, followed}
-use Rattle.same_flow.proofs.KeptActive.{kept}
+use Rattle.same_flow.proofs.KeptActive.{active_kept, kept}
 use Rattle.same_flow.proofs.RenamedStatements.{statements_rename}
 use Rattle.same_flow.proofs.TestsFollowed.{test_goes}
 use Rattle.built_flow.specs.BuiltLaid.{ComparedOnOne}
@@ -113,7 +113,7 @@ module _ (code : Steps) (params names : List Text) (ahead : Ahead) (told : AreTo
           lasts = last_weaker back to around_block.ends (omega arith) last;
         } in
         let whole_standing = whole_block body builds own_block c.found.1 test_standing.left lies_there m.found m.there in
-        let same : (while_begun x n).active ≡ n.active = ((kept x).jump_if false (label_of n)).kept (place (suc (label_of n)) (with_new_labels 2 n)) in
+        let same : (while_begun x n).active ≡ n.active = active_kept ((kept x).jump_if false (label_of n)) (place (suc (label_of n)) (with_new_labels 2 n)) in
         let standing : Here run n.active around_block.ends back = record { maker = _; follows = whole_standing.behind; same = whole_standing.kept ∙ same } in
         let jump = has_kind code params names ahead told n.active around_block.ends back standing (subst (λ y. LastTo y around_block.ends) t last) (StepKind.Jump around_block.from) jumping in
         let exit : as_laid (lying.exit_to to first) ≡ exit_to to n = ap (λ k. Some (record { place = to; locals = k })) tells.base in

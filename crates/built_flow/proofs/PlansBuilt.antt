@@ -19,7 +19,7 @@ use Rattle.same_flow.proofs.Followed.{Run, last_weaker, relabelled}
 use Rattle.built_flow.specs.BuiltLaid.{ComparedOnOne}
 use Rattle.built_flow.proofs.ArmsBuilt.{ArmsStand, last_stands, none_stand, alone_stands, before_last, before_arm}
 use Rattle.built_flow.proofs.BlocksBuilt.{Block, Built, Stands, onwards, append_built}
-use Rattle.built_flow.proofs.CapturesKept.{quiet}
+use Rattle.built_flow.proofs.CapturesKept.{quiet, or_false}
 use Rattle.built_flow.proofs.LoopsBuilt.{BodyBuilds, no_local, do_stands, while_stands}
 use Rattle.built_flow.proofs.PartsTaken.{AreOf, same_some, mapped, chained}
 use Rattle.built_flow.proofs.RepeatsBuilt.{repeat_stands}
@@ -34,10 +34,6 @@ plan_captures steps plan = false
 captures_split : (steps : List Step) (plan : PlanTree) (rest : Plans) → (plan_captures steps plan || captures_own steps rest) ≡ captures_own steps (and_plan plan rest)
 captures_split steps (step_plan step) rest = refl
 captures_split steps plan rest = refl
-
-or_false : (b : Bool) → (b || false) ≡ b
-or_false true = refl
-or_false false = refl
 
 or_again : (a b c : Bool) → ((a || b) || c) ≡ (a || (b || c))
 or_again true b c = refl

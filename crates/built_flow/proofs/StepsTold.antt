@@ -1,7 +1,7 @@
 -- What the steps of a function tell, where a function in the making follows them: the step that stands there has these locals, and a part that fits.
-use Rattle.std.proofs.Common.{◌≡◌, ℕ, suc, ◌+◌, Bool, true, false, cond, List, [], ◌∷◌, ◌++◌, length, refl, sym, ap, ◌∙◌, arith, subst}
+use Rattle.std.proofs.Common.{◌≡◌, ℕ, suc, Bool, true, List, sym, ap, ◌∙◌, arith, subst}
 use Rattle.std.proofs.lemmas.Bool.Decides.{nat_tests}
-use Rattle.std.specs.Prelude.{Option, None, Some, nat_lt, nat_eq, slice_get}
+use Rattle.std.specs.Prelude.{Option, None, Some, nat_eq, slice_get}
 use Rattle.lua_num.specs.Bytes.{Text}
 use Rattle.lua_tree.specs.Syntax.{Expression}
 use Rattle.recover_expr.specs.Drafts.{Part}
@@ -18,8 +18,8 @@ use Rattle.same_flow.specs.Performed.{still_active}
 use Rattle.same_flow.specs.SameFlow.{HasPlainParts}
 use Rattle.same_flow.specs.Told.{at_beginning, before_step, PartFits, AreTold}
 use Rattle.same_flow.proofs.Endings.{numbered}
-use Rattle.same_flow.proofs.Followed.{Run, at_step, EndBy, LastTo, Follows, nought, followed}
-use Rattle.same_flow.proofs.KeptActive.{kept}
+use Rattle.same_flow.proofs.Followed.{Follows, LastTo, Run, at_step, followed, nought, still}
+use Rattle.same_flow.proofs.KeptActive.{active_kept, kept}
 use Rattle.same_flow.proofs.RenamedStatements.{statements_rename}
 use Rattle.same_flow.proofs.TestsFollowed.{test_goes}
 use Rattle.built_flow.proofs.PartsTaken.{same_some, mapped}
@@ -34,19 +34,6 @@ pub record Here (run : Run) (active : List Active) (ends : List ℕ) (p : ℕ) :
   pub same : maker.active ≡ active
 
 -- ---- before a step
-
-counted_no : (n : ℕ) (b : Bool) → b ≡ false → cond b (1 + n) 0 ≡ 0
-counted_no n true h = cc
-counted_no n false h = refl
-
-counted_yes : (n k : ℕ) (b : Bool) → b ≡ true → n ≡ k → cond b (1 + n) 0 ≡ suc k
-counted_yes n k true h e = let d : 1 + n ≡ suc k = omega arith in d
-counted_yes n k false h e = cc
-
-still : (p : ℕ) (ends behind : List ℕ) → LastTo (suc p) ends → EndBy p behind → still_active p (ends ++ behind) ≡ length ends
-still p [] [] l e = refl
-still p [] (x ∷ xs) l e = counted_no _ (nat_lt p x) (let a = e.0 in grind (arith, nat_tests))
-still p (x ∷ xs) behind l e = counted_yes (still_active p (xs ++ behind)) (length xs) (nat_lt p x) (let a = l.0 in grind (arith, nat_tests)) (still p xs behind l.1 e)
 
 -- ---- kinds
 
@@ -109,5 +96,5 @@ module _ (code : Steps) (params names : List Text) (ahead : Ahead) (told : AreTo
     test_here active ends e sense target from to standing test_standing l = record {
       maker = (coded e).jump_if sense 0 standing.maker;
       follows = followed (test_goes run statements_rename plain active standing.maker ends e sense 0 target from to test_standing l) standing.follows;
-      same = ((kept e).jump_if sense 0).kept standing.maker ∙ standing.same;
+      same = active_kept ((kept e).jump_if sense 0) standing.maker ∙ standing.same;
     }

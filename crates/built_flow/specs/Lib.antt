@@ -1,1 +1,4 @@
 pub mod BuiltLaid
+pub mod BuiltWhole
+pub mod LaidLie
+pub mod Never

@@ -1,0 +1,100 @@
+-- Serves the laws. What is built of a plan that lies on the steps of a function: it is there, keeps the rules of form, and is no deeper than the plan.
+use Rattle.std.specs.Prelude.{◌≡◌, ◌≤◌, ℕ, suc, true, false, List, length, None, Some, slice_get}
+use Rattle.lua_tree.specs.Syntax.{Statements}
+use Rattle.lua_tree.specs.Names.{are_some_names}
+use Rattle.lua_tree.specs.WellFormed.{depth_of_expression, depth_of_expressions, depth_of_statement, depth_of_statements, ends_block, formed_expression, formed_expressions, formed_statement, formed_statements, has_expressions}
+use Rattle.recover_expr.specs.Drafts.{Part, statement_part, values_part, condition_part, head_part}
+use Rattle.recover_expr.specs.Placing.{Steps}
+use Rattle.recover_expr.specs.Testing.{negated_levels}
+use Rattle.recover_expr.specs.declared.steps.Step.{Step}
+use Rattle.recover_expr.specs.declared.steps.StepKind.{StepKind}
+use Rattle.recover_flow.specs.Built.{built_body}
+use Rattle.recover_flow.specs.Lying.{BodyLies}
+use Rattle.recover_flow.specs.Plans.{Plans, no_plans, and_plan, PlanTree, step_plan, end_plan, do_plan, for_plan, while_plan, repeat_plan, if_plan, ArmPlans, no_arms, last_arm, and_arm, body_levels}
+use Rattle.recover_flow.specs.Standing.{BodyStands}
+use Rattle.recover_flow.specs.declared.regions.BodyAt.{BodyAt}
+use Rattle.same_flow.specs.Performed.{part_at}
+use Rattle.same_flow.specs.Told.{PartFits}
+
+-- each step has a part of its kind
+abbrev pub HaveParts : Steps → Type 0
+HaveParts code = (at : ℕ) (step : Step) → slice_get code.steps at ≡ Some step → (part : Part) × (part_at code at ≡ Some part) × PartFits step.kind part
+
+-- what lies is built
+abbrev pub LyingIsBuilt : Type 0
+LyingIsBuilt =
+    (code : Steps) → HaveParts code → (plans : Plans) → BodyLies code.steps None (length code.steps) plans 0 (length code.steps)
+    → (block : Statements) × (behind : List Part) × (built_body plans code.parts ≡ Some (block, behind))
+
+-- ---- the rules of form
+
+-- a part that keeps the rules of form, and does not end a block but as a `return`
+abbrev pub IsPartFormed : Part → Type 0
+IsPartFormed (statement_part s) = (formed_statement s ≡ true) × (ends_block s ≡ false)
+IsPartFormed (values_part es) = formed_expressions es ≡ true
+IsPartFormed (condition_part e) = formed_expression e ≡ true
+IsPartFormed (head_part es names) = (are_some_names names ≡ true) × (has_expressions es ≡ true) × (formed_expressions es ≡ true)
+IsPartFormed part = Unit {0}
+
+abbrev pub ArePartsFormed : Steps → Type 0
+ArePartsFormed code = (at : ℕ) (part : Part) → part_at code at ≡ Some part → IsPartFormed part
+
+-- a `return` or a `break` that stands in no `do` of its own is the last of its block
+abbrev pub EndsLast : PlanTree → (behind : Plans) → Type 0
+EndsLast (end_plan end false) (and_plan next rest) = ⊥
+EndsLast plan behind = Unit {0}
+
+-- an `if` begins with an arm
+abbrev pub HasArm : ArmPlans → Type 0
+HasArm (and_arm condition body rest) = Unit {0}
+HasArm arms = ⊥
+
+-- so it is with all that is planned; where plans lie, nothing tells this, and where they stand, all of it is so
+abbrev mutual
+  pub ArePlansFormed : Plans → Type 0
+  ArePlansFormed no_plans = Unit {0}
+  ArePlansFormed (and_plan plan rest) = EndsLast plan rest × IsPlanFormed plan × ArePlansFormed rest
+
+  pub IsPlanFormed : PlanTree → Type 0
+  IsPlanFormed (step_plan step) = Unit {0}
+  IsPlanFormed (end_plan end enclosed) = Unit {0}
+  IsPlanFormed (do_plan step body) = ArePlansFormed body
+  IsPlanFormed (for_plan step numeric body) = ArePlansFormed body
+  IsPlanFormed (while_plan condition body) = ArePlansFormed body
+  IsPlanFormed (repeat_plan body condition) = ArePlansFormed body
+  IsPlanFormed (if_plan arms) = HasArm arms × AreArmsFormed arms
+
+  pub AreArmsFormed : ArmPlans → Type 0
+  AreArmsFormed no_arms = Unit {0}
+  AreArmsFormed (last_arm body) = ArePlansFormed body
+  AreArmsFormed (and_arm condition body rest) = ArePlansFormed body × AreArmsFormed rest
+
+-- what stands is planned so
+abbrev pub StandingIsFormed : Type 0
+StandingIsFormed = (steps : List Step) (at : BodyAt) (plans : Plans) → BodyStands steps at plans → ArePlansFormed plans
+
+-- what is built of formed parts is formed
+abbrev pub BuiltIsFormed : Type 0
+BuiltIsFormed =
+    (code : Steps) → HaveParts code → ArePartsFormed code → (plans : Plans) → ArePlansFormed plans → BodyLies code.steps None (length code.steps) plans 0 (length code.steps) → (block : Statements) (behind : List Part)
+    → built_body plans code.parts ≡ Some (block, behind)
+    → formed_statements block ≡ true
+
+-- ---- how deep it is
+
+-- a step has levels enough for its part, and a test has those that its negation needs
+abbrev pub IsPartDeep : (levels : ℕ) → StepKind → Part → Type 0
+IsPartDeep levels (StepKind.Test when target negated) (condition_part e) = (depth_of_expression e ≤ levels) × (negated ≡ negated_levels e levels)
+IsPartDeep levels kind (statement_part s) = suc (depth_of_statement s) ≤ levels
+IsPartDeep levels kind (values_part es) = suc (depth_of_expressions es) ≤ levels
+IsPartDeep levels kind (head_part es names) = suc (depth_of_expressions es) ≤ levels
+IsPartDeep levels kind part = Unit {0}
+
+abbrev pub ArePartsDeep : Steps → Type 0
+ArePartsDeep code = (at : ℕ) (step : Step) (part : Part) → slice_get code.steps at ≡ Some step → part_at code at ≡ Some part → IsPartDeep step.levels step.kind part
+
+-- what is built is no deeper than the plan, where that needs no more than a tree may have
+abbrev pub BuiltIsShallow : Type 0
+BuiltIsShallow =
+    (code : Steps) → HaveParts code → ArePartsDeep code → (plans : Plans) → BodyLies code.steps None (length code.steps) plans 0 (length code.steps) → body_levels code.steps plans ≤ 200 → (block : Statements) (behind : List Part)
+    → built_body plans code.parts ≡ Some (block, behind) → depth_of_statements block ≤ body_levels code.steps plans

@@ -1,0 +1,77 @@
+-- Serves the laws. Statements that stand on the steps of a function lie there, no deeper than the room that they take.
+use Rattle.std.specs.Prelude.{◌≡◌, ◌≤◌, ◌+◌, ◌-◌, ℕ, zero, suc, true, List, ◌++◌, length, None, Some, Option, option_and_then, replicate, slice_get, take}
+use Rattle.lua_num.specs.Bytes.{Text}
+use Rattle.lua_tree.specs.Syntax.{Expression, binary_expression, Statements}
+use Rattle.lua_tree.specs.WellFormed.{formed_statements}
+use Rattle.lua_tree.specs.declared.tree.BinaryOp.{BinaryOp}
+use Rattle.recover_expr.specs.Drafts.{Part, statement_part, values_part, condition_part, head_part}
+use Rattle.recover_expr.specs.Placing.{Steps}
+use Rattle.recover_expr.specs.declared.steps.Step.{Step}
+use Rattle.recover_expr.specs.declared.steps.StepKind.{StepKind}
+use Rattle.recover_flow.specs.Asked.{kind_at}
+use Rattle.recover_flow.specs.Flow.{Around, Flow, FlowLies, flow_levels}
+use Rattle.same_flow.specs.Laid.{highest_captured}
+use Rattle.same_flow.specs.Listed.{before_place}
+use Rattle.same_flow.specs.Performed.{part_at, performed_to}
+use Rattle.same_flow.specs.SameFlow.{AreLaid, HasPlainParts, begun_of}
+use Rattle.same_flow.specs.Told.{at_beginning}
+use Rattle.scheme.specs.Making.{Ahead, active_count}
+use Rattle.scheme.specs.Shapes.{room_of_expression, room_of_expressions, room_of_statement, room_of_statements}
+use Rattle.built_flow.specs.BuiltLaid.{FewLocals}
+use Rattle.built_flow.specs.Never.{nevers_of_statements}
+
+-- ---- which steps declare the active locals
+
+-- of each that is active behind so many steps, None for a parameter
+abbrev pub declaring : Steps → (params names : List Text) → Ahead → (at : ℕ) → List (Option ℕ)
+declaring code params names ahead zero = replicate (active_count (begun_of params names ahead)) None
+declaring code params names ahead (suc at) =
+    let left = active_count (before_place code params names ahead at).maker in
+    take left (declaring code params names ahead at) ++ replicate (active_count (performed_to code (at_beginning code params names ahead) (suc at)).maker - left) (Some at)
+
+abbrev pub same_option : Option ℕ → Option ℕ
+same_option found = found
+
+-- the step that declares the local in a register, where one is active before a step
+abbrev pub declaring_before : Steps → (params names : List Text) → Ahead → (at register : ℕ) → Option ℕ
+declaring_before code params names ahead at register =
+    option_and_then same_option (slice_get (take (active_count (before_place code params names ahead at).maker) (declaring code params names ahead at)) register)
+
+-- each CLOSE says which step declares the first local that it closes
+abbrev pub ClosesTell : Steps → (params names : List Text) → Ahead → Type 0
+ClosesTell code params names ahead = (at register : ℕ) (declared : Option ℕ) → kind_at code.steps at ≡ Some (StepKind.Close register declared) → declared ≡ declaring_before code params names ahead at register
+
+-- ---- steps that need no more levels than what they have of the source takes
+
+-- what is tested with `==` may be written with `~=`
+abbrev pub NegatedInRoom : (negated : ℕ) → Expression → Type 0
+NegatedInRoom negated (binary_expression line BinaryOp.Eq left right) = negated ≤ room_of_expression (binary_expression line BinaryOp.Eq left right)
+NegatedInRoom negated e = Unit {0}
+
+abbrev pub KindInRoom : (levels : ℕ) → StepKind → Part → Type 0
+KindInRoom levels (StepKind.Test when target negated) (condition_part e) = (levels ≤ room_of_expression e) × NegatedInRoom negated e
+KindInRoom levels kind (statement_part s) = levels ≤ suc (room_of_statement s)
+KindInRoom levels kind (values_part es) = levels ≤ suc (room_of_expressions es)
+KindInRoom levels kind (head_part es names) = levels ≤ suc (room_of_expressions es)
+KindInRoom levels kind part = Unit {0}
+
+abbrev pub AreInRoom : Steps → Type 0
+AreInRoom code = (at : ℕ) (step : Step) (part : Part) → slice_get code.steps at ≡ Some step → part_at code at ≡ Some part → KindInRoom step.levels step.kind part
+
+-- ---- the law
+
+-- what is around the statements of a function
+abbrev pub around_of : (params names : List Text) → Ahead → Around
+around_of params names ahead = let begun = begun_of params names ahead in record { count = active_count begun; captured = highest_captured 0 begun.active; declared = λ register. None; exit = None }
+
+-- a block that stands on all steps lies there; a `return` counts one level more, and so does each further arm whose condition never fails
+pub record LaidLies (code : Steps) (params names : List Text) (ahead : Ahead) (block : Statements) : Type 0 where
+  pub flow : Flow
+  pub behind : Around
+  pub lies : FlowLies code.steps (around_of params names ahead) behind (length code.steps) flow 0 (length code.steps)
+  pub levels : AreInRoom code → flow_levels code.steps flow ≤ suc (room_of_statements block + nevers_of_statements block)
+
+abbrev pub LaidLie : Type 0
+LaidLie =
+    (code : Steps) → HasPlainParts code → FewLocals code → (params names : List Text) (ahead : Ahead) → ClosesTell code params names ahead → (block : Statements) → formed_statements block ≡ true → AreLaid code params names ahead block
+    → LaidLies code params names ahead block
