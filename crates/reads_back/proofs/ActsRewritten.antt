@@ -35,7 +35,7 @@ targets_written : {f : Function} {g : Fn} {active : List Active} {listed : List 
 targets_written deep no_expressions all are shallow = tt
 targets_written deep (syntax.expression e targets) all are shallow = (target_written deep e all are.0 (omega (arith, shallow)), targets_written deep targets all are.1 (omega (arith, shallow)))
 
-each_written : {f : Function} {g : Fn} {active : List Active} {listed : List ℕ} {z : Maker} {lefts : ℕ → List (Option Inner)} (deep : ℕ) (es : Expressions) →
+pub each_written : {f : Function} {g : Fn} {active : List Active} {listed : List ℕ} {z : Maker} {lefts : ℕ → List (Option Inner)} (deep : ℕ) (es : Expressions) →
     AllWritten f g active listed z lefts deep → AllHaveCores es → depth_of_expressions es ≤ deep → AllRewritten f g active listed z lefts es
 each_written deep no_expressions all have shallow = tt
 each_written deep (syntax.expression e es) all have shallow = (all e have.0 (omega (arith, shallow)), each_written deep es all have.1 (omega (arith, shallow)))

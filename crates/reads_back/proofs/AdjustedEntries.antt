@@ -184,18 +184,18 @@ with_further count n before vs are counts several = ap (adjusted_list count true
 
 -- ---- as many as there are locals, or more: a last nil is left out where they are as many
 
-as_many : (count : ℕ) (entries : Entries) (vs : Values) → AreEntries entries vs → count ≤ length entries → adjusted_list count true entries ≡ Some (record { values = vs; all = true })
-as_many count entries vs are enough =
-    ap (λ front. option_and_then (adjusted_to count true entries) (singles_of front)) (take_all (leading entries) entries (omega (arith, all)))
-    ∙ ap (option_and_then (adjusted_to count true entries)) are
+pub singles_adjusted : (count : ℕ) (may_be_none : Bool) (entries : Entries) (vs : Values) → AreEntries entries vs → count ≤ length entries → adjusted_list count may_be_none entries ≡ Some (record { values = vs; all = true })
+singles_adjusted count may_be_none entries vs are enough =
+    ap (λ front. option_and_then (adjusted_to count may_be_none entries) (singles_of front)) (take_all (leading entries) entries (omega (arith, all)))
+    ∙ ap (option_and_then (adjusted_to count may_be_none entries)) are
     ∙ ap₂ (λ (fits missing : Bool). if fits then Some (record { values = vs; all = not missing }) else None) fits none_missing
   where
     all : leading entries ≡ length entries
     all = all_lead entries vs are
 
-    fits : fits_places count true entries vs ≡ true
+    fits : fits_places count may_be_none entries vs ≡ true
     fits =
-        let others = if are_missing entries then (count == length entries) && true else (count == length entries) && (list_all is_further (behind_leading entries) && ends_multiple vs) in
+        let others = if are_missing entries then (count == length entries) && (may_be_none || nat_lt 0 (leading entries)) else (count == length entries) && (list_all is_further (behind_leading entries) && ends_multiple vs) in
         let either = λ (all : Bool). if all then nat_le count (length entries) else others in
         ap either (eq-eqb (leading entries) (length entries) all) ∙ le-leb count (length entries) enough
 
@@ -230,7 +230,7 @@ with_singles count entries vs are enough =
   where
     by : (left_out : Bool) → ((value_count vs == count) && ends_with_nil vs) ≡ left_out →
         adjusted_list count true (if left_out then take (length entries - 1) entries ++ missing_entry ∷ [] else entries) ≡ Some (without_nil left_out vs)
-    by false is = as_many count entries vs are enough
+    by false is = singles_adjusted count true entries vs are enough
     by true is =
         let ws = before_last (split_last vs) in
         let front = take (length entries - 1) entries in

@@ -40,7 +40,7 @@ use Rattle.reads_back.proofs.Tests.{first_of_both, not_below, both_hold, second_
 use Rattle.reads_back.proofs.WordsRead.{IsQuiet}
 use Rattle.lua_tree.specs.Outline.{Part}
 
-some_names : (names : List Text) → are_some_names names ≡ true → 0 < length names
+pub some_names : (names : List Text) → are_some_names names ≡ true → 0 < length names
 some_names [] good = cc
 some_names (name ∷ names) good = omega arith
 
@@ -72,7 +72,7 @@ own_kind name (Some found) listed first kind is room = (first, is, omega (arith,
 -- ---- what is known where a statement is read
 
 -- one local of an invented situation with the locals that are active
-no_local : Declared
+pub no_local : Declared
 no_local = record { outer = None; register = 0; step = None; captured = false }
 
 abbrev invented : (left : List (Option Inner)) → Maker → Situation

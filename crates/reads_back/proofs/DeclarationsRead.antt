@@ -55,10 +55,10 @@ entered_same step before other same = record {
 }
 
 -- where the same locals are declared and active the same are declared next
-abbrev DeclaresSame : List LocVar → (count pc : ℕ) → Option ℕ → (other behind : Scope) → Type 0
+abbrev pub DeclaresSame : List LocVar → (count pc : ℕ) → Option ℕ → (other behind : Scope) → Type 0
 DeclaresSame locals count pc step other behind = (scope : Scope) × (declare locals count pc step other ≡ Some scope) × SameLocals behind scope
 
-declares_same : (locals : List LocVar) (count pc : ℕ) (step : Option ℕ) (before other behind : Scope) → SameLocals before other → declare locals count pc step before ≡ Some behind →
+pub declares_same : (locals : List LocVar) (count pc : ℕ) (step : Option ℕ) (before other behind : Scope) → SameLocals before other → declare locals count pc step before ≡ Some behind →
     DeclaresSame locals count pc step other behind
 declares_same locals zero pc step before other behind same is = (other, refl, subst (λ (behind : Scope). SameLocals behind other) (same_Some before behind is) same)
 declares_same locals (suc count) pc step before other behind same is =

@@ -144,11 +144,11 @@ free_there r m is = ap (λ r. free_from r m) (sym is)
 
 -- ---- what is declared
 
-declare_constants : (names : List Text) (m : Maker) → (declare names m).after.constants ≡ m.constants
+pub declare_constants : (names : List Text) (m : Maker) → (declare names m).after.constants ≡ m.constants
 declare_constants [] m = refl
 declare_constants (name ∷ names) m = declare_constants names _
 
-activate_constants : (locals : List Local) (m : Maker) → (activate locals m).constants ≡ m.constants
+pub activate_constants : (locals : List Local) (m : Maker) → (activate locals m).constants ≡ m.constants
 activate_constants [] m = refl
 activate_constants (local ∷ locals) m = activate_constants locals _
 
@@ -419,7 +419,7 @@ module _ {f : Function} {g : Fn} {active : List Active} {listed : List ℕ} {z :
   abbrev IsListed : Listed → Type 0
   IsListed list = IsWritten list.values list.all
 
-  open_listed : ends_open es ≡ true → (fewer : Bool) → nat_lt (value_count from) count ≡ fewer → IsWritten from true
+  pub open_listed : ends_open es ≡ true → (fewer : Bool) → nat_lt (value_count from) count ≡ fewer → IsWritten from true
   open_listed is true fewer = open_written (ltb-true _ _ fewer) is
   open_listed is false fewer = more_written (ltb-false _ _ fewer)
 

@@ -48,7 +48,7 @@ module _ (at : Place) (of : ℕ → Part) where
   nil_behind no_values = nothing_behind nothing
   nil_behind (and_value v rest) = both_same (same_part (part_of at of v)) (nil_behind rest)
 
-  with_nil_parts : (missing_one : Bool) (vs : Values) → SamePart (parts_of at of (with_nil missing_one vs)) (parts_of at of vs)
+  pub with_nil_parts : (missing_one : Bool) (vs : Values) → SamePart (parts_of at of (with_nil missing_one vs)) (parts_of at of vs)
   with_nil_parts true vs = nil_behind vs
   with_nil_parts false vs = same_part (parts_of at of vs)
 

@@ -56,7 +56,7 @@ module _ (g : Fn) where
 
 -- ---- the words
 
-same_spot : {p q : Spot} → Same p q → q ≡ p
+pub same_spot : {p q : Spot} → Same p q → q ≡ p
 same_spot {p} {q} same =
     ap₂ (λ (pc : ℕ) (ahead : Ahead). record { pc = pc; ahead = ahead; functions = q.functions }) same.pc same.ahead
     ∙ ap (λ (made : ℕ). record { pc = p.pc; ahead = p.ahead; functions = made }) same.functions

@@ -61,7 +61,7 @@ open_list_taken before entries vs v first field are is counts =
 
 -- ---- one value, and others behind it
 
-abbrev behind_one : {f : Function} {Is : Value → Type 0} {deep first last : ℕ} {s : Situation} → Comes f Is deep s first last → Situation
+abbrev pub behind_one : {f : Function} {Is : Value → Type 0} {deep first last : ℕ} {s : Situation} → Comes f Is deep s first last → Situation
 behind_one {s = s} one = behind_words one.scope one.seen (one.entry ∷ []) s
 
 comes_then : {f : Function} {Is : Value → Type 0} {deep first mid last : ℕ} {s : Situation} (one : Comes f Is deep s first mid) (scope : Scope) (seen : ℕ) (more : Entries) →
@@ -70,10 +70,10 @@ comes_then {f} {mid = mid} {last = last} {s = s} one scope seen more rest =
     reaches_then one.reaches
     (subst (λ (entries : Entries). Reaches f mid (behind_one one) last (record s { scope = scope; entries = entries; seen = seen })) (append_assoc s.entries (one.entry ∷ []) more) rest)
 
-next_behind : {f : Function} {Is : Value → Type 0} {deep first last : ℕ} {s : Situation} (free : ℕ) (one : Comes f Is deep s first last) → free ≡ next_free s → free + 1 ≡ next_free (behind_one one)
+pub next_behind : {f : Function} {Is : Value → Type 0} {deep first last : ℕ} {s : Situation} (free : ℕ) (one : Comes f Is deep s first last) → free ≡ next_free s → free + 1 ≡ next_free (behind_one one)
 next_behind {s = s} free one is = omega (arith, length-append s.entries (one.entry ∷ []))
 
-some_behind : {f : Function} {Is : Value → Type 0} {deep first last : ℕ} {s : Situation} (one : Comes f Is deep s first last) → 0 < length (behind_one one).entries
+pub some_behind : {f : Function} {Is : Value → Type 0} {deep first last : ℕ} {s : Situation} (one : Comes f Is deep s first last) → 0 < length (behind_one one).entries
 some_behind {s = s} one = omega (arith, length-append s.entries (one.entry ∷ []))
 
 -- ---- values in the next registers
@@ -108,7 +108,7 @@ none_come f g active deep s p q same as_many = record {
       (subst (λ (entries : Entries). Reaches f p.pc s p.pc (record s { entries = entries })) (sym (append-nil s.entries)) here);
 }
 
-more_come : {f : Function} (Is : Counted Value) (Are : Counted Values) {before between behind deep count first mid last : ℕ} {s : Situation} (one : Comes f (Is before between) deep s first mid) →
+pub more_come : {f : Function} (Is : Counted Value) (Are : Counted Values) {before between behind deep count first mid last : ℕ} {s : Situation} (one : Comes f (Is before between) deep s first mid) →
     AllCome f (Are between behind) deep (behind_one one) count mid last → AllCome f (first_and Is Are before behind) deep s (suc count) first last
 more_come Is Are {between = between} one rest = record {
   values = values.and_value one.value rest.values;

@@ -82,7 +82,7 @@ used_with_last count (e ∷ ds) d parts = ap (used_by count e) (used_with_last c
 abbrev pub walked : List Store → (parts : List Bool) → (left : ℕ) → (used : List Bool) → Assigning
 walked stores parts left used = record { stores = stores; low = length parts + left; used = parts ++ (replicate left false ++ used); left = unused parts + left }
 
-none_unused : (n : ℕ) → unused (replicate n false) ≡ n
+pub none_unused : (n : ℕ) → unused (replicate n false) ≡ n
 none_unused zero = refl
 none_unused (suc n) = ap suc (none_unused n)
 
@@ -90,7 +90,7 @@ pub all_used : (n : ℕ) → unused (replicate n true) ≡ 0
 all_used zero = refl
 all_used (suc n) = all_used n
 
-fewer_unused : (parts : List Bool) (n : ℕ) → slice_get parts n ≡ Some false → unused parts ≡ suc (unused (slice_set parts n true))
+pub fewer_unused : (parts : List Bool) (n : ℕ) → slice_get parts n ≡ Some false → unused parts ≡ suc (unused (slice_set parts n true))
 fewer_unused [] n there = cc
 fewer_unused (true ∷ parts) zero there = cc
 fewer_unused (false ∷ parts) zero there = refl

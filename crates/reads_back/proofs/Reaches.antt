@@ -1,5 +1,5 @@
 -- The words of a step one behind the other: from a pc and what is known there, reading comes to another.
-use Rattle.std.proofs.Common.{◌≡◌, ℕ, zero, suc, ◌+◌, ◌<◌, Some, ap, ◌∙◌, ◌≤◌, arith}
+use Rattle.std.proofs.Common.{◌≡◌, ℕ, zero, suc, ◌+◌, ◌<◌, ◌⊎◌, inl, inr, Some, refl, ap, ◌∙◌, ◌≤◌, arith}
 use Rattle.std.specs.Prelude.{option_and_then}
 use Rattle.recover_expr.specs.Drafts.{Drafted}
 use Rattle.recover_expr.specs.Reading.{on, over, go_on, turn_at, words_from}
@@ -17,6 +17,11 @@ reaches_then (word later turn rest) more = word later turn (reaches_then rest mo
 pub reaches_on : {f : Function} {pc last : ℕ} {s behind : Situation} → Reaches f pc s last behind → pc ≤ last
 reaches_on here = omega arith
 reaches_on (word later turn rest) = let on = reaches_on rest in omega arith
+
+-- some words are read, or nothing changes
+pub reaches_some : {f : Function} {pc last : ℕ} {s behind : Situation} → Reaches f pc s last behind → (pc < last) ⊎ (s ≡ behind)
+reaches_some here = inr refl
+reaches_some (word later turn rest) = inl (let on = reaches_on rest in omega arith)
 
 -- the step is over with the next word, which so many words reach
 pub step_ends : {f : Function} {pc last : ℕ} {s t behind : Situation} (draft : Drafted) (count : ℕ) → Reaches f pc s last t → turn_at f last t ≡ Some (over draft, behind) → last < count + pc →

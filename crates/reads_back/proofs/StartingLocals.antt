@@ -120,12 +120,12 @@ within_all end zero entries scope active few = ap (λ active. ends_within (optio
 within_all end (suc count) entries scope active few =
     ap (λ outer. ends_within outer end) (innermost_ends end count entries scope active (omega (arith, few))) ∙ le-leb end end (omega arith)
 
-one_declared : (step : Option ℕ) (scope : Scope) → Declares 1 scope (entered step scope)
+pub one_declared : (step : Option ℕ) (scope : Scope) → Declares 1 scope (entered step scope)
 one_declared step scope =
     let one : Declared = record { outer = innermost scope; register = length scope.active; step = step; captured = false } in
     record { declared_more = length-append scope.declared (one ∷ []); active_more = refl }
 
-more_declared : (count : ℕ) (scope mid behind : Scope) → Declares 1 scope mid → Declares count mid behind → Declares (suc count) scope behind
+pub more_declared : (count : ℕ) (scope mid behind : Scope) → Declares 1 scope mid → Declares count mid behind → Declares (suc count) scope behind
 more_declared count scope mid behind one more = record {
   declared_more = omega (arith, one.declared_more, more.declared_more);
   active_more =

@@ -53,7 +53,7 @@ pub record AreEnding (f : Function) : Type 0 where
 
 -- ---- the last word has the number behind all steps
 
-length_set_number : (pc number : ℕ) (numbers : Numbers) → length (set_number pc number numbers) ≡ length numbers
+pub length_set_number : (pc number : ℕ) (numbers : Numbers) → length (set_number pc number numbers) ≡ length numbers
 length_set_number pc number numbers = by (nat_lt pc (length numbers))
   where
     by : (inside : Bool) → length (if inside then slice_set numbers pc (Some number) else numbers) ≡ length numbers
@@ -64,12 +64,12 @@ length_number_all : (number : ℕ) (drafts : List Drafted) (numbers : Numbers) �
 length_number_all number [] numbers = refl
 length_number_all number (draft ∷ drafts) numbers = length_number_all (suc number) drafts (set_number draft.pc number numbers) ∙ length_set_number draft.pc number numbers
 
-number_is_set : (pc number : ℕ) (numbers : Numbers) → pc < length numbers → number_at (set_number pc number numbers) pc ≡ Some number
+pub number_is_set : (pc number : ℕ) (numbers : Numbers) → pc < length numbers → number_at (set_number pc number numbers) pc ≡ Some number
 number_is_set pc number numbers within =
     ap (λ (inside : Bool). number_at (if inside then slice_set numbers pc (Some number) else numbers) pc) (lt-ltb pc (length numbers) within)
     ∙ ap there (slice_get-get_or (slice_set numbers pc (Some number)) pc None (omega (arith, within, length-set numbers pc (Some number))) ∙ ap (λ (there : Option ℕ). Some there) (get_or-set_same numbers pc (Some number) None within))
 
-last_number : (f : Function) (drafts : List Drafted) → f.last < length f.of.code → number_at (numbers_of f drafts) f.last ≡ Some (length drafts)
+pub last_number : (f : Function) (drafts : List Drafted) → f.last < length f.of.code → number_at (numbers_of f drafts) f.last ≡ Some (length drafts)
 last_number f drafts within =
     let before : Numbers = replicate (length f.of.code) None in
     number_is_set f.last (length drafts) (number_all 0 drafts before) (omega (arith, within, length_number_all 0 drafts before, length-replicate {A = Option ℕ} (length f.of.code) None))

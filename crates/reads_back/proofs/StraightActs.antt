@@ -59,7 +59,7 @@ module _ {f : Function} {g : Fn} {active : List Active} {listed : List ℕ} {z :
   abbrev at : Place
   at = place f.of listed f.short
 
-  all_written : (deep : ℕ) → deep ≤ 200 → AllWritten f g active listed z lefts deep
+  pub all_written : (deep : ℕ) → deep ≤ 200 → AllWritten f g active listed z lefts deep
   all_written deep low e has few = (rewritten_all lefts made left.again e has (omega (arith, low, few))).value
 
   -- the functions in the local of a local function have their parts too

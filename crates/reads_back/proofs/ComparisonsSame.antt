@@ -1,0 +1,213 @@
+-- What is written of a comparison makes the same test and takes the same constants, in whichever order its operands are written.
+use Rattle.std.proofs.Common.{◌≡◌, ℕ, ◌<◌, ◌≤◌, ◌⊎◌, inl, inr, Bool, true, false, not, ◌&&◌, List, ◌++◌, length, Option, refl, sym, ap, ◌∙◌, subst, arith}
+use Rattle.std.specs.List.{list_any}
+use Rattle.std.specs.Prelude.{if◌then◌else◌}
+use Rattle.lua_tree.specs.OneLine.{one_line_expression}
+use Rattle.lua_tree.specs.Syntax.{Expression, binary_expression}
+use Rattle.lua_tree.specs.WellFormed.{depth_of_expression}
+use Rattle.lua_tree.specs.declared.tree.BinaryOp.{BinaryOp}
+use Rattle.proto.specs.Constants.{same_constant}
+use Rattle.core_expr.specs.Counting.{left_by_operand, taken_behind_operand}
+use Rattle.core_expr.specs.Places.{Place, place}
+use Rattle.core_expr.specs.Targets.{has_mirror, is_constant_field, is_swapped, mirrored, swapped_fields, word_both, word_comparison}
+use Rattle.core_expr.specs.Values.{Inner, OperandValue, constant_operand, value_operand}
+use Rattle.core_expr.specs.Writing.{Wording, word_operand}
+use Rattle.recover_expr.specs.Situation.{Function}
+use Rattle.recover_expr.specs.Testing.{tested_comparison}
+use Rattle.scheme.specs.Expressions.{comparison_word, is_comparison, rk}
+use Rattle.scheme.specs.Making.{Got, Maker, free_from, jump_to, put}
+use Rattle.scheme.specs.Scheme.{coded}
+use Rattle.scheme.specs.declared.making.Active.{Active}
+use Rattle.scheme_stands.proofs.Growth.{Final}
+use Rattle.scheme_stands.specs.Words.{Fn}
+use Rattle.reads_back.specs.Cores.{HasCore, IsOperand}
+use Rattle.reads_back.proofs.ComparesSame.{IsConstantOperand, Turns, both_counted, compare_is, compared_from, constant_of, final_both, first_turns, fresh_number, in_order, joined_is, known_turns, new_turns, number_bound}
+use Rattle.reads_back.proofs.ComparisonOrder.{HasLocal, IsNextNumber, MayTurn, early_second, has_local, late_first, plain_order, turned_order}
+use Rattle.reads_back.proofs.ComparisonsRead.{taken_either}
+use Rattle.reads_back.proofs.Mentions.{IsAhead, mentions_in}
+use Rattle.reads_back.proofs.OperandsSame.{operand_rewritten}
+use Rattle.reads_back.proofs.Rewriting.{AreAgain, IsMadeBy, RewrittenOperand, code}
+use Rattle.reads_back.proofs.TestedAs.{BothTested, comparison_of, is_turned, taken_behind_test, word_op}
+use Rattle.reads_back.proofs.WrittenSame.{rewritten_all}
+
+-- ---- how it is written
+
+-- a comparison as it is tested: `~=` as `==`
+abbrev pub tested_op : BinaryOp → BinaryOp
+tested_op BinaryOp.Ne = BinaryOp.Eq
+tested_op op = op
+
+-- the operator for operands the other way round
+abbrev pub other_op : BinaryOp → BinaryOp
+other_op BinaryOp.Lt = BinaryOp.Gt
+other_op BinaryOp.Le = BinaryOp.Ge
+other_op BinaryOp.Gt = BinaryOp.Lt
+other_op BinaryOp.Ge = BinaryOp.Le
+other_op op = op
+
+module _ (at : Place) (n : ℕ) (fs : List (Option Inner)) (x y : ℕ) (o1 o2 : OperandValue) where
+  abbrev written_of : BinaryOp → Bool → Wording
+  written_of op swapped =
+      let c = comparison_of op x y o1 o2 in
+      if swapped then word_both at n fs (mirrored c.op) c.right c.left else word_both at n fs c.op c.left c.right
+
+  -- in its order
+  ordered_word : (op : BinaryOp) → is_comparison op ≡ true → is_swapped (length at.entries) n (comparison_of op x y o1 o2) ≡ is_turned op → word_comparison at n fs (comparison_of op x y o1 o2) ≡ word_both at n fs (tested_op op) o1 o2
+  ordered_word BinaryOp.Eq is swapped = ap (written_of BinaryOp.Eq) swapped
+  ordered_word BinaryOp.Ne is swapped = ap (written_of BinaryOp.Ne) swapped
+  ordered_word BinaryOp.Lt is swapped = ap (written_of BinaryOp.Lt) swapped
+  ordered_word BinaryOp.Le is swapped = ap (written_of BinaryOp.Le) swapped
+  ordered_word BinaryOp.Gt is swapped = ap (written_of BinaryOp.Gt) swapped
+  ordered_word BinaryOp.Ge is swapped = ap (written_of BinaryOp.Ge) swapped
+  ordered_word op is swapped = cc
+
+  -- the other way round
+  pub turned_word : (op : BinaryOp) → has_mirror (word_op op) ≡ true → is_swapped (length at.entries) n (comparison_of op x y o1 o2) ≡ not (is_turned op) → word_comparison at n fs (comparison_of op x y o1 o2) ≡ word_both at n fs (other_op op) o2 o1
+  turned_word BinaryOp.Lt is swapped = ap (written_of BinaryOp.Lt) swapped
+  turned_word BinaryOp.Le is swapped = ap (written_of BinaryOp.Le) swapped
+  turned_word BinaryOp.Gt is swapped = ap (written_of BinaryOp.Gt) swapped
+  turned_word BinaryOp.Ge is swapped = ap (written_of BinaryOp.Ge) swapped
+  turned_word op is swapped = cc
+
+-- it makes the same word
+other_word : (op : BinaryOp) (truth : Bool) (x y : ℕ) → has_mirror (word_op op) ≡ true → comparison_word (other_op op) truth y x ≡ comparison_word (tested_op op) truth x y
+other_word BinaryOp.Lt truth x y is = refl
+other_word BinaryOp.Le truth x y is = refl
+other_word BinaryOp.Gt truth x y is = refl
+other_word BinaryOp.Ge truth x y is = refl
+other_word op truth x y is = cc
+
+pub other_compares : (op : BinaryOp) → has_mirror (word_op op) ≡ true → is_comparison (other_op op) ≡ true
+other_compares BinaryOp.Lt is = refl
+other_compares BinaryOp.Le is = refl
+other_compares BinaryOp.Gt is = refl
+other_compares BinaryOp.Ge is = refl
+other_compares op is = cc
+
+tested_compares : (op : BinaryOp) → is_comparison op ≡ true → is_comparison (tested_op op) ≡ true
+tested_compares BinaryOp.Ne is = refl
+tested_compares op is = is
+
+-- which of both it is
+pub data Order (count n : ℕ) (op : BinaryOp) (x y : ℕ) (o1 o2 : OperandValue) : Type 0 where
+  ordered : is_swapped count n (comparison_of op x y o1 o2) ≡ is_turned op → Order count n op x y o1 o2
+  turned : has_mirror (word_op op) ≡ true → is_swapped count n (comparison_of op x y o1 o2) ≡ not (is_turned op) → MayTurn count n x y o1 o2 → Order count n op x y o1 o2
+
+module _ {g : Fn} {active : List Active} {l r : Expression} {before behind : ℕ} (both : BothTested g active l r before behind) (n : ℕ) (few : length active ≤ 250) (next : IsNextNumber n both.first) where
+  plain_by : (op : BinaryOp) → is_turned op ≡ false → has_mirror (word_op op) ≡ true → comparison_of op both.x both.y both.first both.second ≡ record { op = word_op op; b = both.x; c = both.y; left = both.first; right = both.second } → Order (length active) n op both.x both.y both.first both.second
+  plain_by op plain mirror same = by (plain_order (length active) n both.x both.y both.free1 both.free2 few both.first both.second both.at_first both.at_second next)
+    where
+      swapped : is_swapped (length active) n (comparison_of op both.x both.y both.first both.second) ≡ swapped_fields (length active) n both.x both.y both.first both.second (is_constant_field both.x) (is_constant_field both.y)
+      swapped = ap (is_swapped (length active) n) same ∙ ap (λ mirror. mirror && swapped_fields (length active) n both.x both.y both.first both.second (is_constant_field both.x) (is_constant_field both.y)) mirror
+
+      by : (swapped_fields (length active) n both.x both.y both.first both.second (is_constant_field both.x) (is_constant_field both.y) ≡ false)
+          ⊎ ((swapped_fields (length active) n both.x both.y both.first both.second (is_constant_field both.x) (is_constant_field both.y) ≡ true) × MayTurn (length active) n both.x both.y both.first both.second) →
+          Order (length active) n op both.x both.y both.first both.second
+      by (inl is) = ordered (swapped ∙ is ∙ sym plain)
+      by (inr (is, may)) = turned mirror (swapped ∙ is ∙ sym (ap not plain)) may
+
+  turned_by : (op : BinaryOp) → is_turned op ≡ true → has_mirror (word_op op) ≡ true → comparison_of op both.x both.y both.first both.second ≡ record { op = word_op op; b = both.y; c = both.x; left = both.second; right = both.first } → Order (length active) n op both.x both.y both.first both.second
+  turned_by op is_turn mirror same = by (turned_order (length active) n both.x both.y both.free1 both.free2 few both.first both.second both.at_first both.at_second next)
+    where
+      swapped : is_swapped (length active) n (comparison_of op both.x both.y both.first both.second) ≡ swapped_fields (length active) n both.y both.x both.second both.first (is_constant_field both.y) (is_constant_field both.x)
+      swapped = ap (is_swapped (length active) n) same ∙ ap (λ mirror. mirror && swapped_fields (length active) n both.y both.x both.second both.first (is_constant_field both.y) (is_constant_field both.x)) mirror
+
+      by : (swapped_fields (length active) n both.y both.x both.second both.first (is_constant_field both.y) (is_constant_field both.x) ≡ true)
+          ⊎ ((swapped_fields (length active) n both.y both.x both.second both.first (is_constant_field both.y) (is_constant_field both.x) ≡ false) × MayTurn (length active) n both.x both.y both.first both.second) →
+          Order (length active) n op both.x both.y both.first both.second
+      by (inl is) = ordered (swapped ∙ is ∙ sym is_turn)
+      by (inr (is, may)) = turned mirror (swapped ∙ is ∙ sym (ap not is_turn)) may
+
+  pub order_of : (op : BinaryOp) → is_comparison op ≡ true → Order (length active) n op both.x both.y both.first both.second
+  order_of BinaryOp.Eq is = ordered refl
+  order_of BinaryOp.Ne is = ordered refl
+  order_of BinaryOp.Lt is = plain_by BinaryOp.Lt refl refl refl
+  order_of BinaryOp.Le is = plain_by BinaryOp.Le refl refl refl
+  order_of BinaryOp.Gt is = turned_by BinaryOp.Gt refl refl refl
+  order_of BinaryOp.Ge is = turned_by BinaryOp.Ge refl refl refl
+  order_of op is = cc
+
+-- ---- what is made of it
+
+-- Where its operands are written the other way round, names keep their order: not both are in registers; and no literal may get another number: the first one is not the constant that gets the last small number.
+pub record CanTurn {g : Fn} {active : List Active} {l r : Expression} {before behind : ℕ} (both : BothTested g active l r before behind) : Type 0 where
+  pub names : HasLocal (length active) both.x both.y both.first both.second → ⊥
+  pub numbers : (number : ℕ) → both.first ≡ constant_operand number → number ≡ 255 → ⊥
+
+-- the constants of both operands
+pub counts_of : (op : BinaryOp) (n x y : ℕ) (o1 o2 : OperandValue) → taken_behind_test (tested_comparison (comparison_of op x y o1 o2)) n ≡ taken_behind_operand o2 (taken_behind_operand o1 n)
+counts_of BinaryOp.Gt n x y o1 o2 = taken_either o1 o2 n
+counts_of BinaryOp.Ge n x y o1 o2 = taken_either o1 o2 n
+counts_of op n x y o1 o2 = refl
+
+module _ (lefts : ℕ → List (Option Inner)) {f : Function} {g : Fn} {active : List Active} {listed : List ℕ} {z : Maker} (made : IsMadeBy f g active listed z) (again : AreAgain f g lefts) (sized : length listed ≡ length active) (line : ℕ) (op : BinaryOp) (is : is_comparison op ≡ true) (l r : Expression) (has_l : HasCore l) (has_r : HasCore r)
+    (few_l : depth_of_expression l ≤ 200) (few_r : depth_of_expression r ≤ 200) {before behind : ℕ} (both : BothTested g active l r before behind) (truth : Bool) (label : ℕ) (m : Maker) (ahead : IsAhead g active before (mentions_in l ++ mentions_in r) m)
+    (final : Final (length m.labels) ((code (binary_expression line (tested_op op) l r)).jump_if truth label m) z) where
+  first_rewritten : RewrittenOperand f g active listed z lefts before both.mid l both.first
+  first_rewritten = operand_rewritten lefts made l before both.mid both.first has_l both.is_first (λ v core. (rewritten_all lefts made again l has_l few_l).value before both.mid v core)
+
+  second_rewritten : RewrittenOperand f g active listed z lefts both.mid behind r both.second
+  second_rewritten = operand_rewritten lefts made r both.mid behind both.second has_r both.is_second (λ v core. (rewritten_all lefts made again r has_r few_r).value both.mid behind v core)
+
+  abbrev x_made : Got ℕ
+  x_made = rk (code l) m
+
+  abbrev y_made : Got ℕ
+  y_made = rk (code r) x_made.after
+
+  source_compares : (code (binary_expression line (tested_op op) l r)).jump_if truth label m ≡ compared_from m.free (tested_op op) truth label x_made y_made
+  source_compares = compare_is (tested_op op) (tested_compares op is) (one_line_expression l) (one_line_expression r) truth label m
+
+  final_operands : Final (length m.labels) y_made.after z
+  final_operands = final_both m.free label truth (tested_op op) x_made y_made (subst (λ (n : Maker). Final (length m.labels) n z) source_compares final)
+
+  -- the constants that it takes
+  pub comparison_taken : length ((code (binary_expression line (tested_op op) l r)).jump_if truth label m).constants ≡ taken_behind_test (tested_comparison (comparison_of op both.x both.y both.first both.second)) (length m.constants)
+  comparison_taken =
+      ap (λ (n : Maker). length n.constants) source_compares
+      ∙ both_counted made l r has_l has_r first_rewritten second_rewritten m ahead final_operands
+      ∙ sym (counts_of op (length m.constants) both.x both.y both.first both.second)
+
+  next_number : (o : OperandValue) → both.first ≡ o → IsNextNumber (length m.constants) o
+  next_number (constant_operand number) same =
+      number_bound made l r has_l has_r first_rewritten second_rewritten m ahead final_operands number same (constant_of g active l before both.mid number (subst (IsOperand g active l before both.mid) same both.is_first))
+  next_number (value_operand v) same = tt
+
+  turns_by : CanTurn both → MayTurn (length active) (length m.constants) both.x both.y both.first both.second → Turns made l r has_l has_r first_rewritten second_rewritten m ahead final_operands
+  turns_by can (late_first (number, same, why)) = by (list_any (same_constant one.constant) m.constants) refl why
+    where
+      one : IsConstantOperand g l before both.mid number
+      one = constant_of g active l before both.mid number (subst (IsOperand g active l before both.mid) same both.is_first)
+
+      by : (among : Bool) → list_any (same_constant one.constant) m.constants ≡ among → (number < length m.constants) ⊎ (taken_behind_operand both.second (length m.constants) ≡ length m.constants) →
+          Turns made l r has_l has_r first_rewritten second_rewritten m ahead final_operands
+      by true there why = known_turns made l r has_l has_r first_rewritten second_rewritten m ahead final_operands number same one there
+      by false none (inl low) = let next = fresh_number made l r has_l has_r first_rewritten second_rewritten m ahead final_operands number same one none in absurd (omega (arith, low, next))
+      by false none (inr no_more) = new_turns made l r has_l has_r first_rewritten second_rewritten m ahead final_operands number same one none no_more (can.numbers number same)
+  turns_by can (early_second (number, same, next, more)) =
+      first_turns made l r has_l has_r first_rewritten second_rewritten m ahead final_operands number same (constant_of g active r both.mid behind number (subst (IsOperand g active r both.mid behind) same both.is_second)) next more
+  turns_by can (has_local locals) = absurd (can.names locals)
+
+  -- the same test
+  pub comparison_same : (is_swapped (length active) (length m.constants) (comparison_of op both.x both.y both.first both.second) ≡ not (is_turned op) → CanTurn both) →
+      (coded (word_comparison (place f.of listed f.short) (length m.constants) (lefts before) (comparison_of op both.x both.y both.first both.second)).words).jump_if truth label m ≡ (code (binary_expression line (tested_op op) l r)).jump_if truth label m
+  comparison_same can = by (order_of both n made.all.few (next_number both.first refl) op is)
+    where
+      n : ℕ
+      n = length m.constants
+
+      at : Place
+      at = place f.of listed f.short
+
+      by : Order (length active) n op both.x both.y both.first both.second → (coded (word_comparison at n (lefts before) (comparison_of op both.x both.y both.first both.second)).words).jump_if truth label m ≡ (code (binary_expression line (tested_op op) l r)).jump_if truth label m
+      by (ordered swapped) =
+          let words = in_order made l r has_l has_r first_rewritten second_rewritten m ahead final_operands in
+          ap (λ (w : Wording). (coded w.words).jump_if truth label m) (ordered_word at n (lefts before) both.x both.y both.first both.second op is (ap (λ count. is_swapped count n (comparison_of op both.x both.y both.first both.second)) sized ∙ swapped))
+          ∙ joined_is (tested_op op) (tested_compares op is) (word_operand at n (lefts before) both.first) (word_operand at (taken_behind_operand both.first n) (left_by_operand both.first (lefts before)) both.second) truth label m x_made y_made words.0 words.1
+          ∙ sym source_compares
+      by (turned mirror swapped may) =
+          let turns = turns_by (can swapped) may in
+          ap (λ (w : Wording). (coded w.words).jump_if truth label m) (turned_word at n (lefts before) both.x both.y both.first both.second op mirror (ap (λ count. is_swapped count n (comparison_of op both.x both.y both.first both.second)) sized ∙ swapped))
+          ∙ joined_is (other_op op) (other_compares op mirror) (word_operand at n (lefts before) both.second) (word_operand at (taken_behind_operand both.second n) (left_by_operand both.second (lefts before)) both.first) truth label m (record { value = y_made.value; after = turns.between }) (record { value = x_made.value; after = y_made.after }) turns.second_same turns.first_same
+          ∙ ap (λ piece. free_from m.free (jump_to 1 label (put 1 piece y_made.after))) (other_word op truth x_made.value y_made.value mirror)
+          ∙ sym source_compares
