@@ -1,4 +1,5 @@
 -- Each block on one line, whose breaks stand in loops, stands on steps with its own parts: the induction over the tree.
+use Rattle.std.proofs.lemmas.List.{length-map}
 use Rattle.std.proofs.Common.{◌≡◌, ◌⊎◌, ◌≤◌, ℕ, ◌+◌, Bool, true, false, inl, inr, [], ◌∷◌, length, refl, sym, ◌∙◌, subst, arith}
 use Rattle.std.specs.Prelude.{Option, None, ◌||◌}
 use Rattle.lua_tree.specs.OneLine.{one_line_statements, one_line_statement, one_line_branches, one_line_otherwise}
@@ -12,7 +13,7 @@ use Rattle.scheme.specs.Statements.{Loop, arm_part, settle}
 use Rattle.same_flow.specs.Blocks.{StatementsHold, StatementHolds, BranchesHold, OtherwiseHolds, BlocksAreLaid}
 use Rattle.same_flow.specs.Laid.{BodyLaid, StatementLaid, BranchesLaid, OtherwiseLaid, IsClose, IsJump, TestLaid, label_of, with_new_labels, while_begun, repeat_begun, arm_begun, loop_of, for_loop_of, exit_to, numeric_valued, numeric_begun, generic_valued, generic_begun, head_values}
 use Rattle.same_flow.specs.SameFlow.{begun_of}
-use Rattle.same_flow.proofs.Laying.{Lays, laid_by, both, no_steps, one_step, jump_lays, has_all, code_of, code_length, each_holds}
+use Rattle.same_flow.proofs.Laying.{Entry, Lays, laid_by, both, no_steps, one_step, jump_lays, has_all, code_of, code_length, each_holds}
 use Rattle.same_flow.proofs.TestsPlaced.{test_lays}
 use Rattle.same_flow.proofs.StatementsPlaced.{Around, exit_at, act_lays, declaration_lays, break_lays, block_lays, arm_end_lays, again_lays, for_lays}
 
@@ -128,4 +129,4 @@ blocks_are_laid P nothing_holds params names ahead block one h =
     let long : length code.steps ≡ whole.size = code_length params entries ∙ whole.count around 0 in
     let same : 0 + whole.size ≡ whole.size = omega arith in
     let laid : BodyLaid code None whole.size block None begun 0 whole.size = subst (λ (x : ℕ). BodyLaid code None whole.size block None begun 0 x) same (whole.lays code around 0 (has_all params entries)) in
-    (code, refl, subst (λ (x : ℕ). BodyLaid code None x block None begun 0 x) (sym long) laid, each_holds P entries (whole.holds around 0))
+    (code, refl, subst (λ (x : ℕ). BodyLaid code None x block None begun 0 x) (sym long) laid, each_holds P entries (whole.holds around 0), length-map entries (λ (entry : Entry). entry.part) ∙ sym (code_length params entries))

@@ -2,6 +2,7 @@ pub mod ActsTold
 pub mod BlocksFollowed
 pub mod BlocksLaid
 pub mod Breaks
+pub mod ClosesTold
 pub mod Endings
 pub mod FlowSame
 pub mod Followed
@@ -13,6 +14,7 @@ pub mod HeadsFollowed
 pub mod Kept
 pub mod KeptActive
 pub mod Laying
+pub mod LikeTransports
 pub mod ListedLocals
 pub mod ListedRun
 pub mod ListedSteps

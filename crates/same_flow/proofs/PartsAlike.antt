@@ -26,7 +26,7 @@ use Rattle.same_flow.proofs.Walks.{Entry, Goes, Said, State, ended, one_way, run
 
 -- ---- lists of one length
 
-none_in_both : {A B : Type 0} (xs : List A) (ys : List B) (at : ℕ) (y : B) → length ys ≡ length xs → slice_get xs at ≡ None → slice_get ys at ≡ Some y → ⊥
+pub none_in_both : {A B : Type 0} (xs : List A) (ys : List B) (at : ℕ) (y : B) → length ys ≡ length xs → slice_get xs at ≡ None → slice_get ys at ≡ Some y → ⊥
 none_in_both [] ys at y same none there = let a = slice_get_within ys at y there in omega (arith, a, same)
 none_in_both (x ∷ xs) [] at y same none there = none-some y there
 none_in_both (x ∷ xs) (one ∷ ys) zero y same none there = none-some x (sym none)
@@ -90,7 +90,7 @@ module _ (code other : Steps) (params names : List Text) (ahead : Ahead) (like :
   first_same : at_beginning code params names ahead ≡ at_beginning other params names ahead
   first_same = ap (λ (steps : List _). at_beginning (record code { steps = steps }) params names ahead) (sym like.steps)
 
-  performed_same : (at : ℕ) → performed_to code (at_beginning code params names ahead) at ≡ performed_to other (at_beginning other params names ahead) at
+  pub performed_same : (at : ℕ) → performed_to code (at_beginning code params names ahead) at ≡ performed_to other (at_beginning other params names ahead) at
   performed_same zero = first_same
   performed_same (suc at) =
       let before = ended_before at (performed_to code (at_beginning code params names ahead) at) in

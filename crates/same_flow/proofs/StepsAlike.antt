@@ -1,4 +1,4 @@
--- What stands on steps stands on steps that are like them: of the same kinds, with other levels maybe.
+-- What stands on steps stands on steps that are like them: of the same kinds, with other levels maybe, and other names of CLOSEs.
 use Rattle.std.proofs.Common.{◌≡◌, inl, inr, ℕ, suc, Bool, true, false, List, length, Some, refl, sym, ◌∙◌, subst}
 use Rattle.std.specs.Prelude.{Option, None, ◌+◌, ◌||◌, not, if◌then◌else◌}
 use Rattle.std.specs.Bool.{beq}
@@ -15,37 +15,55 @@ use Rattle.scheme.specs.Making.{Maker, captured_from, active_count}
 use Rattle.scheme.specs.Scheme.{coded, has_branch, has_otherwise, statement_made, statements_made, branches_made}
 use Rattle.scheme.specs.Statements.{Loop, arm_part, settle}
 use Rattle.scheme.specs.declared.making.Active.{Active}
-use Rattle.same_flow.specs.Alike.{AreStepsLike, IsKindLike, LaidOnLikeSteps}
+use Rattle.same_flow.specs.Alike.{AreStepsLike, AreStepsLoose, IsKindLike, IsKindLoose, LaidOnLikeSteps, LaidOnLooseSteps}
 use Rattle.same_flow.specs.Laid.{AloneLaid, ArmEnds, BodyLaid, BranchesLaid, Exit, HasKind, HasStep, IsBlock, IsClose, IsFor, IsJump, IsStep, LeafLaid, LeavesTo, LiteralLaid, OtherwiseLaid, StatementLaid, TestLaid, VariablesEnd, arm_begun, exit_to, for_loop_of, generic_begun, generic_valued, label_of, loop_of, numeric_begun, numeric_valued, repeat_begun, while_begun, with_new_labels}
 use Rattle.same_flow.specs.SameFlow.{begun_of}
 
--- a kind that is the same on like steps
+-- a kind that is the same on such steps
 abbrev IsFixed : StepKind → Type 0
 IsFixed (StepKind.Test when target negated) = ⊥
+IsFixed (StepKind.Close from declared) = ⊥
 IsFixed kind = Unit {0}
 
-fixed_same : (kind other : StepKind) → IsFixed kind → IsKindLike kind other → other ≡ kind
+fixed_same : (kind other : StepKind) → IsFixed kind → IsKindLoose kind other → other ≡ kind
 fixed_same (StepKind.Test when target negated) other fixed like = absurd fixed
+fixed_same (StepKind.Close from declared) other fixed like = absurd fixed
 fixed_same StepKind.Act other fixed like = like
 fixed_same StepKind.Return other fixed like = like
 fixed_same (StepKind.Declaration end captured) other fixed like = like
 fixed_same (StepKind.Jump target) other fixed like = like
-fixed_same (StepKind.Close from declared) other fixed like = like
 fixed_same (StepKind.Head numeric foot end variables_end captured) other fixed like = like
 fixed_same (StepKind.Foot numeric target) other fixed like = like
 
-module _ (code : Steps) (others : List Step) (like : AreStepsLike code.steps others) where
+-- like kinds are no stricter
+pub loose : (kind other : StepKind) → IsKindLike kind other → IsKindLoose kind other
+loose (StepKind.Test when target negated) other like = like
+loose (StepKind.Close from declared) other like = (declared, like)
+loose StepKind.Act other like = like
+loose StepKind.Return other like = like
+loose (StepKind.Declaration end captured) other like = like
+loose (StepKind.Jump target) other like = like
+loose (StepKind.Head numeric foot end variables_end captured) other like = like
+loose (StepKind.Foot numeric target) other like = like
+
+pub loose_steps : (steps others : List Step) → AreStepsLike steps others → AreStepsLoose steps others
+loose_steps steps others like = record {
+  count = like.count;
+  each = λ at step there. let found = like.each at step there in (found.0, found.1, record { kind = loose step.kind found.0.kind found.2.kind; base = found.2.base; captured = found.2.captured });
+}
+
+module _ (code : Steps) (others : List Step) (like : AreStepsLoose code.steps others) where
   abbrev here : Steps
   here = record code { steps = others }
 
   -- ---- single steps
 
-  step_like : (active : List Active) (at : ℕ) (kind : StepKind) → IsStep code active at kind → (other : StepKind) × IsKindLike kind other × IsStep here active at other
+  step_like : (active : List Active) (at : ℕ) (kind : StepKind) → IsStep code active at kind → (other : StepKind) × IsKindLoose kind other × IsStep here active at other
   step_like active at kind is =
       let found = like.each at is.step is.there in
       let alike = found.2 in (
         found.0.kind,
-        subst (λ kind. IsKindLike kind found.0.kind) is.is alike.kind,
+        subst (λ kind. IsKindLoose kind found.0.kind) is.is alike.kind,
         record { step = found.0; there = found.1; is = refl; tells = record { base = alike.base ∙ is.tells.base; captured = alike.captured ∙ is.tells.captured } },
       )
 
@@ -61,7 +79,9 @@ module _ (code : Steps) (others : List Step) (like : AreStepsLike code.steps oth
   jump_like active at target jump = kind_like active at (StepKind.Jump target) tt jump
 
   close_like : (active : List Active) (at register : ℕ) → IsClose code active at register → IsClose here active at register
-  close_like active at register close = (close.0, kind_like active at (StepKind.Close register close.0) tt close.1)
+  close_like active at register close =
+      let found = step_like active at (StepKind.Close register close.0) close.1.1.0 in
+      (found.1.0, (close.1.0, (subst (λ kind. IsStep here active at kind) found.1.1 found.2, close.1.1.1)))
 
   -- ---- conditions
 
@@ -222,6 +242,9 @@ module _ (code : Steps) (others : List Step) (like : AreStepsLike code.steps oth
         block_like m.active (active_count m) (captured_from (active_count m) (statements_made block loop m)) (λ ends end. BodyLaid code exit ends block loop m from end) (λ ends end. BodyLaid here exit ends block loop m from end) from to
         (λ ends end. body_like block exit ends loop m from end) lies
 
-pub laid_on_like_steps : LaidOnLikeSteps
-laid_on_like_steps code others like params names ahead block laid =
+pub laid_on_loose_steps : LaidOnLooseSteps
+laid_on_loose_steps code others like params names ahead block laid =
     subst (λ (count : ℕ). BodyLaid (record code { steps = others }) None count block None (begun_of params names ahead) 0 count) (sym like.count) (body_like code others like block None (length code.steps) None (begun_of params names ahead) 0 (length code.steps) laid)
+
+pub laid_on_like_steps : LaidOnLikeSteps
+laid_on_like_steps code others like params names ahead block laid = laid_on_loose_steps code others (loose_steps code.steps others like) params names ahead block laid

@@ -1,5 +1,5 @@
 -- Serves the laws. Functions whose steps are alike: the same kinds of steps, with parts that make the same and say the same.
-use Rattle.std.specs.Prelude.{◌≡◌, ℕ, List, length, slice_get, None, Some}
+use Rattle.std.specs.Prelude.{◌≡◌, ℕ, Option, List, length, slice_get, None, Some}
 use Rattle.lua_num.specs.Bytes.{Text}
 use Rattle.lua_tree.specs.Outline as outline
 use Rattle.lua_tree.specs.Outline.{Place, both, come, declares, expression_part, expressions_part, statements_part}
@@ -31,6 +31,27 @@ pub record IsStepLike (step other : Step) : Type 0 where
 pub record AreStepsLike (steps others : List Step) : Type 0 where
   pub count : length others ≡ length steps
   pub each : (at : ℕ) (step : Step) → slice_get steps at ≡ Some step → (other : Step) × (slice_get others at ≡ Some other) × IsStepLike step other
+
+-- or of one kind but for that and for the step that a CLOSE names
+abbrev pub IsKindLoose : (kind other : StepKind) → Type 0
+IsKindLoose (StepKind.Test when target negated) other = (levels : ℕ) × (other ≡ StepKind.Test when target levels)
+IsKindLoose (StepKind.Close from declared) other = (name : Option ℕ) × (other ≡ StepKind.Close from name)
+IsKindLoose kind other = other ≡ kind
+
+pub record IsStepLoose (step other : Step) : Type 0 where
+  pub kind : IsKindLoose step.kind other.kind
+  pub base : other.base ≡ step.base
+  pub captured : other.captured ≡ step.captured
+
+pub record AreStepsLoose (steps others : List Step) : Type 0 where
+  pub count : length others ≡ length steps
+  pub each : (at : ℕ) (step : Step) → slice_get steps at ≡ Some step → (other : Step) × (slice_get others at ≡ Some other) × IsStepLoose step other
+
+-- what stands on steps stands on steps that are like them, whatever their CLOSEs name
+abbrev pub LaidOnLooseSteps : Type 0
+LaidOnLooseSteps =
+    (code : Steps) (others : List Step) → AreStepsLoose code.steps others → (params names : List Text) (ahead : Ahead) (block : Statements) → AreLaid code params names ahead block
+    → AreLaid (record code { steps = others }) params names ahead block
 
 -- what stands on steps stands on steps that are like them
 abbrev pub LaidOnLikeSteps : Type 0

@@ -1,5 +1,5 @@
--- Serves the laws. Each plain block stands on some steps, which have its own parts.
-use Rattle.std.specs.Prelude.{◌≡◌, ℕ, Bool, true, false, List, [], ◌∷◌, Option, None, Some}
+-- To be believed. What holds of each part of a block. The laws serve what stands above: each plain block stands on some steps, which have its own parts.
+use Rattle.std.specs.Prelude.{◌≡◌, ℕ, Bool, true, false, List, [], ◌∷◌, length, Option, None, Some}
 use Rattle.lua_num.specs.Bytes.{Text}
 use Rattle.lua_tree.specs.OneLine.{one_line_statements}
 use Rattle.lua_tree.specs.Syntax as syntax
@@ -65,10 +65,10 @@ abbrev mutual
 abbrev pub BlocksAreLaid : Type 1
 BlocksAreLaid =
     (P : Part → Type 0) → P nothing_part → (params names : List Text) (ahead : Ahead) (block : Statements) → one_line_statements block ≡ block → StatementsHold P false block
-    → (code : Steps) × (code.params ≡ params) × AreLaid code params names ahead block × ((at : ℕ) (part : Part) → part_at code at ≡ Some part → P part)
+    → (code : Steps) × (code.params ≡ params) × AreLaid code params names ahead block × ((at : ℕ) (part : Part) → part_at code at ≡ Some part → P part) × (length code.parts ≡ length code.steps)
 
 -- where no part has `and`, `or` or a comparison as a value
 abbrev pub PlainBlocksAreLaid : Type 0
 PlainBlocksAreLaid =
     (params names : List Text) (ahead : Ahead) (block : Statements) → one_line_statements block ≡ block → StatementsHold IsPlainPart false block
-    → (code : Steps) × (code.params ≡ params) × AreLaid code params names ahead block × HasPlainParts code
+    → (code : Steps) × (code.params ≡ params) × AreLaid code params names ahead block × HasPlainParts code × (length code.parts ≡ length code.steps)

@@ -1,5 +1,6 @@
 pub mod Alike
 pub mod Blocks
+pub mod Declaring
 pub mod Laid
 pub mod Listed
 pub mod Performed
@@ -7,3 +8,4 @@ pub mod Renaming
 pub mod SameFlow
 pub mod SameMarks
 pub mod Told
+pub mod Written

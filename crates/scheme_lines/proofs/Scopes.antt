@@ -29,7 +29,7 @@ among_same all [] = refl
 among_same all (mention line name means around ∷ marks) = ap₂ (λ use' uses. use' ∷ uses) (use_same (innermost around) all means) (among_same all marks)
 among_same all (mark ∷ marks) = among_same all marks
 
-captured_same : (declaration : ℕ) (marks : List Mark) → is_captured declaration marks ≡ is_captured declaration (flat marks)
+pub captured_same : (declaration : ℕ) (marks : List Mark) → is_captured declaration marks ≡ is_captured declaration (flat marks)
 captured_same d [] = refl
 captured_same d (mention line name (Some binding) around ∷ marks) = ap (λ rest. ((binding.declaration == d) && not (binding.home == innermost around)) || rest) (captured_same d marks)
 captured_same d (mark ∷ marks) = captured_same d marks
