@@ -15,6 +15,7 @@ use Rattle.recover_flow.specs.Plans.{Plans, ArmPlans, no_arms, last_arm, and_arm
 use Rattle.scheme.specs.Making.{Ahead, active_count, captured_from, new_label, jump_to, when}
 use Rattle.scheme.specs.Scheme.{coded, has_branch, has_otherwise, statements_made, branches_made}
 use Rattle.scheme.specs.Statements.{block_part, arm_part}
+use Rattle.same_flow.specs.Written.{ComparedOnOne}
 use Rattle.same_flow.specs.Laid.{IsBlock, ArmEnds, BodyLaid, BranchesLaid, OtherwiseLaid, TestLaid, label_of, with_new_labels, arm_begun}
 use Rattle.same_flow.specs.SameFlow.{HasPlainParts}
 use Rattle.same_flow.specs.Told.{AreTold}
@@ -22,7 +23,6 @@ use Rattle.same_flow.proofs.Followed.{Run, Follows, nought, last_weaker, relabel
 use Rattle.same_flow.proofs.KeptActive.{active_kept, kept}
 use Rattle.same_flow.proofs.RenamedStatements.{statements_rename}
 use Rattle.same_flow.proofs.TestsFollowed.{test_goes, jump_step}
-use Rattle.built_flow.specs.BuiltLaid.{ComparedOnOne}
 use Rattle.built_flow.proofs.BlocksBuilt.{as_laid, Block}
 use Rattle.built_flow.proofs.LoopsBuilt.{BodyBuilds, whole_block, block_for}
 use Rattle.built_flow.proofs.PartsTaken.{AreOf, same_some, mapped, chained}

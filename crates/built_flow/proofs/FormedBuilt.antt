@@ -18,7 +18,8 @@ use Rattle.recover_flow.specs.Parts.{take_statement, take_values, take_head, app
 use Rattle.recover_flow.specs.Plans.{Plans, no_plans, and_plan, PlanTree, step_plan, end_plan, do_plan, for_plan, while_plan, repeat_plan, if_plan, ArmPlans, no_arms, last_arm, and_arm}
 use Rattle.recover_flow.specs.declared.plan.End.{End}
 use Rattle.recover_flow.specs.declared.regions.Exit.{Exit}
-use Rattle.built_flow.specs.BuiltWhole.{HaveParts, ArePartsFormed, EndsLast, HasArm, ArePlansFormed, IsPlanFormed, AreArmsFormed, BuiltIsFormed}
+use Rattle.same_flow.specs.Written.{ArePartsFormed, HaveParts}
+use Rattle.built_flow.specs.BuiltWhole.{EndsLast, HasArm, ArePlansFormed, IsPlanFormed, AreArmsFormed, BuiltIsFormed}
 use Rattle.built_flow.proofs.FormedAppended.{last_ends, appended_ends, appended_formed}
 use Rattle.built_flow.proofs.FormedConditions.{condition_formed, until_formed}
 use Rattle.built_flow.proofs.PartsTaken.{AreOf, all_of, same_some, mapped, chained, statement_taken, values_taken, head_taken}

@@ -17,8 +17,8 @@ use Rattle.recover_flow.specs.Joining.{Joined, in_parentheses, joined_expression
 use Rattle.recover_flow.specs.Lying.{decides, decided_to, ConditionLies, PartsLie, TestLies}
 use Rattle.recover_flow.specs.Parts.{take_condition}
 use Rattle.recover_flow.specs.declared.conditions.Junction.{Junction}
+use Rattle.same_flow.specs.Written.{ArePartsFormed, HaveParts}
 use Rattle.same_flow.specs.Told.{PartFits, IsLeaf}
-use Rattle.built_flow.specs.BuiltWhole.{HaveParts, ArePartsFormed}
 use Rattle.built_flow.proofs.LyingBuilt.{test_there, part_there}
 use Rattle.built_flow.proofs.PartsTaken.{AreOf, same_some, mapped, chained, condition_taken}
 

@@ -22,6 +22,7 @@ use Rattle.scheme.specs.Scheme.{coded, all_coded, step_coded, statements_made}
 use Rattle.scheme.specs.Statements.{block_part, step_part, numeric_names, generic_names}
 use Rattle.scheme.specs.declared.making.Active.{Active}
 use Rattle.scheme.specs.declared.making.Piece.{Piece}
+use Rattle.same_flow.specs.Written.{ComparedOnOne}
 use Rattle.same_flow.specs.Laid.{HasStep, HasKind, IsBlock, BodyLaid, VariablesEnd, label_of, with_new_labels, numeric_valued, numeric_begun, generic_valued, generic_begun, for_loop_of, exit_to, head_values}
 use Rattle.same_flow.specs.Performed.{kind_made}
 use Rattle.same_flow.specs.SameFlow.{HasPlainParts}
@@ -33,7 +34,7 @@ use Rattle.same_flow.proofs.HeadsFollowed.{Head, activated_count, numeric_head_g
 use Rattle.same_flow.proofs.KeptActive.{active_kept, adjust_kept, all_kept, kept, next_kept}
 use Rattle.same_flow.proofs.RenamedStatements.{statements_rename}
 use Rattle.same_flow.proofs.RunKeeps.{declared_active, activated}
-use Rattle.built_flow.specs.BuiltLaid.{ComparedOnOne, FewLocals}
+use Rattle.built_flow.specs.BuiltLaid.{FewLocals}
 use Rattle.built_flow.proofs.BlocksBuilt.{as_laid, Block, Stands}
 use Rattle.built_flow.proofs.CapturesKept.{quiet}
 use Rattle.built_flow.proofs.LoopsBuilt.{BodyBuilds, whole_block, no_local}

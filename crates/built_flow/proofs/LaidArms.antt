@@ -11,6 +11,8 @@ use Rattle.scheme.specs.Making.{Ahead, Maker, new_label, active_count, captured_
 use Rattle.scheme.specs.Scheme.{coded, has_otherwise, statements_made, branches_made}
 use Rattle.scheme.specs.Shapes.{branch_count, room_of_branches, room_of_otherwise}
 use Rattle.scheme.specs.Statements.{Loop, arm_part, block_part}
+use Rattle.same_flow.specs.Written.{AreInRoom}
+use Rattle.same_flow.specs.Declaring.{ClosesTell}
 use Rattle.same_flow.specs.Laid.{Exit, IsBlock, BodyLaid, TestLaid, ArmEnds, BranchesLaid, OtherwiseLaid, StatementLaid, label_of, arm_begun}
 use Rattle.same_flow.specs.SameFlow.{HasPlainParts}
 use Rattle.same_flow.proofs.BlocksFollowed.{Matches}
@@ -20,7 +22,6 @@ use Rattle.same_flow.proofs.RenamedStatements.{statements_rename}
 use Rattle.same_flow.proofs.StatementsTold.{block_follows}
 use Rattle.same_flow.proofs.StepsTold.{same_active}
 use Rattle.same_flow.proofs.TestsFollowed.{test_goes}
-use Rattle.built_flow.specs.LaidLie.{ClosesTell, AreInRoom}
 use Rattle.built_flow.specs.Never.{never_is, one_if, nevers_of_branches, nevers_of_otherwise}
 use Rattle.built_flow.proofs.BlocksBuilt.{as_laid}
 use Rattle.built_flow.proofs.LaidFlow.{Knows, StatementFound, BlockFound, BodyFinds, knows_behind, block_found}

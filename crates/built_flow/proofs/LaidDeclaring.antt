@@ -5,12 +5,12 @@ use Rattle.lua_num.specs.Bytes.{Text}
 use Rattle.recover_expr.specs.Placing.{Steps}
 use Rattle.scheme.specs.Making.{Ahead, Maker, active_count}
 use Rattle.scheme.specs.declared.making.Active.{Active}
+use Rattle.same_flow.specs.Declaring.{declaring, declaring_before, same_option}
 use Rattle.same_flow.specs.Performed.{ended_before}
 use Rattle.same_flow.specs.SameFlow.{HasPlainParts}
 use Rattle.same_flow.proofs.Followed.{Run, at_step, at_most, Follows, nought, LastTo, last_weaker}
 use Rattle.same_flow.proofs.RunKeeps.{Begins, begins_before, keeps}
 use Rattle.same_flow.proofs.StepsTold.{before, before_active}
-use Rattle.built_flow.specs.LaidLie.{declaring, same_option, declaring_before}
 use Rattle.built_flow.proofs.StepsTold.{run_of}
 
 -- ---- lists

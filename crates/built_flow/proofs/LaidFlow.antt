@@ -17,6 +17,8 @@ use Rattle.scheme.specs.Scheme.{statement_made, statements_made}
 use Rattle.scheme.specs.Shapes.{room_of_statement, room_of_statements}
 use Rattle.scheme.specs.Statements.{Loop}
 use Rattle.scheme.specs.declared.making.Active.{Active}
+use Rattle.same_flow.specs.Written.{AreInRoom}
+use Rattle.same_flow.specs.Declaring.{ClosesTell, declaring, declaring_before}
 use Rattle.same_flow.specs.Laid as laid
 use Rattle.same_flow.specs.Laid.{Exit, IsBlock, BodyLaid}
 use Rattle.same_flow.specs.SameFlow.{HasPlainParts}
@@ -26,7 +28,6 @@ use Rattle.same_flow.proofs.RenamedStatements.{statements_rename}
 use Rattle.same_flow.proofs.StatementsFollowed.{body_goes}
 use Rattle.same_flow.proofs.StepsTold.{same_active}
 use Rattle.same_flow.proofs.TestsFollowed.{kind_there}
-use Rattle.built_flow.specs.LaidLie.{declaring, declaring_before, ClosesTell, AreInRoom}
 use Rattle.built_flow.specs.Never.{nevers_of_statement, nevers_of_statements}
 use Rattle.built_flow.proofs.BlocksBuilt.{as_laid}
 use Rattle.built_flow.proofs.LaidDeclaring.{declared_stays, declared_before, none_before}

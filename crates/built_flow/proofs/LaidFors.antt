@@ -1,5 +1,6 @@
 -- Loops `for` that stand on steps lie there.
 use Rattle.std.proofs.Common.{◌≡◌, ◌≤◌, ◌<◌, ℕ, suc, ◌+◌, ◌-◌, Bool, true, false, List, [], ◌∷◌, ◌++◌, length, take, drop, refl, sym, ap, ap₂, ◌∙◌, arith, subst}
+use Rattle.same_flow.specs.Declaring.{ClosesTell}
 use Rattle.same_flow.proofs.FlowSame.{declared_count}
 use Rattle.std.proofs.Math.Seq.{take-append_seam}
 use Rattle.std.proofs.lemmas.Bool.{or_parts}
@@ -38,7 +39,6 @@ use Rattle.same_flow.proofs.RunKeeps.{declared_active}
 use Rattle.same_flow.proofs.StatementsTold.{block_follows}
 use Rattle.same_flow.proofs.StepsTold.{same_active}
 use Rattle.built_flow.specs.BuiltLaid.{FewLocals}
-use Rattle.built_flow.specs.LaidLie.{ClosesTell}
 use Rattle.built_flow.specs.Never.{nevers_of_statement, nevers_of_statements}
 use Rattle.built_flow.proofs.CapturesKept.{highest_stays}
 use Rattle.built_flow.proofs.LaidDeclaring.{declared_stays}

@@ -12,6 +12,7 @@ use Rattle.recover_flow.specs.Flow.{Flow, no_flow, and_flow, FlowStatement, step
 use Rattle.scheme.specs.Making.{Ahead, Maker, new_label, active_count, captured_from}
 use Rattle.scheme.specs.Scheme.{has_otherwise, statement_made, statements_made, branches_made}
 use Rattle.scheme.specs.Statements.{Loop, settle}
+use Rattle.same_flow.specs.Declaring.{ClosesTell}
 use Rattle.same_flow.specs.Laid.{Exit, StatementLaid, BranchesLaid, OtherwiseLaid, label_of}
 use Rattle.same_flow.specs.SameFlow.{HasPlainParts}
 use Rattle.same_flow.proofs.BlocksFollowed.{Matches, replicate_lasts}
@@ -21,7 +22,7 @@ use Rattle.same_flow.proofs.RenamedStatements.{statements_rename}
 use Rattle.same_flow.proofs.StatementsFollowed.{body_goes}
 use Rattle.same_flow.proofs.StatementsTold.{statement_grows, starts}
 use Rattle.built_flow.specs.BuiltLaid.{FewLocals}
-use Rattle.built_flow.specs.LaidLie.{ClosesTell, around_of, LaidLie}
+use Rattle.built_flow.specs.LaidLie.{around_of, LaidLie}
 use Rattle.built_flow.proofs.BlocksBuilt.{as_laid}
 use Rattle.built_flow.proofs.CapturesKept.{kept_front, none_captured, captured_more}
 use Rattle.built_flow.proofs.LaidArms.{ArmsFound, alone_found, before_else, before_arms, if_found}

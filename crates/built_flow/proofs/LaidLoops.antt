@@ -11,6 +11,7 @@ use Rattle.scheme.specs.Making.{Ahead, Maker, active_count, place}
 use Rattle.scheme.specs.Scheme.{statements_made}
 use Rattle.scheme.specs.Statements.{Loop}
 use Rattle.scheme.specs.declared.making.Active.{Active}
+use Rattle.same_flow.specs.Declaring.{ClosesTell}
 use Rattle.same_flow.specs.Laid.{Exit, IsJump, IsClose, TestLaid, StatementLaid, label_of, with_new_labels, while_begun, repeat_begun, loop_of, exit_to}
 use Rattle.same_flow.specs.SameFlow.{HasPlainParts}
 use Rattle.same_flow.proofs.BlocksFollowed.{Matches}
@@ -20,7 +21,6 @@ use Rattle.same_flow.proofs.RenamedStatements.{statements_rename}
 use Rattle.same_flow.proofs.StatementsFollowed.{body_goes}
 use Rattle.same_flow.proofs.StepsTold.{same_active}
 use Rattle.same_flow.proofs.TestsFollowed.{test_goes}
-use Rattle.built_flow.specs.LaidLie.{ClosesTell}
 use Rattle.built_flow.proofs.BlocksBuilt.{as_laid}
 use Rattle.built_flow.proofs.LaidFlow.{Knows, StatementFound, BodyFinds, knows_behind, close_found, block_found}
 use Rattle.built_flow.proofs.LaidSteps.{quiet_found}

@@ -1,5 +1,7 @@
 -- Acts, declarations, returns and breaks that stand on steps lie there.
 use Rattle.std.proofs.Common.{◌≡◌, ◌≤◌, ◌<◌, ℕ, zero, suc, ◌+◌, Bool, true, false, inl, inr, List, [], ◌∷◌, ◌++◌, length, drop, refl, sym, ap, ◌∙◌, arith, subst}
+use Rattle.same_flow.specs.Written.{AreInRoom}
+use Rattle.same_flow.specs.Declaring.{ClosesTell, declaring}
 use Rattle.same_flow.proofs.FlowSame.{declared_count}
 use Rattle.std.proofs.Math.Seq.{drop-append_seam}
 use Rattle.std.proofs.lemmas.Bool.Decides.{nat_tests}
@@ -35,7 +37,6 @@ use Rattle.same_flow.proofs.RenamedStatements.{statements_rename}
 use Rattle.same_flow.proofs.RunKeeps.{declared_active, one_step_extends}
 use Rattle.same_flow.proofs.StatementsTold.{statement_grows}
 use Rattle.same_flow.proofs.TestsFollowed.{kind_there}
-use Rattle.built_flow.specs.LaidLie.{declaring, ClosesTell, AreInRoom}
 use Rattle.built_flow.specs.Never.{nevers_of_statement}
 use Rattle.built_flow.proofs.BlocksBuilt.{as_laid}
 use Rattle.built_flow.proofs.CapturesKept.{kept_front, quiet, none_captured, highest_most, highest_stays, highest_low, highest_high}

@@ -18,9 +18,9 @@ use Rattle.recover_flow.specs.Lying.{LiteralLies, TestGoes}
 use Rattle.scheme.specs.Expressions.{fold, literal, is_true_constant}
 use Rattle.scheme.specs.Shapes.{logic_count, room_of_expression}
 use Rattle.scheme.specs.declared.making.Active.{Active}
+use Rattle.same_flow.specs.Written.{AreInRoom, KindInRoom, NegatedInRoom}
 use Rattle.same_flow.specs.Laid.{IsStep, HasStep, IsNegated, LiteralLaid, LeafLaid, AloneLaid, TestLaid, highest_captured}
 use Rattle.same_flow.proofs.TestsFollowed.{kind_there}
-use Rattle.built_flow.specs.LaidLie.{NegatedInRoom, KindInRoom, AreInRoom}
 use Rattle.built_flow.specs.Never.{is_other_literal, never_is}
 
 -- ---- what is around a step

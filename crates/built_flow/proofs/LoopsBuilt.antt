@@ -17,6 +17,7 @@ use Rattle.recover_flow.specs.Plans.{Plans, and_plan, step_plan, do_plan, while_
 use Rattle.scheme.specs.Making.{Ahead, active_count, captured_from, place}
 use Rattle.scheme.specs.Scheme.{statement_made, statements_made}
 use Rattle.scheme.specs.declared.making.Active.{Active}
+use Rattle.same_flow.specs.Written.{ComparedOnOne}
 use Rattle.same_flow.specs.Laid.{IsBlock, BodyLaid, label_of, with_new_labels, while_begun, loop_of, exit_to}
 use Rattle.same_flow.specs.SameFlow.{HasPlainParts}
 use Rattle.same_flow.specs.Told.{AreTold}
@@ -24,7 +25,6 @@ use Rattle.same_flow.proofs.Followed.{Run, LastTo, last_weaker, relabelled, foll
 use Rattle.same_flow.proofs.KeptActive.{active_kept, kept}
 use Rattle.same_flow.proofs.RenamedStatements.{statements_rename}
 use Rattle.same_flow.proofs.TestsFollowed.{test_goes}
-use Rattle.built_flow.specs.BuiltLaid.{ComparedOnOne}
 use Rattle.built_flow.proofs.BlocksBuilt.{as_laid, Block, with_stop, Built, Stands, BlockStands, onwards, append_built, block_stands}
 use Rattle.built_flow.proofs.CapturesKept.{quiet, none_captured}
 use Rattle.built_flow.proofs.PartsTaken.{AreOf, mapped, chained}

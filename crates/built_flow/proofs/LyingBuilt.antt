@@ -17,9 +17,10 @@ use Rattle.recover_flow.specs.Plans.{Plans, no_plans, and_plan, PlanTree, step_p
 use Rattle.recover_flow.specs.declared.conditions.Junction.{Junction}
 use Rattle.recover_flow.specs.declared.plan.End.{End}
 use Rattle.recover_flow.specs.declared.regions.Exit.{Exit}
+use Rattle.same_flow.specs.Written.{HaveParts}
 use Rattle.same_flow.specs.Performed.{part_at}
 use Rattle.same_flow.specs.Told.{AreCounted, PartFits}
-use Rattle.built_flow.specs.BuiltWhole.{HaveParts, LyingIsBuilt}
+use Rattle.built_flow.specs.BuiltWhole.{LyingIsBuilt}
 use Rattle.built_flow.proofs.StepsTold.{stood}
 
 -- ---- the parts that are left

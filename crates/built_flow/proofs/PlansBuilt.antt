@@ -12,11 +12,11 @@ use Rattle.recover_flow.specs.Lying.{BodyLies, PlanLies, ArmsLie, captures_own, 
 use Rattle.recover_flow.specs.Parts.{appended}
 use Rattle.recover_flow.specs.Plans.{Plans, no_plans, and_plan, PlanTree, step_plan, end_plan, do_plan, for_plan, while_plan, repeat_plan, if_plan, ArmPlans, no_arms, last_arm, and_arm}
 use Rattle.scheme.specs.Making.{Ahead}
+use Rattle.same_flow.specs.Written.{ComparedOnOne}
 use Rattle.same_flow.specs.Laid.{label_of, with_new_labels}
 use Rattle.same_flow.specs.SameFlow.{HasPlainParts}
 use Rattle.same_flow.specs.Told.{AreTold}
 use Rattle.same_flow.proofs.Followed.{Run, last_weaker, relabelled}
-use Rattle.built_flow.specs.BuiltLaid.{ComparedOnOne}
 use Rattle.built_flow.proofs.ArmsBuilt.{ArmsStand, last_stands, none_stand, alone_stands, before_last, before_arm}
 use Rattle.built_flow.proofs.BlocksBuilt.{Block, Built, Stands, onwards, append_built}
 use Rattle.built_flow.proofs.CapturesKept.{quiet, or_false}

@@ -16,13 +16,13 @@ use Rattle.recover_flow.specs.Plans.{Plans, repeat_plan}
 use Rattle.scheme.specs.Making.{Ahead, active_count, free_from, end_locals, jump_to}
 use Rattle.scheme.specs.Statements.{close_from}
 use Rattle.scheme.specs.declared.making.Active.{Active}
+use Rattle.same_flow.specs.Written.{ComparedOnOne}
 use Rattle.same_flow.specs.Laid.{IsClose, IsJump, BodyLaid, repeat_begun, loop_of, exit_to}
 use Rattle.same_flow.specs.SameFlow.{HasPlainParts}
 use Rattle.same_flow.specs.Told.{AreTold}
 use Rattle.same_flow.proofs.BlocksFollowed.{close_step}
 use Rattle.same_flow.proofs.Followed.{Run, EndBy, LastTo, last_weaker, relabelled, followed, ended}
 use Rattle.same_flow.proofs.TestsFollowed.{jump_step}
-use Rattle.built_flow.specs.BuiltLaid.{ComparedOnOne}
 use Rattle.built_flow.proofs.BlocksBuilt.{as_laid, Block, Stands, grown, onwards}
 use Rattle.built_flow.proofs.CapturesKept.{kept_front, quiet}
 use Rattle.built_flow.proofs.PartsTaken.{AreOf, mapped, chained}

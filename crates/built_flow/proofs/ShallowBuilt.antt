@@ -18,7 +18,8 @@ use Rattle.recover_flow.specs.Parts.{begins_open, separated, take_statement, tak
 use Rattle.recover_flow.specs.Plans.{Plans, no_plans, and_plan, PlanTree, step_plan, end_plan, do_plan, for_plan, while_plan, repeat_plan, if_plan, ArmPlans, no_arms, last_arm, and_arm, levels_at, step_levels, end_levels, until_levels, tested_levels, ending_levels, body_levels, plan_levels, arm_levels}
 use Rattle.recover_flow.specs.declared.plan.End.{End}
 use Rattle.recover_flow.specs.declared.regions.Exit.{Exit}
-use Rattle.built_flow.specs.BuiltWhole.{IsPartDeep, ArePartsDeep, BuiltIsShallow}
+use Rattle.same_flow.specs.Written.{ArePartsDeep, IsPartDeep}
+use Rattle.built_flow.specs.BuiltWhole.{BuiltIsShallow}
 use Rattle.built_flow.proofs.FormedBuilt.{of_block}
 use Rattle.built_flow.proofs.PartsTaken.{AreOf, all_of, same_some, mapped, chained, statement_taken, values_taken, head_taken}
 use Rattle.built_flow.proofs.ShallowConditions.{condition_shallow, tested_shallow}

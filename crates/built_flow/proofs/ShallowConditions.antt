@@ -19,7 +19,7 @@ use Rattle.recover_flow.specs.Lying.{decides, decided_to, ConditionLies, PartsLi
 use Rattle.recover_flow.specs.Parts.{take_condition}
 use Rattle.recover_flow.specs.Plans.{tested_levels}
 use Rattle.recover_flow.specs.declared.conditions.Junction.{Junction}
-use Rattle.built_flow.specs.BuiltWhole.{IsPartDeep, ArePartsDeep}
+use Rattle.same_flow.specs.Written.{ArePartsDeep, IsPartDeep}
 use Rattle.built_flow.proofs.LyingBuilt.{test_there}
 use Rattle.built_flow.proofs.PartsTaken.{AreOf, same_some, mapped, chained, condition_taken}
 use Rattle.built_flow.proofs.StepsTold.{stood}

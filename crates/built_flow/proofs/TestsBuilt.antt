@@ -19,11 +19,11 @@ use Rattle.recover_flow.specs.Parts.{take_condition}
 use Rattle.recover_flow.specs.declared.conditions.Junction.{Junction}
 use Rattle.scheme.specs.Making.{Ahead}
 use Rattle.scheme.specs.declared.making.Active.{Active}
+use Rattle.same_flow.specs.Written.{ComparedOnOne}
 use Rattle.same_flow.specs.Laid.{HasStep, LiteralLaid, AloneLaid, LeafLaid, TestLaid}
 use Rattle.same_flow.specs.SameFlow.{HasPlainParts}
 use Rattle.same_flow.specs.Told.{IsLeaf, AreTold}
 use Rattle.same_flow.proofs.Followed.{LastTo, last_weaker}
-use Rattle.built_flow.specs.BuiltLaid.{ComparedOnOne}
 use Rattle.built_flow.proofs.PartsTaken.{AreOf, same_some, mapped, chained, condition_taken}
 use Rattle.built_flow.proofs.StepsTold.{run_of, Here, has_step, has_kind, fits_there, test_here}
 

@@ -9,13 +9,10 @@ use Rattle.recover_expr.specs.declared.steps.Step.{Step}
 use Rattle.recover_flow.specs.Built.{built_body}
 use Rattle.recover_flow.specs.Lying.{BodyLies}
 use Rattle.recover_flow.specs.Plans.{Plans}
+use Rattle.same_flow.specs.Written.{ComparedOnOne}
 use Rattle.same_flow.specs.SameFlow.{AreLaid, HasPlainParts}
 use Rattle.same_flow.specs.Told.{AreTold}
 use Rattle.scheme.specs.Making.{Ahead}
-
--- what is tested with `==` stands on line 1, as what is built with `~=` in its place does
-abbrev pub ComparedOnOne : Steps → Type 0
-ComparedOnOne code = (at line : ℕ) (left right : Expression) → slice_get code.parts at ≡ Some (condition_part (binary_expression line BinaryOp.Eq left right)) → line ≡ 1
 
 -- the register behind the hidden locals of a `for` is a number of 32 bits
 abbrev pub FewLocals : Steps → Type 0

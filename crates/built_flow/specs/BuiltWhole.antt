@@ -13,12 +13,9 @@ use Rattle.recover_flow.specs.Lying.{BodyLies}
 use Rattle.recover_flow.specs.Plans.{Plans, no_plans, and_plan, PlanTree, step_plan, end_plan, do_plan, for_plan, while_plan, repeat_plan, if_plan, ArmPlans, no_arms, last_arm, and_arm, body_levels}
 use Rattle.recover_flow.specs.Standing.{BodyStands}
 use Rattle.recover_flow.specs.declared.regions.BodyAt.{BodyAt}
+use Rattle.same_flow.specs.Written.{ArePartsDeep, ArePartsFormed, HaveParts}
 use Rattle.same_flow.specs.Performed.{part_at}
 use Rattle.same_flow.specs.Told.{PartFits}
-
--- each step has a part of its kind
-abbrev pub HaveParts : Steps → Type 0
-HaveParts code = (at : ℕ) (step : Step) → slice_get code.steps at ≡ Some step → (part : Part) × (part_at code at ≡ Some part) × PartFits step.kind part
 
 -- what lies is built
 abbrev pub LyingIsBuilt : Type 0
@@ -27,17 +24,6 @@ LyingIsBuilt =
     → (block : Statements) × (behind : List Part) × (built_body plans code.parts ≡ Some (block, behind))
 
 -- ---- the rules of form
-
--- a part that keeps the rules of form, and does not end a block but as a `return`
-abbrev pub IsPartFormed : Part → Type 0
-IsPartFormed (statement_part s) = (formed_statement s ≡ true) × (ends_block s ≡ false)
-IsPartFormed (values_part es) = formed_expressions es ≡ true
-IsPartFormed (condition_part e) = formed_expression e ≡ true
-IsPartFormed (head_part es names) = (are_some_names names ≡ true) × (has_expressions es ≡ true) × (formed_expressions es ≡ true)
-IsPartFormed part = Unit {0}
-
-abbrev pub ArePartsFormed : Steps → Type 0
-ArePartsFormed code = (at : ℕ) (part : Part) → part_at code at ≡ Some part → IsPartFormed part
 
 -- a `return` or a `break` that stands in no `do` of its own is the last of its block
 abbrev pub EndsLast : PlanTree → (behind : Plans) → Type 0
@@ -81,17 +67,6 @@ BuiltIsFormed =
     → formed_statements block ≡ true
 
 -- ---- how deep it is
-
--- a step has levels enough for its part, and a test has those that its negation needs
-abbrev pub IsPartDeep : (levels : ℕ) → StepKind → Part → Type 0
-IsPartDeep levels (StepKind.Test when target negated) (condition_part e) = (depth_of_expression e ≤ levels) × (negated ≡ negated_levels e levels)
-IsPartDeep levels kind (statement_part s) = suc (depth_of_statement s) ≤ levels
-IsPartDeep levels kind (values_part es) = suc (depth_of_expressions es) ≤ levels
-IsPartDeep levels kind (head_part es names) = suc (depth_of_expressions es) ≤ levels
-IsPartDeep levels kind part = Unit {0}
-
-abbrev pub ArePartsDeep : Steps → Type 0
-ArePartsDeep code = (at : ℕ) (step : Step) (part : Part) → slice_get code.steps at ≡ Some step → part_at code at ≡ Some part → IsPartDeep step.levels step.kind part
 
 -- what is built is no deeper than the plan, where that needs no more than a tree may have
 abbrev pub BuiltIsShallow : Type 0

@@ -10,6 +10,8 @@ use Rattle.recover_expr.specs.declared.steps.Step.{Step}
 use Rattle.recover_expr.specs.declared.steps.StepKind.{StepKind}
 use Rattle.recover_flow.specs.Asked.{kind_at}
 use Rattle.recover_flow.specs.Flow.{Around, Flow, FlowLies, flow_levels}
+use Rattle.same_flow.specs.Written.{AreInRoom}
+use Rattle.same_flow.specs.Declaring.{ClosesTell}
 use Rattle.same_flow.specs.Laid.{highest_captured}
 use Rattle.same_flow.specs.Listed.{before_place}
 use Rattle.same_flow.specs.Performed.{part_at, performed_to}
@@ -20,43 +22,7 @@ use Rattle.scheme.specs.Shapes.{room_of_expression, room_of_expressions, room_of
 use Rattle.built_flow.specs.BuiltLaid.{FewLocals}
 use Rattle.built_flow.specs.Never.{nevers_of_statements}
 
--- ---- which steps declare the active locals
-
--- of each that is active behind so many steps, None for a parameter
-abbrev pub declaring : Steps → (params names : List Text) → Ahead → (at : ℕ) → List (Option ℕ)
-declaring code params names ahead zero = replicate (active_count (begun_of params names ahead)) None
-declaring code params names ahead (suc at) =
-    let left = active_count (before_place code params names ahead at).maker in
-    take left (declaring code params names ahead at) ++ replicate (active_count (performed_to code (at_beginning code params names ahead) (suc at)).maker - left) (Some at)
-
-abbrev pub same_option : Option ℕ → Option ℕ
-same_option found = found
-
--- the step that declares the local in a register, where one is active before a step
-abbrev pub declaring_before : Steps → (params names : List Text) → Ahead → (at register : ℕ) → Option ℕ
-declaring_before code params names ahead at register =
-    option_and_then same_option (slice_get (take (active_count (before_place code params names ahead at).maker) (declaring code params names ahead at)) register)
-
--- each CLOSE says which step declares the first local that it closes
-abbrev pub ClosesTell : Steps → (params names : List Text) → Ahead → Type 0
-ClosesTell code params names ahead = (at register : ℕ) (declared : Option ℕ) → kind_at code.steps at ≡ Some (StepKind.Close register declared) → declared ≡ declaring_before code params names ahead at register
-
 -- ---- steps that need no more levels than what they have of the source takes
-
--- what is tested with `==` may be written with `~=`
-abbrev pub NegatedInRoom : (negated : ℕ) → Expression → Type 0
-NegatedInRoom negated (binary_expression line BinaryOp.Eq left right) = negated ≤ room_of_expression (binary_expression line BinaryOp.Eq left right)
-NegatedInRoom negated e = Unit {0}
-
-abbrev pub KindInRoom : (levels : ℕ) → StepKind → Part → Type 0
-KindInRoom levels (StepKind.Test when target negated) (condition_part e) = (levels ≤ room_of_expression e) × NegatedInRoom negated e
-KindInRoom levels kind (statement_part s) = levels ≤ suc (room_of_statement s)
-KindInRoom levels kind (values_part es) = levels ≤ suc (room_of_expressions es)
-KindInRoom levels kind (head_part es names) = levels ≤ suc (room_of_expressions es)
-KindInRoom levels kind part = Unit {0}
-
-abbrev pub AreInRoom : Steps → Type 0
-AreInRoom code = (at : ℕ) (step : Step) (part : Part) → slice_get code.steps at ≡ Some step → part_at code at ≡ Some part → KindInRoom step.levels step.kind part
 
 -- ---- the law
 

@@ -1,4 +1,4 @@
--- Serves the laws. Further arms of an `if` whose condition never fails: what is behind them is never reached, and may be found one level deeper.
+-- To be believed. Further arms of an `if` whose condition never fails: what is behind them is never reached, and may be found one level deeper.
 use Rattle.std.specs.Prelude.{ℕ, ◌+◌, Bool, true, false, ◌&&◌, not, Option, None, Some}
 use Rattle.std.specs.Bool.{beq}
 use Rattle.lua_tree.specs.Syntax.{Statements, no_statements, statement, Statement, do_block, while_loop, repeat_loop, if_statement, numeric_for, generic_for, Branches, no_branches, branch, Otherwise, no_otherwise, otherwise, Expression, and_expression, or_expression, unary_expression, parenthesized}
