@@ -5,6 +5,7 @@ use Rattle.std.specs.List.{list_any}
 use Rattle.std.specs.Prelude.{◌||◌, ℤ, not, slice_get}
 use Rattle.lua_tree.specs.OneLine.{one_line_expression}
 use Rattle.lua_tree.specs.Syntax.{Expression, binary_expression, nil_literal}
+use Rattle.lua_tree.specs.WellFormed.{formed_expression}
 use Rattle.lua_tree.specs.declared.tree.BinaryOp.{BinaryOp}
 use Rattle.proto.proofs.ConstantPool.{same_constant-Decides}
 use Rattle.proto.specs.Constants.{constant_number, same_constant, with_constant as pool_with}
@@ -25,6 +26,7 @@ use Rattle.reads_back.specs.Cores.{HasCore, HasNumber, IsCore, IsOperand, IsOper
 use Rattle.reads_back.proofs.ConstantsSame.{constant_word_is, number_is, number_stands, number_within, small_there}
 use Rattle.reads_back.proofs.Framed.{GotOutcome, IsNext, another_first, both_took, got_outcome, not_taken, number_ends, other_value, plus, same_value, taken_behind_none, taken_there, untouched}
 use Rattle.reads_back.proofs.FramedParts.{framed, rk_framed}
+use Rattle.reads_back.proofs.InRoom.{IsOperandInRoom}
 use Rattle.reads_back.proofs.Mentions.{IsAhead, ahead_behind, ahead_front, mentions_in}
 use Rattle.reads_back.proofs.PassedMentions.{mentions_passed, rk_passes}
 use Rattle.reads_back.proofs.Rewriting.{IsMadeBy, RewrittenOperand, code, operand_wording}
@@ -155,13 +157,13 @@ module _ {f : Function} {g : Fn} {active : List Active} {listed : List ℕ} {z :
     pub front : Final (length m.labels) x_got.after z
     front = before_part (grows_rk {v = calm} (code r) (grows calm (one_line_expression r)) x_got.after) final
 
-    back : Final (length x_got.after.labels) y_got.after z
+    pub back : Final (length x_got.after.labels) y_got.after z
     back = let grown = grows_rk {v = calm} (code l) (grows calm (one_line_expression l)) m in later grown.more final
 
-    ahead_left : IsAhead g active before (mentions_in l) m
+    pub ahead_left : IsAhead g active before (mentions_in l) m
     ahead_left = ahead_front (mentions_in l) (mentions_in r) ahead
 
-    ahead_right : IsAhead g active mid (mentions_in r) x_got.after
+    pub ahead_right : IsAhead g active mid (mentions_in r) x_got.after
     ahead_right = ahead_behind (mentions_in l) (mentions_in r) first.makes (rk_passes (mentions_in l) (code l) (mentions_passed l has_l) m) ahead
 
     abbrev pub word_first : (n : ℕ) → Wording
@@ -216,6 +218,29 @@ module _ {f : Function} {g : Fn} {active : List Active} {listed : List ℕ} {z :
       pub between : Maker
       pub second_same : rk (coded (turned_second (length m.constants)).words) m ≡ record { value = y_got.value; after = between }
       pub first_same : rk (coded (turned_first (length m.constants)).words) between ≡ record { value = x_got.value; after = y_got.after }
+      -- in the forms of fewest levels they need no more than there is room for
+      pub second_low : f.short ≡ true → formed_expression r ≡ true → IsOperandInRoom r (turned_second (length m.constants))
+      pub first_low : f.short ≡ true → formed_expression l ≡ true → IsOperandInRoom l (turned_first (length m.constants))
+
+    -- so it is in their order
+    pub in_order_low : f.short ≡ true → formed_expression l ≡ true → formed_expression r ≡ true → IsOperandInRoom l (word_first (length m.constants)) × IsOperandInRoom r (word_second (length m.constants))
+    in_order_low short formed_l formed_r = (
+      first.low short formed_l m ahead_left front,
+      subst (λ fs. IsOperandInRoom r (word_operand (place f.of listed f.short) (taken_behind_operand o1 (length m.constants)) fs o2)) (sym first.leaves)
+          (subst (λ n. IsOperandInRoom r (word_operand (place f.of listed f.short) n (lefts mid) o2)) (first.taken m ahead_left front) (second.low short formed_r x_got.after ahead_right back)),
+    )
+
+    -- a constant is written the same wherever it stands
+    constant_first_low : (number : ℕ) → o1 ≡ constant_operand number → f.short ≡ true → formed_expression l ≡ true → IsOperandInRoom l (turned_first (length m.constants))
+    constant_first_low number same short formed =
+        let n = length m.constants in
+        let low = subst (λ o. IsOperandInRoom l (operand_wording f listed z lefts before n o)) same (first.low short formed m ahead_left front) in
+        subst (λ o. IsOperandInRoom l (word_operand (place f.of listed f.short) (taken_behind_operand o2 n) (left_by_operand o2 (lefts before)) o)) (sym same) low
+
+    constant_second_low : (number : ℕ) → o2 ≡ constant_operand number → f.short ≡ true → formed_expression r ≡ true → IsOperandInRoom r (turned_second (length m.constants))
+    constant_second_low number same short formed =
+        let low = subst (λ o. IsOperandInRoom r (operand_wording f listed z lefts mid (length x_got.after.constants) o)) same (second.low short formed x_got.after ahead_right back) in
+        subst (λ o. IsOperandInRoom r (word_operand (place f.of listed f.short) (length m.constants) (lefts before) o)) (sym same) low
 
     -- the first one is a constant that is taken already
     pub known_turns : (number : ℕ) (same : o1 ≡ constant_operand number) (one : IsConstantOperand g l before mid number) → list_any (same_constant one.constant) m.constants ≡ true → Turns
@@ -240,6 +265,8 @@ module _ {f : Function} {g : Fn} {active : List Active} {listed : List ℕ} {z :
               ∙ rk_small (constant_word (slice_get f.of.constants number)).words k y_got.after (word_literal l first' one) (small_there made k number y_got.after one.has one.small final)
               ∙ number_known made k number y_got.after one.has there_behind final
               ∙ ap (λ (x : Got ℕ). record { value = x.value; after = y_got.after }) (sym x_is);
+          second_low = λ short formed. subst (λ before. IsOperandInRoom r (word_operand (place f.of listed f.short) (length m.constants) (lefts before) o2)) one.still (second.low short formed m ahead_m final_y);
+          first_low = constant_first_low number same;
         }
 
     -- it is new, and the second one takes no constants
@@ -313,6 +340,8 @@ module _ {f : Function} {g : Fn} {active : List Active} {listed : List ℕ} {z :
                   ∙ rk_small (constant_word (slice_get f.of.constants number)).words k a (word_literal l first' one) (small_there made k number a one.has one.small final_a)
                   ∙ next.0
                   ∙ ap₂ (λ (value : ℕ) (after : Maker). record { value = value; after = after }) (ap (λ (x : Got ℕ). x.value) (sym x_is)) (sym after ∙ ap (λ (y : Got ℕ). y.after) y_is);
+              second_low = λ short formed. subst (λ before. IsOperandInRoom r (word_operand (place f.of listed f.short) n (lefts before) o2)) one.still (second.low short formed m ahead_m final_a);
+              first_low = constant_first_low number same;
             }
         by (same_value value (both_took after there)) =
             let a = (rk (code r) m).after in
@@ -388,6 +417,10 @@ module _ {f : Function} {g : Fn} {active : List Active} {listed : List ℕ} {z :
                   ∙ first.as_rk (plus k m) ahead_plus (final_b both)
                   ∙ both
                   ∙ ap (λ (y : Got ℕ). record { value = x_got.value; after = y.after }) (sym y_is);
+              second_low = constant_second_low number same;
+              first_low = λ short formed.
+                  subst (λ o. IsOperandInRoom l (word_operand (place f.of listed f.short) (taken_behind_operand o n) (left_by_operand o (lefts before)) o1)) (sym same)
+                  (subst (λ n. IsOperandInRoom l (word_operand (place f.of listed f.short) n (lefts before) o1)) (sym counts) (first.low short formed (plus k m) ahead_plus (final_b both)));
             }
 
         unlike_itself : (c : Constant) → slice_get x_got.after.constants n ≡ Some c → same_constant k c ≡ false → ⊥

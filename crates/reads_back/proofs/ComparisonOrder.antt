@@ -89,11 +89,11 @@ module _ (count n x y free1 free2 : ℕ) (few : count ≤ 250) where
   constant_field : (field number : ℕ) → field ≡ number + 256 → is_constant_field field ≡ true
   constant_field field number is = le-leb 256 field (omega (arith, is))
 
-  register_field : {free behind : ℕ} (field : ℕ) (v : Value) → IsField count free field behind (value_operand v) → is_constant_field field ≡ false
+  pub register_field : {free behind : ℕ} (field : ℕ) (v : Value) → IsField count free field behind (value_operand v) → is_constant_field field ≡ false
   register_field field v (inl at) = let low = at.0 in not_below field 256 (omega (arith, low, few))
   register_field field v (inr at) = let is = at.0 in let low = at.1 in not_below field 256 (omega (arith, is, low))
 
-  fields_are : (b c : ℕ) (left right : OperandValue) (one other : Bool) → is_constant_field b ≡ one → is_constant_field c ≡ other → swapped_fields count n b c left right (is_constant_field b) (is_constant_field c) ≡ swapped_fields count n b c left right one other
+  pub fields_are : (b c : ℕ) (left right : OperandValue) (one other : Bool) → is_constant_field b ≡ one → is_constant_field c ≡ other → swapped_fields count n b c left right (is_constant_field b) (is_constant_field c) ≡ swapped_fields count n b c left right one other
   fields_are b c left right one other first second = ap (λ is. swapped_fields count n b c left right is (is_constant_field c)) first ∙ ap (swapped_fields count n b c left right one) second
 
   -- a local takes no constant

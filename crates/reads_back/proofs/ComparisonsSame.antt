@@ -1,33 +1,39 @@
 -- What is written of a comparison makes the same test and takes the same constants, in whichever order its operands are written.
-use Rattle.std.proofs.Common.{◌≡◌, ℕ, ◌<◌, ◌≤◌, ◌⊎◌, inl, inr, Bool, true, false, not, ◌&&◌, List, ◌++◌, length, Option, refl, sym, ap, ◌∙◌, subst, arith}
+use Rattle.std.proofs.Common.{◌≡◌, ℕ, suc, max, nat_le, ◌<◌, ◌≤◌, ◌⊎◌, inl, inr, Bool, true, false, not, ◌&&◌, List, ◌++◌, length, Option, refl, sym, ap, ◌∙◌, subst, arith}
 use Rattle.std.specs.List.{list_any}
 use Rattle.std.specs.Prelude.{if◌then◌else◌}
 use Rattle.lua_tree.specs.OneLine.{one_line_expression}
-use Rattle.lua_tree.specs.Syntax.{Expression, binary_expression}
-use Rattle.lua_tree.specs.WellFormed.{depth_of_expression}
+use Rattle.lua_tree.specs.Precedence.{is_right_associative, left_binds, level_of_op, right_binds}
+use Rattle.lua_tree.specs.Syntax.{Expression, and_expression, binary_expression, or_expression}
+use Rattle.lua_tree.specs.WellFormed.{depth_of_expression, formed_expression}
 use Rattle.lua_tree.specs.declared.tree.BinaryOp.{BinaryOp}
 use Rattle.proto.specs.Constants.{same_constant}
 use Rattle.core_expr.specs.Counting.{left_by_operand, taken_behind_operand}
 use Rattle.core_expr.specs.Places.{Place, place}
 use Rattle.core_expr.specs.Targets.{has_mirror, is_constant_field, is_swapped, mirrored, swapped_fields, word_both, word_comparison}
-use Rattle.core_expr.specs.Values.{Inner, OperandValue, constant_operand, value_operand}
-use Rattle.core_expr.specs.Writing.{Wording, word_operand}
+use Rattle.core_expr.specs.Values.{Inner, OperandValue, Value, constant_operand, local_value, value_operand}
+use Rattle.core_expr.specs.Writing.{Wording, is_power, on_left, on_right, word_operand}
 use Rattle.recover_expr.specs.Situation.{Function}
 use Rattle.recover_expr.specs.Testing.{tested_comparison}
 use Rattle.scheme.specs.Expressions.{comparison_word, is_comparison, rk}
 use Rattle.scheme.specs.Making.{Got, Maker, free_from, jump_to, put}
 use Rattle.scheme.specs.Scheme.{coded}
+use Rattle.scheme.specs.Shapes.{room_of_expression}
 use Rattle.scheme.specs.declared.making.Active.{Active}
 use Rattle.scheme_stands.proofs.Growth.{Final}
 use Rattle.scheme_stands.specs.Words.{Fn}
 use Rattle.reads_back.specs.Cores.{HasCore, IsOperand}
-use Rattle.reads_back.proofs.ComparesSame.{IsConstantOperand, Turns, both_counted, compare_is, compared_from, constant_of, final_both, first_turns, fresh_number, in_order, joined_is, known_turns, new_turns, number_bound}
+use Rattle.reads_back.proofs.ComparesSame.{IsConstantOperand, Turns, both_counted, compare_is, compared_from, constant_of, final_both, first_turns, fresh_number, in_order, in_order_low, joined_is, known_turns, new_turns, number_bound, turned_first, turned_second}
 use Rattle.reads_back.proofs.ComparisonOrder.{HasLocal, IsNextNumber, MayTurn, early_second, has_local, late_first, plain_order, turned_order}
 use Rattle.reads_back.proofs.ComparisonsRead.{taken_either}
+use Rattle.reads_back.proofs.LocalOperands.{OneConstant, local_and_literal}
+use Rattle.reads_back.proofs.LocalTurns.{literal_turns}
+use Rattle.reads_back.proofs.InRoom.{IsOperandInRoom}
 use Rattle.reads_back.proofs.Mentions.{IsAhead, mentions_in}
 use Rattle.reads_back.proofs.OperandsSame.{operand_rewritten}
+use Rattle.reads_back.proofs.OperatorsSame.{few_more}
 use Rattle.reads_back.proofs.Rewriting.{AreAgain, IsMadeBy, RewrittenOperand, code}
-use Rattle.reads_back.proofs.TestedAs.{BothTested, comparison_of, is_turned, taken_behind_test, word_op}
+use Rattle.reads_back.proofs.TestedAs.{BothTested, IsField, comparison_of, is_turned, taken_behind_test, word_op}
 use Rattle.reads_back.proofs.WrittenSame.{rewritten_all}
 
 -- ---- how it is written
@@ -88,6 +94,58 @@ tested_compares : (op : BinaryOp) → is_comparison op ≡ true → is_compariso
 tested_compares BinaryOp.Ne is = refl
 tested_compares op is = is
 
+-- ---- values stand without parentheses on both sides
+
+bare_left : (e : Expression) → HasCore e → left_binds 3 false e ≡ true
+bare_left (binary_expression line op l r) has = by op has.0
+  where
+    by : (op : BinaryOp) → is_comparison op ≡ false → nat_le 3 (level_of_op op) ≡ true
+    by BinaryOp.Concat is = refl
+    by BinaryOp.Add is = refl
+    by BinaryOp.Sub is = refl
+    by BinaryOp.Mul is = refl
+    by BinaryOp.Div is = refl
+    by BinaryOp.Rem is = refl
+    by BinaryOp.Pow is = refl
+    by op is = cc
+bare_left (and_expression line l r) has = absurd has
+bare_left (or_expression line l r) has = absurd has
+bare_left e has = refl
+
+bare_right : (e : Expression) → HasCore e → right_binds 3 false e ≡ true
+bare_right (binary_expression line op l r) has = by op has.0
+  where
+    by : (op : BinaryOp) → is_comparison op ≡ false → nat_le 4 (level_of_op op) ≡ true
+    by BinaryOp.Concat is = refl
+    by BinaryOp.Add is = refl
+    by BinaryOp.Sub is = refl
+    by BinaryOp.Mul is = refl
+    by BinaryOp.Div is = refl
+    by BinaryOp.Rem is = refl
+    by BinaryOp.Pow is = refl
+    by op is = cc
+bare_right (and_expression line l r) has = absurd has
+bare_right (or_expression line l r) has = absurd has
+bare_right e has = refl
+
+compared_left : (op : BinaryOp) → is_comparison op ≡ true → (e : Expression) → HasCore e → left_binds (level_of_op op) (is_right_associative op) e ≡ true
+compared_left BinaryOp.Eq is e has = bare_left e has
+compared_left BinaryOp.Ne is e has = bare_left e has
+compared_left BinaryOp.Lt is e has = bare_left e has
+compared_left BinaryOp.Le is e has = bare_left e has
+compared_left BinaryOp.Gt is e has = bare_left e has
+compared_left BinaryOp.Ge is e has = bare_left e has
+compared_left op is e has = cc
+
+compared_right : (op : BinaryOp) → is_comparison op ≡ true → (e : Expression) → HasCore e → right_binds (level_of_op op) (is_power op) e ≡ true
+compared_right BinaryOp.Eq is e has = bare_right e has
+compared_right BinaryOp.Ne is e has = bare_right e has
+compared_right BinaryOp.Lt is e has = bare_right e has
+compared_right BinaryOp.Le is e has = bare_right e has
+compared_right BinaryOp.Gt is e has = bare_right e has
+compared_right BinaryOp.Ge is e has = bare_right e has
+compared_right op is e has = cc
+
 -- which of both it is
 pub data Order (count n : ℕ) (op : BinaryOp) (x y : ℕ) (o1 o2 : OperandValue) : Type 0 where
   ordered : is_swapped count n (comparison_of op x y o1 o2) ≡ is_turned op → Order count n op x y o1 o2
@@ -129,10 +187,28 @@ module _ {g : Fn} {active : List Active} {l r : Expression} {before behind : ℕ
 
 -- ---- what is made of it
 
--- Where its operands are written the other way round, names keep their order: not both are in registers; and no literal may get another number: the first one is not the constant that gets the last small number.
+-- Where its operands are written the other way round, names keep their order: both are in registers only where one of them is a number or a string; and no literal may get another number: the first one is not the constant that gets the last small number.
 pub record CanTurn {g : Fn} {active : List Active} {l r : Expression} {before behind : ℕ} (both : BothTested g active l r before behind) : Type 0 where
-  pub names : HasLocal (length active) both.x both.y both.first both.second → ⊥
+  pub names : HasLocal (length active) both.x both.y both.first both.second → OneConstant l r
   pub numbers : (number : ℕ) → both.first ≡ constant_operand number → number ≡ 255 → ⊥
+
+-- the latter alone
+abbrev pub NumberStays : {g : Fn} {active : List Active} {l r : Expression} {before behind : ℕ} → BothTested g active l r before behind → Type 0
+NumberStays both = (number : ℕ) → both.first ≡ constant_operand number → number ≡ 255 → ⊥
+
+-- a local in a field of a word
+field_local : (count free field free1 : ℕ) (o : OperandValue) (v : Value) → o ≡ value_operand v → field < count → count ≤ free → IsField count free field free1 o → v ≡ local_value field
+field_local count free field free1 o v is low most in_field = by (subst (IsField count free field free1) is in_field)
+  where
+    by : IsField count free field free1 (value_operand v) → v ≡ local_value field
+    by (inl there) = there.1
+    by (inr there) = let same = there.0 in absurd (omega (arith, same, low, most))
+
+-- the register behind it
+field_above : (count field free1 : ℕ) (o : OperandValue) → IsField count count field free1 o → count ≤ free1
+field_above count field free1 (constant_operand number) at = omega (arith, at.1)
+field_above count field free1 (value_operand v) (inl at) = omega (arith, at.2)
+field_above count field free1 (value_operand v) (inr at) = omega (arith, at.2)
 
 -- the constants of both operands
 pub counts_of : (op : BinaryOp) (n x y : ℕ) (o1 o2 : OperandValue) → taken_behind_test (tested_comparison (comparison_of op x y o1 o2)) n ≡ taken_behind_operand o2 (taken_behind_operand o1 n)
@@ -173,8 +249,10 @@ module _ (lefts : ℕ → List (Option Inner)) {f : Function} {g : Fn} {active :
       number_bound made l r has_l has_r first_rewritten second_rewritten m ahead final_operands number same (constant_of g active l before both.mid number (subst (IsOperand g active l before both.mid) same both.is_first))
   next_number (value_operand v) same = tt
 
-  turns_by : CanTurn both → MayTurn (length active) (length m.constants) both.x both.y both.first both.second → Turns made l r has_l has_r first_rewritten second_rewritten m ahead final_operands
-  turns_by can (late_first (number, same, why)) = by (list_any (same_constant one.constant) m.constants) refl why
+  -- they come to the same, unless both are in registers
+  turns_by : NumberStays both → MayTurn (length active) (length m.constants) both.x both.y both.first both.second →
+      Turns made l r has_l has_r first_rewritten second_rewritten m ahead final_operands ⊎ HasLocal (length active) both.x both.y both.first both.second
+  turns_by stays (late_first (number, same, why)) = inl (by (list_any (same_constant one.constant) m.constants) refl why)
     where
       one : IsConstantOperand g l before both.mid number
       one = constant_of g active l before both.mid number (subst (IsOperand g active l before both.mid) same both.is_first)
@@ -183,10 +261,17 @@ module _ (lefts : ℕ → List (Option Inner)) {f : Function} {g : Fn} {active :
           Turns made l r has_l has_r first_rewritten second_rewritten m ahead final_operands
       by true there why = known_turns made l r has_l has_r first_rewritten second_rewritten m ahead final_operands number same one there
       by false none (inl low) = let next = fresh_number made l r has_l has_r first_rewritten second_rewritten m ahead final_operands number same one none in absurd (omega (arith, low, next))
-      by false none (inr no_more) = new_turns made l r has_l has_r first_rewritten second_rewritten m ahead final_operands number same one none no_more (can.numbers number same)
-  turns_by can (early_second (number, same, next, more)) =
-      first_turns made l r has_l has_r first_rewritten second_rewritten m ahead final_operands number same (constant_of g active r both.mid behind number (subst (IsOperand g active r both.mid behind) same both.is_second)) next more
-  turns_by can (has_local locals) = absurd (can.names locals)
+      by false none (inr no_more) = new_turns made l r has_l has_r first_rewritten second_rewritten m ahead final_operands number same one none no_more (stays number same)
+  turns_by stays (early_second (number, same, next, more)) =
+      inl (first_turns made l r has_l has_r first_rewritten second_rewritten m ahead final_operands number same (constant_of g active r both.mid behind number (subst (IsOperand g active r both.mid behind) same both.is_second)) next more)
+  turns_by stays (has_local locals) = inr locals
+
+  turns_named : CanTurn both → MayTurn (length active) (length m.constants) both.x both.y both.first both.second → Turns made l r has_l has_r first_rewritten second_rewritten m ahead final_operands
+  turns_named can may = by (turns_by can.numbers may)
+    where
+      by : Turns made l r has_l has_r first_rewritten second_rewritten m ahead final_operands ⊎ HasLocal (length active) both.x both.y both.first both.second → Turns made l r has_l has_r first_rewritten second_rewritten m ahead final_operands
+      by (inl turns) = turns
+      by (inr locals) = literal_turns made l r has_l has_r first_rewritten second_rewritten m ahead final_operands (local_and_literal both locals (can.names locals))
 
   -- the same test
   pub comparison_same : (is_swapped (length active) (length m.constants) (comparison_of op both.x both.y both.first both.second) ≡ not (is_turned op) → CanTurn both) →
@@ -206,8 +291,77 @@ module _ (lefts : ℕ → List (Option Inner)) {f : Function} {g : Fn} {active :
           ∙ joined_is (tested_op op) (tested_compares op is) (word_operand at n (lefts before) both.first) (word_operand at (taken_behind_operand both.first n) (left_by_operand both.first (lefts before)) both.second) truth label m x_made y_made words.0 words.1
           ∙ sym source_compares
       by (turned mirror swapped may) =
-          let turns = turns_by (can swapped) may in
+          let turns = turns_named (can swapped) may in
           ap (λ (w : Wording). (coded w.words).jump_if truth label m) (turned_word at n (lefts before) both.x both.y both.first both.second op mirror (ap (λ count. is_swapped count n (comparison_of op both.x both.y both.first both.second)) sized ∙ swapped))
           ∙ joined_is (other_op op) (other_compares op mirror) (word_operand at n (lefts before) both.second) (word_operand at (taken_behind_operand both.second n) (left_by_operand both.second (lefts before)) both.first) truth label m (record { value = y_made.value; after = turns.between }) (record { value = x_made.value; after = y_made.after }) turns.second_same turns.first_same
           ∙ ap (λ piece. free_from m.free (jump_to 1 label (put 1 piece y_made.after))) (other_word op truth x_made.value y_made.value mirror)
           ∙ sym source_compares
+
+  -- ---- how many levels it needs
+
+  -- both operands, the other way round
+  abbrev TurnedLow : Type 0
+  TurnedLow =
+      IsOperandInRoom r (turned_second made l r has_l has_r first_rewritten second_rewritten m ahead final_operands (length m.constants))
+      × IsOperandInRoom l (turned_first made l r has_l has_r first_rewritten second_rewritten m ahead final_operands (length m.constants))
+
+  -- a local is written the same wherever it stands, and takes no constant
+  locals_low : f.short ≡ true → formed_expression l ≡ true → formed_expression r ≡ true → HasLocal (length active) both.x both.y both.first both.second → TurnedLow
+  locals_low short formed_l formed_r (v, w, is_first, is_second, low) = by low
+    where
+      n : ℕ
+      n = length m.constants
+
+      at : Place
+      at = place f.of listed f.short
+
+      low_both : IsOperandInRoom l (word_operand at n (lefts before) both.first) × IsOperandInRoom r (word_operand at (taken_behind_operand both.first n) (left_by_operand both.first (lefts before)) both.second)
+      low_both = in_order_low made l r has_l has_r first_rewritten second_rewritten m ahead final_operands short formed_l formed_r
+
+      by : (both.x < length active) ⊎ (both.y < length active) → TurnedLow
+      by (inl less) =
+          let same : both.first ≡ value_operand (local_value both.x) = is_first ∙ ap value_operand (field_local (length active) (length active) both.x both.free1 both.first v is_first less (omega arith) both.at_first) in (
+            subst (λ o. IsOperandInRoom r (word_operand at (taken_behind_operand o n) (left_by_operand o (lefts before)) both.second)) same low_both.1,
+            subst (λ o. IsOperandInRoom l (word_operand at (taken_behind_operand both.second n) (left_by_operand both.second (lefts before)) o)) (sym same) (subst (λ o. IsOperandInRoom l (word_operand at n (lefts before) o)) same low_both.0),
+          )
+      by (inr less) =
+          let same : both.second ≡ value_operand (local_value both.y) = is_second ∙ ap value_operand (field_local (length active) both.free1 both.y both.free2 both.second w is_second less (field_above (length active) both.x both.free1 both.first both.at_first) both.at_second) in (
+            subst (λ o. IsOperandInRoom r (word_operand at n (lefts before) o)) (sym same) (subst (λ o. IsOperandInRoom r (word_operand at (taken_behind_operand both.first n) (left_by_operand both.first (lefts before)) o)) same low_both.1),
+            subst (λ o. IsOperandInRoom l (word_operand at (taken_behind_operand o n) (left_by_operand o (lefts before)) both.first)) (sym same) low_both.0,
+          )
+
+  turned_low : NumberStays both → f.short ≡ true → formed_expression l ≡ true → formed_expression r ≡ true → MayTurn (length active) (length m.constants) both.x both.y both.first both.second → TurnedLow
+  turned_low stays short formed_l formed_r may = by (turns_by stays may)
+    where
+      by : Turns made l r has_l has_r first_rewritten second_rewritten m ahead final_operands ⊎ HasLocal (length active) both.x both.y both.first both.second → TurnedLow
+      by (inl turns) = (turns.second_low short formed_r, turns.first_low short formed_l)
+      by (inr locals) = locals_low short formed_l formed_r locals
+
+  -- in the forms of fewest levels it needs no more than there is room for
+  pub comparison_low : (is_swapped (length active) (length m.constants) (comparison_of op both.x both.y both.first both.second) ≡ not (is_turned op) → NumberStays both) → f.short ≡ true → formed_expression l ≡ true → formed_expression r ≡ true →
+      (word_comparison (place f.of listed f.short) (length m.constants) (lefts before) (comparison_of op both.x both.y both.first both.second)).levels ≤ suc (max (room_of_expression l) (room_of_expression r))
+  comparison_low can short formed_l formed_r = by (order_of both n made.all.few (next_number both.first refl) op is)
+    where
+      n : ℕ
+      n = length m.constants
+
+      at : Place
+      at = place f.of listed f.short
+
+      by : Order (length active) n op both.x both.y both.first both.second → (word_comparison at n (lefts before) (comparison_of op both.x both.y both.first both.second)).levels ≤ suc (max (room_of_expression l) (room_of_expression r))
+      by (ordered swapped) =
+          let low = in_order_low made l r has_l has_r first_rewritten second_rewritten m ahead final_operands short formed_l formed_r in
+          let w = word_operand at n (lefts before) both.first in
+          let u = word_operand at (taken_behind_operand both.first n) (left_by_operand both.first (lefts before)) both.second in
+          let one = low.0.left (tested_op op) (compared_left (tested_op op) (tested_compares op is) l has_l) in
+          let other = low.1.right (tested_op op) (compared_right (tested_op op) (tested_compares op is) r has_r) in
+          let same = ap (λ (w : Wording). w.levels) (ordered_word at n (lefts before) both.x both.y both.first both.second op is (ap (λ count. is_swapped count n (comparison_of op both.x both.y both.first both.second)) sized ∙ swapped)) in
+          omega (arith, one, other, same, few_more (max (on_left (tested_op op) w).levels (on_right (tested_op op) u).levels))
+      by (turned mirror swapped may) =
+          let low = turned_low (can swapped) short formed_l formed_r may in
+          let w = word_operand at n (lefts before) both.second in
+          let u = word_operand at (taken_behind_operand both.second n) (left_by_operand both.second (lefts before)) both.first in
+          let one = low.0.left (other_op op) (compared_left (other_op op) (other_compares op mirror) r has_r) in
+          let other = low.1.right (other_op op) (compared_right (other_op op) (other_compares op mirror) l has_l) in
+          let same = ap (λ (w : Wording). w.levels) (turned_word at n (lefts before) both.x both.y both.first both.second op mirror (ap (λ count. is_swapped count n (comparison_of op both.x both.y both.first both.second)) sized ∙ swapped)) in
+          omega (arith, one, other, same, few_more (max (on_left (other_op op) w).levels (on_right (other_op op) u).levels))

@@ -1,15 +1,15 @@
 -- Where the operands of a comparison are written the other way round, what is written makes the same as the comparison with its operands so exchanged, where their names come in that order.
-use Rattle.std.proofs.Common.{◌≡◌, ℕ, ◌≤◌, ◌⊎◌, inl, inr, max, Bool, true, ℤ, not, List, ◌++◌, length, Option, Some, None, refl, sym, ap, ◌∙◌, subst}
+use Rattle.std.proofs.Common.{◌≡◌, ℕ, ◌≤◌, ◌⊎◌, inl, inr, max, Bool, true, not, List, ◌++◌, length, Option, Some, None, refl, sym, ap, ◌∙◌, subst}
 use Rattle.lua_tree.specs.OneLine.{one_line_expression}
 use Rattle.lua_tree.specs.Syntax.{Expression, nil_literal, true_literal, false_literal, vararg_expression, number_literal, text_literal, name_expression, function_expression, index_expression, field_expression, call_expression, method_call, binary_expression, unary_expression, parenthesized, constructor}
 use Rattle.lua_tree.specs.WellFormed.{depth_of_expression}
 use Rattle.lua_tree.specs.declared.tree.BinaryOp.{BinaryOp}
 use Rattle.proto.specs.declared.parts.Constant.{Constant}
 use Rattle.core_expr.specs.Counting.{left_by_operand, taken_behind_operand}
-use Rattle.core_expr.specs.Making.{and_last, deepest, deepest_item, depth_of, depth_of_operand, made_index}
+use Rattle.core_expr.specs.Making.{deepest, deepest_item, depth_of}
 use Rattle.core_expr.specs.Places.{place}
 use Rattle.core_expr.specs.Targets.{has_mirror, is_swapped, word_comparison}
-use Rattle.core_expr.specs.Values.{Inner, OperandValue, Value, Values, and_operand, binary_value, call_value, concat_value, constant_operand, index_value, local_value, method_value, no_operands, table_value, unary_value, value_operand}
+use Rattle.core_expr.specs.Values.{Inner, OperandValue, Value, call_value, constant_operand, local_value, method_value, table_value, unary_value, value_operand}
 use Rattle.core_expr.specs.Writing.{Wording, word_operand}
 use Rattle.recover_expr.specs.Situation.{Function}
 use Rattle.recover_expr.specs.Testing.{tested_comparison}
@@ -19,10 +19,11 @@ use Rattle.scheme.specs.Scheme.{coded}
 use Rattle.scheme.specs.declared.making.Active.{Active}
 use Rattle.scheme_stands.proofs.Growth.{Final}
 use Rattle.scheme_stands.specs.Words.{Fn}
-use Rattle.reads_back.specs.Cores.{Counted, HasCore, IsArithmetic, IsCore, IsFoldedOr, IsOperand, IsOperandBy, IsOperator, IsSmall, IsUnary, valued, core}
+use Rattle.reads_back.specs.Cores.{HasCore, IsCore, IsOperand, IsOperandBy, IsSmall, IsUnary, valued, core}
 use Rattle.reads_back.proofs.ComparesSame.{both_counted, compare_is, compared_from, final_both, in_order, joined_is}
 use Rattle.reads_back.proofs.ComparisonsRead.{taken_either}
 use Rattle.reads_back.proofs.ComparisonsSame.{counts_of, other_compares, other_op, turned_word}
+use Rattle.reads_back.proofs.LocalOperands.{folded_no_local, index_no_local, operator_no_local}
 use Rattle.reads_back.proofs.MarksSame.{over_made}
 use Rattle.reads_back.proofs.Mentions.{IsAhead, mentions_in}
 use Rattle.reads_back.proofs.OperandsSame.{operand_rewritten}
@@ -39,22 +40,7 @@ pub record Anywhere (Is : (before behind : ℕ) → Type 0) (before behind : ℕ
   pub still : behind ≡ before
   pub there : (n : ℕ) → Is n n
 
-index_no_local : (on : Value) (key : OperandValue) (v : Value) (r : ℕ) → made_index on key ≡ Some v → v ≡ local_value r → ⊥
-index_no_local (index_value on keys depth) key v r is local = let made = over_made (depth_of_operand key) (λ d. index_value on (and_last keys key) (max depth d)) v is in cc
-index_no_local on key v r is local = let made = over_made (max (depth_of on) (depth_of_operand key)) (λ d. index_value on (and_operand key no_operands) d) v is in cc
-
 module _ (g : Fn) (active : List Active) (r : ℕ) where
-  arithmetic_no_local : (op : BinaryOp) (Left Right : OperandValue → Type 0) (v : Value) → IsArithmetic op Left Right v → v ≡ local_value r → ⊥
-  arithmetic_no_local op Left Right v (plain, x, y, is_x, is_y, made) local = let is = over_made (max (depth_of_operand x) (depth_of_operand y)) (λ d. binary_value op x y d) v made in cc
-
-  operator_no_local : (op : BinaryOp) (Left Right : Counted OperandValue) (Operands : Counted Values) (before behind : ℕ) (v : Value) → IsOperator op Left Right Operands before behind v → v ≡ local_value r → ⊥
-  operator_no_local BinaryOp.Concat Left Right Operands before behind v (values, are, made) local = let is = over_made (deepest values) (λ d. concat_value values d) v made in cc
-  operator_no_local op Left Right Operands before behind v is local = arithmetic_no_local op (Left before is.0) (Right is.0 behind) v is.1 local
-
-  folded_no_local : (folded : Option ℤ) (Is : Counted Value) (before behind : ℕ) (v : Value) → (Is before behind v → v ≡ local_value r → ⊥) → IsFoldedOr folded g Is before behind v → v ≡ local_value r → ⊥
-  folded_no_local (Some n) Is before behind v none (still, (number, has, is)) local = cc
-  folded_no_local None Is before behind v none is local = none is local
-
   pub local_anywhere : (e : Expression) (before behind : ℕ) (v : Value) → IsCore g active e before behind v → v ≡ local_value r → Anywhere (λ before behind. IsCore g active e before behind v) before behind
   local_anywhere (nil_literal line) before behind v is local = record { still = is.0; there = λ n. (refl, is.1) }
   local_anywhere (true_literal line) before behind v is local = record { still = is.0; there = λ n. (refl, is.1) }
@@ -69,9 +55,9 @@ module _ (g : Fn) (active : List Active) (r : ℕ) where
   local_anywhere (call_expression line on args on_line) before behind v (mid, (callee, values, all, is_callee, given, made)) local = let is = over_made (max (depth_of callee) (deepest values)) (λ d. call_value callee values all d) v made in cc
   local_anywhere (method_call line on name args on_line) before behind v (mid, (callee, number, values, all, is_callee, has, given, made)) local = let is = over_made (max (depth_of callee) (deepest values)) (λ d. method_value callee number values all d) v made in cc
   local_anywhere (binary_expression line op left right) before behind v is local =
-      absurd (folded_no_local (fold (binary_expression line op left right)) _ before behind v (λ is local. operator_no_local op _ _ _ before behind v is local) is local)
+      absurd (folded_no_local g active r (fold (binary_expression line op left right)) _ before behind v (λ is local. operator_no_local g active r op _ _ _ before behind v is local) is local)
   local_anywhere (unary_expression line op e) before behind v is local =
-      absurd (folded_no_local (fold (unary_expression line op e)) _ before behind v unary is local)
+      absurd (folded_no_local g active r (fold (unary_expression line op e)) _ before behind v unary is local)
     where
       unary : IsUnary op ((core g active e).value before behind) v → v ≡ local_value r → ⊥
       unary (of, is_of, made) local = let is = over_made (depth_of of) (λ d. unary_value op of d) v made in cc

@@ -48,11 +48,11 @@ low_then high roomy (locals_mention texts ∷ mentions) others first second = lo
 low_then high roomy (own_mention text body ∷ mentions) others first second = absurd first
 
 -- what two parts mention, where both have no more levels than so many
-both_low : (one other high little few roomy : ℕ) (mentions others : List Mention) → max one other ≤ high → max little few ≤ roomy → AreLowMentions one little mentions → AreLowMentions other few others → AreLowMentions high roomy (mentions ++ others)
+pub both_low : (one other high little few roomy : ℕ) (mentions others : List Mention) → max one other ≤ high → max little few ≤ roomy → AreLowMentions one little mentions → AreLowMentions other few others → AreLowMentions high roomy (mentions ++ others)
 both_low one other high little few roomy mentions others up wider first second = low_then high roomy mentions others (lower one high little roomy mentions (omega (arith, up)) (omega (arith, wider)) first) (lower other high few roomy others (omega (arith, up)) (omega (arith, wider)) second)
 
 mutual
-  low_in : (e : Expression) → HasCore e → AreLowMentions (depth_of_expression e) (room_of_expression e) (mentions_in e)
+  pub low_in : (e : Expression) → HasCore e → AreLowMentions (depth_of_expression e) (room_of_expression e) (mentions_in e)
   low_in (nil_literal line) has = tt
   low_in (true_literal line) has = tt
   low_in (false_literal line) has = tt
@@ -84,7 +84,7 @@ mutual
       let item = both_low (depth_of_expression key) (depth_of_expression e) (max (depth_of_expression key) (depth_of_expression e)) (room_of_expression key) (room_of_expression e) (max (room_of_expression key) (room_of_expression e)) (mentions_in key) (mentions_in e) (omega arith) (omega arith) (low_in key have.0) (low_in e have.1) in
       both_low (max (depth_of_expression key) (depth_of_expression e)) (depth_of_fields rest) _ (max (room_of_expression key) (room_of_expression e)) (room_of_fields rest) _ (mentions_in key ++ mentions_in e) (mentions_of_fields rest) (omega arith) (omega arith) item (low_of_fields rest have.2)
 
-  low_in_all : (es : Expressions) → AllHaveCores es → AreLowMentions (depth_of_expressions es) (room_of_expressions es) (mentions_in_all es)
+  pub low_in_all : (es : Expressions) → AllHaveCores es → AreLowMentions (depth_of_expressions es) (room_of_expressions es) (mentions_in_all es)
   low_in_all no_expressions have = tt
   low_in_all (syntax.expression e es) have = both_low (depth_of_expression e) (depth_of_expressions es) _ (room_of_expression e) (room_of_expressions es) _ (mentions_in e) (mentions_in_all es) (omega arith) (omega arith) (low_in e have.0) (low_in_all es have.1)
 
@@ -140,7 +140,7 @@ pub record IsMadeAt (f : Function) (g : Fn) (high roomy number : ℕ) : Type 0 w
   pub in_room : room_of_body body < roomy
 
 -- and so with fewer levels than more
-made_lower : {f : Function} {g : Fn} (high higher roomy more number : ℕ) → high ≤ higher → roomy ≤ more → IsMadeAt f g high roomy number → IsMadeAt f g higher more number
+pub made_lower : {f : Function} {g : Fn} (high higher roomy more number : ℕ) → high ≤ higher → roomy ≤ more → IsMadeAt f g high roomy number → IsMadeAt f g higher more number
 made_lower high higher roomy more number up wider made =
     record { active = made.active; listed = made.listed; all = made.all; body = made.body; method = made.method; c = made.c; is = made.is; number_is = made.number_is; plain = made.plain; low = omega (arith, made.low, up); in_room = omega (arith, made.in_room, wider) }
 
@@ -164,7 +164,7 @@ own_made g active text body c listed plain own number from below =
     let all = listed own.local c.ahead own.is_local in
     record { active = active ++ own.local ∷ []; listed = all.0; all = all.1; body = body; method = false; c = inside_local text c; is = own.next; number_is = omega (arith, from, below); plain = plain; low = omega arith; in_room = omega arith }
 
-statement_made_at : {f : Function} (g : Fn) (active : List Active) {listed : List ℕ} → AreListed f g active listed → (s : Statement) → IsAct s → OwnListed f g active s → (c : Coming) → AreMeant g active (mentions_of_statement s) c →
+pub statement_made_at : {f : Function} (g : Fn) (active : List Active) {listed : List ℕ} → AreListed f g active listed → (s : Statement) → IsAct s → OwnListed f g active s → (c : Coming) → AreMeant g active (mentions_of_statement s) c →
     (number : ℕ) → c.functions ≤ number → number < (coming_behind active g.upvalue_names (mentions_of_statement s) c).functions → IsMadeAt f g (lean_depth s) (lean_room s) number
 statement_made_at g active all (local_function text body) is own c meant number from below = own_made g active text body c own is.1 meant.0 number from below
 statement_made_at g active all (call_statement e) is own c meant number from below = mentioned_made g active all _ _ (mentions_of_statement (call_statement e)) c meant (mentions_low (call_statement e) is tt) number from below

@@ -33,7 +33,7 @@ use Rattle.reads_back.proofs.DeclarationsRead.{StartHere}
 use Rattle.reads_back.proofs.BlockReads.{some_names}
 use Rattle.reads_back.proofs.FlowRead.{ActPart, Begins, KindRead, as_many, final_here, has_locals, last_is, upvalues_here, within_last}
 use Rattle.reads_back.proofs.FlowStarts.{declaration_starts, few_behind, from_at, quiet_to, row_from}
-use Rattle.reads_back.proofs.FlowThere.{IsFlowAct, IsFlowFunction, StepIs, are_listed, before_at, made_at, made_before, named_before, pcs}
+use Rattle.reads_back.proofs.FlowThere.{IsFlowAct, IsFlowBy, IsFlowFunction, StepIs, are_listed, before_at, made_at, made_before, named_before, pcs}
 use Rattle.reads_back.proofs.LocalsLeave.{listed_of}
 use Rattle.reads_back.proofs.Mentions.{IsAhead}
 use Rattle.reads_back.proofs.OwnLocals.{listed_same}
@@ -75,6 +75,43 @@ module _ (g : Fn) (active : List Active) (first before behind : ℕ) where
   return_is es (returned vs all) acts = (refl, refl)
   return_is es acted acts = absurd acts
 
+-- ---- the locals of an act
+
+module _ {Left : Type 0} {f : Function} {g : Fn} {z : Maker} {code : Steps} {params names : List Text} {ahead : Ahead} {block : Statements} (of : IsFlowBy Left f g z code params names ahead block) where
+  -- an act has no local of its own
+  pub act_own : (s : Statement) → IsActPart s → IsAct s → (active : List Active) → OwnListed f g active s
+  act_own (call_statement e) fits is active = tt
+  act_own (assignment targets es) fits is active = tt
+  act_own (function_statement path method body) fits is active = tt
+  act_own s fits is active = absurd fits
+
+  -- the local of a local function is listed behind the others
+  own_local_listed : {at end : ℕ} {captured : Bool} (text : Text) (body : FunctionBody) → StepIs of at (StepKind.Declaration end captured) (statement_part (local_function text body)) → OwnListed f g (before_at of at).active (local_function text body)
+  own_local_listed {at} {end} {captured} text body is x next same_local =
+      let kind = StepKind.Declaration end captured in
+      let part = statement_part (local_function text body) in
+      let less = is.within in
+      let active = (before_at of at).active in
+      let y : Active = record { local = declared_local text next; listed = listed_before code params names ahead at } in
+      let entry : LocVar = record { name = text; start = pcs of (suc at); end = pcs of end } in
+      let place_of = stands_in code params names ahead at less in
+      let all : all_entries code params names ahead ≡ place_of.front ++ (entry ∷ place_of.rest) =
+      place_of.all ∙ ap₂ (λ (kind : Option StepKind) (part : Option Part). place_of.front ++ (entries_where (pcs of) at kind part ++ place_of.rest)) is.there is.part_there in
+      let there : slice_get (texts_in (all_entries code params names ahead)) y.listed ≡ Some text =
+      slice_get-map (λ (entry : LocVar). entry.name) (all_entries code params names ahead) y.listed
+      ∙ ap (option_map (λ (entry : LocVar). entry.name)) (ap₂ (λ (entries : List LocVar) n. slice_get entries n) all (sym place_of.first) ∙ at_place place_of.front entry place_of.rest) in
+      let own : NamedIn (texts_in (all_entries code params names ahead)) (y ∷ []) = only_named (texts_in (all_entries code params names ahead)) y there (λ some. is.flow.is.0) in
+      let named = named_both (texts_in (all_entries code params names ahead)) active (y ∷ []) (named_before of at (omega (arith, less))) own in
+      let few = few_behind of at kind part is in
+      let known = are_listed of (active ++ y ∷ []) named (omega (arith, few, length-append active (y ∷ []))) in
+      (listed_of (active ++ y ∷ []), listed_same g active y x (sym same_local) known)
+
+  -- the local of a local function is listed
+  pub own_listed : {at end : ℕ} {captured : Bool} (s : Statement) → IsDeclarationPart s → StepIs of at (StepKind.Declaration end captured) (statement_part s) → OwnListed f g (before_at of at).active s
+  own_listed (local_statement names es) fits is = tt
+  own_listed (local_function text body) fits is = own_local_listed text body is
+  own_listed s fits is = absurd fits
+
 module _ {f : Function} {g : Fn} {z : Maker} {lefts : ℕ → List (Option Inner)} {parts : ℕ → outline.Part} {code : Steps} {params names : List Text} {ahead : Ahead} {block : Statements} (of : IsFlowFunction f g z lefts parts code params names ahead block) where
   -- ---- the words of an act
 
@@ -87,16 +124,16 @@ module _ {f : Function} {g : Fn} {z : Maker} {lefts : ℕ → List (Option Inner
     abbrev made : Maker
     made = made_at of at kind part
 
-    here : IsMadeBy f g m.active (listed_of m.active) z
+    pub here : IsMadeBy f g m.active (listed_of m.active) z
     here = let less = is.within in made_before of at (omega (arith, less))
 
-    comes : IsAhead g m.active (length m.functions) (mentions_of_statement s) m
+    pub comes : IsAhead g m.active (length m.functions) (mentions_of_statement s) m
     comes = record { active_are = refl; upvalues_are = upvalues_here of is; made_are = refl; meant = (statement_meant g s flow.is m.active made.active (spot m) (spot made) stands).meant }
 
-    same_made : made ≡ statement_made (one_line_statement s) 1 None m
+    pub same_made : made ≡ statement_made (one_line_statement s) 1 None m
     same_made = makes ∙ ap (λ s. statement_made s 1 None m) (sym flow.on_line)
 
-    final : Final (length m.labels) (statement_made (one_line_statement s) 1 None m) z
+    pub final : Final (length m.labels) (statement_made (one_line_statement s) 1 None m) z
     final = subst (λ n. Final (length m.labels) n z) same_made (final_here of is)
 
     module _ (now : Situation) (begins : Begins of at now) (rest : StartFrom (suc (pcs of (suc at))) (from_at of (suc at))) (own_from : StartFrom (pcs of (suc at)) (entries_by (pcs of) at kind part)) (starts : StartsWith f s now (length made.items)) where
@@ -142,7 +179,7 @@ module _ {f : Function} {g : Fn} {z : Maker} {lefts : ℕ → List (Option Inner
 
   pub act_step_read : {at : ℕ} {s : Statement} → StepIs of at StepKind.Act (statement_part s) → (now : Situation) → Begins of at now → StartFrom (suc (pcs of (suc at))) (from_at of (suc at)) → KindRead of at StepKind.Act (statement_part s) now
   act_step_read {at} {s} is now begins rest =
-      let none = act_own s is.fits is.flow.is (before_at of at).active in
+      let none = act_own of s is.fits is.flow.is (before_at of at).active in
       let read = act is s is.flow refl is.stands none now begins rest tt (act_starts s is.fits is.flow.is now (length (made_at of at StepKind.Act (statement_part s)).items)) in
       let counts = act_is g (before_at of at).active (length now.scope.declared) (length (before_at of at).functions) (length (made_at of at StepKind.Act (statement_part s)).functions) s is.fits read.acted read.is in
       let count : 0 ≡ locals_of read.acted = sym counts.1 in
@@ -160,12 +197,6 @@ module _ {f : Function} {g : Fn} {z : Maker} {lefts : ℕ → List (Option Inner
         part_read = act_part is s is.flow refl is.stands none now begins rest tt _ count;
       }
     where
-      act_own : (s : Statement) → IsActPart s → IsAct s → (active : List Active) → OwnListed f g active s
-      act_own (call_statement e) fits is active = tt
-      act_own (assignment targets es) fits is active = tt
-      act_own (function_statement path method body) fits is active = tt
-      act_own s fits is active = absurd fits
-
       act_starts : (s : Statement) → IsActPart s → IsAct s → (now : Situation) (last : ℕ) → StartsWith f s now last
       act_starts (call_statement e) fits is now last = tt
       act_starts (assignment targets es) fits is now last = tt
@@ -199,32 +230,6 @@ module _ {f : Function} {g : Fn} {z : Maker} {lefts : ℕ → List (Option Inner
   some_declared (local_function text body) fits is = both_hold _ _ is.0 refl
   some_declared s fits is = absurd fits
 
-  -- the local of a local function is listed behind the others
-  own_local_listed : {at end : ℕ} {captured : Bool} (text : Text) (body : FunctionBody) → StepIs of at (StepKind.Declaration end captured) (statement_part (local_function text body)) → OwnListed f g (before_at of at).active (local_function text body)
-  own_local_listed {at} {end} {captured} text body is x next same_local =
-      let kind = StepKind.Declaration end captured in
-      let part = statement_part (local_function text body) in
-      let less = is.within in
-      let active = (before_at of at).active in
-      let y : Active = record { local = declared_local text next; listed = listed_before code params names ahead at } in
-      let entry : LocVar = record { name = text; start = pcs of (suc at); end = pcs of end } in
-      let place_of = stands_in code params names ahead at less in
-      let all : all_entries code params names ahead ≡ place_of.front ++ (entry ∷ place_of.rest) =
-      place_of.all ∙ ap₂ (λ (kind : Option StepKind) (part : Option Part). place_of.front ++ (entries_where (pcs of) at kind part ++ place_of.rest)) is.there is.part_there in
-      let there : slice_get (texts_in (all_entries code params names ahead)) y.listed ≡ Some text =
-      slice_get-map (λ (entry : LocVar). entry.name) (all_entries code params names ahead) y.listed
-      ∙ ap (option_map (λ (entry : LocVar). entry.name)) (ap₂ (λ (entries : List LocVar) n. slice_get entries n) all (sym place_of.first) ∙ at_place place_of.front entry place_of.rest) in
-      let own : NamedIn (texts_in (all_entries code params names ahead)) (y ∷ []) = only_named (texts_in (all_entries code params names ahead)) y there (λ some. is.flow.is.0) in
-      let named = named_both (texts_in (all_entries code params names ahead)) active (y ∷ []) (named_before of at (omega (arith, less))) own in
-      let few = few_behind of at kind part is in
-      let known = are_listed of (active ++ y ∷ []) named (omega (arith, few, length-append active (y ∷ []))) in
-      (listed_of (active ++ y ∷ []), listed_same g active y x (sym same_local) known)
-
-  own_listed : {at end : ℕ} {captured : Bool} (s : Statement) → IsDeclarationPart s → StepIs of at (StepKind.Declaration end captured) (statement_part s) → OwnListed f g (before_at of at).active s
-  own_listed (local_statement names es) fits is = tt
-  own_listed (local_function text body) fits is = own_local_listed text body is
-  own_listed s fits is = absurd fits
-
   declared_starts : {at end : ℕ} {captured : Bool} (s : Statement) (fits : IsDeclarationPart s) (is : StepIs of at (StepKind.Declaration end captured) (statement_part s)) (now : Situation) → Begins of at now → StartFrom (suc (pcs of (suc at))) (from_at of (suc at)) →
       StartsWith f s now (length (made_at of at (StepKind.Declaration end captured) (statement_part s)).items)
   declared_starts {at} {end} {captured} (local_statement names es) fits is now begins rest =
@@ -238,7 +243,7 @@ module _ {f : Function} {g : Fn} {z : Maker} {lefts : ℕ → List (Option Inner
   declaration_step_read {at} {end} {captured} {s} is now begins rest =
       let kind = StepKind.Declaration end captured in
       let texts = names_declared (statement_part s) in
-      let own = own_listed s is.fits is in
+      let own = own_listed of s is.fits is in
       let from = row_from (pcs of (suc at)) (pcs of (suc at)) (pcs of end) texts (omega arith) in
       let starts = declared_starts s is.fits is now begins rest in
       let read = act is s is.flow refl is.stands own now begins rest from starts in

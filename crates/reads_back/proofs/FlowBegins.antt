@@ -17,6 +17,7 @@ use Rattle.scheme.specs.Functions.{empty_maker}
 use Rattle.scheme.specs.Making.{Ahead, Maker, declare}
 use Rattle.scheme.specs.declared.making.Active.{Active}
 use Rattle.scheme_stands.specs.Words.{Fn}
+use Rattle.same_flow.specs.Declaring.{declaring}
 use Rattle.same_flow.specs.Listed.{entries_from, entries_of}
 use Rattle.same_flow.specs.SameFlow.{begun_of}
 use Rattle.reads_back.proofs.ActsRead.{numbers_from}
@@ -24,7 +25,7 @@ use Rattle.reads_back.proofs.FlowDrafts.{FlowRead, first_pc, flow_read}
 use Rattle.reads_back.proofs.FlowKnown.{AllKnown, times_known, turn_numbers}
 use Rattle.reads_back.proofs.FlowStarts.{from_at, none_begin}
 use Rattle.reads_back.proofs.FlowSteps.{IsThere, have_words, later_at}
-use Rattle.reads_back.proofs.FlowThere.{IsFlowFunction, declaring, few_now, now_at, pcs}
+use Rattle.reads_back.proofs.FlowThere.{IsFlowFunction, few_now, now_at, pcs}
 use Rattle.reads_back.proofs.LocalsLeave.{listed_of, locals_leave}
 use Rattle.reads_back.proofs.LoopsStarting.{Declared, all_there, are_declared, names_there, starts_there}
 use Rattle.reads_back.proofs.ParametersRead.{begins_with}

@@ -20,6 +20,7 @@ use Rattle.recover_expr.specs.declared.steps.StepKind.{StepKind}
 use Rattle.scheme.specs.Making.{Ahead, Maker, active_count}
 use Rattle.scheme.specs.declared.making.Active.{Active}
 use Rattle.scheme_stands.specs.Words.{Fn}
+use Rattle.same_flow.specs.Declaring.{declaring}
 use Rattle.same_flow.specs.Listed.{entries_by, entries_where}
 use Rattle.same_flow.specs.Performed.{Performance, still_active}
 use Rattle.same_flow.proofs.ListedRun.{step_there}
@@ -30,7 +31,7 @@ use Rattle.reads_back.proofs.FlowKnown.{AllKnown, innermost_listed, known_like, 
 use Rattle.reads_back.proofs.FlowRead.{KindRead, PartRead, within_last}
 use Rattle.reads_back.proofs.FlowStarts.{count_new, listed_next, none_here}
 use Rattle.reads_back.proofs.FlowSteps.{IsThere, have_words, kind_step_read, kind_told, known_before, later_at, there_begins}
-use Rattle.reads_back.proofs.FlowThere.{IsFlowFunction, StepIs, before_at, declaring, few_before, made_at, now_at, pcs, step_is}
+use Rattle.reads_back.proofs.FlowThere.{IsFlowFunction, StepIs, before_at, few_before, made_at, now_at, pcs, step_is}
 use Rattle.reads_back.proofs.LikeScopes.{LikeScope, as_many_like, step_scope}
 use Rattle.reads_back.proofs.LocalsLeave.{listed_of, locals_leave, taken_few}
 use Rattle.reads_back.proofs.PlacedLocals.{Adds, InTurn, kind_adds}

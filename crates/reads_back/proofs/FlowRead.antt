@@ -28,7 +28,7 @@ use Rattle.reads_back.specs.Placed.{IsDraftKind, listed_before}
 use Rattle.reads_back.specs.ReadAs.{part_of}
 use Rattle.reads_back.proofs.ActsRead.{Declares}
 use Rattle.reads_back.proofs.BehindWords.{HasLocals}
-use Rattle.reads_back.proofs.FlowThere.{IsFlowFunction, StepIs, before_at, made_at, now_at, pcs}
+use Rattle.reads_back.proofs.FlowThere.{IsFlowBy, IsFlowFunction, StepIs, before_at, made_at, now_at, pcs}
 use Rattle.reads_back.proofs.HeadValues.{IsHeaded, head_wording}
 use Rattle.reads_back.proofs.LocalsLeave.{listed_of}
 use Rattle.reads_back.proofs.StartingLocals.{StartFrom}
@@ -94,6 +94,31 @@ abbrev pub kind_in : Scope → StepKind → StepKind
 kind_in scope (StepKind.Close from declared) = StepKind.Close from (declaring_step from scope)
 kind_in scope kind = kind
 
+module _ {Left : Type 0} {f : Function} {g : Fn} {z : Maker} {code : Steps} {params names : List Text} {ahead : Ahead} {block : Statements} (of : IsFlowBy Left f g z code params names ahead block) where
+  module _ {at : ℕ} {kind : StepKind} {part : Part} (is : StepIs of at kind part) where
+    -- the pc behind its words
+    pub last_is : pcs of (suc at) ≡ length (made_at of at kind part).items
+    last_is = ap (λ (now : Performance). length now.maker.items) is.makes
+
+    -- no words stand behind the last one
+    pub within_last : pcs of (suc at) ≤ f.last
+    within_last = let less = is.within in omega (arith, of.last, pcs_grow code params names ahead (suc at) (length code.steps) (omega (arith, less)))
+
+    pub final_here : Final (length (before_at of at).labels) (made_at of at kind part) z
+    final_here =
+        let less = is.within in
+        let made = made_at of at kind part in
+        let all : Final 0 (now_at of (suc at)).maker z = before (steps_grow code params names ahead (suc at) (length code.steps) (omega (arith, less))) of.final in
+        later (omega arith) (before_free (active_count made) made (subst (λ m. Final 0 m z) (ap (λ (now : Performance). now.maker) is.makes) all))
+
+    pub upvalues_here : (before_at of at).upvalue_names ≡ g.upvalue_names
+    upvalues_here =
+        let less = is.within in
+        sym (steps_grow code params names ahead at (length code.steps) (omega (arith, less))).upvalues ∙ sym of.final.upvalues ∙ sym of.made.upvalues
+
+  pub as_many : (at : ℕ) → length (listed_of (before_at of at).active) ≡ length (before_at of at).active
+  as_many at = length-map (before_at of at).active (λ (one : Active). one.listed)
+
 module _ {f : Function} {g : Fn} {z : Maker} {lefts : ℕ → List (Option Inner)} {parts : ℕ → outline.Part} {code : Steps} {params names : List Text} {ahead : Ahead} {block : Statements} (of : IsFlowFunction f g z lefts parts code params names ahead block) where
   -- what is known where a step begins
   pub record Begins (at : ℕ) (s : Situation) : Type 0 where
@@ -123,27 +148,3 @@ module _ {f : Function} {g : Fn} {z : Maker} {lefts : ℕ → List (Option Inner
     -- none of its locals starts with its first word
     pub own_later : StartFrom (suc (pcs of at)) (entries_by (pcs of) at kind part)
     pub part_read : PartRead f g lefts (before_at of at) (pcs of) kind part (length (made_at of at kind part).functions) draft
-
-  module _ {at : ℕ} {kind : StepKind} {part : Part} (is : StepIs of at kind part) where
-    -- the pc behind its words
-    pub last_is : pcs of (suc at) ≡ length (made_at of at kind part).items
-    last_is = ap (λ (now : Performance). length now.maker.items) is.makes
-
-    -- no words stand behind the last one
-    pub within_last : pcs of (suc at) ≤ f.last
-    within_last = let less = is.within in omega (arith, of.last, pcs_grow code params names ahead (suc at) (length code.steps) (omega (arith, less)))
-
-    pub final_here : Final (length (before_at of at).labels) (made_at of at kind part) z
-    final_here =
-        let less = is.within in
-        let made = made_at of at kind part in
-        let all : Final 0 (now_at of (suc at)).maker z = before (steps_grow code params names ahead (suc at) (length code.steps) (omega (arith, less))) of.final in
-        later (omega arith) (before_free (active_count made) made (subst (λ m. Final 0 m z) (ap (λ (now : Performance). now.maker) is.makes) all))
-
-    pub upvalues_here : (before_at of at).upvalue_names ≡ g.upvalue_names
-    upvalues_here =
-        let less = is.within in
-        sym (steps_grow code params names ahead at (length code.steps) (omega (arith, less))).upvalues ∙ sym of.final.upvalues ∙ sym of.made.upvalues
-
-  pub as_many : (at : ℕ) → length (listed_of (before_at of at).active) ≡ length (before_at of at).active
-  as_many at = length-map (before_at of at).active (λ (one : Active). one.listed)

@@ -8,10 +8,8 @@ use Rattle.std.specs.List.{prefix_len}
 use Rattle.std.specs.Prelude.{◌==◌, None, Option, Some, option_and_then, option_map, replicate, slice_get}
 use Rattle.lua_num.specs.Bytes.{Text}
 use Rattle.lua_tree.specs.Names.{are_some_names}
-use Rattle.lua_tree.specs.Outline as outline
 use Rattle.lua_tree.specs.Syntax.{Expressions, Statements}
 use Rattle.proto.specs.declared.parts.LocVar.{LocVar}
-use Rattle.core_expr.specs.Values.{Inner}
 use Rattle.recover_expr.specs.Drafts.{Part, head_part}
 use Rattle.recover_expr.specs.Locals.{Scope, end_of, ends_within, innermost_end, starting}
 use Rattle.recover_expr.specs.Placing.{Steps}
@@ -31,7 +29,7 @@ use Rattle.reads_back.proofs.BlockMakers.{good_names}
 use Rattle.reads_back.proofs.BlockReads.{some_names}
 use Rattle.reads_back.proofs.DeclarationsRead.{StartHere}
 use Rattle.reads_back.proofs.EndsFall.{Falling, ends_fall, last_of_all}
-use Rattle.reads_back.proofs.FlowThere.{IsFlowFunction, StepIs, before_at, few_now, made_at, pcs}
+use Rattle.reads_back.proofs.FlowThere.{IsFlowBy, StepIs, before_at, few_now, made_at, pcs}
 use Rattle.reads_back.proofs.HeadsRead.{LoopStarts}
 use Rattle.reads_back.proofs.LocalsLeave.{end_there, last_there, listed_of}
 use Rattle.reads_back.proofs.LoopsStarting.{hidden_locals, loop_starts, row_starts, variable_locals}
@@ -62,7 +60,7 @@ entries_both code pcs (suc count) more at =
     ∙ ap (λ (rest : List LocVar). first ++ rest) (entries_both code pcs count more (suc at) ∙ ap (λ n. entries_from code pcs (suc at) count ++ entries_from code pcs n more) (let same : suc at + count ≡ at + suc count = omega arith in same))
     ∙ sym (append_again first (entries_from code pcs (suc at) count) (entries_from code pcs (at + suc count) more))
 
-module _ {f : Function} {g : Fn} {z : Maker} {lefts : ℕ → List (Option Inner)} {parts : ℕ → outline.Part} {code : Steps} {params names : List Text} {ahead : Ahead} {block : Statements} (of : IsFlowFunction f g z lefts parts code params names ahead block) where
+module _ {Left : Type 0} {f : Function} {g : Fn} {z : Maker} {code : Steps} {params names : List Text} {ahead : Ahead} {block : Statements} (of : IsFlowBy Left f g z code params names ahead block) where
   -- the entries of the steps from one on
   abbrev pub from_at : ℕ → List LocVar
   from_at at = entries_from code (pcs of) at (length code.steps - at)
@@ -190,7 +188,7 @@ first_end : (ends others : List ℕ) (end : ℕ) → Falling (ends ++ end ∷ ot
 first_end [] others end falls = falls.0
 first_end (one ∷ ends) others end falls = first_end ends others end falls.1
 
-module _ {f : Function} {g : Fn} {z : Maker} {lefts : ℕ → List (Option Inner)} {parts : ℕ → outline.Part} {code : Steps} {params names : List Text} {ahead : Ahead} {block : Statements} (of : IsFlowFunction f g z lefts parts code params names ahead block) where
+module _ {Left : Type 0} {f : Function} {g : Fn} {z : Maker} {code : Steps} {params names : List Text} {ahead : Ahead} {block : Statements} (of : IsFlowBy Left f g z code params names ahead block) where
   -- its locals start behind its words
   pub declaration_starts : (at end : ℕ) (captured : Bool) (part : Part) → StepIs of at (StepKind.Declaration end captured) part → are_some_names (names_declared part) ≡ true → StartFrom (suc (pcs of (suc at))) (from_at of (suc at)) →
       (scope : Scope) → length scope.declared ≡ listed_before code params names ahead at → scope.active ≡ listed_of (before_at of at).active → StartHere f scope (names_declared part) (pcs of (suc at))

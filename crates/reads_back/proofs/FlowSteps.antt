@@ -16,6 +16,7 @@ use Rattle.recover_expr.specs.declared.steps.StepKind.{StepKind}
 use Rattle.scheme.specs.Making.{Ahead, Maker, active_count}
 use Rattle.scheme.specs.declared.making.Active.{Active}
 use Rattle.scheme_stands.specs.Words.{Fn}
+use Rattle.same_flow.specs.Declaring.{declaring, declaring_before, same_option}
 use Rattle.same_flow.specs.Listed.{entries_from}
 use Rattle.same_flow.specs.Performed.{kind_at, still_active}
 use Rattle.reads_back.specs.Placed.{HaveWords, listed_before}
@@ -27,7 +28,7 @@ use Rattle.reads_back.proofs.FlowLones.{close_step_read, foot_step_read, jump_st
 use Rattle.reads_back.proofs.FlowRead.{Begins, KindRead, kind_in}
 use Rattle.reads_back.proofs.FlowStarts.{from_at, from_next, own_entries}
 use Rattle.reads_back.proofs.FlowTests.{test_step_read}
-use Rattle.reads_back.proofs.FlowThere.{IsFlowFunction, StepIs, before_at, declaring, declaring_before, now_at, pcs, same_option, step_is}
+use Rattle.reads_back.proofs.FlowThere.{IsFlowFunction, StepIs, before_at, now_at, pcs, step_is}
 use Rattle.reads_back.proofs.LocalsLeave.{listed_of, taken_few}
 use Rattle.reads_back.proofs.StartingLocals.{StartFrom, start_both, start_later}
 
@@ -49,7 +50,7 @@ module _ {f : Function} {g : Fn} {z : Maker} {lefts : ℕ → List (Option Inner
   -- ---- each step has words
 
   -- an invented situation where a step begins
-  abbrev invented : ℕ → Situation
+  abbrev pub invented : ℕ → Situation
   invented at = record {
     left = lefts (length (before_at of at).functions);
     scope = record { declared = replicate (listed_before code params names ahead at) no_local; active = listed_of (before_at of at).active };
@@ -62,7 +63,7 @@ module _ {f : Function} {g : Fn} {z : Maker} {lefts : ℕ → List (Option Inner
     seen = length (before_at of at).constants;
   }
 
-  begins_invented : (at : ℕ) → Begins of at (invented at)
+  pub begins_invented : (at : ℕ) → Begins of at (invented at)
   begins_invented at = record { declared = length-replicate (listed_before code params names ahead at) no_local; active = refl; base = refl; left = refl; seen = refl; taken = refl; entries = refl; pc = refl }
 
   later_from : (count at : ℕ) → length code.steps ≡ count + at → StartFrom (suc (pcs of at)) (from_at of at)

@@ -1,9 +1,9 @@
 -- A function whose statements stand on steps, and these in its words: what is asked of it, and which names its locals have before each step.
-use Rattle.std.proofs.Common.{◌≡◌, ◌<◌, ◌≤◌, ℕ, zero, suc, ◌+◌, ◌-◌, true, List, ◌++◌, length, take, is_some, refl, sym, ap, ap₂, ◌∙◌, arith, subst, if◌then◌else◌}
+use Rattle.std.proofs.Common.{◌≡◌, ◌<◌, ◌≤◌, ℕ, zero, suc, ◌+◌, true, List, ◌++◌, length, is_some, refl, sym, ap, ap₂, ◌∙◌, arith, subst, if◌then◌else◌}
 use Rattle.std.proofs.lemmas.List.{length-map, map-append}
 use Rattle.std.proofs.lemmas.Option.{none-some, same_Some, slice_get-map, slice_get_within}
 use Rattle.std.proofs.lemmas.Slice.Eq.{bytes_eq-Decides}
-use Rattle.std.specs.Prelude.{None, Option, Some, option_and_then, option_map, replicate, slice_get}
+use Rattle.std.specs.Prelude.{None, Option, Some, option_map, slice_get}
 use Rattle.lua_num.specs.Bytes.{Text}
 use Rattle.lua_tree.specs.Names.{are_names, are_some_names, is_name}
 use Rattle.lua_tree.specs.OneLine.{one_line_expression, one_line_expressions, one_line_statement}
@@ -22,10 +22,11 @@ use Rattle.scheme.specs.Making.{Ahead, Maker, Where, active_count, in_globals, i
 use Rattle.scheme.specs.declared.making.Active.{Active}
 use Rattle.scheme_stands.proofs.Growth.{Final, spot}
 use Rattle.scheme_stands.specs.Words.{Fn, Means, MeansBy}
+use Rattle.same_flow.specs.Declaring.{ClosesTell}
 use Rattle.same_flow.specs.Blocks.{tested_as}
 use Rattle.same_flow.specs.Listed.{all_entries, before_place, entries_by, entries_from, entries_of, entries_where, pc_of_step}
 use Rattle.same_flow.specs.Performed.{Performance, behind_kind, kind_at, kind_made, part_at, performed_to, still_active}
-use Rattle.same_flow.specs.SameFlow.{AreLaid, HasPlainParts, begun_of}
+use Rattle.same_flow.specs.SameFlow.{AreLaid, HasPlainParts}
 use Rattle.same_flow.specs.Told.{PartFits, at_beginning}
 use Rattle.same_flow.proofs.Followed.{append_again, append_nothing, length_both}
 use Rattle.same_flow.proofs.ListedRun.{entries_begin, entries_last, step_there}
@@ -82,34 +83,13 @@ IsFlowPart (values_part es) = IsFlowAct (return_statement es)
 IsFlowPart (condition_part e) = IsFlowTest e
 IsFlowPart (head_part es names) = IsFlowHead es names
 
--- ---- which steps declare the active locals
-
--- of each that is active behind so many steps, None for a parameter
-abbrev pub declaring : Steps → (params names : List Text) → Ahead → (at : ℕ) → List (Option ℕ)
-declaring code params names ahead zero = replicate (active_count (begun_of params names ahead)) None
-declaring code params names ahead (suc at) =
-    let left = active_count (before_place code params names ahead at).maker in
-    take left (declaring code params names ahead at) ++ replicate (active_count (performed_to code (at_beginning code params names ahead) (suc at)).maker - left) (Some at)
-
-abbrev pub same_option : Option ℕ → Option ℕ
-same_option found = found
-
--- the step that declares the local in a register, where one is active before a step
-abbrev pub declaring_before : Steps → (params names : List Text) → Ahead → (at register : ℕ) → Option ℕ
-declaring_before code params names ahead at register =
-    option_and_then same_option (slice_get (take (active_count (before_place code params names ahead at).maker) (declaring code params names ahead at)) register)
-
--- each CLOSE says which step declares the first local that it closes
-abbrev pub ClosesTell : Steps → (params names : List Text) → Ahead → Type 0
-ClosesTell code params names ahead = (at register : ℕ) (declared : Option ℕ) → kind_at code.steps at ≡ Some (StepKind.Close register declared) → declared ≡ declaring_before code params names ahead at register
-
 -- ---- a function
 
-pub record IsFlowFunction (f : Function) (g : Fn) (z : Maker) (lefts : ℕ → List (Option Inner)) (parts : ℕ → outline.Part) (code : Steps) (params names : List Text) (ahead : Ahead) (block : Statements) : Type 0 where
+-- of the functions that are left to it this much is known
+pub record IsFlowBy (Left : Type 0) (f : Function) (g : Fn) (z : Maker) (code : Steps) (params names : List Text) (ahead : Ahead) (block : Statements) : Type 0 where
   -- the function that is read is the one that is made in the end
   pub made : IsMadeWhole f g z
-  -- these functions are left to it, where so many were made
-  pub left : AreLeft f g lefts parts
+  pub left : Left
   -- its statements stand on steps, which have plain parts
   pub plain : HasPlainParts code
   pub laid : AreLaid code params names ahead block
@@ -129,6 +109,10 @@ pub record IsFlowFunction (f : Function) (g : Fn) (z : Maker) (lefts : ℕ → L
   -- what the steps make stands in the end
   pub final : Final 0 (performed_to code (at_beginning code params names ahead) (length code.steps)).maker z
 
+-- these functions are left to it, where so many were made
+abbrev pub IsFlowFunction : Function → Fn → Maker → (lefts : ℕ → List (Option Inner)) → (parts : ℕ → outline.Part) → Steps → (params names : List Text) → Ahead → Statements → Type 0
+IsFlowFunction f g z lefts parts code params names ahead block = IsFlowBy (AreLeft f g lefts parts) f g z code params names ahead block
+
 -- names that a part declares can be written
 good_act : (s : Statement) → IsAct s → HasGoodNames (statement_part s)
 good_act (local_statement names es) is = good_names names is.0
@@ -145,7 +129,7 @@ good_part (values_part es) is = tt
 good_part (condition_part e) is = tt
 good_part (head_part es names) is = good_names names is.good
 
-module _ {f : Function} {g : Fn} {z : Maker} {lefts : ℕ → List (Option Inner)} {parts : ℕ → outline.Part} {code : Steps} {params names : List Text} {ahead : Ahead} {block : Statements} (of : IsFlowFunction f g z lefts parts code params names ahead block) where
+module _ {Left : Type 0} {f : Function} {g : Fn} {z : Maker} {code : Steps} {params names : List Text} {ahead : Ahead} {block : Statements} (of : IsFlowBy Left f g z code params names ahead block) where
   abbrev pub pcs : ℕ → ℕ
   pcs = pc_of_step code params names ahead
 

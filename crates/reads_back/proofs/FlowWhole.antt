@@ -1,12 +1,10 @@
 -- A whole function whose statements stand on steps is one that is read step by step.
 use Rattle.std.proofs.Common.{◌≡◌, ◌≤◌, ℕ, true, List, length, ap, ◌∙◌, arith}
-use Rattle.std.specs.Prelude.{None, Option, Some}
+use Rattle.std.specs.Prelude.{None, Some}
 use Rattle.lua_num.specs.Bytes.{Text}
 use Rattle.lua_tree.specs.Names.{are_names}
-use Rattle.lua_tree.specs.Outline as outline
 use Rattle.lua_tree.specs.Syntax.{Statements}
 use Rattle.proto.specs.declared.parts.Constant.{Constant}
-use Rattle.core_expr.specs.Values.{Inner}
 use Rattle.recover_expr.specs.Drafts.{Part}
 use Rattle.recover_expr.specs.Placing.{Steps}
 use Rattle.recover_expr.specs.Situation.{Function}
@@ -15,6 +13,7 @@ use Rattle.scheme.specs.Making.{Ahead, Maker}
 use Rattle.scheme.specs.Scheme.{statements_made}
 use Rattle.scheme_stands.proofs.Growth.{Final}
 use Rattle.scheme_stands.specs.Words.{Fn}
+use Rattle.same_flow.specs.Declaring.{ClosesTell}
 use Rattle.same_flow.specs.Performed.{part_at}
 use Rattle.same_flow.specs.SameFlow.{AreLaid, HasPlainParts, begun_of}
 use Rattle.same_flow.proofs.Followed.{at_pc}
@@ -23,8 +22,7 @@ use Rattle.same_flow.proofs.StatementsTold.{laid_follow}
 use Rattle.reads_back.specs.Stepped.{StepStands}
 use Rattle.reads_back.proofs.FlowFinal.{placed_maker, same_constants, same_high, same_upvalues, steps_final}
 use Rattle.reads_back.proofs.FlowRoom.{steps_room}
-use Rattle.reads_back.proofs.FlowThere.{ClosesTell, IsFlowFunction, IsFlowPart}
-use Rattle.reads_back.proofs.StraightActs.{AreLeft}
+use Rattle.reads_back.proofs.FlowThere.{IsFlowBy, IsFlowPart}
 use Rattle.reads_back.proofs.StraightBlocks.{IsMadeWhole}
 
 -- what its statements make, and with the last word
@@ -34,10 +32,10 @@ tree_of params names ahead block = statements_made block None (begun_of params n
 abbrev pub whole_of : (params names : List Text) → Ahead → Statements → Maker
 whole_of params names ahead block = whole_function 1 params (statements_made block None) (empty_maker ahead names)
 
--- what is known of it
-pub record IsWholeFlow (f : Function) (g : Fn) (lefts : ℕ → List (Option Inner)) (parts : ℕ → outline.Part) (code : Steps) (params names : List Text) (ahead : Ahead) (block : Statements) : Type 0 where
+-- what is known of it, and of the functions that are left to it
+pub record IsWholeBy (Left : Type 0) (f : Function) (g : Fn) (code : Steps) (params names : List Text) (ahead : Ahead) (block : Statements) : Type 0 where
   pub made : IsMadeWhole f g (whole_of params names ahead block)
-  pub left : AreLeft f g lefts parts
+  pub left : Left
   pub plain : HasPlainParts code
   pub laid : AreLaid code params names ahead block
   pub stand : (at : ℕ) → StepStands g code params names ahead at
@@ -53,9 +51,8 @@ pub record IsWholeFlow (f : Function) (g : Fn) (lefts : ℕ → List (Option Inn
   -- what its statements make stands in it
   pub final : Final 0 (tree_of params names ahead block) (whole_of params names ahead block)
 
-pub whole_flow : {f : Function} {g : Fn} {lefts : ℕ → List (Option Inner)} {parts : ℕ → outline.Part} {code : Steps} {params names : List Text} {ahead : Ahead} {block : Statements} (of : IsWholeFlow f g lefts parts code params names ahead block) →
-    IsFlowFunction f g (placed_maker code of.plain params names ahead) lefts parts code params names ahead block
-whole_flow {f} {g} {lefts} {parts} {code} {params} {names} {ahead} {block} of =
+pub whole_flow : {Left : Type 0} {f : Function} {g : Fn} {code : Steps} {params names : List Text} {ahead : Ahead} {block : Statements} (of : IsWholeBy Left f g code params names ahead block) → IsFlowBy Left f g (placed_maker code of.plain params names ahead) code params names ahead block
+whole_flow {Left} {f} {g} {code} {params} {names} {ahead} {block} of =
     let constants = same_constants code of.plain params names ahead block of.laid in
     let final = steps_final code of.plain params names ahead block of.laid of.final in
     let few = of.made.few in

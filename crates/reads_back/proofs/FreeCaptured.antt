@@ -21,6 +21,7 @@ use Rattle.scheme_stands.proofs.Growth.{fn_of, spot}
 use Rattle.scheme_stands.proofs.Makers.{body_begun, body_maker, body_stands}
 use Rattle.scheme_stands.specs.Relation.{FunctionOf}
 use Rattle.scheme_stands.specs.Words.{CapturedBy, Fn, IsCaptured, MeansBy, Names, asking, is_among, is_named, names_in, onto, own_register, register_in}
+use Rattle.reads_back.specs.Assignments.{as_assignment, fields_behind, path_target, with_method_name, with_self}
 use Rattle.reads_back.specs.Acted.{AreActs, AreActsBy, IsAct}
 use Rattle.reads_back.specs.Coming.{Coming, IsMadeNext, inside_local}
 use Rattle.reads_back.specs.Cores.{AllHaveCores, HasCore, HaveCores, HaveItems, IsPlainBody}
@@ -28,11 +29,10 @@ use Rattle.reads_back.specs.Straight.{AllHaveCoresBy, HasCoreBy, HaveCoresBy, Ha
 use Rattle.reads_back.proofs.BlockMakers.{AllStand, actives_by, all_stand, made_by, statement_moves}
 use Rattle.reads_back.proofs.DeclaredLocals.{actives_of}
 use Rattle.reads_back.proofs.FreeNames.{brings, free_in, free_in_all, free_in_block, free_in_body, free_in_fields, free_in_given, free_in_statement}
-use Rattle.reads_back.proofs.FunctionStatements.{acts_are, acts_formed, acts_on_line, as_assignment, as_assignments, path_target, with_method_name, with_self}
+use Rattle.reads_back.proofs.FunctionStatements.{acts_are, acts_formed, acts_on_line, as_assignments}
 use Rattle.reads_back.proofs.Mentions.{AreMeant, IsMentionMeant, Mention, behind_mention, function_mention, locals_mention, mentions_given, mentions_in, mentions_in_all, mentions_of_fields, name_mention, own_mention}
 use Rattle.reads_back.proofs.OneLineActs.{targets_have_cores}
 use Rattle.reads_back.proofs.ParametersRead as parameters
-use Rattle.reads_back.proofs.Paths.{fields_behind}
 use Rattle.reads_back.proofs.PlainBodies.{plain_block}
 use Rattle.reads_back.proofs.PlainStraight.{AreOnLine, each_on_line}
 use Rattle.reads_back.proofs.Rewriting.{mentions_of_statement}

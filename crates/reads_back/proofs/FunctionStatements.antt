@@ -4,33 +4,16 @@ use Rattle.std.specs.Prelude.{is_some, if◌then◌else◌}
 use Rattle.lua_num.specs.Bytes.{Text}
 use Rattle.lua_tree.specs.Names.{are_names, are_some_names, is_name}
 use Rattle.lua_tree.specs.OneLine.{one_line_body, one_line_expression, one_line_statement}
-use Rattle.lua_tree.specs.Outline.{all_params}
 use Rattle.lua_tree.specs.Syntax as syntax
 use Rattle.lua_tree.specs.Syntax.{Expression, Expressions, FunctionBody, Statement, Statements, assignment, field_expression, function_body, function_expression, function_statement, name_expression, nil_literal, no_expressions, no_statements}
 use Rattle.lua_tree.specs.WellFormed.{begins_with_paren, depth_of_body, depth_of_expression, depth_of_expressions, depth_of_statement, depth_of_statements, ends_block, formed_body, formed_expression, formed_statement, formed_statements, is_optional_name, is_prefix, is_target, may_follow, statement_begins_with_paren, statement_takes_arguments}
+use Rattle.reads_back.specs.Assignments.{as_assignment, fields_behind, path_target, with_method_name, with_self}
 use Rattle.reads_back.specs.Acted.{AreActsBy, is_path, lean_assignment, lean_depth, lean_depth_of}
 use Rattle.reads_back.specs.Straight.{AreStraightBy, HasCoreBy, IsActBy, IsActTargetBy, IsStraightBody, IsStraightStatementBy, StatementIndexesNoTable, IndexesNoTable, is_constructor}
 use Rattle.scheme.specs.Shapes.{room_of_body, room_of_expression, room_of_expressions, room_of_statement, room_of_statements}
 use Rattle.reads_back.proofs.Rooms.{lean_room, lean_room_assignment, lean_room_of}
-use Rattle.reads_back.proofs.Paths.{fields_behind}
 use Rattle.reads_back.proofs.PlainStraight.{AreOnLine}
 use Rattle.reads_back.proofs.Tests.{both_hold, first_of_both, not_so, second_of_both}
-
--- a method takes `self` first
-abbrev pub with_self : (method : Bool) → FunctionBody → FunctionBody
-with_self method (function_body params vararg block first last) = function_body (all_params method params) vararg block first last
-
-abbrev pub with_method_name : Expression → Option Text → Expression
-with_method_name on None = on
-with_method_name on (Some text) = field_expression 1 on text
-
-abbrev pub path_target : List Text → Option Text → Expression
-path_target [] method = nil_literal 1
-path_target (name ∷ names) method = with_method_name (fields_behind (name_expression 1 name) names) method
-
-abbrev pub as_assignment : Statement → Statement
-as_assignment (function_statement path method body) = assignment (syntax.expression (path_target path method) no_expressions) (syntax.expression (function_expression 1 (with_self (is_some method) body)) no_expressions)
-as_assignment s = s
 
 abbrev pub as_assignments : Statements → Statements
 as_assignments no_statements = no_statements
@@ -108,7 +91,7 @@ self_deep method (function_body params vararg block first last) = refl
 
 -- ---- it is an act
 
-statement_is_act : (deep : ℕ) (s : Statement) → IsStraightStatementBy (IsStraightBody deep) s → formed_statement s ≡ true → IsActBy (IsStraightBody deep) (as_assignment s)
+pub statement_is_act : (deep : ℕ) (s : Statement) → IsStraightStatementBy (IsStraightBody deep) s → formed_statement s ≡ true → IsActBy (IsStraightBody deep) (as_assignment s)
 statement_is_act deep (function_statement [] method body) is formed = not_so formed
 statement_is_act deep (function_statement (name ∷ names) method body) is formed =
     let behind = second_of_both (are_some_names (name ∷ names)) _ formed in
@@ -116,7 +99,7 @@ statement_is_act deep (function_statement (name ∷ names) method body) is forme
     record { some = refl; targets = (named.target, tt); given = refl; values = (self_straight deep (is_some method) body is.1, tt) }
 statement_is_act deep s is formed = is
 
-indexes_still : (s : Statement) → StatementIndexesNoTable s → formed_statement s ≡ true → StatementIndexesNoTable (as_assignment s)
+pub indexes_still : (s : Statement) → StatementIndexesNoTable s → formed_statement s ≡ true → StatementIndexesNoTable (as_assignment s)
 indexes_still (function_statement [] method body) none formed = not_so formed
 indexes_still (function_statement (name ∷ names) method body) none formed = ((path_is_chain name names method).indexes, tt)
 indexes_still s none formed = none
@@ -130,7 +113,7 @@ acts_are deep (syntax.statement line semi s rest) are formed =
 
 -- ---- it is well formed
 
-assigned_formed : (s : Statement) → formed_statement s ≡ true → formed_statement (as_assignment s) ≡ true
+pub assigned_formed : (s : Statement) → formed_statement s ≡ true → formed_statement (as_assignment s) ≡ true
 assigned_formed (function_statement [] method body) formed = not_so formed
 assigned_formed (function_statement (name ∷ names) method body) formed =
     let behind = second_of_both (are_some_names (name ∷ names)) _ formed in
@@ -139,15 +122,15 @@ assigned_formed (function_statement (name ∷ names) method body) formed =
     (both_hold _ _ (both_hold _ _ named.formed refl) (both_hold _ _ (self_formed (is_some method) body (second_of_both (is_optional_name method) _ behind)) refl))
 assigned_formed s formed = formed
 
-same_ends : (s : Statement) → ends_block (as_assignment s) ≡ ends_block s
+pub same_ends : (s : Statement) → ends_block (as_assignment s) ≡ ends_block s
 same_ends (function_statement path method body) = refl
 same_ends s = refl
 
-same_takes : (s : Statement) → statement_takes_arguments (as_assignment s) ≡ statement_takes_arguments s
+pub same_takes : (s : Statement) → statement_takes_arguments (as_assignment s) ≡ statement_takes_arguments s
 same_takes (function_statement path method body) = refl
 same_takes s = refl
 
-same_begins : (s : Statement) → statement_begins_with_paren (as_assignment s) ≡ statement_begins_with_paren s
+pub same_begins : (s : Statement) → statement_begins_with_paren (as_assignment s) ≡ statement_begins_with_paren s
 same_begins (function_statement [] method body) = refl
 same_begins (function_statement (name ∷ names) method body) = (path_is_chain name names method).bare
 same_begins s = refl
@@ -165,7 +148,7 @@ acts_formed deep (syntax.statement line semi s rest) are formed =
 
 -- ---- it is on one line
 
-path_on_line : (path : List Text) (method : Option Text) → one_line_expression (path_target path method) ≡ path_target path method
+pub path_on_line : (path : List Text) (method : Option Text) → one_line_expression (path_target path method) ≡ path_target path method
 path_on_line [] method = refl
 path_on_line (name ∷ names) method = (path_is_chain name names method).on_line
 
@@ -183,7 +166,7 @@ path_deep : (path : List Text) (method : Option Text) → depth_of_expression (p
 path_deep [] method = omega arith
 path_deep (name ∷ names) method = (path_is_chain name names method).deep
 
-assigned_shallow : (deep : ℕ) (s : Statement) → IsStraightStatementBy (IsStraightBody deep) s → depth_of_statement s ≤ 199 → depth_of_statement (as_assignment s) ≤ 199
+pub assigned_shallow : (deep : ℕ) (s : Statement) → IsStraightStatementBy (IsStraightBody deep) s → depth_of_statement s ≤ 199 → depth_of_statement (as_assignment s) ≤ 199
 assigned_shallow deep (function_statement path method body) is shallow = omega (arith, is.0, path_deep path method, self_deep (is_some method) body, shallow)
 assigned_shallow deep s is shallow = shallow
 
@@ -229,7 +212,7 @@ acts_lean deep (syntax.statement line semi s rest) are formed =
 
 -- ---- and it has as much room
 
-lean_room_less : (targets es : Expressions) → lean_room_assignment targets es ≤ max (room_of_expressions targets) (room_of_expressions es)
+pub lean_room_less : (targets es : Expressions) → lean_room_assignment targets es ≤ max (room_of_expressions targets) (room_of_expressions es)
 lean_room_less (syntax.expression target no_expressions) (syntax.expression (function_expression line body) no_expressions) = by (is_path target)
   where
     by : (path : Bool) → (if path then suc (room_of_body body) else max (room_of_expression target) (suc (room_of_body body))) ≤ max (max (room_of_expression target) 0) (max (1 + room_of_body body) 0)

@@ -11,7 +11,7 @@ use Rattle.proto.specs.Short.{AreShort, HasShortLists, IsShort}
 use Rattle.scheme.specs.Functions.{Finished, Heading, chunk_of, empty_maker, whole_function}
 use Rattle.scheme.specs.Making.{Ahead}
 use Rattle.scheme.specs.Scheme.{inner, statements_made}
-use Rattle.scheme.specs.Shapes.{room_of_statements}
+use Rattle.scheme.specs.Shapes.{plain_body, room_of_statements}
 use Rattle.scheme_stands.proofs.Growth.{Final, fn_of}
 use Rattle.scheme_stands.proofs.Makers.{StandFrom, body_stands}
 use Rattle.scheme_stands.proofs.Every.{statements_at}
@@ -131,6 +131,7 @@ module _ (is_short : Bool) (mine : Own) (functions : Functions) (ever : (number 
             fine = record {
               formed = ap formed_body r.body ∙ both_hold _ _ good r.formed;
               shallow = λ few. omega (arith, ap depth_of_body r.body, r.shallow);
+              plain = ap plain_body r.body ∙ r.simple;
             };
             same = ap (λ body. inner body false names before) r.body ∙ same_function params vararg method block r.written names before (r.made ∙ acts.made);
             few = omega (arith, r.few, acts.lean);

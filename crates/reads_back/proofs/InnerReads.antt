@@ -12,18 +12,18 @@ use Rattle.core_expr.specs.Values.{Inner}
 use Rattle.recover_expr.specs.Situation.{Function}
 use Rattle.recover_expr.specs.declared.steps.Step.{Step}
 use Rattle.scheme.specs.Functions.{Heading, chunk_of, without_sources}
-use Rattle.scheme.specs.Making.{Ahead, head_or}
+use Rattle.scheme.specs.Making.{Ahead, Maker, head_or}
 use Rattle.scheme.specs.Scheme.{inner, statements_made}
-use Rattle.scheme.specs.Shapes.{room_of_body}
+use Rattle.scheme.specs.Shapes.{plain_statements, room_of_body}
 use Rattle.scheme.specs.declared.making.Active.{Active}
 use Rattle.scheme_stands.specs.Relation.{FunctionOf}
-use Rattle.scheme_stands.specs.Words.{Fn, Names, names_in, onto}
+use Rattle.scheme_stands.specs.Words.{Fn, Law, Names, law_inside, names_in, onto}
 use Rattle.reads_back.specs.Coming.{Coming, IsMadeNext}
 use Rattle.reads_back.specs.Acted.{lean_depth_of}
 use Rattle.reads_back.specs.Cores.{IsPlainBody}
 use Rattle.reads_back.specs.ReadAs.{AreRead, AreStepsOf, IsRead, IsReadFrom, is_vararg, most_levels}
 use Rattle.reads_back.proofs.BlockReads.{IsLow}
-use Rattle.reads_back.proofs.ReadLoosely.{IsLooselyRead, IsLooselyReadFrom}
+use Rattle.reads_back.proofs.ReadLoosely.{AreLooselyRead, IsLooselyRead, IsLooselyReadFrom}
 use Rattle.reads_back.proofs.Rooms.{lean_room_of}
 use Rattle.reads_back.proofs.StepsPlaced.{AreLow}
 use Rattle.reads_back.proofs.EachMade.{IsMadeAt, each_made}
@@ -33,7 +33,7 @@ use Rattle.reads_back.proofs.NameReads.{AreListed}
 use Rattle.reads_back.proofs.NamesInside.{named_inside}
 use Rattle.reads_back.proofs.ReadOnce.{same_found}
 use Rattle.reads_back.proofs.StraightActs.{AreLeft}
-use Rattle.reads_back.proofs.StraightBlocks.{all_lean_low}
+use Rattle.reads_back.proofs.StraightBlocks.{IsMadeWhole, all_lean_low}
 use Rattle.reads_back.proofs.StraightFunctions.{IsStraightFunction, IsWrittenFrom, begun_of, f, first_next, functions_made, further_taken, g, inner_same, is_made, is_told, is_written, maker_of, none_before, upvalues_told}
 use Rattle.reads_back.proofs.WrittenFormed.{IsFineFunction}
 
@@ -63,11 +63,11 @@ IsEverRead short chunk =
 
 -- ---- functions that are the same but for lines
 
-counted : (cs : List Chunk) → function_count (functions_of cs) ≡ length cs
+pub counted : (cs : List Chunk) → function_count (functions_of cs) ≡ length cs
 counted [] = refl
 counted (c ∷ cs) = ap suc (counted cs)
 
-count_same : (functions others : Functions) → each_of no_lines functions ≡ each_of no_lines others → function_count functions ≡ function_count others
+pub count_same : (functions others : Functions) → each_of no_lines functions ≡ each_of no_lines others → function_count functions ≡ function_count others
 count_same no_functions no_functions same = refl
 count_same no_functions (and_function c rest) same = cc
 count_same (and_function c rest) no_functions same = cc
@@ -122,23 +122,27 @@ pub record IsFunctionRead (short : Bool) (deep : ℕ) (heading : Heading) (param
   pub written : Statements
   pub body : found.body ≡ function_body params heading.vararg written 1 1
   pub formed : formed_statements written ≡ true
+  pub simple : plain_statements written ≡ true
   pub shallow : depth_of_statements written ≤ found.levels
   pub few : found.levels ≤ 3 * lean_depth_of block + 1
   pub low : short ≡ true → found.levels ≤ lean_room_of block
   pub part : SamePart (statements_part written) (statements_part block)
   pub made : statements_made written None (begun_of params names ahead) ≡ statements_made block None (begun_of params names ahead)
 
-module _ (short : Bool) (deep : ℕ) (functions : Functions) (ever : (number : ℕ) (c : Chunk) → function_at functions number ≡ Some c → IsEverRead short c) {n : Names} {heading : Heading} {params : List Text} {block : Statements} {names : List Text} {ahead : Ahead} {mine : Own}
-    (of : IsStraightFunction n heading params block names ahead (function mine functions)) (low : lean_depth_of block ≤ deep) where
-  abbrev outer : Function
-  outer = f short of
+-- ---- the functions that are left to one
 
-  abbrev made_of : Fn
-  made_of = g short of
+-- these are left to it where so many were made, and each is read with no more than so many in one another
+pub record AreLeftTo (short : Bool) (deep roomy : ℕ) (functions : Functions) (f : Function) (g : Fn) : Type 0 where
+  pub lefts : ℕ → List (Option Inner)
+  pub parts : ℕ → Part
+  pub left : AreLeft f g lefts parts
+  pub loosely : AreLooselyRead short deep functions (lefts 0)
+  pub strict : (short ≡ true → roomy ≤ 200) → AreRead short deep functions (lefts 0)
 
-  all_same : each_of no_lines functions ≡ each_of no_lines made_of.functions
-  all_same = inner_same (function mine functions) (chunk_of heading (maker_of params block names ahead)) of.same
-
+-- where each of them is made somewhere in it, with fewer levels than so many and less room than that
+module _ (short : Bool) (deep high roomy : ℕ) (functions : Functions) (ever : (number : ℕ) (c : Chunk) → function_at functions number ≡ Some c → IsEverRead short c) {outer : Function} {made_of : Fn} {z : Maker} (whole : IsMadeWhole outer made_of z)
+    (is_short : outer.short ≡ short) (told : outer.of.upvalue_names ≡ made_of.upvalue_names) (all_same : each_of no_lines functions ≡ each_of no_lines made_of.functions)
+    (each_there : (number : ℕ) → number < function_count functions → IsMadeAt outer made_of high roomy number) (low : high ≤ deep) (shallow_all : high ≤ 200) where
   -- where it is made the chunk has one
   there : {active : List Active} {body : FunctionBody} {method : Bool} {c : Coming} (next : IsMadeNext made_of active body method c) → StandsToo functions c.functions next.chunk
   there {c = c} next = stands_too functions made_of.functions c.functions next.chunk all_same next.is
@@ -146,35 +150,31 @@ module _ (short : Bool) (deep : ℕ) (functions : Functions) (ever : (number : �
   -- one that is made next is read as what it is made of
   module _ {active : List Active} {listed : List ℕ} (all : AreListed outer made_of active listed) {body : FunctionBody} {method : Bool} {c : Coming} (plain : IsPlainBody body) (next : IsMadeNext made_of active body method c) where
     abbrev inside : Names
-    inside = record { around = names_in (onto active []) ++ n.around; upvalues = next.names }
+    inside = record { around = names_in (onto active []) ++ whole.names.around; upvalues = next.names }
 
     next_named : AreNamedBy inside (own next.chunk).upvalue_names
     next_named text slot is =
         ap (λ names. as_name (slice_get names slot)) next.named
-        ∙ named_inside n refl all next.names (head_or [] c.ahead.sources) next.captured (upvalues_told short of) text slot is
+        ∙ named_inside whole.names whole.law all next.names (head_or [] c.ahead.sources) next.captured told text slot is
 
-    next_read : (high : ℕ) → depth_of_body body < high → depth_of_body body ≤ 199 → IsReadAsBody short high (there next).c body method (own next.chunk).upvalue_names (without_sources c.ahead)
-    next_read high few shallow = ever c.functions (there next).c (there next).is high body method inside (without_sources c.ahead) next.behind next.chunk plain few shallow next.made_at (there next).same next_named
+    next_stands : FunctionOf body method (Some inside) (without_sources c.ahead) next.behind next.chunk
+    next_stands = subst (λ (law : Law). FunctionOf body method (law_inside law active next.names) (without_sources c.ahead) next.behind next.chunk) whole.law next.made_at
 
-  -- each of them is made next somewhere
-  at_number : (number : ℕ) (c : Chunk) → function_at functions number ≡ Some c → IsMadeAt outer made_of (lean_depth_of block) (lean_room_of block) number
-  at_number number c is =
-      each_made (is_made short of) block (begun_of params names ahead) (first_next short of) number (omega (arith, none_before short of))
-      (omega (arith, within_count functions number c is, count_same functions made_of.functions all_same, counted (maker_of params block names ahead).functions, ap length (functions_made short of)))
+    next_read : (most : ℕ) → depth_of_body body < most → depth_of_body body ≤ 199 → IsReadAsBody short most (there next).c body method (own next.chunk).upvalue_names (without_sources c.ahead)
+    next_read most few shallow = ever c.functions (there next).c (there next).is most body method inside (without_sources c.ahead) next.behind next.chunk plain few shallow next_stands (there next).same next_named
 
   record IsReadThere (c : Chunk) : Type 0 where
     found : Inner
     read : IsLooselyRead short deep c found
-    strict : (short ≡ true → lean_room_of block ≤ 200) → IsRead short deep c found
+    strict : (short ≡ true → roomy ≤ 200) → IsRead short deep c found
     fine : IsFineFunction found
 
   number_read : (number : ℕ) (c : Chunk) → function_at functions number ≡ Some c → IsReadThere c
   number_read number c is =
-      let m = at_number number c is in
-      let shallow_block : lean_depth_of block ≤ 200 = omega (arith, of.shallow, all_lean_low block) in
-      let r = next_read m.all m.plain m.is deep (omega (arith, low, m.low)) (omega (arith, shallow_block, m.low)) in
+      let m = each_there number (within_count functions number c is) in
+      let r = next_read m.all m.plain m.is deep (omega (arith, low, m.low)) (omega (arith, shallow_all, m.low)) in
       let same : (there m.is).c ≡ c = same_Some (there m.is).c c (sym (there m.is).is ∙ ap (function_at functions) m.number_is ∙ is) in
-      record { found = r.found; read = subst (λ c. IsLooselyRead short deep c r.found) same r.read; strict = λ roomy. subst (λ c. IsRead short deep c r.found) same (r.strict (λ is. omega (arith, roomy is, m.in_room))); fine = r.fine }
+      record { found = r.found; read = subst (λ c. IsLooselyRead short deep c r.found) same r.read; strict = λ enough. subst (λ c. IsRead short deep c r.found) same (r.strict (λ is. omega (arith, enough is, m.in_room))); fine = r.fine }
 
   founds : AreAllRead short deep functions
   founds = all_read short deep functions (λ number c is. let r = number_read number c is in (r.found, r.read))
@@ -202,7 +202,7 @@ module _ (short : Bool) (deep : ℕ) (functions : Functions) (ever : (number : �
           let r = now_read all plain shallow next in (
             r.found,
             next_left founds.founds c.functions r.found (now_found all plain shallow next),
-            record { same = subst (λ names. inner r.found.body false names (without_sources c.ahead) ≡ inner body method names (without_sources c.ahead)) next.named r.same; few = r.few; low = r.low },
+            record { same = subst (λ names. inner r.found.body false names (without_sources c.ahead) ≡ inner body method names (without_sources c.ahead)) next.named r.same; few = r.few; low = λ is. r.low (sym is_short ∙ is) },
           );
       others = λ active body method c plain next. others_left founds.founds c.functions (omega (arith, founds.as_many, within_count functions c.functions (there next).c (there next).is));
     };
@@ -214,8 +214,38 @@ module _ (short : Bool) (deep : ℕ) (functions : Functions) (ever : (number : �
     made = λ active listed all body c plain shallow next. part_then (λ here. ap (λ found. part_found found here) (now_found all plain shallow next)) (now_read all plain shallow next).part;
   }
 
-  from : IsWrittenFrom short heading params block names ahead (function mine functions) (lefts 0)
-  from = is_written short of left
+  strictly_found : (short ≡ true → roomy ≤ 200) → AreRead short deep functions (lefts 0)
+  strictly_found enough = all_strict short deep functions founds.founds founds.as_many (λ number c found at is.
+      let r = number_read number c at in
+      let back = founds.back number found is in
+      let same : back.0 ≡ c = same_Some back.0 c (sym back.1 ∙ at) in
+      subst (IsRead short deep c) (same_found short deep deep c r.found found r.read (subst (λ c. IsLooselyRead short deep c found) same back.2)) (r.strict enough))
+
+  pub are_left : AreLeftTo short deep roomy functions outer made_of
+  are_left = record { lefts = lefts; parts = parts; left = left; loosely = founds.are; strict = strictly_found }
+
+module _ (short : Bool) (deep : ℕ) (functions : Functions) (ever : (number : ℕ) (c : Chunk) → function_at functions number ≡ Some c → IsEverRead short c) {n : Names} {heading : Heading} {params : List Text} {block : Statements} {names : List Text} {ahead : Ahead} {mine : Own}
+    (of : IsStraightFunction n heading params block names ahead (function mine functions)) (low : lean_depth_of block ≤ deep) where
+  abbrev outer : Function
+  outer = f short of
+
+  abbrev made_of : Fn
+  made_of = g short of
+
+  all_same : each_of no_lines functions ≡ each_of no_lines made_of.functions
+  all_same = inner_same (function mine functions) (chunk_of heading (maker_of params block names ahead)) of.same
+
+  -- each of them is made next somewhere
+  at_number : (number : ℕ) → number < function_count functions → IsMadeAt outer made_of (lean_depth_of block) (lean_room_of block) number
+  at_number number below =
+      each_made (is_made short of) block (begun_of params names ahead) (first_next short of) number (omega (arith, none_before short of))
+      (omega (arith, below, count_same functions made_of.functions all_same, counted (maker_of params block names ahead).functions, ap length (functions_made short of)))
+
+  those : AreLeftTo short deep (lean_room_of block) functions outer made_of
+  those = are_left short deep (lean_depth_of block) (lean_room_of block) functions ever (is_made short of) refl (upvalues_told short of) all_same at_number low (omega (arith, of.shallow, all_lean_low block))
+
+  from : IsWrittenFrom short heading params block names ahead (function mine functions) (those.lefts 0)
+  from = is_written short of those.left
 
   abbrev found : Inner
   found = record { body = function_body from.steps.params (is_vararg mine) from.written 1 1; levels = most_levels from.steps.steps }
@@ -223,7 +253,7 @@ module _ (short : Bool) (deep : ℕ) (functions : Functions) (ever : (number : �
   levels_low : IsLow short (3 * lean_depth_of block + 1) (lean_room_of block) found.levels
   levels_low = low_levels short (3 * lean_depth_of block + 1) (lean_room_of block) from.steps.steps from.low
 
-  read_loosely : IsLooselyReadFrom short (function mine functions) (lefts 0) found
+  read_loosely : IsLooselyReadFrom short (function mine functions) (those.lefts 0) found
   read_loosely = record {
     told = is_told short of;
     steps = from.steps;
@@ -237,7 +267,7 @@ module _ (short : Bool) (deep : ℕ) (functions : Functions) (ever : (number : �
     levels = refl;
   }
 
-  read_from : (short ≡ true → lean_room_of block ≤ 200) → IsReadFrom short (function mine functions) (lefts 0) found
+  read_from : (short ≡ true → lean_room_of block ≤ 200) → IsReadFrom short (function mine functions) (those.lefts 0) found
   read_from roomy = record {
     told = is_told short of;
     steps = from.steps;
@@ -252,21 +282,15 @@ module _ (short : Bool) (deep : ℕ) (functions : Functions) (ever : (number : �
     low = λ is. omega (arith, roomy is, levels_low.1 is);
   }
 
-  strictly_found : (short ≡ true → lean_room_of block ≤ 200) → AreRead short deep functions (lefts 0)
-  strictly_found roomy = all_strict short deep functions founds.founds founds.as_many (λ number c found at is.
-      let r = number_read number c at in
-      let back = founds.back number found is in
-      let same : back.0 ≡ c = same_Some back.0 c (sym back.1 ∙ at) in
-      subst (IsRead short deep c) (same_found short deep deep c r.found found r.read (subst (λ c. IsLooselyRead short deep c found) same back.2)) (r.strict roomy))
-
   pub function_read : IsFunctionRead short deep heading params block names ahead (function mine functions)
   function_read = record {
     found = found;
-    read = (lefts 0, founds.are, read_loosely);
-    strict = λ roomy. (lefts 0, strictly_found roomy, read_from roomy);
+    read = (those.lefts 0, those.loosely, read_loosely);
+    strict = λ roomy. (those.lefts 0, those.strict roomy, read_from roomy);
     written = from.written;
     body = ap₂ (λ params vararg. function_body params vararg from.written 1 1) from.params_are (further_taken short of);
     formed = from.formed;
+    simple = from.simple;
     shallow = enough_levels (length from.steps.steps) from.written from.steps.steps from.are;
     few = levels_low.0;
     low = levels_low.1;

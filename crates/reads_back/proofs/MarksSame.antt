@@ -56,6 +56,21 @@ folded_part (binary_expression line op left right) n is =
     let two = folded_both (arith_op op) (fold left) (fold right) n is in both_same (folded_part left two.0.0 two.0.1) (folded_part right two.1.0 two.1.1)
 folded_part e n is = cc
 
+-- a literal mentions nothing
+plain_part : (e : Expression) (k : Constant) → plain_literal e ≡ Some k → SamePart (expression_part (one_line_expression e)) nothing
+plain_part (nil_literal line) k is = same_part nothing
+plain_part (true_literal line) k is = same_part nothing
+plain_part (false_literal line) k is = same_part nothing
+plain_part (text_literal line text) k is = same_part nothing
+plain_part e k is = cc
+
+literal_by : (e : Expression) (k : Constant) (folded : Option ℤ) → fold e ≡ folded → number_or folded (plain_literal e) ≡ Some k → SamePart (expression_part (one_line_expression e)) nothing
+literal_by e k (Some n) is literal = folded_part e n is
+literal_by e k None is literal = plain_part e k literal
+
+pub literal_part : (e : Expression) (k : Constant) → literal e ≡ Some k → SamePart (expression_part (one_line_expression e)) nothing
+literal_part e k is = literal_by e k (fold e) refl is
+
 -- a function that is made is the part of the source that has its number
 abbrev pub ArePartsMade : (g : Fn) (active : List Active) (of : ℕ → Part) → Type 0
 ArePartsMade g active of = (body : FunctionBody) (c : Coming) → IsPlainBody body → depth_of_body body ≤ 199 → IsMadeNext g active body false c → SamePart (of c.functions) (body_part false body)
@@ -93,18 +108,6 @@ module _ {f : Function} {g : Fn} {active : List Active} {listed : List ℕ} (is_
   pub key_part : (text : Text) (before behind : ℕ) (o : OperandValue) → IsKey g text before behind o → SamePart (part_of_operand at of o) nothing
   key_part text before behind o (inl small) = small_part o (Constant.Text text) small.1
   key_part text before behind o (inr large) = let is = large.1 in operand_part o is.0 nothing is.2 (constant_value_part (Constant.Text text) is.0 is.1.1)
-
-  -- a literal mentions nothing
-  plain_part : (e : Expression) (k : Constant) → plain_literal e ≡ Some k → SamePart (expression_part (one_line_expression e)) nothing
-  plain_part (nil_literal line) k is = same_part nothing
-  plain_part (true_literal line) k is = same_part nothing
-  plain_part (false_literal line) k is = same_part nothing
-  plain_part (text_literal line text) k is = same_part nothing
-  plain_part e k is = cc
-
-  literal_by : (e : Expression) (k : Constant) (folded : Option ℤ) → fold e ≡ folded → number_or folded (plain_literal e) ≡ Some k → SamePart (expression_part (one_line_expression e)) nothing
-  literal_by e k (Some n) is literal = folded_part e n is
-  literal_by e k None is literal = plain_part e k literal
 
   pub of_operand : (e : Expression) (before behind : ℕ) (o : OperandValue) (k : Option Constant) → literal e ≡ k → ((before behind : ℕ) (v : Value) → IsCore g active e before behind v → SamePart (part_of at of v) (expression_part (one_line_expression e))) → IsOperandBy k g (IsCore g active e) before behind o → SamePart (part_of_operand at of o) (expression_part (one_line_expression e))
   of_operand e before behind o (Some k) is same (inl small) = part_then (small_part o k small.1) (part_back (literal_by e k (fold e) refl is))

@@ -24,10 +24,11 @@ use Rattle.scheme.specs.Scheme.{coded, inner, statement_made}
 use Rattle.scheme.specs.Statements.{assign_part, path_from, with_fields, with_method}
 use Rattle.scheme.specs.declared.making.Active.{Active}
 use Rattle.scheme_stands.specs.Words.{Fn}
+use Rattle.reads_back.specs.Assignments.{fields_behind}
 use Rattle.reads_back.specs.Acted.{AreAssigned, Assigned, IsTarget, IsVariableTarget, act_levels, act_statement, assigned, assigned_levels, assigned_statement, can_act, can_write_last, can_write_targets, function_in, is_path, lean_assignment, left_by_targets, named_by, levels_or, levels_by, path_to, taken_behind_targets, words_assigned, AreWithOperand, AreValues, values_assigned}
 use Rattle.reads_back.specs.Cores.{IsCore, IsKey, HasNumber, IsVariable}
 use Rattle.reads_back.proofs.ConstantsSame.{constant_is}
-use Rattle.reads_back.proofs.Paths.{assign_same, coded_fields, fields_behind, function_alone, function_as_holds, function_there_yet, last_there, long_is, named_or_holds, params_part, path_leaves}
+use Rattle.reads_back.proofs.Paths.{assign_same, coded_fields, function_alone, function_as_holds, function_there_yet, last_there, long_is, named_or_holds, params_part, path_leaves}
 use Rattle.reads_back.proofs.Rewriting.{IsMadeBy}
 use Rattle.scheme.specs.Shapes.{room_of_body, room_of_expression, room_of_expressions, room_of_statement}
 use Rattle.reads_back.proofs.Rooms.{lean_room_assignment}

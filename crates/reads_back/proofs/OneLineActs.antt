@@ -38,7 +38,7 @@ module _ {P : FunctionBody → Type 0} (kept : StayOnLine P) where
   -- ---- it is an act
 
   mutual
-    core_on_line : (e : Expression) → HasCoreBy P e → HasCoreBy P (one_line_expression e)
+    pub core_on_line : (e : Expression) → HasCoreBy P e → HasCoreBy P (one_line_expression e)
     core_on_line (nil_literal line) has = has
     core_on_line (true_literal line) has = has
     core_on_line (false_literal line) has = has
@@ -68,7 +68,7 @@ module _ {P : FunctionBody → Type 0} (kept : StayOnLine P) where
     items_on_line (named text e separator rest) have = (core_on_line e have.0, items_on_line rest have.1)
     items_on_line (keyed key e separator rest) have = (core_on_line key have.0, core_on_line e have.1, items_on_line rest have.2)
 
-    cores_on_line : (es : Expressions) → AllHaveCoresBy P es → AllHaveCoresBy P (one_line_expressions es)
+    pub cores_on_line : (es : Expressions) → AllHaveCoresBy P es → AllHaveCoresBy P (one_line_expressions es)
     cores_on_line no_expressions have = have
     cores_on_line (syntax.expression e es) have = (core_on_line e have.0, cores_on_line es have.1)
 

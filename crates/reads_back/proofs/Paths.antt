@@ -17,15 +17,11 @@ use Rattle.scheme.specs.Functions.{Inner as InnerPart, coded_function}
 use Rattle.scheme.specs.Making.{Maker, active_count, in_globals, in_register, in_upvalue}
 use Rattle.scheme.specs.Scheme.{coded}
 use Rattle.scheme.specs.Statements.{all_targets, assign_part, copies, each_stored, with_fields}
+use Rattle.reads_back.specs.Assignments.{fields_behind}
 use Rattle.reads_back.specs.Acted.{can_write_last, function_in, left_by_targets, levels_by, levels_or, named_by, named_or, path_to, said_by}
 use Rattle.reads_back.proofs.Tests.{first_of_both, given_is, not_so, second_of_both, test_holds}
 
 -- ---- a path is an expression
-
--- fields behind an expression
-abbrev pub fields_behind : Expression → List Text → Expression
-fields_behind on [] = on
-fields_behind on (text ∷ texts) = fields_behind (field_expression 1 on text) texts
 
 pub coded_fields : (on : Expression) (texts : List Text) → (coded on).e ≡ on → coded (fields_behind on texts) ≡ with_fields 1 (coded on) texts
 coded_fields on [] itself = refl

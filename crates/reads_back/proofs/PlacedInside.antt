@@ -1,8 +1,8 @@
--- The places that steps name lie inside the function, where its statements stand on them: no jump, no foot and no end lies behind the last step.
-use Rattle.std.proofs.Common.{◌≡◌, ◌<◌, ◌≤◌, ℕ, suc, ◌+◌, Bool, true, false, not, inl, inr, List, length, refl, sym, ap, ◌∙◌, arith, subst}
+-- The places that steps name lie inside the function, where its statements stand on them: no jump, no foot and no end lies behind the last step; and the foot of a loop goes back to the step behind its head.
+use Rattle.std.proofs.Common.{◌≡◌, ◌<◌, ◌≤◌, ℕ, suc, ◌+◌, ◌-◌, Bool, true, false, not, inl, inr, List, length, refl, sym, ap, ◌∙◌, arith, subst}
 use Rattle.std.proofs.lemmas.Bool.Decides.{nat_tests}
 use Rattle.std.proofs.lemmas.Option.{same_Some, slice_get_within}
-use Rattle.std.specs.Prelude.{Option, None, Some, nat_lt, slice_get, if◌then◌else◌, ◌||◌}
+use Rattle.std.specs.Prelude.{Option, None, Some, nat_lt, option_map, slice_get, if◌then◌else◌, ◌||◌}
 use Rattle.std.specs.Bool.{beq}
 use Rattle.lua_num.specs.Bytes.{Text}
 use Rattle.lua_tree.specs.Syntax as syntax
@@ -19,6 +19,7 @@ use Rattle.scheme.specs.Scheme.{branches_made, coded, has_branch, has_otherwise,
 use Rattle.scheme.specs.Statements.{Loop, arm_part, settle}
 use Rattle.scheme.specs.declared.making.Active.{Active}
 use Rattle.same_flow.specs.Laid.{AloneLaid, ArmEnds, BodyLaid, BranchesLaid, Exit, IsBlock, IsClose, IsFor, IsJump, IsStep, LeavesTo, LiteralLaid, OtherwiseLaid, StatementLaid, TestLaid, VariablesEnd, arm_begun, exit_to, for_loop_of, generic_begun, generic_valued, label_of, loop_of, numeric_begun, numeric_valued, repeat_begun, while_begun, with_new_labels}
+use Rattle.same_flow.specs.Performed.{kind_at}
 use Rattle.same_flow.specs.SameFlow.{AreLaid}
 
 -- each place that a step names is one before a step, or behind the last
@@ -30,9 +31,14 @@ GoesInside last (StepKind.Head numeric foot end variables_end captured) = (foot 
 GoesInside last (StepKind.Foot numeric target) = target ≤ last
 GoesInside last kind = Unit {0}
 
+-- the foot of a loop goes back to the step behind its head
+abbrev pub GoesBack : Steps → StepKind → Type 0
+GoesBack code (StepKind.Foot numeric target) = (foot : ℕ) × (end : ℕ) × (variables_end : ℕ) × (captured : Bool) × (kind_at code.steps (target - 1) ≡ Some (StepKind.Head numeric foot end variables_end captured))
+GoesBack code kind = Unit {0}
+
 -- of each step from one place to another
 record GoInside (code : Steps) (from to : ℕ) : Type 0 where
-  each : (at : ℕ) (step : Step) → from ≤ at → at < to → slice_get code.steps at ≡ Some step → GoesInside (length code.steps) step.kind
+  each : (at : ℕ) (step : Step) → from ≤ at → at < to → slice_get code.steps at ≡ Some step → GoesInside (length code.steps) step.kind × GoesBack code step.kind
 
 module _ (code : Steps) where
   abbrev last : ℕ
@@ -48,23 +54,23 @@ module _ (code : Steps) where
   both : (from mid to : ℕ) → GoInside code from mid → GoInside code mid to → GoInside code from to
   both from mid to one two = record { each = λ at step h l s. by at step h l s (nat_lt at mid) refl }
     where
-      by : (at : ℕ) (step : Step) → from ≤ at → at < to → slice_get code.steps at ≡ Some step → (b : Bool) → nat_lt at mid ≡ b → GoesInside last step.kind
+      by : (at : ℕ) (step : Step) → from ≤ at → at < to → slice_get code.steps at ≡ Some step → (b : Bool) → nat_lt at mid ≡ b → GoesInside last step.kind × GoesBack code step.kind
       by at step h l s true e = one.each at step h (grind (arith, nat_tests)) s
       by at step h l s false e = two.each at step (grind (arith, nat_tests)) l s
 
-  one_step : (active : List Active) (from to : ℕ) (kind : StepKind) → IsStep code active from kind → GoesInside last kind → to ≡ suc from → GoInside code from to
-  one_step active from to kind is inside e = record {
+  one_step : (active : List Active) (from to : ℕ) (kind : StepKind) → IsStep code active from kind → GoesInside last kind → GoesBack code kind → to ≡ suc from → GoInside code from to
+  one_step active from to kind is inside back e = record {
     each = λ at step h l s.
         let here : at ≡ from = omega (arith, e, h, l) in
         let same : is.step ≡ step = same_Some is.step step (sym is.there ∙ ap (slice_get code.steps) (sym here) ∙ s) in
-        subst (GoesInside last) (sym is.is ∙ ap (λ (it : Step). it.kind) same) inside;
+        subst (λ kind. GoesInside last kind × GoesBack code kind) (sym is.is ∙ ap (λ (it : Step). it.kind) same) (inside, back);
   }
 
   jump_inside : (active : List Active) (from to target : ℕ) → IsJump code active from target → target ≤ last → to ≡ suc from → GoInside code from to
-  jump_inside active from to target is inside e = one_step active from to (StepKind.Jump target) is.1.0 inside e
+  jump_inside active from to target is inside e = one_step active from to (StepKind.Jump target) is.1.0 inside tt e
 
   close_inside : (active : List Active) (from to register : ℕ) → IsClose code active from register → to ≡ suc from → GoInside code from to
-  close_inside active from to register is e = one_step active from to (StepKind.Close register is.0) is.1.1.0 tt e
+  close_inside active from to register is e = one_step active from to (StepKind.Close register is.0) is.1.1.0 tt tt e
 
   -- ---- conditions
 
@@ -74,7 +80,7 @@ module _ (code : Steps) where
 
   alone_inside : (active : List Active) (o : Option Constant) (e : Expression) (sense : Bool) (target from to : ℕ) → AloneLaid code active o e sense target from to → target ≤ last → GoInside code from to
   alone_inside active (Some k) e sense target from to is inside = literal_inside active (beq sense (is_true_constant k)) target from to is.1 inside
-  alone_inside active None e sense target from to (when, levels, tested, H, s, t) inside = one_step active from to (StepKind.Test when target levels) H.0 inside t
+  alone_inside active None e sense target from to (when, levels, tested, H, s, t) inside = one_step active from to (StepKind.Test when target levels) H.0 inside tt t
 
   either_inside : (sense : Bool) (one other : ℕ) → one ≤ last → other ≤ last → (if sense then one else other) ≤ last
   either_inside true one other a b = a
@@ -117,9 +123,11 @@ module _ (code : Steps) where
       let behind = variables_inside hidden (n + 3) captured variables_end foot V in
       let order = behind.1 in
       let head : GoesInside last (StepKind.Head numeric foot to variables_end captured) = (omega (arith, t, most), most, omega (arith, t, most, order)) in
-      both from (suc from) to (one_step active from (suc from) (StepKind.Head numeric foot to variables_end captured) H.0 head refl)
+      let before : suc from - 1 ≡ from = omega arith in
+      let head_there : kind_at code.steps (suc from - 1) ≡ Some (StepKind.Head numeric foot to variables_end captured) = ap (kind_at code.steps) before ∙ ap (option_map (λ (it : Step). it.kind)) H.0.there ∙ ap Some H.0.is in
+      both from (suc from) to (one_step active from (suc from) (StepKind.Head numeric foot to variables_end captured) H.0 head tt refl)
       (both (suc from) variables_end to (inner variables_end (omega (arith, t, most, order)) B)
-      (both variables_end foot to behind.0 (one_step hidden foot to (StepKind.Foot numeric (suc from)) K.1.0 (omega (arith, t, most, order, less)) t)))
+      (both variables_end foot to behind.0 (one_step hidden foot to (StepKind.Foot numeric (suc from)) K.1.0 (omega (arith, t, most, order, less)) (foot, to, variables_end, captured, head_there) t)))
 
   arm_inside : (more : Bool) (active : List Active) (stop end next : ℕ) → ArmEnds code active more stop end next → end ≤ last → GoInside code stop next × (stop ≤ next)
   arm_inside true active stop end next A inside = let e = A.1 in (jump_inside active stop next end A.0 inside e, omega (arith, e))
@@ -137,12 +145,12 @@ module _ (code : Steps) where
 
     statement_inside : (s : Statement) (exit : Option Exit) (stop : ℕ) (loop : Option Loop) (m : Maker) (from to : ℕ) → StatementLaid code exit stop s loop m from to → ExitInside exit →
         stop ≤ last → to ≤ last → GoInside code from to
-    statement_inside (assignment targets es) exit stop loop m from to S around until most = one_step m.active from to StepKind.Act S.0.0 tt S.1
-    statement_inside (call_statement x) exit stop loop m from to S around until most = one_step m.active from to StepKind.Act S.0.0 tt S.1
-    statement_inside (function_statement path method body) exit stop loop m from to S around until most = one_step m.active from to StepKind.Act S.0.0 tt S.1
-    statement_inside (local_function name body) exit stop loop m from to S around until most = one_step m.active from to (StepKind.Declaration stop _) S.0.0 until S.1
-    statement_inside (local_statement names es) exit stop loop m from to S around until most = one_step m.active from to (StepKind.Declaration stop _) S.0.0 until S.1
-    statement_inside (return_statement es) exit stop loop m from to S around until most = one_step m.active from to StepKind.Return S.0.0 tt S.1
+    statement_inside (assignment targets es) exit stop loop m from to S around until most = one_step m.active from to StepKind.Act S.0.0 tt tt S.1
+    statement_inside (call_statement x) exit stop loop m from to S around until most = one_step m.active from to StepKind.Act S.0.0 tt tt S.1
+    statement_inside (function_statement path method body) exit stop loop m from to S around until most = one_step m.active from to StepKind.Act S.0.0 tt tt S.1
+    statement_inside (local_function name body) exit stop loop m from to S around until most = one_step m.active from to (StepKind.Declaration stop _) S.0.0 until tt S.1
+    statement_inside (local_statement names es) exit stop loop m from to S around until most = one_step m.active from to (StepKind.Declaration stop _) S.0.0 until tt S.1
+    statement_inside (return_statement es) exit stop loop m from to S around until most = one_step m.active from to StepKind.Return S.0.0 tt tt S.1
     statement_inside break_statement exit stop loop m from to S around until most = leaves_inside exit m from to S around
     statement_inside (do_block block) exit stop loop m from to S around until most =
         block_inside m.active (active_count m) (captured_from (active_count m) (statements_made block loop m)) (λ ends end. BodyLaid code exit ends block loop m from end) from to S most
@@ -212,7 +220,12 @@ module _ (code : Steps) where
         (λ x h D. body_inside block exit x loop m from x D around h h)
 
 -- the steps on which the statements of a function stand
-pub laid_inside : (code : Steps) (params names : List Text) (ahead : Ahead) (block : Statements) → AreLaid code params names ahead block → (at : ℕ) (step : Step) → slice_get code.steps at ≡ Some step →
-    GoesInside (length code.steps) step.kind
-laid_inside code params names ahead block laid at step there =
-    (body_inside code block None (length code.steps) None _ 0 (length code.steps) laid tt (omega arith) (omega arith)).each at step (omega arith) (slice_get_within code.steps at step there) there
+module _ (code : Steps) (params names : List Text) (ahead : Ahead) (block : Statements) (laid : AreLaid code params names ahead block) (at : ℕ) (step : Step) (there : slice_get code.steps at ≡ Some step) where
+  goes : GoesInside (length code.steps) step.kind × GoesBack code step.kind
+  goes = (body_inside code block None (length code.steps) None _ 0 (length code.steps) laid tt (omega arith) (omega arith)).each at step (omega arith) (slice_get_within code.steps at step there) there
+
+  pub laid_inside : GoesInside (length code.steps) step.kind
+  laid_inside = goes.0
+
+  pub laid_back : GoesBack code step.kind
+  laid_back = goes.1

@@ -16,7 +16,7 @@ module _ (deep : ℕ) where
   -- ---- expressions
 
   mutual
-    plain_core : (e : Expression) → HasCoreBy (IsStraightBody deep) e → formed_expression e ≡ true → one_line_expression e ≡ e → HasCore e
+    pub plain_core : (e : Expression) → HasCoreBy (IsStraightBody deep) e → formed_expression e ≡ true → one_line_expression e ≡ e → HasCore e
     plain_core (nil_literal line) has formed same = has
     plain_core (true_literal line) has formed same = has
     plain_core (false_literal line) has formed same = has
@@ -83,7 +83,7 @@ module _ (deep : ℕ) where
           plain_items rest have.2 (second_of_both (formed_expression e) _ parts) (cc same),
         )
 
-    plain_cores : (es : Expressions) → AllHaveCoresBy (IsStraightBody deep) es → formed_expressions es ≡ true → one_line_expressions es ≡ es → AllHaveCores es
+    pub plain_cores : (es : Expressions) → AllHaveCoresBy (IsStraightBody deep) es → formed_expressions es ≡ true → one_line_expressions es ≡ es → AllHaveCores es
     plain_cores no_expressions have formed same = have
     plain_cores (syntax.expression e es) have formed same = (
       plain_core e have.0 (first_of_both _ _ formed) (cc same),
@@ -107,7 +107,7 @@ module _ (deep : ℕ) where
 
   -- ---- statements
 
-  plain_act : (s : Statement) → IsActBy (IsStraightBody deep) s → formed_statement s ≡ true → one_line_statement s ≡ s → IsActBy IsPlainBody s
+  pub plain_act : (s : Statement) → IsActBy (IsStraightBody deep) s → formed_statement s ≡ true → one_line_statement s ≡ s → IsActBy IsPlainBody s
   plain_act (call_statement e) is formed same = (is.0, plain_core e is.1 (second_of_both (is_call e) _ formed) (cc same))
   plain_act (assignment targets es) is formed same =
       let formed_on = second_of_both (are_targets targets) _ (second_of_both (has_expressions targets) _ formed) in

@@ -30,7 +30,7 @@ all_index_none : (targets : Expressions) → AllIndexNoTables targets → AllInd
 all_index_none no_expressions none = none
 all_index_none (syntax.expression e targets) none = (indexes_none e none.0, all_index_none targets none.1)
 
-statement_indexes_none : (s : Statement) → StatementIndexesNoTable s → StatementIndexesNoTable (one_line_statement s)
+pub statement_indexes_none : (s : Statement) → StatementIndexesNoTable s → StatementIndexesNoTable (one_line_statement s)
 statement_indexes_none (assignment targets values) none = all_index_none targets none
 statement_indexes_none s none = none
 
@@ -72,7 +72,7 @@ same_target : (e : Expression) → is_target (one_line_expression e) ≡ is_targ
 same_target (name_expression line text) = refl
 same_target e = refl
 
-same_prefix : (e : Expression) → is_prefix (one_line_expression e) ≡ is_prefix e
+pub same_prefix : (e : Expression) → is_prefix (one_line_expression e) ≡ is_prefix e
 same_prefix (parenthesized line e) = refl
 same_prefix e = refl
 
@@ -88,10 +88,10 @@ same_binds : (level : ℕ) (associates : Bool) (e : Expression) → binds level 
 same_binds level true e = cc (same_level e)
 same_binds level false e = cc (same_level e)
 
-same_left : (level : ℕ) (right_associative : Bool) (e : Expression) → left_binds level right_associative (one_line_expression e) ≡ left_binds level right_associative e
+pub same_left : (level : ℕ) (right_associative : Bool) (e : Expression) → left_binds level right_associative (one_line_expression e) ≡ left_binds level right_associative e
 same_left level right_associative e = same_binds level (not right_associative) e
 
-same_right : (level : ℕ) (right_associative : Bool) (e : Expression) → right_binds level right_associative (one_line_expression e) ≡ right_binds level right_associative e
+pub same_right : (level : ℕ) (right_associative : Bool) (e : Expression) → right_binds level right_associative (one_line_expression e) ≡ right_binds level right_associative e
 same_right level right_associative e = cc (same_unary e, same_binds level right_associative e)
 
 same_takes : (e : Expression) → takes_arguments (one_line_expression e) ≡ takes_arguments e
@@ -131,30 +131,30 @@ same_ends : (s : Statement) → ends_block (one_line_statement s) ≡ ends_block
 same_ends (return_statement es) = refl
 same_ends s = refl
 
-same_follow : (s : Statement) (semi : Bool) (rest : Statements) → may_follow (one_line_statement s) semi (one_line_statements rest) ≡ may_follow s semi rest
+pub same_follow : (s : Statement) (semi : Bool) (rest : Statements) → may_follow (one_line_statement s) semi (one_line_statements rest) ≡ may_follow s semi rest
 same_follow s semi no_statements = refl
 same_follow s semi (syntax.statement line next_semi next rest) = cc (same_ends s, statement_same_takes s, statement_same_begins next)
 
 -- ---- it is well formed
 
 -- an argument list on one line stands on the line of the token before it
-given_on_line : (args : Arguments) → on_its_line (one_line_arguments args) 1 1 ≡ true
+pub given_on_line : (args : Arguments) → on_its_line (one_line_arguments args) 1 1 ≡ true
 given_on_line (argument_list es) = refl
 given_on_line (text_argument text) = refl
 given_on_line (table_argument items) = refl
 
-same_item : (separator : Separator) (fields : Fields) → ends_item separator (one_line_fields fields) ≡ ends_item separator fields
+pub same_item : (separator : Separator) (fields : Fields) → ends_item separator (one_line_fields fields) ≡ ends_item separator fields
 same_item Separator.Missing no_fields = refl
 same_item Separator.Missing (positional e separator rest) = refl
 same_item Separator.Missing (named text e separator rest) = refl
 same_item Separator.Missing (keyed key e separator rest) = refl
 same_item separator items = refl
 
-same_some : (es : Expressions) → has_expressions (one_line_expressions es) ≡ has_expressions es
+pub same_some : (es : Expressions) → has_expressions (one_line_expressions es) ≡ has_expressions es
 same_some no_expressions = refl
 same_some (syntax.expression e es) = refl
 
-same_targets : (es : Expressions) → are_targets (one_line_expressions es) ≡ are_targets es
+pub same_targets : (es : Expressions) → are_targets (one_line_expressions es) ≡ are_targets es
 same_targets no_expressions = refl
 same_targets (syntax.expression e es) = ap₂ (λ (first rest : Bool). first && rest) (same_target e) (same_targets es)
 
@@ -274,7 +274,7 @@ body_formed : (deep : ℕ) → StayOnLine (IsStraightBody deep) → (body : Func
 body_formed deep kept (function_body params vararg block first last) straight formed =
     both_hold _ _ (first_of_both _ _ formed) (block_formed kept block straight (second_of_both (are_names params) _ formed))
 
-bodies_stay : (deep : ℕ) → StayOnLine (IsStraightBody deep)
+pub bodies_stay : (deep : ℕ) → StayOnLine (IsStraightBody deep)
 bodies_stay zero = record { stays = λ body none. absurd none; again = λ body none. absurd none; as_deep = λ body none. absurd none; as_roomy = λ body none. absurd none; formed = λ body none. absurd none }
 bodies_stay (suc deep) =
     let kept = bodies_stay deep in

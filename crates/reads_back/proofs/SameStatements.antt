@@ -18,9 +18,10 @@ use Rattle.scheme_stands.specs.Functions.{rel_function, Step}
 use Rattle.scheme_stands.specs.Relation.{FunctionOf, StatementAt, related}
 use Rattle.scheme_stands.specs.Statements.{AssignAt, LoopAt, StaysAt, rel_fields, rel_method, rel_path}
 use Rattle.scheme_stands.specs.Words.{Fn}
-use Rattle.reads_back.proofs.FunctionStatements.{as_assignment, as_assignments, path_target, with_method_name, with_self}
+use Rattle.reads_back.specs.Assignments.{as_assignment, fields_behind, path_target, with_method_name, with_self}
+use Rattle.reads_back.proofs.FunctionStatements.{as_assignments}
 use Rattle.reads_back.proofs.Marks.{SamePart, both_same, nothing_behind, part_then, same_part}
-use Rattle.reads_back.proofs.Paths.{assign_same, coded_fields, fields_behind}
+use Rattle.reads_back.proofs.Paths.{assign_same, coded_fields}
 use Rattle.reads_back.proofs.PlainStraight.{AreOnLine}
 use Rattle.reads_back.proofs.Tests.{first_of_both, not_so, second_of_both}
 
@@ -110,7 +111,7 @@ self_part method (function_body params vararg block first last) place = refl
 path_mentioned : (name : Text) (names : List Text) (method : Option Text) → SamePart (expression_part (path_target (name ∷ names) method)) (path_part 1 (name ∷ names))
 path_mentioned name names method place = ap (λ (part : Part). part place) (method_part_same (fields_behind (name_expression 1 name) names) method ∙ fields_part_same (name_expression 1 name) names)
 
-statement_part_same : (line : ℕ) (s : Statement) → formed_statement s ≡ true → line ≡ 1 → SamePart (statement_part line (as_assignment s)) (statement_part line s)
+pub statement_part_same : (line : ℕ) (s : Statement) → formed_statement s ≡ true → line ≡ 1 → SamePart (statement_part line (as_assignment s)) (statement_part line s)
 statement_part_same line (function_statement [] method body) formed first place = not_so formed
 statement_part_same line (function_statement (name ∷ names) method body) formed first place =
     both_same (part_then (nothing_behind _) (path_mentioned name names method)) (part_then (nothing_behind _) (self_part (is_some method) body)) place

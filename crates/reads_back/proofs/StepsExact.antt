@@ -18,7 +18,7 @@ abbrev pub captured_by_step : Function → (number pc : ℕ) → Situation → L
 captured_by_step f number pc s = captured_by_words f (suc (f.last - pc)) pc (begun number pc s)
 
 -- a step that is read is one of words
-step_of_words : (f : Function) (number pc : ℕ) (s : Situation) (draft : Drafted) (behind : Situation) → step_at f number pc s ≡ Some (draft, behind) → words_from f (suc (f.last - pc)) pc (begun number pc s) ≡ Some (draft, behind)
+pub step_of_words : (f : Function) (number pc : ℕ) (s : Situation) (draft : Drafted) (behind : Situation) → step_at f number pc s ≡ Some (draft, behind) → words_from f (suc (f.last - pc)) pc (begun number pc s) ≡ Some (draft, behind)
 step_of_words f number pc s draft behind is = by (nat_lt (length s.scope.active) (2 ^ 32)) (starting f.of.locals pc s.scope == 0) is
   where
     words : Option (Drafted × Situation)

@@ -12,6 +12,7 @@ use Rattle.core_expr.specs.Places.{place}
 use Rattle.recover_expr.specs.Situation.{Function}
 use Rattle.scheme.specs.Making.{Maker, active_count}
 use Rattle.scheme.specs.Scheme.{statement_made, statements_made}
+use Rattle.scheme.specs.Shapes.{plain_statements}
 use Rattle.scheme.specs.Statements.{settle}
 use Rattle.scheme_stands.proofs.Blocks.{Settled}
 use Rattle.scheme_stands.proofs.Growth.{Final, Grown, before, before_free, later, loose, on_free, on_part, spot, start}
@@ -29,7 +30,9 @@ use Rattle.reads_back.proofs.Marks.{SamePart, both_same, part_then}
 use Rattle.reads_back.proofs.Mentions.{IsAhead}
 use Rattle.reads_back.proofs.StatementsMeant.{statement_meant}
 use Rattle.reads_back.proofs.OwnLocals.{listed_same}
+use Rattle.reads_back.proofs.PlainActs.{act_none, act_plain}
 use Rattle.reads_back.proofs.PlainStraight.{AreOnLine}
+use Rattle.reads_back.proofs.PlainValues.{plain_left}
 use Rattle.reads_back.proofs.Rewriting.{IsMadeBy, mentions_of_statement, OwnListed}
 use Rattle.reads_back.proofs.StraightActs.{lean_low, written, written_ends, written_formed, written_marks, AreLeft}
 use Rattle.reads_back.proofs.StraightScopes.{IsListing, are_listed, is_certain, AreNamed}
@@ -235,3 +238,13 @@ module _ {f : Function} {g : Fn} {z : Maker} {lefts : ℕ → List (Option Inner
   block_plain no_statements tree taken m next are = subst ArePlain (sym are) tt
   block_plain (syntax.statement line semi s rest) tree taken m next are =
       subst ArePlain (sym are.4) (refl, refl, block_plain rest are.1 (taken_behind_act are.0 taken) (settle (made_by s m)) (comes_behind whole.made next) are.3)
+
+  -- ---- `and`, `or` and comparisons
+
+  -- where each function that is left is plain
+  pub block_simple : (block tree : Statements) (taken : ℕ) (m : Maker) → AreWritten f g lefts taken block tree m → plain_statements tree ≡ true
+  block_simple no_statements tree taken m are = ap plain_statements are
+  block_simple (syntax.statement line semi s rest) tree taken m are =
+      let none = act_none g m.active s (length m.functions) (length (made_by s m).functions) are.0 are.2 in
+      let one = act_plain (place f.of (listed_by m) f.short) are.0 taken (lefts (length m.functions)) (plain_left lefts whole.left.fine (length m.functions)) none in
+      ap plain_statements are.4 ∙ both_hold _ _ one.1 (block_simple rest are.1 (taken_behind_act are.0 taken) (settle (made_by s m)) are.3)

@@ -19,6 +19,7 @@ use Rattle.recover_expr.specs.Situation.{Function, Situation, at_first, is_retur
 use Rattle.scheme.specs.Functions.{Heading, chunk_of, empty_maker, lines_of, vararg_flags, whole_function, with_params, words_from}
 use Rattle.scheme.specs.Making.{Ahead, Maker, end_all}
 use Rattle.scheme.specs.Scheme.{statements_made}
+use Rattle.scheme.specs.Shapes.{plain_statements}
 use Rattle.scheme.specs.Statements.{settle}
 use Rattle.scheme.specs.declared.making.Active.{Active}
 use Rattle.scheme.specs.declared.making.Item.{Item}
@@ -45,7 +46,7 @@ use Rattle.reads_back.proofs.StartingLocals.{StartFrom}
 use Rattle.recover_expr.specs.declared.steps.Step.{Step}
 use Rattle.reads_back.proofs.StepsPlaced.{AreEnding, AreLow, steps_are_placed}
 use Rattle.reads_back.proofs.StraightActs.{AreLeft}
-use Rattle.reads_back.proofs.StraightBlocks.{ComesNext, IsMadeWhole, IsWhole, all_acts, block_formed, block_marks, block_plain, block_same}
+use Rattle.reads_back.proofs.StraightBlocks.{ComesNext, IsMadeWhole, IsWhole, all_acts, block_formed, block_marks, block_plain, block_same, block_simple}
 use Rattle.reads_back.proofs.WordsRead.{IsFunction, abc_is_read}
 
 -- ---- chunks that are the same but for lines
@@ -54,10 +55,10 @@ pub own_of_same : (c d : Chunk) → SameButLines c d → no_lines (own c) ≡ no
 own_of_same (function f inner) (function g others) same = ap own same
 
 -- how many upvalues a function of these has
-abbrev upvalues_of : Functions → (number : ℕ) → Option ℕ
+abbrev pub upvalues_of : Functions → (number : ℕ) → Option ℕ
 upvalues_of inner number = option_map (λ c. (own c).upvalues) (function_at inner number)
 
-without_lines : (inner : Functions) (number : ℕ) → upvalues_of (each_of no_lines inner) number ≡ upvalues_of inner number
+pub without_lines : (inner : Functions) (number : ℕ) → upvalues_of (each_of no_lines inner) number ≡ upvalues_of inner number
 without_lines no_functions number = refl
 without_lines (and_function (function f inner) rest) zero = refl
 without_lines (and_function (function f inner) rest) (suc number) = without_lines rest number
@@ -65,28 +66,28 @@ without_lines (and_function (function f inner) rest) (suc number) = without_line
 pub inner_same : (c d : Chunk) → SameButLines c d → each_of no_lines (functions c) ≡ each_of no_lines (functions d)
 inner_same (function f inner) (function g others) same = ap functions same
 
-as_many_upvalues : (c d : Chunk) → SameButLines c d → (number : ℕ) (inner : Chunk) → function_at (functions d) number ≡ Some inner → upvalues_of (functions c) number ≡ Some (own inner).upvalues
+pub as_many_upvalues : (c d : Chunk) → SameButLines c d → (number : ℕ) (inner : Chunk) → function_at (functions d) number ≡ Some inner → upvalues_of (functions c) number ≡ Some (own inner).upvalues
 as_many_upvalues c d same number inner is =
     sym (without_lines (functions c) number)
     ∙ ap (λ functions. upvalues_of functions number) (inner_same c d same)
     ∙ without_lines (functions d) number
     ∙ ap (option_map (λ c. (own c).upvalues)) is
 
-as_many_lines : (labels : List ℕ) (pc : ℕ) (items : List Item) → length (lines_of items) ≡ length (words_from labels pc items)
+pub as_many_lines : (labels : List ℕ) (pc : ℕ) (items : List Item) → length (lines_of items) ≡ length (words_from labels pc items)
 as_many_lines labels pc [] = refl
 as_many_lines labels pc (item ∷ items) = ap suc (as_many_lines labels (suc pc) items)
 
 -- ---- parameters
 
-declared_count : (texts : List Text) (before behind : Ahead) (locals : List Local) → Declared texts before locals behind → length locals ≡ length texts
+pub declared_count : (texts : List Text) (before behind : Ahead) (locals : List Local) → Declared texts before locals behind → length locals ≡ length texts
 declared_count [] before behind locals declared = ap length declared.0
 declared_count (text ∷ texts) before behind locals declared = ap length declared.1 ∙ ap suc (declared_count texts _ behind declared.0 declared.2)
 
-activated_count : (locals : List Local) (active after : List Active) → Activated locals active after → length after ≡ length active + length locals
+pub activated_count : (locals : List Local) (active after : List Active) → Activated locals active after → length after ≡ length active + length locals
 activated_count [] active after activated = omega (arith, ap length activated)
 activated_count (one ∷ locals) active after activated = omega (arith, activated_count locals (active ++ activated.0 ∷ []) after activated.2, length_end active activated.0)
 
-takes_further : (vararg : Bool) → not (vararg_flags vararg == 0) ≡ vararg
+pub takes_further : (vararg : Bool) → not (vararg_flags vararg == 0) ≡ vararg
 takes_further true = refl
 takes_further false = refl
 
@@ -132,6 +133,7 @@ pub record IsWrittenFrom (short : Bool) (heading : Heading) (params : List Text)
   pub low : AreLow (IsLow short (3 * lean_depth_of block + 1) (lean_room_of block)) steps.steps
   pub plain : ArePlain written
   pub formed : formed_statements written ≡ true
+  pub simple : plain_statements written ≡ true
   pub part : SamePart (statements_part written) (statements_part block)
   pub made : statements_made written None (begun_of params names ahead) ≡ statements_made block None (begun_of params names ahead)
 
@@ -323,6 +325,7 @@ module _ {n : Names} {heading : Heading} {params : List Text} {block : Statement
       low = all_placed.3;
       plain = block_plain whole block is_read.written 0 first first_next is_read.are;
       formed = block_formed whole block is_read.written 0 first first_next of.formed is_read.are;
+      simple = block_simple whole block is_read.written 0 first is_read.are;
       part = block_marks whole block is_read.written 0 first first_next is_read.are;
       made = block_same whole block is_read.written 0 first first_next is_read.are (sym (ap length begins.constants)) ∙ sym ends_block;
     }

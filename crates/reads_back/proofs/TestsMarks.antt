@@ -1,12 +1,13 @@
--- What is written of the leaf of a condition mentions what the leaf does, where not two operands in registers are written the other way round; so it can be written, and leaves the same functions.
-use Rattle.std.proofs.Common.{arith, ◌≡◌, ℕ, ◌≤◌, ◌⊎◌, inl, inr, Bool, true, false, not, List, length, Option, refl, sym, ap, ◌∙◌, subst}
-use Rattle.std.specs.Prelude.{if◌then◌else◌}
+-- What is written of the leaf of a condition mentions what the leaf does, where not two operands in registers are written the other way round, or one of them is a number or a string; so it can be written, and leaves the same functions.
+use Rattle.std.proofs.Common.{arith, ◌≡◌, ℕ, ◌≤◌, ◌⊎◌, inl, inr, Bool, true, false, not, List, length, Option, Some, None, refl, sym, ap, ◌∙◌, subst}
+use Rattle.std.specs.Prelude.{◌||◌, if◌then◌else◌}
 use Rattle.lua_tree.specs.OneLine.{one_line_expression}
 use Rattle.lua_tree.specs.Outline.{Part, both, expression_part, nothing}
 use Rattle.lua_tree.specs.WellFormed.{depth_of_expression}
 use Rattle.lua_tree.specs.Syntax.{Expression, binary_expression, parenthesized, unary_expression}
 use Rattle.lua_tree.specs.declared.tree.BinaryOp.{BinaryOp}
 use Rattle.lua_tree.specs.declared.tree.UnaryOp.{UnaryOp}
+use Rattle.proto.specs.declared.parts.Constant.{Constant}
 use Rattle.core_expr.specs.Counting.{left_by_operand, taken_behind_operand}
 use Rattle.core_expr.specs.Places.{Place, place}
 use Rattle.core_expr.specs.Targets.{Comparison, can_write_both, can_write_comparison, is_swapped, left_by_comparison, mirrored, word_both, word_comparison}
@@ -18,14 +19,16 @@ use Rattle.scheme.specs.Expressions.{is_comparison, literal}
 use Rattle.scheme.specs.declared.making.Active.{Active}
 use Rattle.scheme_stands.specs.Words.{Fn}
 use Rattle.reads_back.specs.Cores.{HasCore}
+use Rattle.reads_back.specs.Ordered.{is_constant_literal}
 use Rattle.reads_back.proofs.ComparisonOrder.{HasLocal, IsNextNumber, early_second, has_local, late_first}
 use Rattle.reads_back.proofs.ComparisonsSame.{Order, order_of, ordered, other_op, tested_op, turned}
 use Rattle.reads_back.proofs.FunctionsLeft.{each_by_operand}
+use Rattle.reads_back.proofs.LocalOperands.{OneConstant}
 use Rattle.reads_back.proofs.Marks.{ArePartsLeft, IsPartLeft, SamePart, both_same, nothing_behind, operand_part, part_back, part_of_operand, part_then, same_part, word_part}
-use Rattle.reads_back.proofs.MarksSame.{ArePartsMade, marks_of, of_operand}
+use Rattle.reads_back.proofs.MarksSame.{ArePartsMade, literal_part, marks_of, of_operand}
 use Rattle.reads_back.proofs.NameReads.{AreListed}
 use Rattle.reads_back.proofs.TestedAs.{BothTested, HasTest, HasTestBy, IsTested, IsTestedBy, IsValueTested, can_test, comparison_of, condition_word, is_turned}
-use Rattle.reads_back.proofs.Tests.{first_of_both, second_of_both}
+use Rattle.reads_back.proofs.Tests.{first_of_both, not_so, second_of_both}
 use Rattle.reads_back.proofs.WordsRead.{IsFunction}
 
 -- ---- in one order or the other
@@ -125,11 +128,11 @@ module _ (at : Place) (of : ℕ → Part) where
   constant_nothing : (number : ℕ) (o : OperandValue) → o ≡ constant_operand number → SamePart (part_of_operand at of o) nothing
   constant_nothing number o is = λ here. ap (λ o. part_of_operand at of o here) is
 
--- where its operands are written the other way round, they are not both in registers
+-- where its operands are written the other way round, they are both in registers only where one of them is a number or a string
 abbrev pub KeepsNames : Fn → List Active → (n before behind : ℕ) → Expression → Type 0
 KeepsNames g active n before behind (binary_expression line op l r) =
     is_comparison op ≡ true → (both_are : BothTested g active l r before behind) → is_swapped (length active) n (comparison_of op both_are.x both_are.y both_are.first both_are.second) ≡ not (is_turned op) →
-    HasLocal (length active) both_are.x both_are.y both_are.first both_are.second → ⊥
+    HasLocal (length active) both_are.x both_are.y both_are.first both_are.second → OneConstant l r
 KeepsNames g active n before behind e = Unit {0}
 
 module _ {f : Function} {g : Fn} {active : List Active} {listed : List ℕ} (is_function : IsFunction f g) (listed_names : AreListed f g active listed) (sized : length listed ≡ length active) (of : ℕ → Part) (parts_made : ArePartsMade g active of) where
@@ -143,7 +146,7 @@ module _ {f : Function} {g : Fn} {active : List Active} {listed : List ℕ} (is_
         (part_then (word_part at_place of v n left parts_left (subst (λ (tested : TestedValue). can_test at_place n left tested ≡ true) is can)) ((marks_of is_function listed_names of parts_made e has shallow).one before behind v core))
 
     both_marks : (op : BinaryOp) (l r : Expression) → is_comparison op ≡ true → HasCore l → HasCore r → depth_of_expression l ≤ 200 → depth_of_expression r ≤ 200 → (both_are : BothTested g active l r before behind) → tested ≡ tested_comparison (comparison_of op both_are.x both_are.y both_are.first both_are.second) →
-        (is_swapped (length active) n (comparison_of op both_are.x both_are.y both_are.first both_are.second) ≡ not (is_turned op) → HasLocal (length active) both_are.x both_are.y both_are.first both_are.second → ⊥) →
+        (is_swapped (length active) n (comparison_of op both_are.x both_are.y both_are.first both_are.second) ≡ not (is_turned op) → HasLocal (length active) both_are.x both_are.y both_are.first both_are.second → OneConstant l r) →
         SamePart (expression_part (condition_word at_place n left tested).words) (both (expression_part (one_line_expression l)) (expression_part (one_line_expression r)))
     both_marks op l r is has_l has_r shallow_l shallow_r both_are same names = part_then (λ here. ap (λ (tested : TestedValue). expression_part (condition_word at_place n left tested).words here) same) (by (either_order at_place n left both_are.x both_are.y both_are.first both_are.second op is))
       where
@@ -159,11 +162,20 @@ module _ {f : Function} {g : Fn} {active : List Active} {listed : List ℕ} (is_
         second : SamePart (part_of_operand at_place of both_are.second) (expression_part (one_line_expression r))
         second = of_operand is_function listed_names of parts_made r both_are.mid behind both_are.second (literal r) refl (marks_of is_function listed_names of parts_made r has_r shallow_r).one both_are.is_second
 
-        turn : OneIs (length active) both_are.x both_are.y both_are.first both_are.second → (HasLocal (length active) both_are.x both_are.y both_are.first both_are.second → ⊥) →
+        silent : (e : Expression) (o : OperandValue) → SamePart (part_of_operand at_place of o) (expression_part (one_line_expression e)) → (k : Option Constant) → literal e ≡ k → is_constant_literal k ≡ true → SamePart (part_of_operand at_place of o) nothing
+        silent e o same (Some k) is constant = part_then same (literal_part e k is)
+        silent e o same None is constant = not_so constant
+
+        one_silent : (a b : Bool) → is_constant_literal (literal l) ≡ a → is_constant_literal (literal r) ≡ b → (a || b) ≡ true → SamePart (both (part_of_operand at_place of both_are.second) (part_of_operand at_place of both_are.first)) (both (part_of_operand at_place of both_are.first) (part_of_operand at_place of both_are.second))
+        one_silent true b is_a is_b one = nothing_turns _ _ (silent l both_are.first first (literal l) refl is_a)
+        one_silent false true is_a is_b one = part_back (nothing_turns _ _ (silent r both_are.second second (literal r) refl is_b))
+        one_silent false false is_a is_b one = cc
+
+        turn : OneIs (length active) both_are.x both_are.y both_are.first both_are.second → (HasLocal (length active) both_are.x both_are.y both_are.first both_are.second → OneConstant l r) →
             SamePart (both (part_of_operand at_place of both_are.second) (part_of_operand at_place of both_are.first)) (both (part_of_operand at_place of both_are.first) (part_of_operand at_place of both_are.second))
         turn (first_constant number constant) names = nothing_turns _ _ (constant_nothing at_place of number both_are.first constant)
         turn (second_constant number constant) names = part_back (nothing_turns _ _ (constant_nothing at_place of number both_are.second constant))
-        turn (local_among locals) names = absurd (names locals)
+        turn (local_among locals) names = one_silent (is_constant_literal (literal l)) (is_constant_literal (literal r)) refl refl (names locals)
 
         by : InOrder at_place n left both_are.x both_are.y both_are.first both_are.second (tested_op op) both_are.first both_are.second c
             ⊎ (InOrder at_place n left both_are.x both_are.y both_are.first both_are.second (other_op op) both_are.second both_are.first c × (is_swapped (length listed) n c ≡ not (is_turned op))) →

@@ -47,7 +47,7 @@ module _ (lefts : ℕ → List (Option Inner)) {f : Function} {g : Fn} {active :
         value_test_taken e v test has none core rewritten truth label m ahead final ∙ ap (λ (tested : TestedValue). taken_behind_test tested (length m.constants)) (sym is),
       )
 
-  plain_op : (op : BinaryOp) → is_comparison op ≡ false → tested_op op ≡ op
+  pub plain_op : (op : BinaryOp) → is_comparison op ≡ false → tested_op op ≡ op
   plain_op BinaryOp.Ne is = cc
   plain_op op is = refl
 

@@ -60,7 +60,7 @@ operand_alike None c d m same = ap (λ (after : Maker). record { value = m.free;
 no_literal : (k : Option Constant) (c : Coded) (truth : Bool) (label : ℕ) (m : Maker) → k ≡ None → test_by k 1 c truth label m ≡ tested_from m.free truth label (operand c m)
 no_literal k c truth label m none = ap (λ k. test_by k 1 c truth label m) none
 
-literal_none : (folded : Option ℤ) → folded ≡ None → number_or folded None ≡ None
+pub literal_none : (folded : Option ℤ) → folded ≡ None → number_or folded None ≡ None
 literal_none folded none = ap (λ folded. number_or folded None) none
 
 name_tests : (text : Text) (truth : Bool) (label : ℕ) (m : Maker) → (coded (name_expression 1 text)).jump_if truth label m ≡ tested_from m.free truth label (operand (coded (name_expression 1 text)) m)
@@ -238,7 +238,7 @@ module _ {f : Function} {g : Fn} {active : List Active} {listed : List ℕ} {z :
   source_tests = tests_whole (one_line_expression e) (source_whole e test has none) (same_fold e ∙ no_fold (fold e) (plain_literal e) none) truth label m
 
   -- what is final behind the test is so behind its operand
-  operand_is_final : Final (length m.labels) ((code e).jump_if truth label m) z → Final (length m.labels) (operand (code e) m).after z
+  pub operand_is_final : Final (length m.labels) ((code e).jump_if truth label m) z → Final (length m.labels) (operand (code e) m).after z
   operand_is_final final =
       let x = operand (code e) m in
       before_put 1 (Piece.Abc Op.Test x.value 0 (truth_field truth)) x.after (before_put 1 (Piece.Jump Op.Jmp 0 label) (put 1 (Piece.Abc Op.Test x.value 0 (truth_field truth)) x.after)

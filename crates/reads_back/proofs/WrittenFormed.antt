@@ -17,15 +17,17 @@ use Rattle.proto.specs.declared.parts.LocVar.{LocVar}
 use Rattle.core_expr.specs.Places.{Place, as_name, constant_at, constant_name, field_name, field_number, local_name, name_of_entry, name_of_local, name_of_number, text_at, upvalue_name}
 use Rattle.core_expr.specs.Values.{Inner, ItemList, OperandList, OperandValue, Value, Values, and_keyed, and_operand, and_positional, and_value, binary_value, bool_value, call_value, concat_value, constant_operand, constant_value, function_value, global_value, index_value, local_value, method_value, nil_value, no_items, no_operands, no_values, table_value, unary_value, upvalue_value, value_operand, vararg_value}
 use Rattle.core_expr.specs.Writing.{function_left, function_word, ArgumentWording, FieldWording, Wording, Wordings, and_item, and_keyed_item, and_wording, applied, as_arguments, as_list, as_prefix, as_text_argument, can_write, can_write_items, can_write_operand, can_write_operands, can_write_values, chained, constant_word, ends_items, ends_values, in_parentheses, is_bare, is_multiple, is_power, joined, literal, name_word, number_word, numeral, on_left, on_right, separator_before, single, text_or_empty, truth, unless, with_arguments, with_binary, with_field, with_index, with_items, with_key, with_method, with_unary, word, word_each, word_items, word_keys, word_only, word_operand, word_short, word_values}
+use Rattle.scheme.specs.Shapes.{plain_body}
 use Rattle.reads_back.proofs.FunctionsLeft.{EachLeft, each_by, each_by_operand, left_there}
 use Rattle.reads_back.proofs.Tests.{both_hold, first_of_both, given_is, not_so, second_of_both, test_holds}
 
 -- ---- functions that are left
 
--- a function that is left is well formed, and no deeper than its levels tell
+-- a function that is left is well formed, no deeper than its levels tell, and plain
 pub record IsFineFunction (found : Inner) : Type 0 where
   pub formed : formed_body found.body ≡ true
   pub shallow : found.levels ≤ 1000 → depth_of_body found.body ≤ found.levels
+  pub plain : plain_body found.body ≡ true
 
 -- each is
 abbrev pub AreFineLeft : List (Option Inner) → Type 0
@@ -131,7 +133,7 @@ binary_fine op l r left right first second = record {
   shallow = λ few. let low = first.shallow (omega (arith, few)) in let high = second.shallow (omega (arith, few)) in omega (arith, low, high, few);
 }
 
-joined_fine : (op : BinaryOp) (l r : Wording) → IsFine l → IsFine r → IsFine (joined op l r)
+pub joined_fine : (op : BinaryOp) (l r : Wording) → IsFine l → IsFine r → IsFine (joined op l r)
 joined_fine op l r first second =
     binary_fine op (on_left op l) (on_right op r) (left_is op l) (right_is op r) (unless_fine (left_binds (level_of_op op) (is_right_associative op) l.words) l first) (unless_fine (right_binds (level_of_op op) (is_power op) r.words) r second)
 

@@ -1,3 +1,4 @@
+pub mod Ordered
 pub mod Placed
 pub mod Stepped
 pub mod Straight
@@ -6,3 +7,5 @@ pub mod Cores
 pub mod Acted
 pub mod ReadAs
 pub mod Through
+pub mod Written
+pub mod Assignments

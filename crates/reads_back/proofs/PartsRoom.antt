@@ -1,0 +1,207 @@
+-- The step of what is written needs no more levels than the source has room for, in the forms of fewest levels; and few in natural forms.
+use Rattle.std.proofs.Common.{◌≡◌, ◌≤◌, ◌+◌, ◌*◌, ℕ, suc, Bool, true, List, length, sym, ap, ◌∙◌, subst, arith}
+use Rattle.std.proofs.lemmas.Option.{same_Some}
+use Rattle.std.specs.Prelude.{Option, Some, slice_get}
+use Rattle.lua_num.specs.Bytes.{Text}
+use Rattle.lua_tree.specs.Outline as outline
+use Rattle.lua_tree.specs.Syntax.{Expression, Expressions, Statement, Statements, assignment, return_statement}
+use Rattle.lua_tree.specs.WellFormed.{formed_statement}
+use Rattle.core_expr.specs.Values.{Inner}
+use Rattle.recover_expr.specs.Drafts.{Drafted, Part, condition_part, head_part, nothing_part, statement_part, values_part}
+use Rattle.recover_expr.specs.Placing.{Steps}
+use Rattle.recover_expr.specs.Situation.{Function}
+use Rattle.recover_expr.specs.Testing.{negated_levels}
+use Rattle.recover_expr.specs.declared.steps.Step.{Step}
+use Rattle.recover_expr.specs.declared.steps.StepKind.{StepKind}
+use Rattle.scheme.specs.Making.{Ahead, Maker}
+use Rattle.scheme.specs.Shapes.{room_of_expressions, room_of_statement}
+use Rattle.scheme_stands.specs.Words.{Fn}
+use Rattle.same_flow.specs.Written.{AreInRoom, ArePartsFormed, IsPartFormed, KindInRoom, NegatedInRoom}
+use Rattle.same_flow.specs.Alike.{IsKindLike}
+use Rattle.same_flow.specs.Performed.{part_at}
+use Rattle.reads_back.specs.Acted.{lean_depth}
+use Rattle.reads_back.specs.Written.{AreFew, HasNegated, IsPartFew}
+use Rattle.reads_back.proofs.FlowRead.{PartRead, as_many, writing}
+use Rattle.reads_back.proofs.FlowThere.{IsFlowFunction, StepIs, before_at, made_at, pcs}
+use Rattle.reads_back.proofs.FunctionStatements.{lean_room_less}
+use Rattle.reads_back.proofs.HeadsSame.{head_low}
+use Rattle.reads_back.proofs.PartsCases.{ActThere, Cases, IsLoneKind, by_cases}
+use Rattle.reads_back.proofs.PartsDeep.{test_negated}
+use Rattle.reads_back.proofs.PlacedReads.{ArePlaced, placed_read}
+use Rattle.reads_back.proofs.Rooms.{lean_room}
+use Rattle.reads_back.proofs.StraightActs.{lean_low}
+use Rattle.reads_back.proofs.TestedAs.{condition_word}
+use Rattle.reads_back.proofs.TestsLow.{NumbersStay, test_low}
+
+-- ---- parts of steps
+
+lean_room_low : (s : Statement) → lean_room s ≤ room_of_statement s
+lean_room_low (assignment targets es) = lean_room_less targets es
+lean_room_low s = omega arith
+
+-- the same where a path that a function goes to does not count
+abbrev pub KindInLeanRoom : (levels : ℕ) → StepKind → Part → Type 0
+KindInLeanRoom levels kind (statement_part s) = levels ≤ suc (lean_room s)
+KindInLeanRoom levels kind part = KindInRoom levels kind part
+
+abbrev pub IsPartLeanFew : (levels : ℕ) → Part → Type 0
+IsPartLeanFew levels (statement_part s) = levels ≤ 3 * lean_depth s + 4
+IsPartLeanFew levels part = IsPartFew levels part
+
+lean_few : (levels : ℕ) (part : Part) → IsPartLeanFew levels part → IsPartFew levels part
+lean_few levels (statement_part s) few = omega (arith, few, lean_low s)
+lean_few levels part few = few
+
+-- whatever the kind of its step is
+statement_room : (levels : ℕ) (kind : StepKind) (s : Statement) → levels ≤ suc (room_of_statement s) → KindInRoom levels kind (statement_part s)
+statement_room levels (StepKind.Test when target negated) s low = low
+statement_room levels kind s low = low
+
+return_room : (levels : ℕ) (kind : StepKind) (es : Expressions) → levels ≤ suc (room_of_expressions es) → KindInRoom levels kind (values_part es)
+return_room levels (StepKind.Test when target negated) es low = low
+return_room levels kind es low = low
+
+head_room : (levels : ℕ) (kind : StepKind) (es : Expressions) (texts : List Text) → levels ≤ suc (room_of_expressions es) → KindInRoom levels kind (head_part es texts)
+head_room levels (StepKind.Test when target negated) es texts low = low
+head_room levels kind es texts low = low
+
+lean_in_room : (levels : ℕ) (kind : StepKind) (part : Part) → KindInLeanRoom levels kind part → KindInRoom levels kind part
+lean_in_room levels kind (statement_part s) low = statement_room levels kind s (omega (arith, low, lean_room_low s))
+lean_in_room levels kind part low = low
+
+-- what has nothing written of it needs one level
+lone_room : (levels : ℕ) (kind other : StepKind) (part : Part) → IsLoneKind kind → IsKindLike kind other → levels ≡ 1 → KindInRoom levels other part
+lone_room levels (StepKind.Jump target) other part is like one = subst (λ kind. KindInRoom levels kind part) (sym like) (by part)
+  where
+    by : (part : Part) → KindInRoom levels (StepKind.Jump target) part
+    by (statement_part s) = omega (arith, one)
+    by (values_part es) = omega (arith, one)
+    by (head_part es names) = omega (arith, one)
+    by (condition_part e) = tt
+    by nothing_part = tt
+lone_room levels (StepKind.Close from declared) other part is like one = subst (λ kind. KindInRoom levels kind part) (sym like) (by part)
+  where
+    by : (part : Part) → KindInRoom levels (StepKind.Close from declared) part
+    by (statement_part s) = omega (arith, one)
+    by (values_part es) = omega (arith, one)
+    by (head_part es names) = omega (arith, one)
+    by (condition_part e) = tt
+    by nothing_part = tt
+lone_room levels (StepKind.Foot numeric target) other part is like one = subst (λ kind. KindInRoom levels kind part) (sym like) (by part)
+  where
+    by : (part : Part) → KindInRoom levels (StepKind.Foot numeric target) part
+    by (statement_part s) = omega (arith, one)
+    by (values_part es) = omega (arith, one)
+    by (head_part es names) = omega (arith, one)
+    by (condition_part e) = tt
+    by nothing_part = tt
+lone_room levels kind other part is like one = absurd is
+
+lone_lean : (levels : ℕ) (kind other : StepKind) (part : Part) → IsLoneKind kind → IsKindLike kind other → levels ≡ 1 → KindInLeanRoom levels other part
+lone_lean levels kind other (statement_part s) is like one = omega (arith, one)
+lone_lean levels kind other part is like one = lone_room levels kind other part is like one
+
+lone_few : (levels : ℕ) (part : Part) → levels ≡ 1 → IsPartLeanFew levels part
+lone_few levels (statement_part s) one = omega (arith, one)
+lone_few levels (values_part es) one = omega (arith, one)
+lone_few levels (condition_part e) one = omega (arith, one)
+lone_few levels (head_part es names) one = omega (arith, one)
+lone_few levels nothing_part one = omega (arith, one)
+
+module _ {f : Function} {g : Fn} {z : Maker} {lefts : ℕ → List (Option Inner)} {parts : ℕ → outline.Part} {code : Steps} {params names : List Text} {ahead : Ahead} {block : Statements} (of : IsFlowFunction f g z lefts parts code params names ahead block) where
+  -- ---- in natural forms
+
+  abbrev Few : StepKind → Part → Drafted → Type 0
+  Few kind part draft = IsPartLeanFew draft.levels part
+
+  -- a path that a function goes to does not count
+  pub act_few : (at : ℕ) (s : Statement) (behind : ℕ) (draft : Drafted) → ActThere of at s behind draft → draft.levels ≤ 3 * lean_depth s + 4
+  act_few at s behind draft act =
+      let few = act.rewritten.few (length (before_at of at).constants) in
+      let levels = act.read.levels in
+      omega (arith, few, levels)
+
+  few_cases : Cases of Few
+  few_cases = record {
+    acts = λ at kind s behind draft is goes_on act. act_few at s behind draft act;
+    returns = λ at es behind draft act. act_few at (return_statement es) behind draft act;
+    tests = λ at target negated when e behind draft test. let few = test.written.few in let levels = test.read.levels in omega (arith, few, levels);
+    heads = λ at foot end variables_end captured numeric es texts behind draft head.
+        let few = head.rewritten.few (length (before_at of at).constants) in
+        let levels = head.read.levels in
+        omega (arith, few, levels);
+    lones = λ at kind part draft is lone. lone_few draft.levels part lone.levels;
+  }
+
+  -- the step of one draft needs few levels
+  pub part_few : {at : ℕ} (kind : StepKind) (part : Part) → StepIs of at kind part → (draft : Drafted) → PartRead f g lefts (before_at of at) (pcs of) kind part (length (made_at of at kind part).functions) draft → IsPartLeanFew draft.levels part
+  part_few kind part is draft read = by_cases of Few few_cases kind part is draft read
+
+  -- and those of all steps, with the parts of the source
+  pub parts_lean_few : (other : Steps) → ArePlaced of other → (at : ℕ) (step : Step) (part : Part) → slice_get other.steps at ≡ Some step → part_at code at ≡ Some part → IsPartLeanFew step.levels part
+  parts_lean_few other are at step part there part_there =
+      let one = placed_read of other are at step there in
+      let read = one.read in
+      subst (IsPartLeanFew step.levels) (same_Some read.part part (sym read.is.part_there ∙ part_there)) (subst (λ levels. IsPartLeanFew levels read.part) (sym one.levels) (part_few read.kind read.part read.is one.draft read.part_read))
+
+  pub parts_few : (other : Steps) → ArePlaced of other → AreFew (record code { steps = other.steps })
+  parts_few other are at step part there part_there = lean_few step.levels part (parts_lean_few other are at step part there part_there)
+
+  -- ---- in the forms of fewest levels
+
+  -- where the operands of a test are written the other way round, its numbers stay
+  abbrev pub TestsStay : Type 0
+  TestsStay =
+      (at target negated : ℕ) (when : Bool) (e : Expression) → StepIs of at (StepKind.Test when target negated) (condition_part e) →
+      NumbersStay g (before_at of at).active (length (before_at of at).constants) (length (before_at of at).functions) (length (made_at of at (StepKind.Test when target negated) (condition_part e)).functions) e
+
+  module _ (short : f.short ≡ true) (stay : TestsStay) where
+    abbrev Roomy : StepKind → Part → Drafted → Type 0
+    Roomy kind part draft = IsPartFormed part → (other : StepKind) → IsKindLike kind other → HasNegated draft.kind other → KindInLeanRoom draft.levels other part
+
+    -- a path that a function goes to does not count
+    pub act_low : (at : ℕ) (s : Statement) (behind : ℕ) (draft : Drafted) → ActThere of at s behind draft → formed_statement s ≡ true → draft.levels ≤ suc (lean_room s)
+    act_low at s behind draft act formed =
+        let low = act.rewritten.low short formed (before_at of at) act.comes act.final in
+        let levels = act.read.levels in
+        omega (arith, low, levels)
+
+    roomy_cases : Cases of Roomy
+    roomy_cases = record {
+      acts = λ at kind s behind draft is goes_on act formed other like negated. act_low at s behind draft act formed.0;
+      returns = λ at es behind draft act formed other like negated. return_room draft.levels other es (act_low at (return_statement es) behind draft act formed);
+      tests = λ at target negated when e behind draft test formed other like has.
+          let m = before_at of at in
+          let stays = subst (λ behind. NumbersStay g m.active (length m.constants) (length m.functions) behind e) (sym test.behind_is) (stay at target negated when e test.is) in
+          let room = test_low lefts test.made of.left.again (as_many of at) (length m.functions) behind when target m short e test.read.tested test.flow.has test.flow.shallow test.read.is stays formed test.comes test.final in
+          let low = room.low in
+          let levels = test.read.levels in
+          let word = condition_word (writing f g lefts m) (length m.constants) (lefts (length m.functions)) test.read.tested in
+          let is = test_negated of at target negated when when target like.0 e behind draft test (subst (HasNegated draft.kind) like.1 has) ∙ ap (negated_levels word.words) levels in
+          subst (λ kind. KindInRoom draft.levels kind (condition_part e)) (sym like.1) (omega (arith, low, levels), subst (λ levels. NegatedInRoom levels e) (sym is) room.negated);
+      heads = λ at foot end variables_end captured numeric es texts behind draft head formed other like negated.
+          let low = head_low head.rewritten code foot end variables_end captured texts (before_at of at) head.comes head.final short formed.2 in
+          let levels = head.read.levels in
+          head_room draft.levels other es texts (omega (arith, low, levels));
+      lones = λ at kind part draft is lone formed other like negated. lone_lean draft.levels kind other part is like lone.levels;
+    }
+
+    -- there is room for the step of one draft
+    pub part_in_lean_room : {at : ℕ} (kind : StepKind) (part : Part) → StepIs of at kind part → (draft : Drafted) → PartRead f g lefts (before_at of at) (pcs of) kind part (length (made_at of at kind part).functions) draft →
+        IsPartFormed part → (other : StepKind) → IsKindLike kind other → HasNegated draft.kind other → KindInLeanRoom draft.levels other part
+    part_in_lean_room kind part is draft read = by_cases of Roomy roomy_cases kind part is draft read
+
+    pub part_in_room : {at : ℕ} (kind : StepKind) (part : Part) → StepIs of at kind part → (draft : Drafted) → PartRead f g lefts (before_at of at) (pcs of) kind part (length (made_at of at kind part).functions) draft →
+        IsPartFormed part → (other : StepKind) → IsKindLike kind other → HasNegated draft.kind other → KindInRoom draft.levels other part
+    part_in_room kind part is draft read formed other like negated = lean_in_room draft.levels other part (part_in_lean_room kind part is draft read formed other like negated)
+
+    -- and for all steps, with the parts of the source
+    pub parts_in_lean_room : ArePartsFormed code → (other : Steps) → ArePlaced of other → (at : ℕ) (step : Step) (part : Part) → slice_get other.steps at ≡ Some step → part_at code at ≡ Some part → KindInLeanRoom step.levels step.kind part
+    parts_in_lean_room formed other are at step part there part_there =
+        let one = placed_read of other are at step there in
+        let read = one.read in
+        let low = part_in_lean_room read.kind read.part read.is one.draft read.part_read (formed at read.part read.is.part_there) step.kind one.like one.negated in
+        subst (KindInLeanRoom step.levels step.kind) (same_Some read.part part (sym read.is.part_there ∙ part_there)) (subst (λ levels. KindInLeanRoom levels step.kind read.part) (sym one.levels) low)
+
+    pub parts_in_room : ArePartsFormed code → (other : Steps) → ArePlaced of other → AreInRoom (record code { steps = other.steps })
+    parts_in_room formed other are at step part there part_there = lean_in_room step.levels step.kind part (parts_in_lean_room formed other are at step part there part_there)
