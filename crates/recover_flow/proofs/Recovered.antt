@@ -1,5 +1,5 @@
 -- What is recovered of a function and of a chunk, from what the calls on the way give.
-use Rattle.std.proofs.Common.{◌≡◌, ◌∙◌, ◌==◌, ◌≤◌, inr, refl, sym, ap, subst, true≢false, not, ℕ, Bool, false, IsTrue, ◌↔◌, List, [], ◌∷◌, ◌++◌, map, Option, None, Some, Result, Ok, Err, IfErr, arith}
+use Rattle.std.proofs.Common.{◌≡◌, ◌∙◌, ◌==◌, ◌+◌, ◌≤◌, ◌⊎◌, inl, inr, refl, sym, ap, subst, true≢false, not, ℕ, Bool, true, false, IsTrue, ◌↔◌, List, [], ◌∷◌, ◌++◌, map, Option, None, Some, Result, Ok, Err, IfErr, arith}
 use Rattle.std.specs.Result.{IsErrAnd}
 use Rattle.lua_num.specs.declared.names.Names.{Names}
 use Rattle.lua_tree.specs.Syntax.{function_body, Source}
@@ -19,49 +19,75 @@ use Rattle.recover_expr.specs.Reading.{read_steps}
 use Rattle.recover_expr.specs.declared.steps.Reading.{Reading}
 use Rattle.recover_expr.specs.declared.steps.Step.{Step}
 use Rattle.recover_flow.specs.Built.{built_body}
-use Rattle.recover_flow.specs.Held.{BodyFound, BodyHeld, Store, view_store}
+use Rattle.recover_flow.specs.Held.{BodyFound, BodyHeld, IsFewest, NoBody, Store, view_store}
 use Rattle.recover_flow.specs.Parts.{IsGoneOnlyWhere}
-use Rattle.recover_flow.specs.Plans.{Plans, body_levels}
+use Rattle.recover_flow.specs.Plans.{Plans, no_plans, and_plan, body_levels}
 use Rattle.recover_flow.specs.Recovering.{AreFound, IsFound, IsFunctionFound, IsMainFound, IsRefusedOnlyWhere, IsSourceFound, is_vararg, main_of}
 use Rattle.recover_flow.specs.Searching.{Answers, BodyAnswer, Keeps, steps_of, store_of, whole_body}
 use Rattle.recover_flow.specs.Stops.{TellsUnbuilt}
 use Rattle.recover_flow.specs.declared.function.Stop.{Stop}
+use Rattle.recover_flow.specs.Standing.{BodyStands}
 use Rattle.recover_flow.specs.declared.memory.Memory.{Memory}
 use Rattle.recover_flow.specs.declared.parts.Unbuilt.{Unbuilt}
 use Rattle.recover_flow.specs.declared.plan.Found.{Found}
+use Rattle.recover_flow.specs.declared.regions.BodyAt.{BodyAt}
 use Rattle.recover_flow.specs.declared.search.Search.{Search}
 use Rattle.recover_flow.proofs.Chained.{keeps_both, same_steps}
 use Rattle.recover_flow.proofs.Growing.{body_found_grows}
 
 -- ---- the search for fewer levels
 
--- what is known of the best body so far, where the levels between are to be tried up to the higher number
-pub record IsBest (before now : Search) (first best : Found) (high : ℕ) : Type 0 where
+-- what is known of the best body so far, where the levels between are to be tried up to the higher number: none needs the lower number, or fewer
+pub record IsBest (before now : Search) (first best : Found) (lower high : ℕ) : Type 0 where
   pub keeps : Keeps before now
   pub fits : best.levels ≤ first.levels
   pub high_fits : high ≤ first.levels
+  pub reached : best.levels ≤ high
+  pub none : (lower ≡ 0) ⊎ NoBody (steps_of before) (whole_body (steps_of before)) lower
   pub found : BodyFound (steps_of before) (store_of now) (whole_body (steps_of before)) best
 
 -- a better one is found, with fewer levels
-pub better : (before now after : Search) (first best : Found) (high middle : ℕ) (found : Option Found) (next : Found) → IsBest before now first best high → middle ≤ high → Answers now after (BodyAnswer (whole_body (steps_of now)) middle found) → found ≡ Some next
-    → (low : ℕ) → low ≤ middle → IsBest before after first next low
-better before now after first best high middle found next is below answers there low fewer =
+pub better : (before now after : Search) (first best : Found) (lower high middle : ℕ) (found : Option Found) (next : Found) → IsBest before now first best lower high → middle ≤ high → Answers now after (BodyAnswer (whole_body (steps_of now)) middle found) → found ≡ Some next
+    → (low : ℕ) → low ≤ middle → (next.levels ≤ middle → next.levels ≤ low) → IsBest before after first next lower low
+better before now after first best lower high middle found next is below answers there low fewer least =
     let gives : (next.levels ≤ middle) × BodyFound (steps_of now) (store_of after) (whole_body (steps_of now)) next = subst (λ one. BodyAnswer (whole_body (steps_of now)) middle one (steps_of now) (store_of after)) there answers.gives in
     record {
       keeps = keeps_both before now after is.keeps answers.keeps;
       fits = omega (arith, gives.0, below, is.high_fits);
       high_fits = omega (arith, fewer, below, is.high_fits);
+      reached = least gives.0;
+      none = is.none;
       found = subst (λ steps. BodyFound steps (store_of after) (whole_body steps) next) (same_steps before now is.keeps) gives.1;
     }
 
 -- none is found
-pub none_better : (before now after : Search) (first best : Found) (high middle : ℕ) (found : Option Found) → IsBest before now first best high → Answers now after (BodyAnswer (whole_body (steps_of now)) middle found) → IsBest before after first best high
-none_better before now after first best high middle found is answers = record {
+pub none_better : (before now after : Search) (first best : Found) (lower high middle : ℕ) (found : Option Found) → IsBest before now first best lower high → Answers now after (BodyAnswer (whole_body (steps_of now)) middle found) → found ≡ None → IsBest before after first best middle high
+none_better before now after first best lower high middle found is answers there = record {
   keeps = keeps_both before now after is.keeps answers.keeps;
   fits = is.fits;
   high_fits = is.high_fits;
+  reached = is.reached;
+  none = inr (subst (λ steps. NoBody steps (whole_body steps) middle) (same_steps before now is.keeps) (subst (λ one. BodyAnswer (whole_body (steps_of now)) middle one (steps_of now) (store_of after)) there answers.gives));
   found = body_found_grows (steps_of before) answers.keeps.grows (whole_body (steps_of before)) best is.found;
 }
+
+-- where no step is, nothing stands but no statements
+some_levels : (steps : List Step) (at : BodyAt) (body other : Plans) → BodyStands steps at body → BodyStands steps at other → body_levels steps body ≤ 1 → body_levels steps body ≤ body_levels steps other
+some_levels steps at no_plans other stands there few = omega arith
+some_levels steps at (and_plan plan rest) no_plans stands there few = absurd (stands.0 there)
+some_levels steps at (and_plan plan rest) (and_plan next others) stands there few = omega (arith, few)
+
+-- where no levels are left between, it is one of the fewest
+pub is_fewest : (before now : Search) (first best : Found) (lower high : ℕ) → IsBest before now first best lower high → high ≤ lower + 1 → IsFewest (steps_of before) (whole_body (steps_of before)) best.levels
+is_fewest before now first best lower high is near other stands = by is.none
+  where
+    by : (lower ≡ 0) ⊎ NoBody (steps_of before) (whole_body (steps_of before)) lower → best.levels ≤ body_levels (steps_of before) other
+    by (inl zero_is) =
+        let reached = is.reached in
+        let levels = is.found.levels in
+        let least = some_levels (steps_of before) (whole_body (steps_of before)) is.found.body other is.found.stands stands (omega (arith, reached, levels, near, zero_is)) in
+        omega (arith, levels, least)
+    by (inr none) = let more = none other stands in let reached = is.reached in omega (arith, more, reached, near)
 
 -- ---- from the steps to the body
 
@@ -102,8 +128,9 @@ vararg_is proto = ap (λ chunk. not ((own chunk).flags == 0)) (sym (view_proto_f
 pub function_found : (proto : Proto) (left : List (Option Inner)) (short : Bool) (reading : Reading) (store : Store) (parts behind : List Part) (best : Found) (block : Block)
     → Some (view_reading reading) ≡ read_steps (view_proto proto) left short → parts ≡ map view_part reading.parts.items → (best.levels ≤ 200) × BodyFound reading.steps.items store (whole_body reading.steps.items) best
     → ((list : List Step) (plans : Plans) → BodyHeld list store best.number plans → Some (view_block block, behind) ≡ built_body plans parts)
+    → (short ≡ true → IsFewest reading.steps.items (whole_body reading.steps.items) best.levels)
     → IsFunctionFound (view_proto proto) left short (view_recovered (record { body = roll-Body (record { params = reading.params; vararg = not ((out-Proto proto).vararg == 0); block = block; first_line = 1; last_line = 1 }); levels = best.levels }))
-function_found proto left short reading store parts behind best block read same found built =
+function_found proto left short reading store parts behind best block read same found built fewest =
     let body = found.1.body in
     record {
       steps = view_reading reading;
@@ -116,6 +143,7 @@ function_found proto left short reading store parts behind best block read same 
       built = subst (λ those. built_body body those ≡ Some (view_block block, behind)) same (sym (built reading.steps.items body found.1.held));
       body = body_made reading.params _ block ∙ ap (λ vararg. function_body reading.params vararg (view_block block) 1 1) (vararg_is proto);
       levels = found.1.levels;
+      fewest = fewest;
     }
 
 -- ---- a function and those in it

@@ -77,6 +77,10 @@ pub record BodyFound (steps : List Step) (store : Store) (at : BodyAt) (found : 
 abbrev pub NoBody : List Step → BodyAt → (levels : ℕ) → Type 0
 NoBody steps at levels = (body : Plans) → BodyStands steps at body → levels < body_levels steps body
 
+-- none needs fewer
+abbrev pub IsFewest : List Step → BodyAt → (levels : ℕ) → Type 0
+IsFewest steps at levels = (body : Plans) → BodyStands steps at body → levels ≤ body_levels steps body
+
 pub record BranchesFound (steps : List Step) (store : Store) (at : BranchesAt) (found : Found) : Type 0 where
   pub arms : ArmPlans
   pub stand : BranchesStand steps at arms

@@ -9,7 +9,7 @@ use Rattle.recover_expr.specs.Placing.{Steps}
 use Rattle.recover_expr.specs.Reading.{read_steps}
 use Rattle.recover_flow.specs.Built.{built_body}
 use Rattle.recover_flow.specs.Debug.{LacksDebug}
-use Rattle.recover_flow.specs.Held.{NoBody}
+use Rattle.recover_flow.specs.Held.{IsFewest, NoBody}
 use Rattle.recover_flow.specs.Plans.{Plans, body_levels}
 use Rattle.recover_flow.specs.Searching.{whole_body}
 use Rattle.recover_flow.specs.Standing.{BodyStands}
@@ -23,7 +23,7 @@ use Rattle.recover_flow.specs.declared.recovering.Failure.{Failure}
 abbrev pub is_vararg : Chunk → Bool
 is_vararg chunk = not ((own chunk).flags == 0)
 
--- with the functions in it: its words are read as steps, a body stands in these, and it is built of their parts
+-- with the functions in it: its words are read as steps, a body stands in these, in the forms of fewest levels one of the fewest, and it is built of their parts
 pub record IsFunctionFound (chunk : Chunk) (left : List (Option Inner)) (short : Bool) (found : Inner) : Type 0 where
   pub steps : Steps
   pub plans : Plans
@@ -35,6 +35,7 @@ pub record IsFunctionFound (chunk : Chunk) (left : List (Option Inner)) (short :
   pub built : built_body plans steps.parts ≡ Some (statements, behind)
   pub body : found.body ≡ function_body steps.params (is_vararg chunk) statements 1 1
   pub levels : found.levels ≡ body_levels steps.steps plans
+  pub fewest : short ≡ true → IsFewest steps.steps (whole_body steps.steps) found.levels
 
 -- ---- why none is recovered
 

@@ -1,10 +1,10 @@
 // A function, whose functions' bodies are given.
-ghost use Rattle.std.specs.Prelude.{IfErr, IfOk, Some};
+ghost use Rattle.std.specs.Prelude.{◌≡◌, IfErr, IfOk, Some, true};
 ghost use Rattle.core_expr.specs.Values.{view_bodies, view_recovered};
 ghost use Rattle.proto.specs.Chunk.{own};
 ghost use Rattle.proto.specs.Short.{HasShortLists};
 ghost use Rattle.proto.specs.View.{view_proto};
-ghost use Rattle.recover_flow.specs.Held.{BodyFound};
+ghost use Rattle.recover_flow.specs.Held.{BodyFound, IsFewest};
 ghost use Rattle.recover_flow.specs.Recovering.{IsFunctionFound, IsRefusedOnlyWhere};
 ghost use Rattle.recover_flow.specs.Searching.{Answers, BodyAnswer, IsReady, steps_of, store_of, whole_body};
 ghost use Rattle.recover_flow.specs.Stops.{StopsBy};
@@ -112,7 +112,8 @@ pub fn recover_function(
 fn fitting(search: &mut Search, found: Found, short: bool) -> Result<Found, AllocError>
     requires ready { IsReady search.old }
     requires found { BodyFound (steps_of search.old) (store_of search.old) (whole_body (steps_of search.old)) found }
-    ensures { IfOk result (λ best. Answers search.old search.new (BodyAnswer (whole_body (steps_of search.old)) found.levels (Some best))) }
+    ensures answers { IfOk result (λ best. Answers search.old search.new (BodyAnswer (whole_body (steps_of search.old)) found.levels (Some best))) }
+    ensures fewest { IfOk result (λ best. short ≡ true → IsFewest (steps_of search.old) (whole_body (steps_of search.old)) best.levels) }
 {
     if !short {
         return Ok(found);
@@ -125,7 +126,8 @@ fn fitting(search: &mut Search, found: Found, short: bool) -> Result<Found, Allo
 fn least(search: &mut Search, found: Found) -> Result<Found, AllocError>
     requires ready { IsReady search.old }
     requires found { BodyFound (steps_of search.old) (store_of search.old) (whole_body (steps_of search.old)) found }
-    ensures { IfOk result (λ best. Answers search.old search.new (BodyAnswer (whole_body (steps_of search.old)) found.levels (Some best))) }
+    ensures answers { IfOk result (λ best. Answers search.old search.new (BodyAnswer (whole_body (steps_of search.old)) found.levels (Some best))) }
+    ensures fewest { IfOk result (λ best. IsFewest (steps_of search.old) (whole_body (steps_of search.old)) best.levels) }
 {
     let mut best = found;
     let mut low = 0;

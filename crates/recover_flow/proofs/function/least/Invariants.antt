@@ -7,4 +7,4 @@ abbrev pub decreases-loop-middle : goal.decreases-loop-middle
 decreases-loop-middle l = l.high - l.low
 
 abbrev pub invariant-loop-middle : goal.invariant-loop-middle
-invariant-loop-middle l = IsBest l.initial.search l.search l.fn.found l.best l.high
+invariant-loop-middle l = IsBest l.initial.search l.search l.fn.found l.best l.low l.high
