@@ -1,0 +1,17 @@
+pub mod ActsLevels
+pub mod AssignedBlocks
+pub mod AssignedSame
+pub mod AssignedThrough
+pub mod CoresPlain
+pub mod FlowHere
+pub mod FlowLikes
+pub mod FlowSources
+pub mod FlowStepsRead
+pub mod JoinedBlocks
+pub mod JoinedParts
+pub mod MainFlow
+pub mod OneLineBlocks
+pub mod SmallSource
+pub mod SourceRecovered
+pub mod StraightFound
+pub mod StraightRecovered

@@ -1,0 +1,68 @@
+-- Serves the law. What is known of the parts of a block on one line whose chunk is read.
+use Rattle.std.specs.Prelude.{◌≡◌, ◌<◌, ◌≤◌, ◌+◌, Bool, true, false, List, Option, None, Some}
+use Rattle.lua_num.specs.Bytes.{Text}
+use Rattle.lua_tree.specs.OneLine.{one_line_statements}
+use Rattle.lua_tree.specs.Outline.{Place, statements_part}
+use Rattle.lua_tree.specs.Syntax.{Statements}
+use Rattle.lua_tree.specs.WellFormed.{depth_of_statements, formed_statements}
+use Rattle.core_expr.specs.Values.{Inner}
+use Rattle.proto.specs.Chunk.{Chunk, own}
+use Rattle.proto.specs.declared.parts.Constant.{Constant}
+use Rattle.recover_expr.specs.Drafts.{Part, nothing_part, statement_part, values_part, condition_part, head_part}
+use Rattle.recover_expr.specs.Placing.{Steps}
+use Rattle.recover_expr.specs.Reading.{read_steps}
+use Rattle.recover_flow.specs.Built.{built_body}
+use Rattle.recover_flow.specs.Plans.{Plans, body_levels}
+use Rattle.recover_flow.specs.Searching.{whole_body}
+use Rattle.recover_flow.specs.Standing.{BodyStands}
+use Rattle.scheme.specs.Functions.{Heading, function_from}
+use Rattle.scheme.specs.Making.{Ahead}
+use Rattle.scheme.specs.Scheme.{statements_made}
+use Rattle.scheme.specs.Shapes.{room_of_expression, room_of_expressions, room_of_statement, room_of_statements}
+use Rattle.same_flow.specs.Written.{IsPartFormed}
+use Rattle.same_flow.specs.Blocks.{StatementsHold}
+use Rattle.same_flow.specs.SameFlow.{IsPlainPart}
+use Rattle.same_flow.specs.SameMarks.{but_breaks}
+use Rattle.reads_back.specs.ReadAs.{IsTold}
+use Rattle.reads_back.specs.Ordered.{IsOrderedPart}
+use Rattle.reads_back.proofs.FlowThere.{IsFlowPart}
+use Rattle.built_flow.specs.Never.{nevers_of_statements}
+
+-- it takes no more room than a tree has
+abbrev pub IsRoomyPart : Part → Type 0
+IsRoomyPart nothing_part = Unit {0}
+IsRoomyPart (statement_part s) = room_of_statement s < 200
+IsRoomyPart (values_part es) = room_of_expressions es < 200
+IsRoomyPart (condition_part e) = room_of_expression e < 200
+IsRoomyPart (head_part es names) = room_of_expressions es < 200
+
+pub record IsJoinedPart (constants : List Constant) (part : Part) : Type 0 where
+  pub plain : IsPlainPart part
+  pub flow : IsFlowPart part
+  pub formed : IsPartFormed part
+  pub ordered : IsOrderedPart constants part
+  pub roomy : IsRoomyPart part
+
+pub record IsJoined (constants : List Constant) (block : Statements) : Type 0 where
+  pub again : one_line_statements block ≡ block
+  pub formed : formed_statements block ≡ true
+  pub parts : StatementsHold (IsJoinedPart constants) false block
+  pub room : room_of_statements block + nevers_of_statements block < 200
+
+-- ---- what is read of a function
+
+-- another block is like one: it keeps the rules of form, makes the same function, and declares and mentions the same but for breaks
+pub record IsLike (params names : List Text) (ahead : Ahead) (block written : Statements) : Type 0 where
+  pub formed : formed_statements written ≡ true
+  pub shallow : depth_of_statements written ≤ 200
+  pub makes : (heading : Heading) → function_from heading 1 params (statements_made block None) names ahead ≡ function_from heading 1 params (statements_made written None) names ahead
+  pub marks : (place : Place) → but_breaks (statements_part block place).marks ≡ but_breaks (statements_part written place).marks
+
+-- its words are read as steps, each body that stands in them is built as a block like this, and in the forms of fewest levels one stands there
+pub record IsFlowRead (short : Bool) (chunk : Chunk) (left : List (Option Inner)) (params names : List Text) (ahead : Ahead) (block : Statements) : Type 0 where
+  pub told : IsTold (own chunk)
+  pub steps : Steps
+  pub read : read_steps chunk left short ≡ Some steps
+  pub each : (plans : Plans) → BodyStands steps.steps (whole_body steps.steps) plans → body_levels steps.steps plans ≤ 200
+      → (written : Statements) × (behind : List Part) × (built_body plans steps.parts ≡ Some (written, behind)) × IsLike params names ahead block written
+  pub stands : short ≡ true → (plans : Plans) × BodyStands steps.steps (whole_body steps.steps) plans × (body_levels steps.steps plans ≤ 200)

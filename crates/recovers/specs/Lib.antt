@@ -1,0 +1,5 @@
+pub mod Assigned
+pub mod FlowSources
+pub mod Found
+pub mod Joined
+pub mod Rows
