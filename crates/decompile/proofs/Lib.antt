@@ -1,4 +1,3 @@
 mod Given
 mod Unfound
-mod ActsLevels
-mod StraightChunks
+mod RecoveredChunks

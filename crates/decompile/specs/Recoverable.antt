@@ -9,6 +9,7 @@ use Rattle.proto.specs.Chunk.{Chunk, SameButLines}
 use Rattle.scheme.specs.Scheme.{scheme, Fits}
 use Rattle.scheme.specs.Shapes.{Flat}
 use Rattle.reads_back.specs.ReadAs.{IsStraightChunk}
+use Rattle.recovers.specs.FlowSources.{IsFlowChunk}
 use Rattle.decompile.specs.declared.refused.Refused.{Refused}
 
 -- the chunk of a flat source that keeps every rule, under some name, but for the numbers of lines
@@ -21,9 +22,9 @@ pub record IsFlatChunk (chunk : Chunk) : Type 0 where
   pub flat : Flat source
   pub same : SameButLines chunk (scheme source name)
 
--- the chunk of a straight source; or of a flat one, which is straight
+-- the chunk of a straight source; or of a flat one, which is straight; or of one whose statements have blocks
 abbrev pub IsRecoverable : Chunk → Type 0
-IsRecoverable chunk = IsStraightChunk chunk ⊎ IsFlatChunk chunk
+IsRecoverable chunk = IsStraightChunk chunk ⊎ (IsFlatChunk chunk ⊎ IsFlowChunk chunk)
 
 -- a text, or want of memory
 abbrev pub IsGiven : Result ByteText Refused → Type 0

@@ -32,8 +32,8 @@ pub fn decompile(alloc: Global, proto: &Proto) -> Result<ByteText, Refused>
     ensures recoverable { IsRecoverable (view_proto proto.now) → IsGiven result }
 {
     reads_back::straight_sources_are_read();
-    recover_flow::acts_are_found();
-    scheme_lines::lines_do_not_matter();
+    recovers::straight_sources_are_recovered();
+    recovers::flow_sources_are_recovered();
     let tree = recover(alloc, proto)?;
     printed(alloc, proto, &tree)
 }
