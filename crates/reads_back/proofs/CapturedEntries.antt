@@ -108,7 +108,7 @@ next_uncaptured [] one (suc entry) is = refl
 next_uncaptured (first ∷ declared) one zero is = refl
 next_uncaptured (first ∷ declared) one (suc entry) is = next_uncaptured declared one entry is
 
-times_uncaptured : (count : ℕ) (step : Option ℕ) (scope : Scope) (entry : ℕ) → is_captured (entered_times count step scope).declared entry ≡ is_captured scope.declared entry
+pub times_uncaptured : (count : ℕ) (step : Option ℕ) (scope : Scope) (entry : ℕ) → is_captured (entered_times count step scope).declared entry ≡ is_captured scope.declared entry
 times_uncaptured zero step scope entry = refl
 times_uncaptured (suc count) step scope entry =
     let one : Declared = record { outer = innermost scope; register = length scope.active; step = step; captured = false } in

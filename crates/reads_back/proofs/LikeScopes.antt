@@ -1,20 +1,17 @@
--- A step declares listed locals, one after the other, and leaves the others as they are but for which of them are captured; where no function has an upvalue, nothing is captured.
-use Rattle.std.proofs.Common.{◌≡◌, ℕ, zero, suc, Bool, true, false, nat_lt, List, [], ◌∷◌, ◌++◌, length, map, Option, Some, None, refl, sym, ap, ap₂, ◌∙◌, subst, ◌-◌, if◌then◌else◌}
+-- A step declares listed locals, one after the other, and leaves the others as they are but for which of them are captured.
+use Rattle.std.proofs.Common.{◌≡◌, ℕ, zero, suc, Bool, true, false, List, [], ◌∷◌, ◌++◌, length, map, Option, Some, None, refl, sym, ap, ap₂, ◌∙◌, subst, ◌-◌}
 use Rattle.std.proofs.lemmas.List.{length-map, map-append}
 use Rattle.std.proofs.lemmas.Option.{same_Some}
 use Rattle.std.specs.Prelude.{slice_get, slice_set}
-use Rattle.opcode.specs.declared.op.Op.{Op}
-use Rattle.recover_expr.specs.Declaring.{and_captured, captures_itself}
+use Rattle.recover_expr.specs.Declaring.{and_captured}
 use Rattle.recover_expr.specs.Drafts.{Drafted}
-use Rattle.recover_expr.specs.Locals.{Scope, capture, capture_entry, capture_some, captured_at, entered, or_zero, starting}
-use Rattle.recover_expr.specs.Reading.{Turn, on, over, turn_at, words_from}
-use Rattle.recover_expr.specs.Situation.{Function, Situation, upvalues_in, word_at}
-use Rattle.recover_expr.specs.declared.function.Word.{Word}
+use Rattle.recover_expr.specs.Locals.{Scope, capture, capture_entry, capture_some, captured_at, entered}
+use Rattle.recover_expr.specs.Reading.{words_from}
+use Rattle.recover_expr.specs.Situation.{Function, Situation}
 use Rattle.recover_expr.specs.declared.locals.Declared.{Declared}
-use Rattle.reads_back.proofs.ScopesCaptured.{captured_from, registers_as}
 use Rattle.reads_back.proofs.ScopesGrow.{entered_times}
-use Rattle.reads_back.proofs.ScopesRead.{capture_all, declared_of, has_register, is_local_function}
-use Rattle.reads_back.proofs.StepScopes.{captured_by_words, captured_then, registers_at, registers_of, step_captures}
+use Rattle.reads_back.proofs.ScopesRead.{capture_all, declared_of, is_local_function}
+use Rattle.reads_back.proofs.StepScopes.{captured_by_words, step_captures}
 
 abbrev pub uncaptured : Declared → Declared
 uncaptured one = record one { captured = false }
@@ -90,45 +87,3 @@ step_scope f count pc s draft behind is =
     let declared = declared_of draft.kind in
     let like = like_then (like_times declared (Some s.step) (like_all registers s.scope)) (like_captured (length s.scope.declared) (is_local_function draft.part) (entered_times declared (Some s.step) (capture_all registers s.scope))) in
     (declared, subst (λ (scope : Scope). LikeScope (entered_times declared (Some s.step) s.scope) scope) (sym ends.scope) like, ends.of_step.base, ends.of_step.innermost, ends.of_step.pc)
-
--- ---- where no function has an upvalue
-
--- no function that stands in this one has an upvalue
-abbrev pub HaveNoUpvalues : Function → Type 0
-HaveNoUpvalues f = (number upvalues : ℕ) → upvalues_in f number ≡ Some upvalues → upvalues ≡ 0
-
-module _ (f : Function) (none : HaveNoUpvalues f) where
-  op_captures_none : (op : Op) (w : Word) → registers_as op f w ≡ []
-  op_captures_none Op.Closure w = by (upvalues_in f w.instr.bx) refl
-    where
-      by : (many : Option ℕ) → upvalues_in f w.instr.bx ≡ many → captured_from f (or_zero many) w.next ≡ []
-      by None is = refl
-      by (Some many) is = ap (λ count. captured_from f count w.next) (none w.instr.bx many is)
-  op_captures_none op w = refl
-
-  turn_captures_none : (pc : ℕ) (s : Situation) → registers_at f pc s ≡ []
-  turn_captures_none pc s = by (nat_lt 0 (starting f.of.locals pc s.scope)) (word_at f pc)
-    where
-      by : (starts : Bool) (there : Option Word) → (if starts then [] else registers_of f there) ≡ []
-      by true there = refl
-      by false None = refl
-      by false (Some w) = op_captures_none w.instr.op w
-
-  words_capture_none : (count pc : ℕ) (s : Situation) → captured_by_words f count pc s ≡ []
-  words_capture_none zero pc s = refl
-  words_capture_none (suc count) pc s = ap (λ registers. registers ++ captured_then (captured_by_words f count) (turn_at f pc s)) (turn_captures_none pc s) ∙ by (λ next behind. words_capture_none count next behind) (turn_at f pc s)
-    where
-      by : ((next : ℕ) (behind : Situation) → captured_by_words f count next behind ≡ []) → (turn : Option (Turn × Situation)) → captured_then (captured_by_words f count) turn ≡ []
-      by rest None = refl
-      by rest (Some (on next, behind)) = rest next behind
-      by rest (Some (over draft, behind)) = refl
-
--- where no function has an upvalue, a step declares so many locals, one after the other, and captures none
-pub step_scope_free : (f : Function) → ((number upvalues : ℕ) → upvalues_in f number ≡ Some upvalues → upvalues ≡ 0) → (count pc : ℕ) (s : Situation) (draft : Drafted) (behind : Situation) → words_from f count pc s ≡ Some (draft, behind) →
-    captures_itself s.entries ≡ false → (declared : ℕ) × (behind.scope ≡ entered_times declared (Some s.step) s.scope)
-step_scope_free f none count pc s draft behind is own =
-    let nothing : captured_by_words f count pc s ≡ [] = words_capture_none f none count pc s in
-    let ends = step_captures f count pc s draft behind is in
-    let not_itself : is_local_function draft.part ≡ false = ends.own (ap (has_register s.base) nothing) own in
-    let declared = declared_of draft.kind in
-    (declared, ends.scope ∙ ap₂ (λ (registers : List ℕ) (itself : Bool). and_captured (length s.scope.declared) itself (entered_times declared (Some s.step) (capture_all registers s.scope))) nothing not_itself)

@@ -47,7 +47,7 @@ part_said (StepKind.Head numeric foot end variables_end captured) (head_part val
 part_said kind part = nothing
 
 -- the walk over steps says what the parts say, breaks aside
-says_part : (kind : StepKind) (part : Part) (state : State) → PartFits kind part → ((says kind part state).marks ≡ but_breaks (part_said kind part state.place).marks) × ((says kind part state).after.place ≡ (part_said kind part state.place).next)
+pub says_part : (kind : StepKind) (part : Part) (state : State) → PartFits kind part → ((says kind part state).marks ≡ but_breaks (part_said kind part state.place).marks) × ((says kind part state).after.place ≡ (part_said kind part state.place).next)
 says_part StepKind.Act (statement_part s) state fits = (refl, refl)
 says_part (StepKind.Declaration end captured) (statement_part s) state fits = (refl, refl)
 says_part StepKind.Return (values_part es) state fits = (refl, refl)
@@ -67,7 +67,7 @@ module _ (all : List Mark) where
   unbroken (leave line true ∷ marks) rest = unbroken marks rest
   unbroken (mark ∷ marks) rest = unbroken marks rest
 
-  ahead_unbroken : (place : Place) (marks rest : List Mark) → ahead_at all place (but_breaks marks ++ rest) ≡ ahead_at all place (marks ++ rest)
+  pub ahead_unbroken : (place : Place) (marks rest : List Mark) → ahead_at all place (but_breaks marks ++ rest) ≡ ahead_at all place (marks ++ rest)
   ahead_unbroken place marks rest = ap (λ (uses : List Use). record {
     names = uses;
     captures = drop place.declarations (captured_below (declarations_in all) all);

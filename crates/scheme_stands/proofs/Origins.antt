@@ -60,7 +60,7 @@ pub record Derived (base place : Place) : Type 0 where
   pub declarations : base.declarations ≤ place.declarations
   pub scope : (name : Text) (b : Binding) → place.scope name ≡ Some b → (base.scope name ≡ Some b) ⊎ Fresh base b
 
-itself : (base : Place) → Derived base base
+pub itself : (base : Place) → Derived base base
 itself base = record { around = refl; functions = omega arith; declarations = omega arith; scope = λ name b h. inl h }
 
 abbrev Named : Scope → (number home : ℕ) → Text → Binding → Type 0

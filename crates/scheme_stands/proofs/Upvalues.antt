@@ -12,7 +12,7 @@ use Rattle.scheme_stands.proofs.Origins.{all_more, mentions_both, mentions_more,
 
 -- ---- the upvalues of a function
 
-differ : (n x : ℕ) → (n ≡ x → ⊥) → (n == x) ≡ false
+pub differ : (n x : ℕ) → (n ≡ x → ⊥) → (n == x) ≡ false
 differ n x f = go (n == x) refl
   where
     go : (b : Bool) → (n == x) ≡ b → b ≡ false
@@ -102,7 +102,7 @@ bindings_behind n Q (leave line looped ∷ marks) known m h = bindings_behind n 
 bindings_behind n Q (opened outer ∷ marks) known m h = bindings_behind n Q marks known m h
 
 -- what is so of each mention in a function's body that makes an upvalue of it, is so of each of its upvalues
-upvalues_all : (all : List Mark) (method : Bool) (body : FunctionBody) (place : Place) (rest : List Mark) → (t : Between all (body_part method body) place rest) → (Q : Binding → Type 0) →
+pub upvalues_all : (all : List Mark) (method : Bool) (body : FunctionBody) (place : Place) (rest : List Mark) → (t : Between all (body_part method body) place rest) → (Q : Binding → Type 0) →
     Mentions (Makes place.functions Q) (inside_part method body (in_function (is_vararg_body body) place)).marks → AllBindings Q (upvalues_of place.functions all)
 upvalues_all all method (function_body params vararg block first last) place rest t Q middle =
     let r = t.reached in
@@ -131,7 +131,7 @@ upvalues_seen all method (function_body params vararg block first last) place re
 -- ---- and upvalues of the function around, where they are of functions around that
 
 -- each mention that makes an upvalue of a function makes it known there
-abbrev Knows : (f : ℕ) → List Binding → Option Binding → List ℕ → Type 0
+abbrev pub Knows : (f : ℕ) → List Binding → Option Binding → List ℕ → Type 0
 Knows f known means around = (b : Binding) → means ≡ Some b → is_one_of f (inside_of b.home around) ≡ true → is_known b.declaration known ≡ true
 
 knows_one : (f : ℕ) (known : List Binding) (b : Binding) (around : List ℕ) (marks : List Mark) → Knows f (upvalues_behind f (with_mention f b around known) marks) (Some b) around
@@ -141,7 +141,7 @@ knows_one f known b around marks c e h =
     ap (λ (x : Binding). is_known x.declaration (upvalues_behind f (with_mention f b around known) marks)) (sym same)
     ∙ stays_known f b.declaration (with_mention f b around known) marks (mentioned f known b around here)
 
-knows_all : (f : ℕ) (known : List Binding) (marks : List Mark) → Mentions (Knows f (upvalues_behind f known marks)) marks
+pub knows_all : (f : ℕ) (known : List Binding) (marks : List Mark) → Mentions (Knows f (upvalues_behind f known marks)) marks
 knows_all f known [] = tt
 knows_all f known (mention line name (Some b) around ∷ marks) = (knows_one f known b around marks, knows_all f (with_mention f b around known) marks)
 knows_all f known (mention line name None around ∷ marks) = (λ b e h. cc, knows_all f known marks)
@@ -151,7 +151,7 @@ knows_all f known (dots line vararg ∷ marks) = knows_all f known marks
 knows_all f known (leave line looped ∷ marks) = knows_all f known marks
 knows_all f known (opened outer ∷ marks) = knows_all f known marks
 
-mentions_front : (P : Option Binding → List ℕ → Type 0) (xs ys : List Mark) → Mentions P (xs ++ ys) → Mentions P xs
+pub mentions_front : (P : Option Binding → List ℕ → Type 0) (xs ys : List Mark) → Mentions P (xs ++ ys) → Mentions P xs
 mentions_front P [] ys h = tt
 mentions_front P (mention line name means around ∷ xs) ys h = (h.0, mentions_front P xs ys h.1)
 mentions_front P (local_name line reached ∷ xs) ys h = mentions_front P xs ys h
@@ -160,7 +160,7 @@ mentions_front P (dots line vararg ∷ xs) ys h = mentions_front P xs ys h
 mentions_front P (leave line looped ∷ xs) ys h = mentions_front P xs ys h
 mentions_front P (opened outer ∷ xs) ys h = mentions_front P xs ys h
 
-mentions_back : (P : Option Binding → List ℕ → Type 0) (xs ys : List Mark) → Mentions P (xs ++ ys) → Mentions P ys
+pub mentions_back : (P : Option Binding → List ℕ → Type 0) (xs ys : List Mark) → Mentions P (xs ++ ys) → Mentions P ys
 mentions_back P [] ys h = h
 mentions_back P (mention line name means around ∷ xs) ys h = mentions_back P xs ys h.1
 mentions_back P (local_name line reached ∷ xs) ys h = mentions_back P xs ys h
@@ -169,7 +169,7 @@ mentions_back P (dots line vararg ∷ xs) ys h = mentions_back P xs ys h
 mentions_back P (leave line looped ∷ xs) ys h = mentions_back P xs ys h
 mentions_back P (opened outer ∷ xs) ys h = mentions_back P xs ys h
 
-mentions_two : (P Q R : Option Binding → List ℕ → Type 0) → ((means : Option Binding) (around : List ℕ) → P means around → Q means around → R means around) → (xs : List Mark) → Mentions P xs → Mentions Q xs → Mentions R xs
+pub mentions_two : (P Q R : Option Binding → List ℕ → Type 0) → ((means : Option Binding) (around : List ℕ) → P means around → Q means around → R means around) → (xs : List Mark) → Mentions P xs → Mentions Q xs → Mentions R xs
 mentions_two P Q R f [] g h = tt
 mentions_two P Q R f (mention line name means around ∷ xs) g h = (f means around g.0 h.0, mentions_two P Q R f xs g.1 h.1)
 mentions_two P Q R f (local_name line reached ∷ xs) g h = mentions_two P Q R f xs g h
@@ -254,10 +254,10 @@ captured_here f line name b around marks h =
     ap (λ t. (t && not (b.home == innermost around)) || is_captured b.declaration marks) (eq-eqb b.declaration b.declaration refl)
     ∙ ap (λ t. not t || is_captured b.declaration marks) (not_home f b.home around h)
 
-abbrev IsCapturedIn : List Mark → Binding → Type 0
+abbrev pub IsCapturedIn : List Mark → Binding → Type 0
 IsCapturedIn all b = is_captured b.declaration all ≡ true
 
-captured_among : (f : ℕ) (all before marks : List Mark) → all ≡ before ++ marks → Mentions (Makes f (IsCapturedIn all)) marks
+pub captured_among : (f : ℕ) (all before marks : List Mark) → all ≡ before ++ marks → Mentions (Makes f (IsCapturedIn all)) marks
 captured_among f all before [] e = tt
 captured_among f all before (mention line name (Some b) around ∷ marks) e = (
   λ c s h. let same : b ≡ c = cc in

@@ -1,0 +1,489 @@
+-- What the marks of a part capture of what was declared before it: only what is in scope there, nothing of the running function where no function is opened, and of a function's body what the sources of its upvalues say.
+use Rattle.std.proofs.Common.{◌≡◌, ◌≤◌, ◌<◌, ◌⊎◌, inl, inr, ℕ, zero, suc, ◌+◌, Bool, true, false, not, ◌&&◌, ◌||◌, List, [], ◌∷◌, ◌++◌, length, Option, Some, None, refl, sym, ap, ap₂, ◌∙◌, subst, true≢false, arith, if◌then◌else◌}
+use Rattle.std.proofs.Math.Bool.{or_assoc}
+use Rattle.std.proofs.lemmas.Bool.{eqb-true, eq-eqb}
+use Rattle.std.specs.List.{list_any}
+use Rattle.std.specs.Prelude.{◌==◌, is_some}
+use Rattle.std.specs.Str.{bytes_eq}
+use Rattle.lua_num.specs.Bytes.{Text}
+use Rattle.lua_tree.specs.Outline as outline
+use Rattle.lua_tree.specs.Outline.{Binding, Scope, Mark, mention, local_name, hidden_local, dots, leave, opened, innermost, Place, with_name, with_names, both, within, nothing, stay, in_loop, in_function, with_locals, come, declares, reaching, marked, mentions, path_part, all_params, statements_part, statement_part, branches_part, otherwise_part, step_part, body_part, expressions_part, expression_part, arguments_part, fields_part}
+use Rattle.lua_tree.specs.Scoping.{Use, local_use, upvalue_use, global_use, use_in, uses_by, inside_of, is_captured, is_known, is_one_of, slot_of, upvalues_of}
+use Rattle.lua_tree.specs.Syntax as syntax
+use Rattle.lua_tree.specs.Syntax.{Expressions, no_expressions, Arguments, argument_list, text_argument, table_argument, Fields, no_fields, positional, named, keyed, Statements, no_statements, Statement, assignment, call_statement, do_block, while_loop, repeat_loop, if_statement, numeric_for, generic_for, function_statement, local_function, local_statement, return_statement, break_statement, Branches, no_branches, branch, Otherwise, no_otherwise, otherwise, ForStep, no_step, by_step, FunctionBody, function_body, Expression, nil_literal, true_literal, false_literal, vararg_expression, number_literal, text_literal, name_expression, function_expression, index_expression, field_expression, call_expression, method_call, and_expression, or_expression, binary_expression, unary_expression, constructor, parenthesized}
+use Rattle.scheme.specs.Making.{head_or}
+use Rattle.scheme_stands.specs.Places.{AllOf, Below, From, Here, Mentions, Origin, seen, of_inside, declared_behind, Seen, inside_part}
+use Rattle.scheme_stands.specs.Words.{Spot}
+use Rattle.scheme_stands.proofs.Names.{sources_are}
+use Rattle.scheme_stands.proofs.Origins.{Derived, Fresh, Start, Walked, all_more, entered, expression_walked, expressions_walked, inside_walked, itself, mentions_both}
+use Rattle.scheme_stands.proofs.Upvalues.{AllBindings, Knows, captured_among, differ, knows_all, mentions_back, mentions_front, mentions_two, upvalues_all, upvalues_seen}
+use Rattle.same_flow.specs.SameMarks.{but_breaks}
+use Rattle.reads_back.proofs.Tests.{and_not, or_second}
+
+-- ---- lists of marks
+
+pub captured_both : (declaration : ℕ) (marks others : List Mark) → is_captured declaration (marks ++ others) ≡ (is_captured declaration marks || is_captured declaration others)
+captured_both d [] others = refl
+captured_both d (mention line name (Some b) around ∷ marks) others =
+    let here = (b.declaration == d) && not (b.home == innermost around) in
+    ap (λ rest. here || rest) (captured_both d marks others) ∙ sym (or_assoc here (is_captured d marks) (is_captured d others))
+captured_both d (mention line name None around ∷ marks) others = captured_both d marks others
+captured_both d (local_name line reached ∷ marks) others = captured_both d marks others
+captured_both d (hidden_local line reached ∷ marks) others = captured_both d marks others
+captured_both d (dots line vararg ∷ marks) others = captured_both d marks others
+captured_both d (leave line looped ∷ marks) others = captured_both d marks others
+captured_both d (opened outer ∷ marks) others = captured_both d marks others
+
+pub captured_but_breaks : (declaration : ℕ) (marks : List Mark) → is_captured declaration (but_breaks marks) ≡ is_captured declaration marks
+captured_but_breaks d [] = refl
+captured_but_breaks d (mention line name (Some b) around ∷ marks) = ap (λ rest. ((b.declaration == d) && not (b.home == innermost around)) || rest) (captured_but_breaks d marks)
+captured_but_breaks d (mention line name None around ∷ marks) = captured_but_breaks d marks
+captured_but_breaks d (local_name line reached ∷ marks) = captured_but_breaks d marks
+captured_but_breaks d (hidden_local line reached ∷ marks) = captured_but_breaks d marks
+captured_but_breaks d (dots line vararg ∷ marks) = captured_but_breaks d marks
+captured_but_breaks d (leave line true ∷ marks) = captured_but_breaks d marks
+captured_but_breaks d (leave line false ∷ marks) = captured_but_breaks d marks
+captured_but_breaks d (opened outer ∷ marks) = captured_but_breaks d marks
+
+-- a mention that captures a declaration, of which so much is known
+record Capturing (P : Option Binding → List ℕ → Type 0) (declaration : ℕ) : Type 0 where
+  binding : Binding
+  around : List ℕ
+  same : binding.declaration ≡ declaration
+  elsewhere : (binding.home == innermost around) ≡ false
+  known : P (Some binding) around
+
+both_known : (a b : Bool) → (a && not b) ≡ true → (a ≡ true) × (b ≡ false)
+both_known true true h = cc
+both_known true false h = (refl, refl)
+both_known false b h = cc
+
+capturing : (P : Option Binding → List ℕ → Type 0) (d : ℕ) (marks : List Mark) → Mentions P marks → is_captured d marks ≡ true → Capturing P d
+capturing P d [] each h = cc
+capturing P d (mention line name (Some b) around ∷ marks) each h = by ((b.declaration == d) && not (b.home == innermost around)) refl h (capturing P d marks each.1)
+  where
+    by : (here : Bool) → ((b.declaration == d) && not (b.home == innermost around)) ≡ here → (here || is_captured d marks) ≡ true → (is_captured d marks ≡ true → Capturing P d) → Capturing P d
+    by true e h later =
+        let k = both_known (b.declaration == d) (b.home == innermost around) e in
+        record { binding = b; around = around; same = eqb-true b.declaration d k.0; elsewhere = k.1; known = each.0 }
+    by false e h later = later h
+capturing P d (mention line name None around ∷ marks) each h = capturing P d marks each.1 h
+capturing P d (local_name line reached ∷ marks) each h = capturing P d marks each h
+capturing P d (hidden_local line reached ∷ marks) each h = capturing P d marks each h
+capturing P d (dots line vararg ∷ marks) each h = capturing P d marks each h
+capturing P d (leave line looped ∷ marks) each h = capturing P d marks each h
+capturing P d (opened outer ∷ marks) each h = capturing P d marks each h
+
+not_captured : (P : Option Binding → List ℕ → Type 0) (d : ℕ) (marks : List Mark) → Mentions P marks → (Capturing P d → ⊥) → is_captured d marks ≡ false
+not_captured P d marks each none = by (is_captured d marks) refl
+  where
+    by : (is : Bool) → is_captured d marks ≡ is → is ≡ false
+    by true e = absurd (none (capturing P d marks each e))
+    by false e = refl
+
+-- ---- what a part mentions that was declared before it is in scope before it
+
+-- it is in scope at a place, or is declared behind it
+abbrev pub KnownFrom : Place → Binding → Type 0
+KnownFrom base b = Seen base b ⊎ (base.declarations ≤ b.declaration)
+
+abbrev pub MeansFrom : Place → Option Binding → List ℕ → Type 0
+MeansFrom base means around = (b : Binding) → means ≡ Some b → KnownFrom base b
+
+module _ (base : Place) where
+  pub record Later (place : Place) : Type 0 where
+    pub declarations : base.declarations ≤ place.declarations
+    pub scope : (name : Text) (b : Binding) → place.scope name ≡ Some b → KnownFrom base b
+
+  pub record Led (part : outline.Part) (place : Place) : Type 0 where
+    pub from : Mentions (MeansFrom base) (part place).marks
+    pub next : Later (part place).next
+
+  abbrev pub Leads : outline.Part → Type 0
+  Leads part = (place : Place) → Later place → Led part place
+
+  pub nothing_leads : Leads nothing
+  nothing_leads place h = record { from = tt; next = h }
+
+  pub both_lead : {one other : outline.Part} → Leads one → Leads other → Leads (both one other)
+  both_lead {one} {other} first second place h =
+      let a = first place h in
+      let b = second (one place).next a.next in
+      record { from = mentions_both (MeansFrom base) (one place).marks (other (one place).next).marks a.from b.from; next = b.next }
+
+  -- places of which one has the scope and the number of declarations of the other
+  pub inner_leads : (enter : Place → Place) {part : outline.Part} → ((place : Place) → Later place → Later (enter place)) → Leads part → Leads (within enter part)
+  inner_leads enter {part} into lead place h =
+      let a = lead (enter place) (into place h) in
+      let n = a.next in
+      record { from = a.from; next = record { declarations = n.declarations; scope = h.scope } }
+
+  looped : (place : Place) → Later place → Later (in_loop place)
+  looped place h = record { declarations = h.declarations; scope = h.scope }
+
+  opened_later : (vararg : Bool) (place : Place) → Later place → Later (in_function vararg place)
+  opened_later vararg place h = record { declarations = h.declarations; scope = h.scope }
+
+  name_later : (name other : Text) (new : Binding) (scope : Scope) (b : Binding) → base.declarations ≤ new.declaration → (scope other ≡ Some b → KnownFrom base b) → with_name name new scope other ≡ Some b → KnownFrom base b
+  name_later name other new scope b low h e = by (bytes_eq name other) e
+    where
+      by : (t : Bool) → (if t then Some new else scope other) ≡ Some b → KnownFrom base b
+      by true e = let same : new ≡ b = cc in inr (subst (λ (x : Binding). base.declarations ≤ x.declaration) same low)
+      by false e = h e
+
+  names_later : (names : List Text) (number home : ℕ) (scope : Scope) → base.declarations ≤ number → ((name : Text) (b : Binding) → scope name ≡ Some b → KnownFrom base b) → (name : Text) (b : Binding) → with_names names number home scope name ≡ Some b → KnownFrom base b
+  names_later [] number home scope low h = h
+  names_later (name ∷ names) number home scope low h =
+      let new : Binding = record { declaration = number; home = home } in
+      names_later names (suc number) home (with_name name new scope) (omega (arith, low)) (λ other b. name_later name other new scope b low (h other b))
+
+  locals_later : (hidden : ℕ) (names : List Text) (number : ℕ) (place : Place) → base.declarations ≤ number → Later place → Later (with_locals hidden names number place)
+  locals_later hidden names number place low h = record { declarations = h.declarations; scope = names_later names number (innermost place.around) place.scope low h.scope }
+
+  pub come_leads : (hidden : ℕ) (names : List Text) (number : ℕ) → base.declarations ≤ number → Leads (come hidden names number)
+  come_leads hidden names number low place h = record { from = tt; next = locals_later hidden names number place low h }
+
+  turn_later : (names : List Text) (number : ℕ) → base.declarations ≤ number → (place : Place) → Later place → Later (in_loop (with_locals 3 names number place))
+  turn_later names number low place h = looped (with_locals 3 names number place) (locals_later 3 names number place low h)
+
+  no_mentions : (P : Option Binding → List ℕ → Type 0) (mark : ℕ → Mark) → ((n : ℕ) → Mentions P (mark n ∷ [])) → (active count : ℕ) → Mentions P (reaching mark active count)
+  no_mentions P mark each active zero = tt
+  no_mentions P mark each active (suc count) = mentions_both P (mark (suc active) ∷ []) (reaching mark (suc active) count) (each (suc active)) (no_mentions P mark each (suc active) count)
+
+  pub declares_leads : (line hidden : ℕ) (names : List Text) → Leads (declares line hidden names)
+  declares_leads line hidden names place h =
+      let P = MeansFrom base in
+      let low = h.declarations in
+      record {
+        from = mentions_both P (reaching (hidden_local line) place.active hidden) (reaching (local_name line) (place.active + hidden) (length names))
+            (no_mentions P (hidden_local line) (λ n. tt) place.active hidden) (no_mentions P (local_name line) (λ n. tt) (place.active + hidden) (length names));
+        next = record { declarations = omega (arith, low); scope = h.scope };
+      }
+
+  pub mentions_lead : (line : ℕ) (name : Text) → Leads (mentions line name)
+  mentions_lead line name place h = record { from = (λ b e. h.scope name b e, tt); next = h }
+
+  pub path_leads : (line : ℕ) (path : List Text) → Leads (path_part line path)
+  path_leads line [] = nothing_leads
+  path_leads line (name ∷ fields) = mentions_lead line name
+
+  pub inside_leads : (params : List Text) (vararg : Bool) (block : Statements) (first last : ℕ) (method : Bool) → Leads (statements_part block) → Leads (inside_part method (function_body params vararg block first last))
+  inside_leads params vararg block first last method lead place h =
+      let led = both_lead (declares_leads first 0 (all_params method params)) (both_lead (come_leads 0 (all_params method params) place.declarations h.declarations) lead) place h in
+      record { from = led.from; next = led.next }
+
+  mutual
+    pub statements_lead : (ss : Statements) → Leads (statements_part ss)
+    statements_lead no_statements = nothing_leads
+    statements_lead (syntax.statement line semi s rest) = both_lead (statement_leads line s) (statements_lead rest)
+
+    pub statement_leads : (line : ℕ) (s : Statement) → Leads (statement_part line s)
+    statement_leads line (assignment targets es) = both_lead (expressions_lead targets) (expressions_lead es)
+    statement_leads line (call_statement e) = expression_leads e
+    statement_leads line (do_block block) = inner_leads stay (λ place h. h) (statements_lead block)
+    statement_leads line (while_loop cond block) = both_lead (expression_leads cond) (inner_leads in_loop looped (statements_lead block))
+    statement_leads line (repeat_loop block cond) = inner_leads in_loop looped (both_lead (statements_lead block) (expression_leads cond))
+    statement_leads line (if_statement branches last) = both_lead (branches_lead branches) (otherwise_leads last)
+    statement_leads line (numeric_for name first last step block) = λ place h.
+        let low = h.declarations in
+        let led = both_lead (declares_leads line 3 (name ∷ []))
+        (both_lead (both_lead (expression_leads first) (both_lead (expression_leads last) (step_leads step)))
+        (inner_leads (λ inside. in_loop (with_locals 3 (name ∷ []) place.declarations inside)) (turn_later (name ∷ []) place.declarations low) (statements_lead block))) place h in
+        record { from = led.from; next = led.next }
+    statement_leads line (generic_for names es block) = λ place h.
+        let low = h.declarations in
+        let led = both_lead (declares_leads line 3 names)
+        (both_lead (expressions_lead es)
+        (inner_leads (λ inside. in_loop (with_locals 3 names place.declarations inside)) (turn_later names place.declarations low) (statements_lead block))) place h in
+        record { from = led.from; next = led.next }
+    statement_leads line (function_statement path method body) = both_lead (path_leads line path) (body_leads (is_some method) body)
+    statement_leads line (local_function name body) = λ place h.
+        let led = both_lead (declares_leads line 0 (name ∷ [])) (both_lead (come_leads 0 (name ∷ []) place.declarations h.declarations) (body_leads false body)) place h in
+        record { from = led.from; next = led.next }
+    statement_leads line (local_statement names es) = λ place h.
+        let led = both_lead (declares_leads line 0 names) (both_lead (expressions_lead es) (come_leads 0 names place.declarations h.declarations)) place h in
+        record { from = led.from; next = led.next }
+    statement_leads line (return_statement es) = expressions_lead es
+    statement_leads line break_statement = λ place h. record { from = tt; next = h }
+
+    pub branches_lead : (branches : Branches) → Leads (branches_part branches)
+    branches_lead no_branches = nothing_leads
+    branches_lead (branch cond block rest) = both_lead (expression_leads cond) (both_lead (inner_leads stay (λ place h. h) (statements_lead block)) (branches_lead rest))
+
+    pub otherwise_leads : (last : Otherwise) → Leads (otherwise_part last)
+    otherwise_leads no_otherwise = nothing_leads
+    otherwise_leads (otherwise block) = inner_leads stay (λ place h. h) (statements_lead block)
+
+    pub step_leads : (step : ForStep) → Leads (step_part step)
+    step_leads no_step = nothing_leads
+    step_leads (by_step e) = expression_leads e
+
+    pub body_leads : (method : Bool) (body : FunctionBody) → Leads (body_part method body)
+    body_leads method (function_body params vararg block first last) = λ place h.
+        let led = inner_leads (in_function vararg) (opened_later vararg) (inside_leads params vararg block first last method (statements_lead block)) place h in
+        record { from = led.from; next = led.next }
+
+    pub expressions_lead : (es : Expressions) → Leads (expressions_part es)
+    expressions_lead no_expressions = nothing_leads
+    expressions_lead (syntax.expression e rest) = both_lead (expression_leads e) (expressions_lead rest)
+
+    pub expression_leads : (e : Expression) → Leads (expression_part e)
+    expression_leads (nil_literal line) = nothing_leads
+    expression_leads (true_literal line) = nothing_leads
+    expression_leads (false_literal line) = nothing_leads
+    expression_leads (vararg_expression line) = λ place h. record { from = tt; next = h }
+    expression_leads (number_literal line n) = nothing_leads
+    expression_leads (text_literal line text) = nothing_leads
+    expression_leads (name_expression line name) = mentions_lead line name
+    expression_leads (function_expression line body) = body_leads false body
+    expression_leads (index_expression line on key) = both_lead (expression_leads on) (expression_leads key)
+    expression_leads (field_expression line on name) = expression_leads on
+    expression_leads (call_expression line on args on_line) = both_lead (expression_leads on) (arguments_lead args)
+    expression_leads (method_call line on name args on_line) = both_lead (expression_leads on) (arguments_lead args)
+    expression_leads (and_expression line left right) = both_lead (expression_leads left) (expression_leads right)
+    expression_leads (or_expression line left right) = both_lead (expression_leads left) (expression_leads right)
+    expression_leads (binary_expression line op left right) = both_lead (expression_leads left) (expression_leads right)
+    expression_leads (unary_expression line op of) = expression_leads of
+    expression_leads (constructor line fields) = fields_lead fields
+    expression_leads (parenthesized line e) = expression_leads e
+
+    pub arguments_lead : (args : Arguments) → Leads (arguments_part args)
+    arguments_lead (argument_list es) = expressions_lead es
+    arguments_lead (text_argument text) = nothing_leads
+    arguments_lead (table_argument fields) = fields_lead fields
+
+    pub fields_lead : (fields : Fields) → Leads (fields_part fields)
+    fields_lead no_fields = nothing_leads
+    fields_lead (positional e separator rest) = both_lead (expression_leads e) (fields_lead rest)
+    fields_lead (named name e separator rest) = both_lead (expression_leads e) (fields_lead rest)
+    fields_lead (keyed key e separator rest) = both_lead (both_lead (expression_leads key) (expression_leads e)) (fields_lead rest)
+
+-- a place is behind itself
+pub same_place : (place : Place) → Later place place
+same_place place = record { declarations = omega arith; scope = λ name b e. inl (name, e) }
+
+-- ---- what is captured and was declared before is in scope
+
+-- a declaration that is in scope at a place
+abbrev pub InScope : Place → (declaration : ℕ) → Type 0
+InScope place d = (name : Text) × (b : Binding) × (place.scope name ≡ Some b) × (b.declaration ≡ d)
+
+in_scope : (place : Place) (d : ℕ) → d < place.declarations → Capturing (MeansFrom place) d → InScope place d
+in_scope place d before c = by (c.known c.binding refl)
+  where
+    by : KnownFrom place c.binding → InScope place d
+    by (inl there) = (there.0, c.binding, there.1, c.same)
+    by (inr later) = let same = c.same in absurd (omega (arith, before, later, same))
+
+pub captured_in_scope : (part : outline.Part) (place : Place) → Leads place part → (d : ℕ) → is_captured d (part place).marks ≡ true → d < place.declarations → InScope place d
+captured_in_scope part place leads d is before = in_scope place d before (capturing (MeansFrom place) d (part place).marks (leads place (same_place place)).from is)
+
+pub expression_captured : (e : Expression) (place : Place) (d : ℕ) → is_captured d (expression_part e place).marks ≡ true → d < place.declarations → InScope place d
+expression_captured e place = captured_in_scope (expression_part e) place (expression_leads place e)
+
+pub expressions_captured : (es : Expressions) (place : Place) (d : ℕ) → is_captured d (expressions_part es place).marks ≡ true → d < place.declarations → InScope place d
+expressions_captured es place = captured_in_scope (expressions_part es) place (expressions_lead place es)
+
+pub body_captured : (method : Bool) (body : FunctionBody) (place : Place) (d : ℕ) → is_captured d (body_part method body place).marks ≡ true → d < place.declarations → InScope place d
+body_captured method body place = captured_in_scope (body_part method body) place (body_leads place method body)
+
+-- ---- where no function is opened nothing of the running function is captured
+
+-- what is in scope with this declaration is of the running function
+abbrev pub OnlyOwn : Place → (declaration : ℕ) → Type 0
+OnlyOwn place d = (name : Text) (b : Binding) → place.scope name ≡ Some b → b.declaration ≡ d → b.home ≡ innermost place.around
+
+-- names of which no two have one declaration
+abbrev pub Apart : Scope → Type 0
+Apart scope = (a b : Text) (x y : Binding) → scope a ≡ Some x → scope b ≡ Some y → x.declaration ≡ y.declaration → a ≡ b
+
+pub only_own : (place : Place) → Apart place.scope → (d : ℕ) (name : Text) (b : Binding) → place.scope name ≡ Some b → b.declaration ≡ d → b.home ≡ innermost place.around → OnlyOwn place d
+only_own place apart d name b is number home other x at same =
+    let one : name ≡ other = apart name other b x is at (number ∙ sym same) in
+    let both : Some b ≡ Some x = sym is ∙ ap place.scope one ∙ at in
+    let equal : b ≡ x = cc in
+    ap (λ (x : Binding). x.home) (sym equal) ∙ home
+
+-- of a function behind its beginning: what is declared in it is its own
+pub own_behind : (base place : Place) → Derived base place → ((name : Text) (b : Binding) → base.scope name ≡ Some b → b.declaration < base.declarations) → (d : ℕ) → base.declarations ≤ d → OnlyOwn place d
+own_behind base place derived low d behind name b is same = by (derived.scope name b is)
+  where
+    by : (base.scope name ≡ Some b) ⊎ Fresh base b → b.home ≡ innermost place.around
+    by (inl there) = let before = low name b there in absurd (omega (arith, before, behind, same))
+    by (inr fresh) = fresh.0 ∙ ap innermost (sym derived.around)
+
+-- a mention in the function of what it means captures nothing
+pub mention_at_home : (line : ℕ) (name : Text) (place : Place) (b : Binding) → place.scope name ≡ Some b → b.home ≡ innermost place.around → (d : ℕ) → is_captured d (mentions line name place).marks ≡ false
+mention_at_home line name place b is home d =
+    ap (λ means. is_captured d (mention line name means place.around ∷ [])) is
+    ∙ ap (λ at. ((b.declaration == d) && not at) || false) (eq-eqb b.home (innermost place.around) home)
+    ∙ ap (λ at. at || false) (and_not (b.declaration == d))
+
+-- and any mention nothing of the running function
+pub none_by_itself : (line : ℕ) (name : Text) (place : Place) (d : ℕ) → OnlyOwn place d → is_captured d (mentions line name place).marks ≡ false
+none_by_itself line name place d own = not_captured P d (mentions line name place).marks ((refl, refl), tt) none
+  where
+    P : Option Binding → List ℕ → Type 0
+    P means around = (means ≡ place.scope name) × (around ≡ place.around)
+
+    none : Capturing P d → ⊥
+    none c = let k = c.known in true≢false (sym (eq-eqb c.binding.home (innermost c.around) (own name c.binding (sym k.0) c.same ∙ ap innermost (sym k.1))) ∙ c.elsewhere)
+
+-- numbers from one on that are below it are none
+none_between : (n k : ℕ) (xs : List ℕ) → k ≡ n → AllOf (λ g. n ≤ g) xs → (ys : List ℕ) → AllOf (λ g. g < k) (xs ++ ys) → xs ≡ []
+none_between n k [] same low ys high = refl
+none_between n k (x ∷ xs) same low ys high = let a = low.0 in let b = high.0 in absurd (omega (arith, same, a, b))
+
+-- the same of a part in which no function is opened
+pub none_without_functions : (part : outline.Part) (place : Place) → Walked place part place → (part place).next.functions ≡ place.functions → (d : ℕ) → OnlyOwn place d → is_captured d (part place).marks ≡ false
+none_without_functions part place w same d own = not_captured P d (part place).marks (mentions_two (From place) (Below (part place).next.functions) P (λ means around from upto. (from, upto)) (part place).marks w.from w.upto) none
+  where
+    P : Option Binding → List ℕ → Type 0
+    P means around = From place means around × Below (part place).next.functions means around
+
+    home_is : (inside : List ℕ) (b : Binding) → inside ≡ [] → b.declaration ≡ d → Origin place inside b → b.home ≡ innermost place.around
+    home_is inside b empty number (seen name is) = own name b is number
+    home_is inside b empty number (of_inside is) = absurd (true≢false (sym is ∙ ap (is_one_of b.home) empty))
+    home_is inside b empty number (declared_behind home later) = home
+
+    none : Capturing P d → ⊥
+    none c =
+        let from : From place (Some c.binding) c.around = c.known.0 in
+        let empty = none_between place.functions (part place).next.functions from.inside same from.later place.around (subst (AllOf (λ g. g < (part place).next.functions)) from.is c.known.1) in
+        let around : c.around ≡ place.around = from.is ∙ ap (λ xs. xs ++ place.around) empty in
+        true≢false (sym (eq-eqb c.binding.home (innermost c.around) (home_is from.inside c.binding empty c.same from.origin ∙ ap innermost (sym around))) ∙ c.elsewhere)
+
+starts : (place : Place) → AllOf (λ g. g < place.functions) place.around → Start place place
+starts place low = (itself place, low)
+
+pub expression_without : (e : Expression) (place : Place) → AllOf (λ g. g < place.functions) place.around → (expression_part e place).next.functions ≡ place.functions → (d : ℕ) → OnlyOwn place d → is_captured d (expression_part e place).marks ≡ false
+expression_without e place low = none_without_functions (expression_part e) place (expression_walked place e place (starts place low))
+
+pub expressions_without : (es : Expressions) (place : Place) → AllOf (λ g. g < place.functions) place.around → (expressions_part es place).next.functions ≡ place.functions → (d : ℕ) → OnlyOwn place d → is_captured d (expressions_part es place).marks ≡ false
+expressions_without es place low = none_without_functions (expressions_part es) place (expressions_walked place es place (starts place low))
+
+-- ---- what a function captures that is opened at a place
+
+abbrev pub is_local_use : (declaration : ℕ) → Use → Bool
+is_local_use d (local_use declaration) = d == declaration
+is_local_use d (upvalue_use slot) = false
+is_local_use d global_use = false
+
+-- a function makes an upvalue of what is mentioned in it, or in one inside it, and is declared in one around it
+makes_upvalue : (home n : ℕ) (xs ys : List ℕ) → AllOf (λ g. g ≡ home → ⊥) xs → (n ≡ home → ⊥) → is_one_of n (inside_of home (xs ++ n ∷ ys)) ≡ true
+makes_upvalue home n [] ys others apart =
+    ap (λ b. is_one_of n (if b then [] else n ∷ inside_of home ys)) (differ n home apart) ∙ ap (λ b. b || is_one_of n (inside_of home ys)) (eq-eqb n n refl)
+makes_upvalue home n (x ∷ xs) ys others apart =
+    ap (λ b. is_one_of n (if b then [] else x ∷ inside_of home (xs ++ n ∷ ys))) (differ x home others.0)
+    ∙ or_second (n == x) (is_one_of n (inside_of home (xs ++ n ∷ ys))) (makes_upvalue home n xs ys others.1 apart)
+
+-- of upvalues of which this declaration is of the running function, it is one as its local
+local_among : (f : ℕ) (all : List Mark) (d : ℕ) (bs : List Binding) → AllBindings (λ b. b.declaration ≡ d → b.home ≡ f) bs → list_any (is_local_use d) (uses_by f all bs) ≡ is_known d bs
+local_among f all d [] each = refl
+local_among f all d (b ∷ bs) each = ap₂ (λ (one others : Bool). one || others) (by (d == b.declaration) refl) (local_among f all d bs each.1)
+  where
+    other : (home : Bool) → (d == b.declaration) ≡ false → is_local_use d (if home then local_use b.declaration else upvalue_use (slot_of b.declaration (upvalues_of f all))) ≡ false
+    other true e = e
+    other false e = refl
+
+    by : (same : Bool) → (d == b.declaration) ≡ same → is_local_use d (use_in f all (Some b)) ≡ same
+    by true e =
+        ap (λ home. is_local_use d (if home then local_use b.declaration else upvalue_use (slot_of b.declaration (upvalues_of f all)))) (eq-eqb b.home f (each.0 (sym (eqb-true d b.declaration e)))) ∙ e
+    by false e = other (b.home == f) e
+
+bindings_more : (P Q : Binding → Type 0) → ((b : Binding) → P b → Q b) → (bs : List Binding) → AllBindings P bs → AllBindings Q bs
+bindings_more P Q more [] h = tt
+bindings_more P Q more (b ∷ bs) h = (more b h.0, bindings_more P Q more bs h.1)
+
+-- what is known is one of the bindings
+known_one : (d : ℕ) (Q : Binding → Type 0) (bs : List Binding) → AllBindings Q bs → is_known d bs ≡ true → (b : Binding) × (b.declaration ≡ d) × Q b
+known_one d Q [] each h = cc
+known_one d Q (b ∷ bs) each h = by (d == b.declaration) refl h (known_one d Q bs each.1)
+  where
+    by : (here : Bool) → (d == b.declaration) ≡ here → (here || is_known d bs) ≡ true → (is_known d bs ≡ true → (b : Binding) × (b.declaration ≡ d) × Q b) → (b : Binding) × (b.declaration ≡ d) × Q b
+    by true e h later = (b, sym (eqb-true d b.declaration e), each.0)
+    by false e h later = later h
+
+same_truth : (a b : Bool) → (a ≡ true → b ≡ true) → (b ≡ true → a ≡ true) → a ≡ b
+same_truth true b f g = sym (f refl)
+same_truth false true f g = g refl
+same_truth false false f g = refl
+
+module _ (all : List Mark) (method : Bool) (params : List Text) (vararg : Bool) (block : Statements) (first last : ℕ) (place : Place) (rest : List Mark) (p : Spot) (h : Here all (body_part method (function_body params vararg block first last)) place rest p)
+    (d : ℕ) (before : d < place.declarations) (own : OnlyOwn place d) where
+  abbrev body : FunctionBody
+  body = function_body params vararg block first last
+
+  abbrev inner : Place
+  inner = in_function vararg place
+
+  abbrev inner_marks : List Mark
+  inner_marks = (inside_part method body inner).marks
+
+  -- a mention that captures it makes an upvalue
+  abbrev Mentioned : Option Binding → List ℕ → Type 0
+  Mentioned means around = From inner means around × MeansFrom place means around × Knows place.functions (upvalues_of place.functions all) means around
+
+  each_mention : Mentions Mentioned inner_marks
+  each_mention =
+      let t = h.between in
+      let r = t.reached in
+      let n = place.functions in
+      let known = upvalues_of n all in
+      let w = inside_walked method body inner inner (entered vararg place t.around_it) in
+      let led = inside_leads place params vararg block first last method (statements_lead place block) inner (record { declarations = omega arith; scope = λ name b e. inl (name, e) }) in
+      let every : Mentions (Knows n known) (r.before ++ opened (innermost place.around) ∷ (inner_marks ++ rest)) = subst (λ marks. Mentions (Knows n known) marks) r.is (knows_all n [] all) in
+      let inside = mentions_front (Knows n known) inner_marks rest (mentions_back (Knows n known) r.before (opened (innermost place.around) ∷ (inner_marks ++ rest)) every) in
+      mentions_two (From inner) (λ means around. MeansFrom place means around × Knows n known means around) Mentioned (λ means around a b. (a, b.0, b.1)) inner_marks w.from
+      (mentions_two (MeansFrom place) (Knows n known) (λ means around. MeansFrom place means around × Knows n known means around) (λ means around a b. (a, b)) inner_marks led.from inside)
+
+  known_upvalue : is_captured d inner_marks ≡ true → is_known d (upvalues_of place.functions all) ≡ true
+  known_upvalue is = by (capturing Mentioned d inner_marks each_mention is)
+    where
+      home_of : (c : Capturing Mentioned d) → KnownFrom place c.binding → c.binding.home ≡ innermost place.around
+      home_of c (inl there) = own there.0 c.binding there.1 c.same
+      home_of c (inr later) = let same = c.same in absurd (omega (arith, before, later, same))
+
+      by : Capturing Mentioned d → is_known d (upvalues_of place.functions all) ≡ true
+      by c =
+          let n = place.functions in
+          let k = c.known in
+          let from : From inner (Some c.binding) c.around = k.0 in
+          let s = h.scope in
+          let t = h.between in
+          let low = t.around_it in
+          let home : c.binding.home ≡ s.function = home_of c (k.1 c.binding refl) ∙ ap innermost s.is in
+          let below : s.function < n = (subst (AllOf (λ g. g < n)) s.is low).0 in
+          let others : AllOf (λ g. g ≡ c.binding.home → ⊥) from.inside = all_more (λ g. suc n ≤ g) (λ g. g ≡ c.binding.home → ⊥) (λ g l e. omega (arith, l, e, home, below)) from.inside from.later in
+          let makes : is_one_of n (inside_of c.binding.home c.around) ≡ true =
+          ap (λ xs. is_one_of n (inside_of c.binding.home xs)) from.is ∙ makes_upvalue c.binding.home n from.inside place.around others (λ e. omega (arith, e, home, below)) in
+          ap (λ e. is_known e (upvalues_of n all)) (sym c.same) ∙ k.2 c.binding refl makes
+
+  captured_upvalue : is_known d (upvalues_of place.functions all) ≡ true → is_captured d inner_marks ≡ true
+  captured_upvalue is =
+      let Q : Binding → Type 0 = λ b. is_captured b.declaration inner_marks ≡ true in
+      let one = known_one d Q (upvalues_of place.functions all) (upvalues_all all method body place rest h.between Q (captured_among place.functions inner_marks [] inner_marks refl)) is in
+      ap (λ e. is_captured e inner_marks) (sym one.1) ∙ one.2
+
+  opened_by : is_captured d inner_marks ≡ list_any (is_local_use d) (head_or [] p.ahead.sources)
+  opened_by =
+      let t = h.between in
+      let f = innermost place.around in
+      let known = upvalues_of place.functions all in
+      same_truth (is_captured d inner_marks) (is_known d known) known_upvalue captured_upvalue
+      ∙ sym (local_among f all d known (bindings_more (Seen place) (λ b. b.declaration ≡ d → b.home ≡ f) (λ b there same. own there.0 b there.1 same) known (upvalues_seen all method body place rest t)))
+      ∙ ap (λ uses. list_any (is_local_use d) uses) (sym (sources_are all method body place rest p t.reached h.ahead))
+
+-- a function that is opened at a place captures of the locals of the running function those that are sources of its upvalues
+pub opened_captures : (all : List Mark) (method : Bool) (body : FunctionBody) (place : Place) (rest : List Mark) (p : Spot) → Here all (body_part method body) place rest p → (d : ℕ) → d < place.declarations → OnlyOwn place d →
+    is_captured d (body_part method body place).marks ≡ list_any (is_local_use d) (head_or [] p.ahead.sources)
+opened_captures all method (function_body params vararg block first last) place rest p h d before own = opened_by all method params vararg block first last place rest p h d before own
+
+-- so of a local that is in scope
+pub local_captures : (all : List Mark) (method : Bool) (body : FunctionBody) (place : Place) (rest : List Mark) (p : Spot) → Here all (body_part method body) place rest p → Apart place.scope →
+    (d : ℕ) (name : Text) (b : Binding) → place.scope name ≡ Some b → b.declaration ≡ d → b.home ≡ innermost place.around →
+    is_captured d (body_part method body place).marks ≡ list_any (is_local_use d) (head_or [] p.ahead.sources)
+local_captures all method body place rest p h apart d name b is number home =
+    let s = h.scope in
+    let before = s.declared name b is in
+    opened_captures all method body place rest p h d (omega (arith, before, number)) (only_own place apart d name b is number home)
