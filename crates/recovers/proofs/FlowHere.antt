@@ -1,10 +1,9 @@
 -- A function whose statements with blocks stand among its words: it is one whose words are read step by step.
-use Rattle.std.proofs.Common.{◌≡◌, ℕ, suc, ◌-◌, ◌^◌, ◌<◌, true, Bool, List, ◌++◌, length, Some, None, refl, sym, ap, ◌∙◌, arith}
+use Rattle.std.proofs.Common.{◌≡◌, ℕ, suc, ◌-◌, ◌^◌, ◌<◌, true, Bool, List, length, Some, None, refl, sym, ap, ◌∙◌, arith}
 use Rattle.std.proofs.lemmas.List.{length-map}
 use Rattle.std.specs.Prelude.{◌==◌, not, slice_get}
 use Rattle.lua_num.specs.Bytes.{Text}
 use Rattle.lua_tree.specs.Names.{are_names}
-use Rattle.lua_tree.specs.Outline.{Mark, Place, statements_part}
 use Rattle.lua_tree.specs.Syntax.{Statements}
 use Rattle.proto.specs.Chunk.{Own, Chunk, SameButLines, no_lines, own}
 use Rattle.core_expr.specs.Places.{as_name}
@@ -18,7 +17,6 @@ use Rattle.scheme.specs.Making.{Ahead, Maker}
 use Rattle.opcode.specs.declared.op.Op.{Op}
 use Rattle.scheme.specs.declared.making.Piece.{Piece}
 use Rattle.scheme_stands.proofs.Growth.{Final, fn_of, length_end}
-use Rattle.scheme_stands.specs.Places.{ahead_at, ahead_by}
 use Rattle.scheme_stands.proofs.Whole.{words_length}
 use Rattle.scheme_stands.specs.Functions.{FunctionAt}
 use Rattle.scheme_stands.specs.Relation.{StatementsAt}
@@ -36,24 +34,11 @@ use Rattle.reads_back.specs.Through.{BodyThrough}
 use Rattle.reads_back.proofs.FlowWhole.{tree_of, whole_of}
 use Rattle.reads_back.proofs.InnerNames.{AreKnown}
 use Rattle.reads_back.proofs.InnerReads.{AreNamedBy}
-use Rattle.reads_back.proofs.NoneCaptured.{NoneCaptured}
 use Rattle.reads_back.proofs.StatementsStand.{laid_stand}
 use Rattle.reads_back.proofs.StraightBlocks.{IsMadeWhole}
 use Rattle.reads_back.proofs.StraightFunctions.{as_many_lines, as_many_upvalues, own_of_same, takes_further}
 use Rattle.reads_back.proofs.WordsRead.{IsFunction}
 use Rattle.recovers.specs.Joined.{IsJoined, IsJoinedPart}
-
--- what is known of the source around it, in which no declaration is captured
-pub record IsWithin (block : Statements) (params names : List Text) (ahead : Ahead) : Type 0 where
-  pub all : List Mark
-  pub none : NoneCaptured all
-  pub place : Place
-  pub rest : List Mark
-  pub begins : (begun_of params names ahead).ahead ≡ ahead_at all place ((statements_part block place).marks ++ rest)
-  pub declarations : ℕ
-  pub functions : ℕ
-  pub marks : List Mark
-  pub ahead_is : ahead ≡ ahead_by all declarations functions marks
 
 -- a function with these parameters and this block, on one line, whose upvalues have these names; its chunk is what is made but for the numbers of lines
 pub record IsFlowHere (n : Names) (heading : Heading) (params : List Text) (block : Statements) (names : List Text) (ahead : Ahead) (chunk : Chunk) : Type 0 where
@@ -69,7 +54,6 @@ pub record IsFlowHere (n : Names) (heading : Heading) (params : List Text) (bloc
   pub final : Final 0 (tree_of params names ahead block) (whole_of params names ahead block)
   pub same : SameButLines chunk (chunk_of heading (whole_of params names ahead block))
   pub short : length (own chunk).code < 2 ^ 32
-  pub within : IsWithin block params names ahead
 
 module _ {n : Names} {heading : Heading} {params : List Text} {block : Statements} {names : List Text} {ahead : Ahead} {chunk : Chunk} (fewest : Bool) (of : IsFlowHere n heading params block names ahead chunk) where
   abbrev pub z : Maker

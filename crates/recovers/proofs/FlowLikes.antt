@@ -32,6 +32,7 @@ use Rattle.built_flow.specs.BuiltWhole.{BuiltIsFormed, BuiltIsShallow, LyingIsBu
 use Rattle.built_flow.specs.LaidLie.{LaidLie, LaidLies, around_of}
 use Rattle.reads_back.specs.Ordered.{IsOrderedPart}
 use Rattle.reads_back.specs.Written as written
+use Rattle.reads_back.proofs.FlowPlaced.{AreCapturedLike}
 use Rattle.reads_back.proofs.FlowSteps.{have_words}
 use Rattle.reads_back.proofs.FlowThere.{few_before}
 use Rattle.reads_back.proofs.OrderedStay.{tests_stay}
@@ -46,7 +47,7 @@ use Rattle.reads_back.proofs.PartsRoom.{parts_in_room}
 use Rattle.reads_back.proofs.StraightActs.{AreLeft}
 use Rattle.recovers.specs.Joined.{IsFlowRead, IsLike}
 use Rattle.recovers.proofs.FlowHere.{IsFlowHere, closes, code, each_part, f, g, is_function, is_told, laid, parts_count, plain, steps_there}
-use Rattle.recovers.proofs.FlowStepsRead.{are_placed, drafts_read, flow, is_read, placed, steps}
+use Rattle.recovers.proofs.FlowStepsRead.{are_placed, drafts_read, flow, is_read, placed, steps, takes}
 
 -- the laws of the crates below
 pub record FlowLaws : Type 0 where
@@ -82,20 +83,21 @@ steps_few pcs (suc count) each =
     omega (arith, rest, last)
 
 module _ (laws : FlowLaws) {n : Names} {heading : Heading} {params : List Text} {block : Statements} {names : List Text} {ahead : Ahead} {chunk : Chunk} (fewest : Bool) (of : IsFlowHere n heading params block names ahead chunk)
-    {lefts : ℕ → List (Option Inner)} {parts : ℕ → outline.Part} (left : AreLeft (f fewest of) (g fewest of) lefts parts) (plain_left : (made : ℕ) → ArePlainLeft (lefts made)) where
+    {lefts : ℕ → List (Option Inner)} {parts : ℕ → outline.Part} (left : AreLeft (f fewest of) (g fewest of) lefts parts) (plain_left : (made : ℕ) → ArePlainLeft (lefts made))
+    (captured : AreCapturedLike (flow fewest of left) (takes fewest of)) where
   -- ---- the steps of the source with those that are read
 
   abbrev mine : Steps
   mine = code fewest of
 
   abbrev there : Steps
-  there = steps fewest of left
+  there = steps fewest of left captured
 
   abbrev parts_there : List Part
   parts_there = map (λ (draft : Drafted). draft.part) (drafts_read fewest of left).drafts
 
   like : AreStepsLike mine.steps there.steps
-  like = (are_placed fewest of left).like
+  like = (are_placed fewest of left captured).like
 
   -- its mine parts on the steps that are read
   abbrev mixed : Steps
@@ -125,16 +127,16 @@ module _ (laws : FlowLaws) {n : Names} {heading : Heading} {params : List Text} 
   mixed_alike = subst (λ texts. ArePartsLike mixed (record { params = texts; steps = there.steps; parts = parts_there }) params names ahead) (steps_there fewest of).1 (parts_on_like mine there.steps like parts_there params names ahead alike)
 
   there_plain : HasPlainParts there
-  there_plain = parts_plain (flow fewest of left) plain_left there (placed fewest of left)
+  there_plain = parts_plain (flow fewest of left) plain_left there (placed fewest of left captured)
 
   have_parts : HaveParts there
-  have_parts = parts_fit (flow fewest of left) there (placed fewest of left)
+  have_parts = parts_fit (flow fewest of left) there (placed fewest of left captured)
 
   there_told : AreTold there params names ahead
   there_told = told_alike mixed there params names ahead mixed_alike have_parts mixed_told
 
   on_one : ComparedOnOne there
-  on_one = parts_on_one (flow fewest of left) there (placed fewest of left)
+  on_one = parts_on_one (flow fewest of left) there (placed fewest of left captured)
 
   few : FewLocals there
   few at step is =
@@ -166,12 +168,12 @@ module _ (laws : FlowLaws) {n : Names} {heading : Heading} {params : List Text} 
       let lies = laws.lies there.steps ordered plans stands in
       let built = laws.built there have_parts plans lies in
       let is_laid = laws.laid there there_plain on_one few params names ahead there_told plans lies built.0 built.1 built.2 in
-      let shallow = laws.shallow there have_parts (parts_deep (flow fewest of left) there (placed fewest of left)) plans lies low built.0 built.1 built.2 in (
+      let shallow = laws.shallow there have_parts (parts_deep (flow fewest of left) there (placed fewest of left captured)) plans lies low built.0 built.1 built.2 in (
         built.0,
         built.1,
         built.2,
         record {
-          formed = laws.formed there have_parts (parts_formed (flow fewest of left) there (placed fewest of left)) plans (laws.standing there.steps (whole_body there.steps) plans stands) lies built.0 built.1 built.2;
+          formed = laws.formed there have_parts (parts_formed (flow fewest of left) there (placed fewest of left captured)) plans (laws.standing there.steps (whole_body there.steps) plans stands) lies built.0 built.1 built.2;
           shallow = omega (arith, shallow, low);
           makes = laws.makes mixed there params names ahead mixed_plain there_plain mixed_alike block built.0 mixed_laid is_laid;
           marks = λ place. (laws.says mixed there params names ahead mixed_alike block built.0 mixed_laid is_laid place).0;
@@ -182,17 +184,17 @@ module _ (laws : FlowLaws) {n : Names} {heading : Heading} {params : List Text} 
 
   in_room : fewest ≡ true → AreInRoom mixed
   in_room short =
-      parts_in_room (flow fewest of left) short (tests_stay (flow fewest of left) ordered_parts) (λ at part there. (each_part fewest of at part there).formed) there (placed fewest of left)
+      parts_in_room (flow fewest of left) short (tests_stay (flow fewest of left) ordered_parts) (λ at part there. (each_part fewest of at part there).formed) there (placed fewest of left captured)
 
   one_stands : fewest ≡ true → (plans : Plans) × BodyStands there.steps (whole_body there.steps) plans × (body_levels there.steps plans ≤ 200)
   one_stands short =
       let room = of.joined.room in
       let levels = block_lies.levels (in_room short) in
       let found =
-      laws.found there.steps count_few (λ at step there_is. levelled step.levels step.kind (are_levelled (flow fewest of left) there (placed fewest of left) at step there_is)) (around_of params names ahead) block_lies.behind
+      laws.found there.steps count_few (λ at step there_is. levelled step.levels step.kind (are_levelled (flow fewest of left) there (placed fewest of left captured) at step there_is)) (around_of params names ahead) block_lies.behind
       (at_beginning params names ahead) block_lies.flow block_lies.lies (omega (arith, levels, room)) in
       let low = found.2 in
       (found.0, found.1, omega (arith, low, levels, room))
 
   pub flow_is_read : IsFlowRead fewest chunk (lefts 0) params names ahead block
-  flow_is_read = record { told = is_told fewest of; steps = there; read = is_read fewest of left; each = each_likes; stands = one_stands }
+  flow_is_read = record { told = is_told fewest of; steps = there; read = is_read fewest of left captured; each = each_likes; stands = one_stands }

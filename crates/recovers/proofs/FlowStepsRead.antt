@@ -1,37 +1,33 @@
--- The words of a function whose statements with blocks stand among them are read as steps like its own.
-use Rattle.std.proofs.Common.{◌≡◌, ◌∙◌, ℕ, ◌-◌, ◌<◌, ◌≤◌, suc, Bool, true, false, List, [], length, map, None, Option, Some, refl, sym, ap, arith, if◌then◌else◌}
-use Rattle.std.proofs.lemmas.Option.{none-some, same_Some}
-use Rattle.std.specs.Prelude.{option_and_then, option_map, slice_get}
+-- The words of a function whose statements with blocks stand among them are read as steps like its own, where the reader's list has those locals captured in the end that the source captures.
+use Rattle.std.proofs.Common.{◌≡◌, ◌∙◌, ℕ, ◌-◌, ◌<◌, suc, Bool, true, List, [], length, map, None, Option, Some, ap, arith, if◌then◌else◌}
+use Rattle.std.specs.Prelude.{option_and_then, slice_get}
 use Rattle.lua_num.specs.Bytes.{Text}
 use Rattle.lua_tree.specs.Outline as outline
 use Rattle.lua_tree.specs.Syntax.{Statements}
 use Rattle.opcode.specs.Reading.{instr_of}
-use Rattle.proto.specs.Chunk.{Own, Chunk, function_at, function_count, functions, own}
+use Rattle.proto.specs.Chunk.{Own, Chunk, function_count, functions, own}
 use Rattle.core_expr.specs.Values.{Inner}
 use Rattle.recover_expr.specs.Drafts.{Drafted, Part, nothing_part, statement_part, values_part, condition_part, head_part}
 use Rattle.recover_expr.specs.Items.{is_so}
 use Rattle.recover_expr.specs.Placing.{Steps}
 use Rattle.recover_expr.specs.Reading.{ends_code, function_steps, left_at, read_steps}
-use Rattle.recover_expr.specs.Situation.{is_return, upvalues_in}
+use Rattle.recover_expr.specs.Situation.{is_return}
 use Rattle.scheme.specs.Functions.{Heading, chunk_of}
 use Rattle.scheme.specs.Making.{Ahead}
-use Rattle.scheme.specs.declared.making.Active.{Active}
 use Rattle.scheme_stands.specs.Words.{Names}
-use Rattle.reads_back.specs.Placed.{ArePlacedLike, active_behind}
-use Rattle.reads_back.proofs.BareFunctions.{functions_without}
+use Rattle.reads_back.specs.Placed.{ArePlacedLike}
 use Rattle.reads_back.proofs.FlowBegins.{params_behind}
 use Rattle.reads_back.proofs.FlowDrafts.{FlowRead}
 use Rattle.reads_back.proofs.EachMade.{IsMadeAt}
 use Rattle.reads_back.proofs.FlowFinal.{placed_maker, same_functions}
-use Rattle.reads_back.proofs.FlowFlags.{flow_placed, flow_steps, read}
 use Rattle.reads_back.proofs.FlowMade.{HasRoomyPart, flow_made}
+use Rattle.reads_back.proofs.FlowPlaced.{AreCapturedLike, placed_in_end, read, steps_in_end}
 use Rattle.reads_back.proofs.FlowThere.{IsFlowBy, IsFlowFunction}
 use Rattle.reads_back.proofs.InnerReads.{count_same, counted}
 use Rattle.reads_back.proofs.FlowWhole.{IsWholeBy, whole_flow}
 use Rattle.reads_back.proofs.PlacedReads.{ArePlaced, placed_flow}
 use Rattle.reads_back.proofs.StraightActs.{AreLeft}
-use Rattle.reads_back.proofs.StraightFunctions.{activated_count, declared_count, inner_same, upvalues_of, without_lines}
-use Rattle.reads_back.proofs.UncapturedLocals.{laid_uncaptured}
+use Rattle.reads_back.proofs.StraightFunctions.{activated_count, declared_count, inner_same}
 use Rattle.reads_back.proofs.WordsRead.{abc_is_read}
 use Rattle.recovers.specs.Joined.{IsRoomyPart}
 use Rattle.recovers.proofs.FlowHere.{IsFlowHere, closes, code, each_part, f, g, is_function, is_made, laid, last_is, plain, same_own, stand, words_count, z}
@@ -46,25 +42,6 @@ roomy_part (head_part es names) roomy = roomy
 module _ {n : Names} {heading : Heading} {params : List Text} {block : Statements} {names : List Text} {ahead : Ahead} {chunk : Chunk} (fewest : Bool) (of : IsFlowHere n heading params block names ahead chunk) where
   pub takes : (f fewest of).of.params ≡ length params
   takes = ap (λ (own : Own). own.params) (same_own fewest of) ∙ of.at.param_count
-
-  -- no function in it has an upvalue
-  pub bare : (number upvalues : ℕ) → upvalues_in (f fewest of) number ≡ Some upvalues → upvalues ≡ 0
-  bare number upvalues is =
-      let made = functions (chunk_of heading (z fewest of)) in
-      let same : upvalues_of (functions chunk) number ≡ upvalues_of made number =
-      sym (without_lines (functions chunk) number) ∙ ap (λ functions. upvalues_of functions number) (inner_same chunk (chunk_of heading (z fewest of)) of.same) ∙ without_lines made number in
-      by (function_at made number) refl (sym same ∙ is)
-    where
-      by : (found : Option Chunk) → function_at (functions (chunk_of heading (z fewest of))) number ≡ found → option_map (λ c. (own c).upvalues) found ≡ Some upvalues → upvalues ≡ 0
-      by None there some = absurd (none-some upvalues some)
-      by (Some c) there some =
-          let w = of.within in
-          sym (same_Some (own c).upvalues upvalues some) ∙ functions_without w.all w.none w.declarations w.functions w.marks 1 params block names ahead w.ahead_is number c there
-
-  uncaptured : (at register : ℕ) (one : Active) → at ≤ length (code fewest of).steps → slice_get (active_behind (code fewest of) params names ahead at) register ≡ Some one → one.local.captured ≡ false
-  uncaptured =
-      let w = of.within in
-      laid_uncaptured w.all w.none (g fewest of) (code fewest of) (plain fewest of) params names ahead block (laid fewest of) of.joined.formed (stand fewest of) w.place w.rest w.begins w.declarations w.functions w.marks w.ahead_is
 
   ends : ends_code (own chunk) ≡ true
   ends =
@@ -116,21 +93,23 @@ module _ {n : Names} {heading : Heading} {params : List Text} {block : Statement
 
     -- the drafts of its words
     abbrev pub drafts_read : FlowRead flow (left_at (f fewest of) 0 (params_behind flow takes))
-    drafts_read = read flow takes bare
+    drafts_read = read flow takes
 
     code_ends : length (f fewest of).of.code ≡ suc (f fewest of).last
     code_ends = omega (arith, words_count fewest of)
 
-    pub are_placed : ArePlacedLike (code fewest of) params (f fewest of) drafts_read.behind.scope drafts_read.drafts
-    are_placed = flow_placed flow takes bare uncaptured code_ends
+    -- where in the end its list has those locals captured that the source captures
+    module _ (captured : AreCapturedLike flow takes) where
+      pub are_placed : ArePlacedLike (code fewest of) params (f fewest of) drafts_read.behind.scope drafts_read.drafts
+      are_placed = placed_in_end flow takes captured code_ends
 
-    -- the steps that are read
-    abbrev pub steps : Steps
-    steps = record { params = params; steps = are_placed.steps; parts = map (λ (draft : Drafted). draft.part) drafts_read.drafts }
+      -- the steps that are read
+      abbrev pub steps : Steps
+      steps = record { params = params; steps = are_placed.steps; parts = map (λ (draft : Drafted). draft.part) drafts_read.drafts }
 
-    pub placed : ArePlaced flow steps
-    placed = placed_flow flow drafts_read drafts_read.behind.scope are_placed
+      pub placed : ArePlaced flow steps
+      placed = placed_flow flow drafts_read drafts_read.behind.scope are_placed
 
-    pub is_read : read_steps chunk (lefts 0) fewest ≡ Some steps
-    unfolding are_placed
-    is_read = ap (λ ends. if ends then function_steps (lefts 0) (f fewest of) else None) ends ∙ flow_steps flow takes bare uncaptured code_ends
+      pub is_read : read_steps chunk (lefts 0) fewest ≡ Some steps
+      unfolding are_placed
+      is_read = ap (λ ends. if ends then function_steps (lefts 0) (f fewest of) else None) ends ∙ steps_in_end flow takes captured code_ends

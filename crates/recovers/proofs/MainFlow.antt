@@ -1,9 +1,9 @@
 -- The main function of a source with blocks stands among its words, and the functions in it are left to it.
-use Rattle.std.proofs.Common.{◌≡◌, ◌∙◌, Bool, true, [], ◌++◌, None, Some, refl, sym, ap, subst, subst₂, arith}
+use Rattle.std.proofs.Common.{◌≡◌, ◌∙◌, Bool, true, [], None, Some, refl, sym, ap, subst, subst₂, arith}
 use Rattle.lua_tree.specs.OneLine.{on_one_line, one_line_statements}
-use Rattle.lua_tree.specs.Outline.{Place, Walk, beginning, outline, statements_part}
+use Rattle.lua_tree.specs.Outline.{Place, Walk, statements_part}
 use Rattle.lua_tree.specs.Resolved.{resolved}
-use Rattle.lua_tree.specs.Scoping.{Scoped, is_captured}
+use Rattle.lua_tree.specs.Scoping.{Scoped}
 use Rattle.lua_tree.specs.Syntax.{Source, Statements}
 use Rattle.lua_tree.specs.WellFormed.{WellFormed, depth_of_statements}
 use Rattle.proto.specs.Chunk.{Own, Functions, each, function, no_lines}
@@ -12,23 +12,20 @@ use Rattle.scheme.specs.Functions.{Heading, chunk_of, empty_maker, finished, who
 use Rattle.scheme.specs.Making.{Ahead, Maker}
 use Rattle.scheme.specs.Scheme.{Fits, ahead_of}
 use Rattle.scheme_lines.proofs.Again.{bare_again}
-use Rattle.scheme_lines.proofs.Marks.{outline_same}
-use Rattle.scheme_lines.proofs.Scopes.{captured_same}
 use Rattle.scheme_lines.specs.Alike.{AreAlike, SemicolonsDoNotMatter}
 use Rattle.scheme_stands.proofs.Growth.{Final, fn_of}
 use Rattle.scheme_stands.proofs.Makers.{begun, block_final, main_maker, no_names}
 use Rattle.scheme_stands.specs.Functions.{FunctionAt}
-use Rattle.scheme_stands.specs.Places.{ahead_at}
 use Rattle.scheme_stands.specs.Relation.{StatementsAt}
 use Rattle.scheme_stands.specs.Words.{asking}
 use Rattle.same_flow.specs.SameMarks.{but_breaks}
 use Rattle.reads_back.specs.Through.{BodyThrough}
 use Rattle.reads_back.proofs.FlowLefts.{FunctionsLeft, functions_left}
+use Rattle.reads_back.proofs.FlowPlaced.{AreCapturedLike}
 use Rattle.reads_back.proofs.FlowWhole.{tree_of, whole_of}
 use Rattle.reads_back.proofs.FunctionsRead.{each_read}
 use Rattle.reads_back.proofs.InnerNames.{none_known}
-use Rattle.reads_back.proofs.KnownBeginnings.{main_ahead, main_begins}
-use Rattle.reads_back.proofs.NoneCaptured.{NoneCaptured}
+use Rattle.reads_back.proofs.MainCaptured.{main_captured}
 use Rattle.reads_back.proofs.PlainValues.{plain_left}
 use Rattle.reads_back.proofs.StraightFunctions.{inner_same}
 use Rattle.reads_back.proofs.StraightSources.{NamesStand}
@@ -40,11 +37,12 @@ use Rattle.recovers.proofs.AssignedSame.{block_makes, block_says}
 use Rattle.recovers.proofs.AssignedThrough.{block_through}
 use Rattle.recovers.proofs.FlowHere.{IsFlowHere, f, g, is_made, same_own, z}
 use Rattle.recovers.proofs.FlowLikes.{FlowLaws, flow_is_read}
-use Rattle.recovers.proofs.FlowStepsRead.{each_is_made}
+use Rattle.recovers.proofs.FlowStepsRead.{each_is_made, flow, takes}
 use Rattle.recovers.proofs.JoinedBlocks.{on_one_line_joined}
 use Rattle.recovers.proofs.OneLineBlocks.{block_again, block_as_deep, block_formed}
 
-module _ (stand : NamesStand) (semicolons : SemicolonsDoNotMatter) (mine : Own) (functions : Functions) (of : IsFlowChunk (function mine functions)) (short : IsShort (function mine functions)) where
+module _ (stand : NamesStand) (semicolons : SemicolonsDoNotMatter) (mine : Own) (functions : Functions)
+    (of : IsFlowChunk (function mine functions)) (short : IsShort (function mine functions)) where
   -- ---- the source on one line
 
   abbrev pub plain_source : Source
@@ -64,14 +62,6 @@ module _ (stand : NamesStand) (semicolons : SemicolonsDoNotMatter) (mine : Own) 
 
   fits_plain : Fits plain_source
   fits_plain = alike.fits of.fits
-
-  -- no declaration is captured on one line either
-  none_plain : NoneCaptured (outline plain_source)
-  none_plain declaration =
-      captured_same declaration (outline plain_source)
-      ∙ ap (is_captured declaration) (outline_same plain_source ∙ ap outline (bare_again of.source) ∙ sym (outline_same of.source))
-      ∙ sym (captured_same declaration (outline of.source))
-      ∙ of.uncaptured declaration
 
   abbrev pub begins_with : Ahead
   begins_with = ahead_of (resolved plain_source)
@@ -115,17 +105,6 @@ module _ (stand : NamesStand) (semicolons : SemicolonsDoNotMatter) (mine : Own) 
         final = subst₂ (Final 0) (sym same_made) (sym same_maker) (block_final plain_source fits_plain);
         same = of.same ∙ alike.same of.name ∙ ap (λ (z : Maker). each no_lines (chunk_of heading z)) (sym same_maker);
         short = short.0.code;
-        within = record {
-          all = outline plain_source;
-          none = none_plain;
-          place = beginning;
-          rest = [];
-          begins = main_begins plain_source ∙ ap (λ (walk : Walk). ahead_at (outline plain_source) beginning (walk.marks ++ [])) (sym (same_said beginning));
-          declarations = 0;
-          functions = 1;
-          marks = outline plain_source;
-          ahead_is = main_ahead plain_source;
-        };
       }
 
   -- ---- the functions in it, in these forms
@@ -134,6 +113,10 @@ module _ (stand : NamesStand) (semicolons : SemicolonsDoNotMatter) (mine : Own) 
   functions_there fewest =
       functions_left fewest functions (each_read fewest functions short.2) (is_made fewest main_here) refl (ap (λ (own : Own). own.upvalue_names) (same_own fewest main_here))
       (inner_same (function mine functions) (chunk_of heading (z fewest main_here)) main_here.same) (each_is_made fewest main_here)
+
+  -- in the end the reader's list has those locals captured that the source captures
+  captured_there : (fewest : Bool) → AreCapturedLike (flow fewest main_here (functions_there fewest).left) (takes fewest main_here)
+  captured_there fewest = main_captured plain_source (flow fewest main_here (functions_there fewest).left) (takes fewest main_here) joined_block.formed same_said
 
   module _ (laws : FlowLaws) where
     -- what is like the block is like that of the source
@@ -146,7 +129,7 @@ module _ (stand : NamesStand) (semicolons : SemicolonsDoNotMatter) (mine : Own) 
     }
 
     block_read : (fewest : Bool) → IsFlowRead fewest (function mine functions) ((functions_there fewest).lefts 0) [] [] begins_with block
-    block_read fewest = let there = functions_there fewest in flow_is_read laws fewest main_here there.left (plain_left there.lefts there.left.fine)
+    block_read fewest = let there = functions_there fewest in flow_is_read laws fewest main_here there.left (plain_left there.lefts there.left.fine) (captured_there fewest)
 
     pub main_read : (fewest : Bool) → IsFlowRead fewest (function mine functions) ((functions_there fewest).lefts 0) [] [] begins_with plain_source.body
     main_read fewest =

@@ -1,8 +1,7 @@
--- To be believed. Sources whose statements with blocks come back from their chunks: the functions in them are straight, and none uses a local of one around it.
-use Rattle.std.specs.Prelude.{◌≡◌, ◌<◌, ◌+◌, ℕ, false, List}
+-- To be believed. Sources whose statements with blocks come back from their chunks: the functions in them are straight.
+use Rattle.std.specs.Prelude.{◌<◌, ◌+◌, ℕ, false, List}
 use Rattle.lua_num.specs.Bytes.{Text}
-use Rattle.lua_tree.specs.Outline.{outline}
-use Rattle.lua_tree.specs.Scoping.{Scoped, is_captured}
+use Rattle.lua_tree.specs.Scoping.{Scoped}
 use Rattle.lua_tree.specs.Syntax.{FunctionBody, Expression, binary_expression, Source}
 use Rattle.lua_tree.specs.WellFormed.{WellFormed}
 use Rattle.proto.specs.Chunk.{Chunk, own, SameButLines}
@@ -38,6 +37,5 @@ pub record IsFlowChunk (chunk : Chunk) : Type 0 where
   pub fits : Fits source
   pub deep : ℕ
   pub blocks : StatementsHold (IsReadablePart (own chunk).constants (IsStraightBody deep)) false source.body
-  pub uncaptured : (declaration : ℕ) → is_captured declaration (outline source) ≡ false
   pub room : room_of_statements (assigned_statements source.body) + nevers_of_statements source.body < 200
   pub same : SameButLines chunk (scheme source name)

@@ -14,7 +14,7 @@ pub fn straight_sources_are_recovered()
     recover_flow::acts_are_found();
 }
 
-/// Law: so it is with a source whose statements have blocks, whichever body the search takes of those that stand: the functions in it are straight, none of them uses a local of the main one, conditions keep the order of their operands, and there is room for one level more, and for one
+/// Law: so it is with a source whose statements have blocks, whichever body the search takes of those that stand: the functions in it are straight, conditions keep the order of their operands, and there is room for one level more, and for one
 /// for each further arm of an `if` whose condition never fails.
 pub fn flow_sources_are_recovered()
     ensures { FlowSourcesAreRecovered }
