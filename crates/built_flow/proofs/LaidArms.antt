@@ -9,12 +9,14 @@ use Rattle.recover_flow.specs.Flow.{Flow, FlowArms, no_more, else_flow, elseif_f
 use Rattle.recover_flow.specs.Logic.{Logic, LogicLies, is_never}
 use Rattle.scheme.specs.Making.{Ahead, Maker, new_label, active_count, captured_from}
 use Rattle.scheme.specs.Scheme.{coded, has_otherwise, statements_made, branches_made}
-use Rattle.scheme.specs.Shapes.{branch_count, room_of_branches, room_of_otherwise}
+use Rattle.scheme.specs.Shapes.{branch_count}
 use Rattle.scheme.specs.Statements.{Loop, arm_part, block_part}
 use Rattle.same_flow.specs.Written.{AreInRoom}
 use Rattle.same_flow.specs.Declaring.{ClosesTell}
 use Rattle.same_flow.specs.Laid.{Exit, IsBlock, BodyLaid, TestLaid, ArmEnds, BranchesLaid, OtherwiseLaid, StatementLaid, label_of, arm_begun}
+use Rattle.same_flow.specs.Never.{never_is, one_if, nevers_of_branches, nevers_of_otherwise}
 use Rattle.same_flow.specs.SameFlow.{HasPlainParts}
+use Rattle.same_flow.specs.Space.{space_of_branches, space_of_otherwise}
 use Rattle.same_flow.proofs.BlocksFollowed.{Matches}
 use Rattle.same_flow.proofs.Followed.{Run, Follows, nought, LastTo, last_weaker, followed, relabelled}
 use Rattle.same_flow.proofs.LoopsTold.{arm_passes, arm_order}
@@ -22,7 +24,6 @@ use Rattle.same_flow.proofs.RenamedStatements.{statements_rename}
 use Rattle.same_flow.proofs.StatementsTold.{block_follows}
 use Rattle.same_flow.proofs.StepsTold.{same_active}
 use Rattle.same_flow.proofs.TestsFollowed.{test_goes}
-use Rattle.built_flow.specs.Never.{never_is, one_if, nevers_of_branches, nevers_of_otherwise}
 use Rattle.built_flow.proofs.BlocksBuilt.{as_laid}
 use Rattle.built_flow.proofs.LaidFlow.{Knows, StatementFound, BlockFound, BodyFinds, knows_behind, block_found}
 use Rattle.built_flow.proofs.LaidSteps.{quiet_found}
@@ -41,7 +42,7 @@ pub record ArmsFound (code : Steps) (around : Around) (e : Expression) (block : 
   pub lies : ArmLies code.steps around logic (captures_flow code.steps body) (InArm code around body) others from to
   pub never : is_never false logic ≡ never_is false e
   pub levels : AreInRoom code → max (max (max 1 (logic_room code.steps logic)) (flow_levels code.steps body)) (flow_arms_levels code.steps others)
-      ≤ suc ((2 * branch_count (branch e block rest) + max (room_of_branches (branch e block rest)) (room_of_otherwise other)) + (nevers_of_branches (branch e block rest) + nevers_of_otherwise other))
+      ≤ suc ((2 * branch_count (branch e block rest) + max (space_of_branches (branch e block rest)) (space_of_otherwise other)) + (nevers_of_branches (branch e block rest) + nevers_of_otherwise other))
 
 raised_most : (more : Bool) (own room : ℕ) → own ≤ suc room → raised more own ≤ suc (one_if more + room)
 raised_most true own room h = omega arith

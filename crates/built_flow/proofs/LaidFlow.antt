@@ -14,21 +14,21 @@ use Rattle.recover_flow.specs.Flow.{Flow, no_flow, FlowStatement, step_flow, Aro
 use Rattle.recover_flow.specs.Lying.{is_captured_at}
 use Rattle.scheme.specs.Making.{Ahead, Maker, active_count, captured_from, end_locals, free_from}
 use Rattle.scheme.specs.Scheme.{statement_made, statements_made}
-use Rattle.scheme.specs.Shapes.{room_of_statement, room_of_statements}
 use Rattle.scheme.specs.Statements.{Loop}
 use Rattle.scheme.specs.declared.making.Active.{Active}
 use Rattle.same_flow.specs.Written.{AreInRoom}
 use Rattle.same_flow.specs.Declaring.{ClosesTell, declaring, declaring_before}
 use Rattle.same_flow.specs.Laid as laid
 use Rattle.same_flow.specs.Laid.{Exit, IsBlock, BodyLaid}
+use Rattle.same_flow.specs.Never.{nevers_of_statement, nevers_of_statements}
 use Rattle.same_flow.specs.SameFlow.{HasPlainParts}
+use Rattle.same_flow.specs.Space.{space_of_statement, space_of_statements}
 use Rattle.same_flow.proofs.BlocksFollowed.{Matches}
 use Rattle.same_flow.proofs.Followed.{Run, Follows, nought, LastTo, last_weaker, followed, ended}
 use Rattle.same_flow.proofs.RenamedStatements.{statements_rename}
 use Rattle.same_flow.proofs.StatementsFollowed.{body_goes}
 use Rattle.same_flow.proofs.StepsTold.{same_active}
 use Rattle.same_flow.proofs.TestsFollowed.{kind_there}
-use Rattle.built_flow.specs.Never.{nevers_of_statement, nevers_of_statements}
 use Rattle.built_flow.proofs.BlocksBuilt.{as_laid}
 use Rattle.built_flow.proofs.LaidDeclaring.{declared_stays, declared_before, none_before}
 use Rattle.built_flow.proofs.LaidTests.{Counts, kind_told}
@@ -54,7 +54,7 @@ pub record StatementFound (code : Steps) (params names : List Text) (ahead : Ahe
   pub knows : Knows code params names ahead behind (statement_made s 1 loop m).active to
   pub exit : behind.exit ≡ around.exit
   pub captures : statement_captures code.steps found ≡ captured_from (active_count m) (statement_made s 1 loop m)
-  pub levels : AreInRoom code → flow_statement_levels code.steps found ≤ suc (suc (room_of_statement s) + nevers_of_statement s)
+  pub levels : AreInRoom code → flow_statement_levels code.steps found ≤ suc (suc (space_of_statement s) + nevers_of_statement s)
   pub last : is_break found ≡ true → ends_block s ≡ true
 
 -- and so do all of a block
@@ -64,14 +64,14 @@ pub record BodyFound (code : Steps) (params names : List Text) (ahead : Ahead) (
   pub lies : FlowLies code.steps around behind stop found from to
   pub knows : Knows code params names ahead behind (statements_made block loop m).active to
   pub captures : captures_flow code.steps found ≡ captured_from (active_count m) (statements_made block loop m)
-  pub levels : AreInRoom code → flow_levels code.steps found ≤ suc (room_of_statements block + nevers_of_statements block)
+  pub levels : AreInRoom code → flow_levels code.steps found ≤ suc (space_of_statements block + nevers_of_statements block)
   pub none : block ≡ no_statements → found ≡ no_flow
 
 -- and the whole block
 pub record BlockFound (code : Steps) (outside around : Around) (block : Statements) (from to : ℕ) : Type 0 where
   pub found : Flow
   pub lies : IsFlowBlock code.steps outside (captures_flow code.steps found) (λ ends end. (inside : Around) × FlowLies code.steps around inside ends found from end) from to
-  pub levels : AreInRoom code → flow_levels code.steps found ≤ suc (room_of_statements block + nevers_of_statements block)
+  pub levels : AreInRoom code → flow_levels code.steps found ≤ suc (space_of_statements block + nevers_of_statements block)
 
 module _ (code : Steps) (params names : List Text) (ahead : Ahead) (plain : HasPlainParts code) (closes : ClosesTell code params names ahead) where
   abbrev run : Run

@@ -19,13 +19,14 @@ use Rattle.scheme.specs.Expressions.{next_reg}
 use Rattle.scheme.specs.Lists.{adjust}
 use Rattle.scheme.specs.Making.{Ahead, Maker, active_count, any_captured, captured_from, declare, activate, end_locals, free_from, put, place, jump_to, used}
 use Rattle.scheme.specs.Scheme.{coded, all_coded, step_coded, statements_made}
-use Rattle.scheme.specs.Shapes.{room_of_statement, room_of_statements, room_of_expressions}
 use Rattle.scheme.specs.Statements.{Loop, block_part, step_part, numeric_names, generic_names}
 use Rattle.scheme.specs.declared.making.Active.{Active}
 use Rattle.scheme.specs.declared.making.Local.{Local}
 use Rattle.scheme.specs.declared.making.Piece.{Piece}
 use Rattle.same_flow.specs.Laid.{Exit, HasStep, HasKind, IsBlock, BodyLaid, StatementLaid, VariablesEnd, highest_captured, label_of, with_new_labels, numeric_valued, numeric_begun, generic_valued, generic_begun, for_loop_of, exit_to, head_values}
+use Rattle.same_flow.specs.Never.{nevers_of_statement, nevers_of_statements}
 use Rattle.same_flow.specs.SameFlow.{HasPlainParts}
+use Rattle.same_flow.specs.Space.{space_of_statement, space_of_statements, space_of_expressions}
 use Rattle.same_flow.specs.Told.{IsDeclarationPart}
 use Rattle.same_flow.proofs.BlocksFollowed.{Matches, replicate_ends}
 use Rattle.same_flow.proofs.Followed.{Run, Follows, nought, LastTo, last_weaker, append_nothing, append_again, ended_follows}
@@ -39,7 +40,6 @@ use Rattle.same_flow.proofs.RunKeeps.{declared_active}
 use Rattle.same_flow.proofs.StatementsTold.{block_follows}
 use Rattle.same_flow.proofs.StepsTold.{same_active}
 use Rattle.built_flow.specs.BuiltLaid.{FewLocals}
-use Rattle.built_flow.specs.Never.{nevers_of_statement, nevers_of_statements}
 use Rattle.built_flow.proofs.CapturesKept.{highest_stays}
 use Rattle.built_flow.proofs.LaidDeclaring.{declared_stays}
 use Rattle.built_flow.proofs.LaidFlow.{Knows, StatementFound, BodyFinds, close_found, block_found}
@@ -85,7 +85,7 @@ generic_uncaptured names es m =
     subst (λ (a : List Active). Uncaptured a (generic_valued 1 names es m).active) same (activated_uncaptured generic_names three refl)
 
 -- the values of a loop over numbers are in it
-values_fit : (name : Text) (first last : Expression) (by : ForStep) (block : Statements) → room_of_expressions (head_values first last by) ≤ room_of_statement (numeric_for name first last by block)
+values_fit : (name : Text) (first last : Expression) (by : ForStep) (block : Statements) → space_of_expressions (head_values first last by) ≤ space_of_statement (numeric_for name first last by block)
 values_fit name first last no_step block = omega arith
 values_fit name first last (by_step e) block = omega arith
 
@@ -106,7 +106,7 @@ module _ (code : Steps) (params names : List Text) (ahead : Ahead) (plain : HasP
       (t, subst (λ k. flowing.IsClose code.steps hidden end k) number (close_found code params names ahead plain closes hidden m ends end n active follows knows last counts standing.1))
 
   for_found : (s : Statement) → (IsDeclarationPart s → ⊥) → (numeric : Bool) (values : Expressions) (variable_names : List Text) (block : Statements) → BodyFinds code params names ahead plain closes block →
-      room_of_expressions values ≤ room_of_statement s → room_of_statements block ≤ room_of_statement s → nevers_of_statements block ≡ nevers_of_statement s →
+      space_of_expressions values ≤ space_of_statement s → space_of_statements block ≤ space_of_statement s → nevers_of_statements block ≡ nevers_of_statement s →
       (around : Around) (exit : Option Exit) (stop : ℕ) (loop : Option Loop) (m : Maker) (ends : List ℕ) (from to : ℕ) → Follows run nought nought m ends from → Matches loop exit →
       Knows code params names ahead around m.active from → LastTo stop ends → to ≤ stop → from ≤ to → StatementLaid code exit stop s loop m from to →
       (valued begun : Maker) (label foot variables_end : ℕ) → Head run m from label foot to variables_end begun → Uncaptured m.active valued.active → active_count valued ≡ active_count m + 3 →

@@ -23,11 +23,12 @@ use Rattle.recover_flow.specs.declared.regions.Exit as region
 use Rattle.scheme.specs.Making.{Ahead, Maker, active_count, any_captured, captured_from, declare, activate, take_registers}
 use Rattle.scheme.specs.Lists.{adjust}
 use Rattle.scheme.specs.Scheme.{all_coded, inner, statement_made}
-use Rattle.scheme.specs.Shapes.{room_of_statement}
 use Rattle.scheme.specs.Statements.{Loop, settle}
 use Rattle.scheme.specs.declared.making.Active.{Active}
 use Rattle.same_flow.specs.Laid.{Exit, HasStep, LeavesTo, ActLaid, DeclarationLaid, StatementLaid, highest_captured}
+use Rattle.same_flow.specs.Never.{nevers_of_statement}
 use Rattle.same_flow.specs.SameFlow.{HasPlainParts}
+use Rattle.same_flow.specs.Space.{space_of_statement}
 use Rattle.same_flow.specs.Told.{IsActPart, IsDeclarationPart}
 use Rattle.same_flow.proofs.BlocksFollowed.{Matches}
 use Rattle.same_flow.proofs.Followed.{Run, Follows, nought, LastTo, last_weaker, followed}
@@ -37,7 +38,6 @@ use Rattle.same_flow.proofs.RenamedStatements.{statements_rename}
 use Rattle.same_flow.proofs.RunKeeps.{declared_active, one_step_extends}
 use Rattle.same_flow.proofs.StatementsTold.{statement_grows}
 use Rattle.same_flow.proofs.TestsFollowed.{kind_there}
-use Rattle.built_flow.specs.Never.{nevers_of_statement}
 use Rattle.built_flow.proofs.BlocksBuilt.{as_laid}
 use Rattle.built_flow.proofs.CapturesKept.{kept_front, quiet, none_captured, highest_most, highest_stays, highest_low, highest_high}
 use Rattle.built_flow.proofs.LaidDeclaring.{declared_stays, declared_new}
@@ -129,7 +129,7 @@ module _ (code : Steps) (params names : List Text) (ahead : Ahead) (plain : HasP
   pub quiet_found : (s : Statement) → (IsDeclarationPart s → ⊥) → (around : Around) (exit : Option Exit) (stop : ℕ) (loop : Option Loop) (m : Maker) (ends : List ℕ) (from to : ℕ) → Follows run nought nought m ends from →
       Matches loop exit → Knows code params names ahead around m.active from → LastTo stop ends → to ≤ stop → from ≤ to → StatementLaid code exit stop s loop m from to →
       (found : FlowStatement) → FlowStatementLies code.steps around around stop found from to → statement_captures code.steps found ≡ false →
-      (AreInRoom code → flow_statement_levels code.steps found ≤ suc (suc (room_of_statement s) + nevers_of_statement s)) → (is_break found ≡ true → ends_block s ≡ true) →
+      (AreInRoom code → flow_statement_levels code.steps found ≤ suc (suc (space_of_statement s) + nevers_of_statement s)) → (is_break found ≡ true → ends_block s ≡ true) →
       StatementFound code params names ahead around stop s loop m from to
   quiet_found s undeclared around exit stop loop m ends from to follows matches knows l h order standing found lies none levels last =
       let growth = statement_grows run statements_rename plain s exit stop loop m ends from to follows matches l h order standing in

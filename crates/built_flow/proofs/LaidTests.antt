@@ -16,12 +16,13 @@ use Rattle.recover_flow.specs.Flow.{Around, IsTold, IsAt, AreTold}
 use Rattle.recover_flow.specs.Logic.{Logic, test_logic, literal_logic, not_logic, and_logic, or_logic, LogicLies, logic_levels, operators, is_never}
 use Rattle.recover_flow.specs.Lying.{LiteralLies, TestGoes}
 use Rattle.scheme.specs.Expressions.{fold, literal, is_true_constant}
-use Rattle.scheme.specs.Shapes.{logic_count, room_of_expression}
+use Rattle.scheme.specs.Shapes.{logic_count}
 use Rattle.scheme.specs.declared.making.Active.{Active}
 use Rattle.same_flow.specs.Written.{AreInRoom, KindInRoom, NegatedInRoom}
 use Rattle.same_flow.specs.Laid.{IsStep, HasStep, IsNegated, LiteralLaid, LeafLaid, AloneLaid, TestLaid, highest_captured}
+use Rattle.same_flow.specs.Never.{is_other_literal, never_is}
+use Rattle.same_flow.specs.Space.{space_of_expression}
 use Rattle.same_flow.proofs.TestsFollowed.{kind_there}
-use Rattle.built_flow.specs.Never.{is_other_literal, never_is}
 
 -- ---- what is around a step
 
@@ -80,7 +81,7 @@ pub record LogicFound (code : Steps) (e : Expression) (sense : Bool) (target fro
   pub never_false : is_never false logic ≡ never_is false e
   pub never_true : is_never true logic ≡ never_is true e
   pub count : operators logic ≡ logic_count e
-  pub levels : AreInRoom code → logic_levels code.steps logic ≤ suc (room_of_expression e)
+  pub levels : AreInRoom code → logic_levels code.steps logic ≤ suc (space_of_expression e)
 
 same_sense : (when sense : Bool) → when ≡ sense → false ≡ not (beq when sense)
 same_sense true true e = refl
@@ -105,8 +106,8 @@ literal_lies code active true target from to standing = (kind_there standing.0.1
 literal_lies code active false target from to standing = standing
 
 -- `==` takes as much room as the `~=` for which it stands
-negated_room : (levels : ℕ) (tested e : Expression) → IsNegated tested e → NegatedInRoom levels tested → levels ≤ room_of_expression e
-negated_room levels (binary_expression line BinaryOp.Eq left right) e is room = subst (λ x. levels ≤ room_of_expression x) (sym is.1) room
+negated_room : (levels : ℕ) (tested e : Expression) → IsNegated tested e → NegatedInRoom levels tested → levels ≤ space_of_expression e
+negated_room levels (binary_expression line BinaryOp.Eq left right) e is room = subst (λ x. levels ≤ space_of_expression x) (sym is.1) room
 negated_room levels tested e is room = absurd is
 
 -- what a step takes fits in the room of its part
@@ -124,7 +125,7 @@ leaf_found code active e sense target from to never never_true count (when, leve
   levels = λ room.
       let a = (in_room code active from (StepKind.Test when target levels) (condition_part tested) standing room).0 in
       let b : test_levels false (slice_get code.steps from) ≡ standing.0.step.levels = ap (test_levels false) standing.0.there in
-      let c = ap room_of_expression said.0 in
+      let c = ap space_of_expression said.0 in
       omega arith;
 }
 leaf_found code active e sense target from to never never_true count (when, levels, tested, standing, inr said, t) = record {
@@ -152,24 +153,24 @@ alone_found code active e (Some k) sense target from to never never_true count s
 alone_found code active e None sense target from to never never_true count standing = leaf_found code active e sense target from to never never_true count standing
 
 -- what is folded takes the room of a numeral
-folded_room : (e : Expression) → is_some (fold e) ≡ true → room_of_expression e ≡ 4
+folded_room : (e : Expression) → is_some (fold e) ≡ true → space_of_expression e ≡ 4
 folded_room (number_literal line n) h = refl
-folded_room (parenthesized line e) h = ap (λ b. if b then 4 else (1 + room_of_expression e)) h
-folded_room (unary_expression line op e) h = ap (λ b. if b then 4 else (1 + room_of_expression e)) h
-folded_room (binary_expression line op left right) h = ap (λ b. if b then 4 else (1 + max (room_of_expression left) (room_of_expression right))) h
+folded_room (parenthesized line e) h = ap (λ b. if b then 4 else (1 + space_of_expression e)) h
+folded_room (unary_expression line op e) h = ap (λ b. if b then 4 else (1 + space_of_expression e)) h
+folded_room (binary_expression line op left right) h = ap (λ b. if b then 4 else (1 + max (space_of_expression left) (space_of_expression right))) h
 folded_room e h = cc
 
 -- parentheses take no less room than what is in them
-enclosed_room : (line : ℕ) (e : Expression) → room_of_expression e ≤ room_of_expression (parenthesized line e)
+enclosed_room : (line : ℕ) (e : Expression) → space_of_expression e ≤ space_of_expression (parenthesized line e)
 enclosed_room line e = by (is_some (fold e)) refl
   where
-    by : (b : Bool) → is_some (fold e) ≡ b → room_of_expression e ≤ room_of_expression (parenthesized line e)
+    by : (b : Bool) → is_some (fold e) ≡ b → space_of_expression e ≤ space_of_expression (parenthesized line e)
     by true h =
         let a = folded_room e h in
-        let b : room_of_expression (parenthesized line e) ≡ 4 = ap (λ b. if b then 4 else (1 + room_of_expression e)) h in
+        let b : space_of_expression (parenthesized line e) ≡ 4 = ap (λ b. if b then 4 else (1 + space_of_expression e)) h in
         omega arith
     by false h =
-        let b : room_of_expression (parenthesized line e) ≡ 1 + room_of_expression e = ap (λ b. if b then 4 else (1 + room_of_expression e)) h in
+        let b : space_of_expression (parenthesized line e) ≡ 1 + space_of_expression e = ap (λ b. if b then 4 else (1 + space_of_expression e)) h in
         omega arith
 
 both_never : {a b c d : Bool} → a ≡ b → c ≡ d → (a && c) ≡ (b && d)

@@ -1,9 +1,8 @@
 -- Serves the laws. What is built of a plan that lies on the steps of a function stands on them.
 use Rattle.std.specs.Prelude.{◌≡◌, ◌≤◌, ◌+◌, ◌-◌, ◌^◌, ℕ, List, length, None, Some, slice_get}
 use Rattle.lua_num.specs.Bytes.{Text}
-use Rattle.lua_tree.specs.Syntax.{Expression, binary_expression, Statements}
-use Rattle.lua_tree.specs.declared.tree.BinaryOp.{BinaryOp}
-use Rattle.recover_expr.specs.Drafts.{Part, condition_part}
+use Rattle.lua_tree.specs.Syntax.{Statements}
+use Rattle.recover_expr.specs.Drafts.{Part}
 use Rattle.recover_expr.specs.Placing.{Steps}
 use Rattle.recover_expr.specs.declared.steps.Step.{Step}
 use Rattle.recover_flow.specs.Built.{built_body}

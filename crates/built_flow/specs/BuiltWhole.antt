@@ -1,21 +1,16 @@
 -- Serves the laws. What is built of a plan that lies on the steps of a function: it is there, keeps the rules of form, and is no deeper than the plan.
-use Rattle.std.specs.Prelude.{◌≡◌, ◌≤◌, ℕ, suc, true, false, List, length, None, Some, slice_get}
+use Rattle.std.specs.Prelude.{◌≡◌, ◌≤◌, true, false, List, length, None, Some}
 use Rattle.lua_tree.specs.Syntax.{Statements}
-use Rattle.lua_tree.specs.Names.{are_some_names}
-use Rattle.lua_tree.specs.WellFormed.{depth_of_expression, depth_of_expressions, depth_of_statement, depth_of_statements, ends_block, formed_expression, formed_expressions, formed_statement, formed_statements, has_expressions}
-use Rattle.recover_expr.specs.Drafts.{Part, statement_part, values_part, condition_part, head_part}
+use Rattle.lua_tree.specs.WellFormed.{depth_of_statements, formed_statements}
+use Rattle.recover_expr.specs.Drafts.{Part}
 use Rattle.recover_expr.specs.Placing.{Steps}
-use Rattle.recover_expr.specs.Testing.{negated_levels}
 use Rattle.recover_expr.specs.declared.steps.Step.{Step}
-use Rattle.recover_expr.specs.declared.steps.StepKind.{StepKind}
 use Rattle.recover_flow.specs.Built.{built_body}
 use Rattle.recover_flow.specs.Lying.{BodyLies}
 use Rattle.recover_flow.specs.Plans.{Plans, no_plans, and_plan, PlanTree, step_plan, end_plan, do_plan, for_plan, while_plan, repeat_plan, if_plan, ArmPlans, no_arms, last_arm, and_arm, body_levels}
 use Rattle.recover_flow.specs.Standing.{BodyStands}
 use Rattle.recover_flow.specs.declared.regions.BodyAt.{BodyAt}
 use Rattle.same_flow.specs.Written.{ArePartsDeep, ArePartsFormed, HaveParts}
-use Rattle.same_flow.specs.Performed.{part_at}
-use Rattle.same_flow.specs.Told.{PartFits}
 
 -- what lies is built
 abbrev pub LyingIsBuilt : Type 0

@@ -1,26 +1,18 @@
 -- Serves the laws. Statements that stand on the steps of a function lie there, no deeper than the room that they take.
-use Rattle.std.specs.Prelude.{◌≡◌, ◌≤◌, ◌+◌, ◌-◌, ℕ, zero, suc, true, List, ◌++◌, length, None, Some, Option, option_and_then, replicate, slice_get, take}
+use Rattle.std.specs.Prelude.{◌≡◌, ◌≤◌, ◌+◌, suc, true, List, length, None}
 use Rattle.lua_num.specs.Bytes.{Text}
-use Rattle.lua_tree.specs.Syntax.{Expression, binary_expression, Statements}
+use Rattle.lua_tree.specs.Syntax.{Statements}
 use Rattle.lua_tree.specs.WellFormed.{formed_statements}
-use Rattle.lua_tree.specs.declared.tree.BinaryOp.{BinaryOp}
-use Rattle.recover_expr.specs.Drafts.{Part, statement_part, values_part, condition_part, head_part}
 use Rattle.recover_expr.specs.Placing.{Steps}
-use Rattle.recover_expr.specs.declared.steps.Step.{Step}
-use Rattle.recover_expr.specs.declared.steps.StepKind.{StepKind}
-use Rattle.recover_flow.specs.Asked.{kind_at}
 use Rattle.recover_flow.specs.Flow.{Around, Flow, FlowLies, flow_levels}
 use Rattle.same_flow.specs.Written.{AreInRoom}
 use Rattle.same_flow.specs.Declaring.{ClosesTell}
 use Rattle.same_flow.specs.Laid.{highest_captured}
-use Rattle.same_flow.specs.Listed.{before_place}
-use Rattle.same_flow.specs.Performed.{part_at, performed_to}
+use Rattle.same_flow.specs.Never.{nevers_of_statements}
 use Rattle.same_flow.specs.SameFlow.{AreLaid, HasPlainParts, begun_of}
-use Rattle.same_flow.specs.Told.{at_beginning}
+use Rattle.same_flow.specs.Space.{space_of_statements}
 use Rattle.scheme.specs.Making.{Ahead, active_count}
-use Rattle.scheme.specs.Shapes.{room_of_expression, room_of_expressions, room_of_statement, room_of_statements}
 use Rattle.built_flow.specs.BuiltLaid.{FewLocals}
-use Rattle.built_flow.specs.Never.{nevers_of_statements}
 
 -- ---- steps that need no more levels than what they have of the source takes
 
@@ -35,7 +27,7 @@ pub record LaidLies (code : Steps) (params names : List Text) (ahead : Ahead) (b
   pub flow : Flow
   pub behind : Around
   pub lies : FlowLies code.steps (around_of params names ahead) behind (length code.steps) flow 0 (length code.steps)
-  pub levels : AreInRoom code → flow_levels code.steps flow ≤ suc (room_of_statements block + nevers_of_statements block)
+  pub levels : AreInRoom code → flow_levels code.steps flow ≤ suc (space_of_statements block + nevers_of_statements block)
 
 abbrev pub LaidLie : Type 0
 LaidLie =

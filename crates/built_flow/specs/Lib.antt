@@ -1,4 +1,3 @@
 pub mod BuiltLaid
 pub mod BuiltWhole
 pub mod LaidLie
-pub mod Never

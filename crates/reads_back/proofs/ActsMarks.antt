@@ -21,7 +21,7 @@ use Rattle.scheme_stands.specs.Words.{Fn}
 use Rattle.reads_back.specs.Acted.{Acted, AreActTargets, AreAssigned, Assigns, assigned_levels, assigned_statement, function_in, AreTargets, AreValues, AreWithOperand, Assigned, EndWithOperand, IsAct, IsActTarget, IsActed, IsTarget, IsVariableTarget, act_statement, assigned, called, can_act, can_write_last, can_write_targets, declared, last_target, left_by_targets, returned, taken_behind_targets, words_assigned, words_targets, declared_function, local_by}
 use Rattle.reads_back.specs.Cores.{AllHaveCores, IsVariable, ends_open}
 use Rattle.reads_back.proofs.ActsFormed.{can_be_read, value_of_target, written_as_value}
-use Rattle.reads_back.proofs.Marks.{ArePartsLeft, IsPartLeft, SamePart, both_assoc, both_same, nothing_behind, operand_part, part_back, part_of, part_of_operand, part_then, parts_of, same_part, values_part, word_part}
+use Rattle.reads_back.proofs.Marks.{ArePartsLeft, IsPartLeft, SamePart, both_assoc, both_same, exact_part, nothing_behind, operand_part, part_back, part_of, part_of_operand, part_then, parts_of, same_part, values_part, word_part}
 use Rattle.reads_back.proofs.FunctionsLeft.{each_by_target, each_by_targets, each_by_values, left_there}
 use Rattle.reads_back.proofs.DeclaredValues.{assigned_part, assigned_parts, declared_parts, last_part}
 use Rattle.reads_back.proofs.MarksSame.{ArePartsMade, key_part, list_part, marks_of, of_operand, OwnPartsMade}
@@ -35,7 +35,7 @@ use Rattle.reads_back.proofs.WordsRead.{IsFunction}
 
 module _ (at : Place) (of : ℕ → Part) where
   target_part : (t : TargetValue) (n : ℕ) (fs : List (Option Inner)) → ArePartsLeft of fs → can_write_target at fs t ≡ true → SamePart (expression_part (word_target at n fs t).words) (part_of at of (value_of_target t))
-  target_part t n fs parts_left can = part_then (λ here. ap (λ w. expression_part w.words here) (written_as_value at n fs t)) (word_part at of (value_of_target t) n fs parts_left (can_be_read at fs t can))
+  target_part t n fs parts_left can = part_then (exact_part (λ here. ap (λ w. expression_part w.words here) (written_as_value at n fs t))) (word_part at of (value_of_target t) n fs parts_left (can_be_read at fs t can))
 
 module _ (at : Place) (of : ℕ → Part) where
   -- the path of a target mentions what the target does
@@ -101,15 +101,15 @@ module _ {f : Function} {g : Fn} {active : List Active} {listed : List ℕ} (is_
   ended_part no_expressions o before behind vs has few is = absurd is
   ended_part (syntax.expression e no_expressions) o before behind vs has few is =
       let last = of_operand is_function listed_names of parts_made e before behind o (literal e) refl (marks_of is_function listed_names of parts_made e has.0 (omega (arith, few))).one is.1 in
-      part_then (both_same (λ place. ap (λ vs. parts_of at of vs place) is.0) last) (part_back (nothing_behind (expression_part (one_line_expression e))))
+      part_then (both_same (exact_part (λ place. ap (λ vs. parts_of at of vs place) is.0)) last) (part_back (nothing_behind (expression_part (one_line_expression e))))
   ended_part (syntax.expression e (syntax.expression d es)) o before behind vs has few (mid, is) =
-      let front : SamePart (parts_of at of vs) (both (part_of at of is.0) (parts_of at of is.1)) = λ place. ap (λ vs. parts_of at of vs place) is.4 in
+      let front : SamePart (parts_of at of vs) (both (part_of at of is.0) (parts_of at of is.1)) = exact_part (λ place. ap (λ vs. parts_of at of vs place) is.4) in
       part_then (both_same front (same_part (part_of_operand at of o)))
       (part_then (both_assoc (part_of at of is.0) (parts_of at of is.1) (part_of_operand at of o)) (both_same ((marks_of is_function listed_names of parts_made e has.0 (omega (arith, few))).one before mid is.0 is.2) (ended_part (syntax.expression d es) o mid behind is.1 has.1 (omega (arith, few)) is.3)))
 
   values_marks : (es : Expressions) (ts : List TargetValue) (before behind : ℕ) (to : Assigned) → AllHaveCores es → depth_of_expressions es ≤ 200 → AreWithOperand g active ts es before behind to ⊎ AreValues g active ts es before behind to → SamePart (assigned_part at of to) (expressions_part (one_line_expressions es))
   values_marks es ts before behind to has few (inl is) =
-      part_then (both_same (same_part (parts_of at of to.values)) (λ place. ap (λ (last : Option OperandValue). last_part at of last place) is.5)) (ended_part es is.2 before behind to.values has few is.3)
+      part_then (both_same (same_part (parts_of at of to.values)) (exact_part (λ place. ap (λ (last : Option OperandValue). last_part at of last place) is.5))) (ended_part es is.2 before behind to.values has few is.3)
   values_marks es ts before behind to has few (inr is) =
       part_then (assigned_parts at of (length ts) (last_target ts) (ends_open es) is.0 to is.3) (list_part is_function listed_names of parts_made es has (omega (arith, few)) before behind is.0 is.1)
 
@@ -152,22 +152,24 @@ module _ {f : Function} {g : Fn} {active : List Active} {listed : List ℕ} (is_
   act_marks (local_statement names es) few own parts before behind (declared others vs all) n left parts_left has is can =
       let made = part_then (declared_parts at of (length names) (ends_open es) is.1 vs all is.3) (list_part is_function listed_names of parts_made es has.1 (omega (arith, few)) before behind is.1 is.2) in
       let values = part_then (values_part at of vs all n left parts_left can) made in
-      λ here. ap (λ names. both (declares 1 0 names) (both (expressions_part (word_values at n left vs all).words) (come 0 names here.declarations)) here) is.0
-      ∙ both_same (same_part (declares 1 0 names)) (both_same values (same_part (come 0 names here.declarations))) here
+      part_then
+      (exact_part (λ here. ap (λ names. both (declares 1 0 names) (both (expressions_part (word_values at n left vs all).words) (come 0 names here.declarations)) here) is.0))
+      (record { each = λ here. (both_same (same_part (declares 1 0 names)) (both_same values (same_part (come 0 names here.declarations)))).each here })
   act_marks (return_statement es) few own parts before behind (returned vs all) n left parts_left has is can = part_then (values_part at of vs all n left parts_left can) (list_part is_function listed_names of parts_made es has (omega (arith, few)) before behind vs is.0)
   act_marks (local_function text body) few own parts before behind (declared others vs all) n left parts_left has (counts, c, as_many, next, other) can =
-      let values = part_then (values_part at of vs all n left parts_left can) (part_then (λ here. ap (λ vs. parts_of at of vs here) other.2) (nothing_behind (of before))) in
-      let given = part_then values (λ here. ap (λ number. of number here) (sym as_many)) in
+      let values = part_then (values_part at of vs all n left parts_left can) (part_then (exact_part (λ here. ap (λ vs. parts_of at of vs here) other.2)) (nothing_behind (of before))) in
+      let given = part_then values (exact_part (λ here. ap (λ number. of number here) (sym as_many))) in
       part_then
-      (λ here. ap (λ names. both (declares 1 0 names) (both (expressions_part (word_values at n left vs all).words) (come 0 names here.declarations)) here) other.1
-      ∙ both_same (same_part (declares 1 0 (text ∷ []))) (both_same given (same_part (come 0 (text ∷ []) here.declarations))) here)
-      (given_marks is_function of text body own parts has.1 (omega (arith, few)) c next other.0)
+      (exact_part (λ here. ap (λ names. both (declares 1 0 names) (both (expressions_part (word_values at n left vs all).words) (come 0 names here.declarations)) here) other.1))
+      (part_then
+      (record { each = λ here. (both_same (same_part (declares 1 0 (text ∷ []))) (both_same given (same_part (come 0 (text ∷ []) here.declarations)))).each here })
+      (given_marks is_function of text body own parts has.1 (omega (arith, few)) c next other.0))
   act_marks (local_function text body) few own parts before behind (declared_function name number) n left parts_left has (counts, c, as_many, next, same) can =
       by (function_left left number) (λ found there. left_there (IsPartLeft of) number left found parts_left there) can
     where
       by : (found : Option Inner) → ((one : Inner) → found ≡ Some one → SamePart (body_part false one.body) (of number)) → is_some found ≡ true → SamePart (statement_part 1 (local_by name found)) (statement_part 1 (one_line_statement (local_function text body)))
       by None part some = not_so some
       by (Some found) part some =
-          part_then (λ here. ap (λ name. statement_part 1 (local_function name found.body) here) same.1)
-          (own_marks is_function of text body own parts has.1 (omega (arith, few)) c next found (part_then (part found refl) (λ here. ap (λ number. of number here) (same.2 ∙ sym as_many))))
+          part_then (exact_part (λ here. ap (λ name. statement_part 1 (local_function name found.body) here) same.1))
+          (own_marks is_function of text body own parts has.1 (omega (arith, few)) c next found (part_then (part found refl) (exact_part (λ here. ap (λ number. of number here) (same.2 ∙ sym as_many)))))
   act_marks s few own parts before behind acted n left parts_left has is can = absurd is

@@ -1,5 +1,4 @@
 -- An assignment that is written of what was read makes the same words.
-use Rattle.scheme.specs.Shapes.{room_of_expressions, room_of_statement, room_of_expression}
 use Rattle.std.proofs.Common.{◌≡◌, ℕ, suc, ◌+◌, ◌-◌, ◌*◌, ◌≤◌, ◌<◌, Bool, true, false, cond, List, [], ◌∷◌, ◌++◌, length, nat_lt, Option, Some, None, refl, sym, ap, ap₂, ◌∙◌, subst, arith, inl, inr, ◌⊎◌, max}
 use Rattle.std.proofs.lemmas.Bool.{eq-eqb, eqb-false, eqb-true, ltb-false, ltb-true, ne_eqb}
 use Rattle.std.specs.Prelude.{◌&&◌, ◌==◌, not, if◌then◌else◌}
@@ -25,6 +24,7 @@ use Rattle.scheme_stands.proofs.Growth.{Final, before as before_part, calm, late
 use Rattle.scheme_stands.proofs.Lines.{grows_adjust}
 use Rattle.scheme_stands.proofs.Parts.{AllGrow, grow_all}
 use Rattle.scheme_stands.specs.Words.{Fn}
+use Rattle.same_flow.specs.Space.{space_of_expressions, space_of_statement, space_of_expression}
 use Rattle.reads_back.specs.Acted.{AreActTargets, AreAssigned, AreTargets, AreValues, AreWithOperand, Assigned, EndWithOperand, Assigns, IsActTarget, IsTarget, all_named_behind, assigned, can_write_last, is_part, last_target, left_by_last, left_by_targets, some_missing, taken_behind_last, taken_behind_targets, with_last_nil, words_assigned, words_targets, can_act, named_by, lean_assignment, function_in}
 use Rattle.reads_back.specs.Cores.{AllHaveCores, AreCores, IsCore, ends_open}
 use Rattle.reads_back.proofs.AdjustedEntries.{count_last}
@@ -106,14 +106,14 @@ module _ (f : Function) (g : Fn) (active : List Active) (listed : List ℕ) (z :
     can : (can_write_values (place f.of listed f.short) (lefts before) to.values && can_write_last (place f.of listed f.short) (left_by_values to.values (lefts before)) to.last) ≡ true
     leaves : left_by_last to.last (left_by_values to.values (lefts before)) ≡ lefts behind
     makes : behind ≡ made_behind (mentions_in_all es) before
-    few : (n : ℕ) → (words_assigned (place f.of listed f.short) n (lefts before) to.values to.all to.last).levels ≤ 3 * depth_of_expressions es + 3
+    few : (n : ℕ) → (words_assigned (place f.of listed f.short) n (lefts before) to.values to.all to.last).levels ≤ 3 * depth_of_expressions es + 203
     goes : (placed : List (Placed g)) → targets_of placed ≡ ts → Goes f g active listed z before placed es (λ n. assigned_coded (place f.of listed f.short) n (lefts before) to) (taken_by to)
-        (λ n. (words_assigned (place f.of listed f.short) n (lefts before) to.values to.all to.last).levels) (max (room_of_expressions es) (nil_room to.last))
+        (λ n. (words_assigned (place f.of listed f.short) n (lefts before) to.values to.all to.last).levels) (max (space_of_expressions es) (nil_room to.last))
 
 -- ---- as many values as targets, and others
 
 module _ {f : Function} {g : Fn} {active : List Active} {listed : List ℕ} {z : Maker} {before : ℕ} (placed : List (Placed g)) (es : Expressions) where
-  each_goes : (written : ℕ → List Coded) (taken levels each_levels : ℕ → ℕ) (most : ℕ) → ((n : ℕ) → levels n ≤ each_levels n) → room_of_expressions es ≤ most → length (codes_of es) ≡ length (places placed) → ((n : ℕ) → length (written n) ≡ length (places placed)) → EachSame f g active listed z before placed es written taken each_levels →
+  each_goes : (written : ℕ → List Coded) (taken levels each_levels : ℕ → ℕ) (most : ℕ) → ((n : ℕ) → levels n ≤ each_levels n) → space_of_expressions es ≤ most → length (codes_of es) ≡ length (places placed) → ((n : ℕ) → length (written n) ≡ length (places placed)) → EachSame f g active listed z before placed es written taken each_levels →
       Goes f g active listed z before placed es written taken levels most
   each_goes written taken levels each_levels most less roomy exact counts each = record {
     same = λ m ahead final. goes_each placed (written (length m.constants)) m (counts (length m.constants)) ∙ each.same m ahead (inner m final) ∙ sym (goes_each placed (codes_of es) m exact);
@@ -125,7 +125,7 @@ module _ {f : Function} {g : Fn} {active : List Active} {listed : List ℕ} {z :
       inner m final = subst (λ (n : Maker). Final (length m.labels) n z) (goes_each placed (codes_of es) m exact) final
 
   adjusted_goes : (lefts : ℕ → List (Option Inner)) (behind : ℕ) (made : IsMadeBy f g active listed z) (vs : Values) (all : Bool) → (es ≡ no_expressions → vs ≡ no_values) → (length (codes_of es) ≡ length (places placed) → ⊥) → (value_count vs ≡ length (places placed) → ⊥) → Adjusts f g active listed z lefts before behind (length (places placed)) es vs all →
-      Goes f g active listed z before placed es (λ n. values_coded (place f.of listed f.short) n (lefts before) vs all) (taken_behind_values vs) (λ n. (word_values (place f.of listed f.short) n (lefts before) vs all).levels) (max (room_of_expressions es) 0)
+      Goes f g active listed z before placed es (λ n. values_coded (place f.of listed f.short) n (lefts before) vs all) (taken_behind_values vs) (λ n. (word_values (place f.of listed f.short) n (lefts before) vs all).levels) (max (space_of_expressions es) 0)
   adjusted_goes lefts behind made vs all some other written_other adjusts = record {
     same = λ m ahead final.
         goes_adjusted placed (written (length m.constants)) m (λ same. written_other (sym (coded_count (place f.of listed f.short) (length m.constants) (lefts before) vs all) ∙ same))
@@ -150,7 +150,7 @@ module _ {f : Function} {g : Fn} {active : List Active} {listed : List ℕ} {z :
   -- one value is missing: it is a nil, as if one stood there in parentheses
   nil_goes : (written : ℕ → List Coded) (taken levels each_levels : ℕ → ℕ) (most : ℕ) → suc (length (codes_of es)) ≡ length (places placed) → ends_open es ≡ false → LastNoLocal (last_target (targets_of placed)) → ((n : ℕ) → length (written n) ≡ length (places placed)) →
       EachSame f g active listed z before placed (and_nil es) written taken each_levels →
-      (f.short ≡ true → formed_expressions es ≡ true → (m : Maker) → IsAhead g active before (mentions_in_all es) m → Final (length m.labels) (goes_to placed (codes_of es) m) z → (formed_expressions (and_nil es) ≡ true → each_levels (length m.constants) ≤ room_of_expressions (and_nil es)) → levels (length m.constants) ≤ most) →
+      (f.short ≡ true → formed_expressions es ≡ true → (m : Maker) → IsAhead g active before (mentions_in_all es) m → Final (length m.labels) (goes_to placed (codes_of es) m) z → (formed_expressions (and_nil es) ≡ true → each_levels (length m.constants) ≤ space_of_expressions (and_nil es)) → levels (length m.constants) ≤ most) →
       Goes f g active listed z before placed es written taken levels most
   nil_goes written taken levels each_levels most exact closed no_local counts each in_room = record {
     same = λ m ahead final. goes_each placed (written (length m.constants)) m (counts (length m.constants)) ∙ each.same m (nil_ahead m ahead) (inner m final) ∙ sym (nil_is m);
@@ -202,7 +202,7 @@ nil_formed : (es : Expressions) → formed_expressions es ≡ true → formed_ex
 nil_formed no_expressions formed = refl
 nil_formed (syntax.expression e es) formed = both_hold _ _ (first_of_both _ _ formed) (nil_formed es (second_of_both (formed_expression e) _ formed))
 
-nil_roomy : (es : Expressions) → room_of_expressions (and_nil es) ≡ max (room_of_expressions es) 2
+nil_roomy : (es : Expressions) → space_of_expressions (and_nil es) ≡ max (space_of_expressions es) 2
 nil_roomy no_expressions = omega arith
 nil_roomy (syntax.expression e es) = omega (arith, nil_roomy es)
 
@@ -210,7 +210,7 @@ given_some : {A : Type 0} (es : Expressions) → has_expressions es ≡ true →
 given_some no_expressions given none = not_so given
 given_some (syntax.expression e es) given none = cc
 
-some_rooms : (es : Expressions) → has_expressions es ≡ true → 1 ≤ room_of_expressions es
+some_rooms : (es : Expressions) → has_expressions es ≡ true → 1 ≤ space_of_expressions es
 some_rooms no_expressions some = not_so some
 some_rooms (syntax.expression e es) some = omega (arith, some_room e)
 
@@ -251,7 +251,7 @@ module _ {f : Function} {g : Fn} {active : List Active} {listed : List ℕ} {z :
         goes = λ placed is.
             let count = place_count placed is in
             let counts = end_count g active es before behind vs o are ∙ exact ∙ sym count in
-            each_goes placed es (λ n. with_operand_coded at n left vs o) (λ n. taken_behind_operand o (taken_behind_values vs n)) (λ n. (words_assigned at n left vs true (Some o)).levels) (λ n. with_operand_levels at n left vs o) (max (room_of_expressions es) (nil_room (Some o)))
+            each_goes placed es (λ n. with_operand_coded at n left vs o) (λ n. taken_behind_operand o (taken_behind_values vs n)) (λ n. (words_assigned at n left vs true (Some o)).levels) (λ n. with_operand_levels at n left vs o) (max (space_of_expressions es) (nil_room (Some o)))
             (λ n. omega (arith, operand_levels_are at n left vs o)) (omega arith) counts (λ n. operand_count at n left vs o ∙ exact ∙ sym count)
             (each_with_operand lefts made placed es before behind vs o counts (ap is_part (last_is placed is) ∙ part) has written are);
       }
@@ -262,12 +262,12 @@ module _ {f : Function} {g : Fn} {active : List Active} {listed : List ℕ} {z :
 
     -- only values
     values_store : (vs : Values) (all : Bool) → Adjusts f g active listed z lefts before behind (length ts) es vs all →
-        ((placed : List (Placed g)) → targets_of placed ≡ ts → Goes f g active listed z before placed es (λ n. values_coded (place f.of listed f.short) n left vs all) (taken_behind_values vs) (λ n. (word_values (place f.of listed f.short) n left vs all).levels) (max (room_of_expressions es) 0)) → IsStored (record { values = vs; all = all; last = None })
+        ((placed : List (Placed g)) → targets_of placed ≡ ts → Goes f g active listed z before placed es (λ n. values_coded (place f.of listed f.short) n left vs all) (taken_behind_values vs) (λ n. (word_values (place f.of listed f.short) n left vs all).levels) (max (space_of_expressions es) 0)) → IsStored (record { values = vs; all = all; last = None })
     values_store vs all adjusts goes = record {
       can = both_hold _ _ adjusts.can refl;
       leaves = adjusts.leaves;
       makes = adjusts.makes;
-      few = λ n. omega (arith, list_few (place f.of listed f.short) (3 * depth_of_expressions es + 2) n left vs all (adjusts.fine n));
+      few = λ n. omega (arith, list_few (place f.of listed f.short) (3 * depth_of_expressions es + 202) n left vs all (adjusts.fine n));
       goes = goes;
     }
 
@@ -277,7 +277,7 @@ module _ {f : Function} {g : Fn} {active : List Active} {listed : List ℕ} {z :
         let at = place f.of listed f.short in
         values_store from true (more_written lefts made (length ts) es before behind from has written are (omega (arith, exact))) (λ placed is.
         let counts = exact ∙ sym (place_count placed is) in
-        each_goes placed es (λ n. values_coded at n left from true) (taken_behind_values from) (λ n. (word_values at n left from true).levels) (λ n. (word_values at n left from true).levels) (max (room_of_expressions es) 0) (λ n. omega arith) (omega arith) (as_many ∙ counts) (λ n. coded_count at n left from true ∙ counts)
+        each_goes placed es (λ n. values_coded at n left from true) (taken_behind_values from) (λ n. (word_values at n left from true).levels) (λ n. (word_values at n left from true).levels) (max (space_of_expressions es) 0) (λ n. omega arith) (omega arith) (as_many ∙ counts) (λ n. coded_count at n left from true ∙ counts)
         (each_values lefts made placed es before behind from (as_many ∙ counts) (ap is_part (last_is placed is) ∙ no_part) has written are))
 
     -- fewer values or more: they are adjusted
@@ -301,7 +301,7 @@ module _ {f : Function} {g : Fn} {active : List Active} {listed : List ℕ} {z :
           let so = last_is placed is ∙ last in
           let words = λ (n : ℕ). (word_values at n left (and_last_value from nil_value) true).levels in
           let adjusts = subst (λ count. Adjusts f g active listed z lefts before behind count es (and_last_value from nil_value) true) (sym (place_count placed is)) (nil_written lefts made (length ts) es before behind from has written are fewer closed exact) in
-          nil_goes placed es (λ n. values_coded at n left (and_last_value from nil_value) true) (taken_behind_values (and_last_value from nil_value)) words words (max (room_of_expressions es) 0) (ap suc as_many ∙ count) closed (subst LastNoLocal (sym so) no_local)
+          nil_goes placed es (λ n. values_coded at n left (and_last_value from nil_value) true) (taken_behind_values (and_last_value from nil_value)) words words (max (space_of_expressions es) 0) (ap suc as_many ∙ count) closed (subst LastNoLocal (sym so) no_local)
           (λ n. coded_count at n left (and_last_value from nil_value) true ∙ count_last from nil_value ∙ count)
           (each_values lefts made placed (and_nil es) before behind (and_last_value from nil_value) (nil_count es ∙ ap suc as_many ∙ count) (ap is_part so ∙ no_part) (nil_have es has) (nil_all_rewritten lefts made es written) (nil_cores g active es before behind from are))
           (λ short formed m ahead final other. omega (arith, adjusts.low (given_some es given) short formed m ahead (adjust_final placed es (λ same. omega (arith, same, ap suc as_many ∙ count)) m final))))
@@ -315,11 +315,11 @@ module _ {f : Function} {g : Fn} {active : List Active} {listed : List ℕ} {z :
             can = both_hold _ _ closed_values.can refl;
             leaves = closed_values.leaves;
             makes = closed_values.makes;
-            few = λ n. omega (arith, list_few at (3 * depth_of_expressions es + 2) n left from true (closed_values.fine n), nil_few at (taken_behind_values from n) (left_by_values from left));
+            few = λ n. omega (arith, list_few at (3 * depth_of_expressions es + 202) n left from true (closed_values.fine n), nil_few at (taken_behind_values from n) (left_by_values from left));
             goes = λ placed is.
                 let count = exact ∙ sym (place_count placed is) in
                 let so = last_is placed is ∙ last in
-                nil_goes placed es (λ n. with_operand_coded at n left from nil) (λ n. taken_behind_operand nil (taken_behind_values from n)) (λ n. (words_assigned at n left from true (Some nil)).levels) (λ n. with_operand_levels at n left from nil) (max (room_of_expressions es) 2) (ap suc as_many ∙ count) closed (subst LastNoLocal (sym so) no_local)
+                nil_goes placed es (λ n. with_operand_coded at n left from nil) (λ n. taken_behind_operand nil (taken_behind_values from n)) (λ n. (words_assigned at n left from true (Some nil)).levels) (λ n. with_operand_levels at n left from nil) (max (space_of_expressions es) 2) (ap suc as_many ∙ count) closed (subst LastNoLocal (sym so) no_local)
                 (λ n. operand_count at n left from nil ∙ count)
                 (each_with_operand lefts made placed (and_nil es) before behind from nil (nil_count es ∙ ap suc as_many ∙ count) (ap is_part so ∙ part) (nil_have es has) (nil_all_rewritten lefts made es written) (nil_operand g active es before behind from are))
                 (λ short formed m ahead final other. let low = other (nil_formed es formed) in omega (arith, low, nil_roomy es, operand_levels_are at (length m.constants) left from nil));
@@ -389,7 +389,7 @@ module _ {f : Function} {g : Fn} {active : List Active} {listed : List ℕ} {z :
     es_go : assign_part 1 (codes_of targets) (codes_of es) m ≡ goes_to placed_there (codes_of es) (places_of m).after
     es_go = goes_there (codes_of es) (length (codes_of targets)) first.count
 
-    goes : Goes f g active listed z mid placed_there es (λ n. assigned_coded (place f.of listed f.short) n (lefts mid) to) (taken_by to) (λ n. (words_assigned (place f.of listed f.short) n (lefts mid) to.values to.all to.last).levels) (max (room_of_expressions es) (nil_room to.last))
+    goes : Goes f g active listed z mid placed_there es (λ n. assigned_coded (place f.of listed f.short) n (lefts mid) to) (taken_by to) (λ n. (words_assigned (place f.of listed f.short) n (lefts mid) to.values to.all to.last).levels) (max (space_of_expressions es) (nil_room to.last))
     goes = stores.goes placed_there (targets_are g ts (places_of m).value are_there)
 
     module _ (final : Final (length m.labels) (assign_part 1 (codes_of targets) (codes_of es) m) z) where
@@ -432,7 +432,7 @@ module _ {f : Function} {g : Fn} {active : List Active} {listed : List ℕ} {z :
           ∙ ap₂ (λ ts n. all_named_behind ts (taken_by to n)) (targets_are g ts (places_of m).value are_there) (sym taken_there)
 
       -- in the forms of fewest levels
-      values_low : f.short ≡ true → formed_expressions es ≡ true → (words_assigned (place f.of listed f.short) (taken_behind_targets ts (length m.constants)) (left_by_targets ts (lefts before)) to.values to.all to.last).levels ≤ max (room_of_expressions es) (nil_room to.last)
+      values_low : f.short ≡ true → formed_expressions es ≡ true → (words_assigned (place f.of listed f.short) (taken_behind_targets ts (length m.constants)) (left_by_targets ts (lefts before)) to.values to.all to.last).levels ≤ max (space_of_expressions es) (nil_room to.last)
       values_low short formed =
           let low = goes.low short formed (places_of m).after es_ahead goes_later in
           let same = ap₂ (λ n fs. (words_assigned (place f.of listed f.short) n fs to.values to.all to.last).levels) taken_there first.leaves in
@@ -443,7 +443,7 @@ module _ {f : Function} {g : Fn} {active : List Active} {listed : List ℕ} {z :
 
   -- where what is no function statement is as deep as it is
   stores_act : (named_by (place f.of listed f.short) ts to.values to.last ≡ None → depth_of_statement (assignment targets es) ≤ lean_assignment targets es) →
-      (named_by (place f.of listed f.short) ts to.values to.last ≡ None → room_of_statement (assignment targets es) ≤ lean_room_assignment targets es) → (has_expressions targets ≡ true → nil_room to.last ≤ room_of_expressions targets) →
+      (named_by (place f.of listed f.short) ts to.values to.last ≡ None → space_of_statement (assignment targets es) ≤ lean_room_assignment targets es) → (has_expressions targets ≡ true → nil_room to.last ≤ space_of_expressions targets) →
       RewrittenAct f g active listed z lefts before behind (assignment targets es) (assigned ts to.values to.all to.last)
   stores_act lean lean_room nil_low =
       let at = place f.of listed f.short in
@@ -455,7 +455,7 @@ module _ {f : Function} {g : Fn} {active : List Active} {listed : List ℕ} {z :
             let next = taken_behind_targets ts n in
             let same = ap (λ fs. (words_assigned at next fs to.values to.all to.last).levels) first.leaves in
             let few = stores.few next in
-            let high = named_few at n (lefts before) to.values to.all to.last ts (3 * lean_assignment targets es + 3) can_store (λ none. omega (arith, first.few n, same, few, lean none)) (λ only is. omega (arith, same, few, lean_values targets es)) in
+            let high = named_few at n (lefts before) to.values to.all to.last ts (3 * lean_assignment targets es + 203) can_store (λ none. omega (arith, first.few n, same, few, lean none)) (λ only is. omega (arith, same, few, lean_values targets es)) in
             omega (arith, high);
         low = λ short formed m ahead final.
             let n = length m.constants in
@@ -486,13 +486,13 @@ module _ {f : Function} {g : Fn} {active : List Active} {listed : List ℕ} {z :
   targets_same targets before behind ts has written are = absurd are
 
   -- a part of a table has room for two levels
-  part_room : (targets : Expressions) (before behind : ℕ) (ts : List TargetValue) → AreTargets g active targets before behind ts → is_part (last_target ts) ≡ true → 2 ≤ room_of_expressions targets
+  part_room : (targets : Expressions) (before behind : ℕ) (ts : List TargetValue) → AreTargets g active targets before behind ts → is_part (last_target ts) ≡ true → 2 ≤ space_of_expressions targets
   part_room no_expressions before behind [] are part = not_so part
   part_room no_expressions before behind (t ∷ ts) are part = absurd are
   part_room (syntax.expression target targets) before behind [] are part = absurd are
   part_room (syntax.expression target targets) before behind (t ∷ []) are part = let one = alone target before are.0 t are.1 part in omega (arith, one)
     where
-      alone : (target : Expression) (before behind : ℕ) (t : TargetValue) → IsTarget g active target before behind t → is_part (Some t) ≡ true → 2 ≤ room_of_expression target
+      alone : (target : Expression) (before behind : ℕ) (t : TargetValue) → IsTarget g active target before behind t → is_part (Some t) ≡ true → 2 ≤ space_of_expression target
       alone (name_expression line text) before behind t is part = name_no_part g text is.1 t is.3 part
       alone (index_expression line on key) before behind t is part = omega (arith, some_room on)
       alone (field_expression line on text) before behind t is part = omega (arith, some_room on)
@@ -508,15 +508,15 @@ module _ {f : Function} {g : Fn} {active : List Active} {listed : List ℕ} {z :
   missing_last true None vs = inr refl
   missing_last false t vs = inr refl
 
-  nil_in_room : (targets es : Expressions) (before mid behind : ℕ) (ts : List TargetValue) (to : Assigned) → AreTargets g active targets before mid ts → AreWithOperand g active ts es mid behind to ⊎ AreValues g active ts es mid behind to → nil_room to.last ≤ room_of_expressions targets
+  nil_in_room : (targets es : Expressions) (before mid behind : ℕ) (ts : List TargetValue) (to : Assigned) → AreTargets g active targets before mid ts → AreWithOperand g active ts es mid behind to ⊎ AreValues g active ts es mid behind to → nil_room to.last ≤ space_of_expressions targets
   nil_in_room targets es before mid behind ts to are (inl values) = omega (arith, part_room targets before mid ts are values.0, nil_two to.last)
   nil_in_room targets es before mid behind ts to are (inr values) = by (not (ends_open es) && nat_lt (value_count values.0) (length ts)) values.3
     where
-      either : (is_part (last_target ts) ≡ true) ⊎ (nil_room to.last ≡ 0) → nil_room to.last ≤ room_of_expressions targets
+      either : (is_part (last_target ts) ≡ true) ⊎ (nil_room to.last ≡ 0) → nil_room to.last ≤ space_of_expressions targets
       either (inl part) = omega (arith, part_room targets before mid ts are part, nil_two to.last)
       either (inr none) = omega (arith, none)
 
-      by : (missing : Bool) → (if missing then some_missing (suc (value_count values.0) == length ts) (last_target ts) values.0 else record { values = values.0; all = true; last = None }) ≡ to → nil_room to.last ≤ room_of_expressions targets
+      by : (missing : Bool) → (if missing then some_missing (suc (value_count values.0) == length ts) (last_target ts) values.0 else record { values = values.0; all = true; last = None }) ≡ to → nil_room to.last ≤ space_of_expressions targets
       by true is = either (subst (λ (to : Assigned). (is_part (last_target ts) ≡ true) ⊎ (nil_room to.last ≡ 0)) is (missing_last (suc (value_count values.0) == length ts) (last_target ts) values.0))
       by false is = either (inr (sym (ap (λ (to : Assigned). nil_room to.last) is)))
 

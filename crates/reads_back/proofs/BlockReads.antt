@@ -303,7 +303,7 @@ module _ {f : Function} {g : Fn} {z : Maker} {lefts : ℕ → List (Option Inner
       ∙ ap (λ n. if n == 0 then words_from f (suc (f.last - pc)) pc step else None) none
       ∙ act.reads (suc (f.last - pc)) (omega (arith, act.later, within))
 
-  one_step : {s : Statement} {rest : Statements} {m : Maker} (most roomy line : ℕ) (semi : Bool) (drafts : List Drafted) (now : Situation) (next : ComesNext f g z (syntax.statement line semi s rest) m) → formed_statement s ≡ true → 3 * lean_depth s + 4 ≤ most → suc (lean_room s) ≤ roomy → now.scope.active ≡ listed_by m → IsThere f lefts m now →
+  one_step : {s : Statement} {rest : Statements} {m : Maker} (most roomy line : ℕ) (semi : Bool) (drafts : List Drafted) (now : Situation) (next : ComesNext f g z (syntax.statement line semi s rest) m) → formed_statement s ≡ true → 3 * lean_depth s + 204 ≤ most → suc (lean_room s) ≤ roomy → now.scope.active ≡ listed_by m → IsThere f lefts m now →
       (act : ActRead f g m.active s (length m.functions) (length (made_by s m).functions) (begun (length drafts) (length m.items) now) (length m.items) (length (made_by s m).items)) → step_at f (length drafts) (length m.items) now ≡ Some (act.draft, act.behind) → length (made_by s m).items ≤ f.last →
       StepsRead most roomy rest (settle (made_by s m)) (drafts ++ act.draft ∷ []) (left_at f (length (made_by s m).items) act.behind) → StepsRead most roomy (syntax.statement line semi s rest) m drafts now
   one_step {s} {rest} {m} most roomy line semi drafts now next formed is_low is_roomy active there act is_read within others = record {
@@ -361,7 +361,7 @@ module _ {f : Function} {g : Fn} {z : Maker} {lefts : ℕ → List (Option Inner
   -- ---- all steps
 
   -- with no more levels than so many
-  pub block_read : (most roomy : ℕ) (block : Statements) (m : Maker) (drafts : List Drafted) (now : Situation) → ComesNext f g z block m → formed_statements block ≡ true → 3 * lean_depth_of block + 1 ≤ most → lean_room_of block ≤ roomy → length (all_made block m).items ≡ f.last → IsThere f lefts m now → StepsRead most roomy block m drafts now
+  pub block_read : (most roomy : ℕ) (block : Statements) (m : Maker) (drafts : List Drafted) (now : Situation) → ComesNext f g z block m → formed_statements block ≡ true → 3 * lean_depth_of block + 201 ≤ most → lean_room_of block ≤ roomy → length (all_made block m).items ≡ f.last → IsThere f lefts m now → StepsRead most roomy block m drafts now
   block_read most roomy no_statements m drafts now next formed is_low is_roomy ends there = no_steps most roomy m drafts now next ends there
   block_read most roomy (syntax.statement line semi s rest) m drafts now next formed is_low is_roomy ends there =
       let behind_formed = second_of_both (may_follow s semi rest) _ (second_of_both (formed_statement s) _ formed) in

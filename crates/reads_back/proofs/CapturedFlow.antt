@@ -69,13 +69,14 @@ module _ {f : Function} {g : Fn} {z : Maker} {lefts : ℕ → List (Option Inner
       let same = same_Some (read.draft, read.behind) (draft, behind) (sym words ∙ step_of_words f at (pcs of at) now draft behind is) in
       ap (λ (p : Drafted × Situation). p.0.next) (sym same) ∙ read.next
 
-  module _ (all : Onward) (place : Place) where
+  module _ (place : Place) where
     -- the place before a step, where the statements begin at a place
     abbrev pub place_at : ℕ → Place
     place_at at = (state_before code (state_of place []) at).place
 
-    -- the marks of a step come next at its place, and so much is known there
-    pub record StepComes (at : ℕ) (kind : StepKind) (part : Part) : Type 0 where
+    -- the marks of a step come next at its place, by a list of all marks of its own, and so much is known there
+    pub record StepComes (at : ℕ) (kind : StepKind) (part : Part) : Type 1 where
+      pub all : Onward
       pub rest : List Mark
       pub here : all.Comes (part_said kind part) (place_at at) rest (spot (before_at of at))
       pub catching : KindCatching f g all (place_at at) kind part (before_at of at).active (made_at of at kind part).active
@@ -143,7 +144,7 @@ module _ {f : Function} {g : Fn} {z : Maker} {lefts : ℕ → List (Option Inner
 
   module _ (marks : List Mark) (place : Place) (rest : List Mark) (formed : formed_statements block ≡ true) (begins_at : (begun_of params names ahead).ahead ≡ ahead_at marks place ((statements_part block place).marks ++ rest)) where
     -- the marks of a step come next at its place
-    step_comes : {at : ℕ} {kind : StepKind} {part : Part} → StepIs of at kind part → KindCatching f g (by_ahead marks) (place_at (by_ahead marks) place at) kind part (before_at of at).active (made_at of at kind part).active → StepComes (by_ahead marks) place at kind part
+    step_comes : {at : ℕ} {kind : StepKind} {part : Part} → StepIs of at kind part → KindCatching f g (by_ahead marks) (place_at place at) kind part (before_at of at).active (made_at of at kind part).active → StepComes place at kind part
     step_comes {at} {kind} {part} is catching =
         let first = state_of place [] in
         let now = state_before code first at in
@@ -156,6 +157,7 @@ module _ {f : Function} {g : Fn} {z : Maker} {lefts : ℕ → List (Option Inner
         let same : said.marks ≡ but_breaks step.marks =
         ap (λ (it : Said). it.marks) (ap₂ (λ kind part. says_at kind part now) is.there is.part_there) ∙ (says_part kind part now is.fits).0 in
         record {
+          all = by_ahead marks;
           rest = others.marks ++ rest;
           here =
               known
@@ -166,5 +168,5 @@ module _ {f : Function} {g : Fn} {z : Maker} {lefts : ℕ → List (Option Inner
         }
 
     -- Each step of a function captures what its marks do, where the marks of its statements come next at the beginning.
-    pub known_steps_capture_like : ((at : ℕ) (kind : StepKind) (part : Part) → StepIs of at kind part → KindCatching f g (by_ahead marks) (place_at (by_ahead marks) place at) kind part (before_at of at).active (made_at of at kind part).active) → StepsCaptureLike of place
-    known_steps_capture_like catching = steps_capture_like (by_ahead marks) place formed (λ at kind part is. step_comes is (catching at kind part is))
+    pub known_steps_capture_like : ((at : ℕ) (kind : StepKind) (part : Part) → StepIs of at kind part → KindCatching f g (by_ahead marks) (place_at place at) kind part (before_at of at).active (made_at of at kind part).active) → StepsCaptureLike of place
+    known_steps_capture_like catching = steps_capture_like place formed (λ at kind part is. step_comes is (catching at kind part is))

@@ -18,10 +18,10 @@ use Rattle.recover_expr.specs.Testing.{tested_comparison}
 use Rattle.scheme.specs.Expressions.{comparison_word, is_comparison, rk}
 use Rattle.scheme.specs.Making.{Got, Maker, free_from, jump_to, put}
 use Rattle.scheme.specs.Scheme.{coded}
-use Rattle.scheme.specs.Shapes.{room_of_expression}
 use Rattle.scheme.specs.declared.making.Active.{Active}
 use Rattle.scheme_stands.proofs.Growth.{Final}
 use Rattle.scheme_stands.specs.Words.{Fn}
+use Rattle.same_flow.specs.Space.{space_of_expression}
 use Rattle.reads_back.specs.Cores.{HasCore, IsOperand}
 use Rattle.reads_back.proofs.ComparesSame.{IsConstantOperand, Turns, both_counted, compare_is, compared_from, constant_of, final_both, first_turns, fresh_number, in_order, in_order_low, joined_is, known_turns, new_turns, number_bound, turned_first, turned_second}
 use Rattle.reads_back.proofs.ComparisonOrder.{HasLocal, IsNextNumber, MayTurn, early_second, has_local, late_first, plain_order, turned_order}
@@ -339,7 +339,7 @@ module _ (lefts : ℕ → List (Option Inner)) {f : Function} {g : Fn} {active :
 
   -- in the forms of fewest levels it needs no more than there is room for
   pub comparison_low : (is_swapped (length active) (length m.constants) (comparison_of op both.x both.y both.first both.second) ≡ not (is_turned op) → NumberStays both) → f.short ≡ true → formed_expression l ≡ true → formed_expression r ≡ true →
-      (word_comparison (place f.of listed f.short) (length m.constants) (lefts before) (comparison_of op both.x both.y both.first both.second)).levels ≤ suc (max (room_of_expression l) (room_of_expression r))
+      (word_comparison (place f.of listed f.short) (length m.constants) (lefts before) (comparison_of op both.x both.y both.first both.second)).levels ≤ suc (max (space_of_expression l) (space_of_expression r))
   comparison_low can short formed_l formed_r = by (order_of both n made.all.few (next_number both.first refl) op is)
     where
       n : ℕ
@@ -348,7 +348,7 @@ module _ (lefts : ℕ → List (Option Inner)) {f : Function} {g : Fn} {active :
       at : Place
       at = place f.of listed f.short
 
-      by : Order (length active) n op both.x both.y both.first both.second → (word_comparison at n (lefts before) (comparison_of op both.x both.y both.first both.second)).levels ≤ suc (max (room_of_expression l) (room_of_expression r))
+      by : Order (length active) n op both.x both.y both.first both.second → (word_comparison at n (lefts before) (comparison_of op both.x both.y both.first both.second)).levels ≤ suc (max (space_of_expression l) (space_of_expression r))
       by (ordered swapped) =
           let low = in_order_low made l r has_l has_r first_rewritten second_rewritten m ahead final_operands short formed_l formed_r in
           let w = word_operand at n (lefts before) both.first in

@@ -17,12 +17,12 @@ use Rattle.recover_expr.specs.Situation.{Function}
 use Rattle.scheme.specs.Making.{Maker, free_from, put, take_registers}
 use Rattle.scheme.specs.Expressions.{fold, is_multiple, is_name, next_reg}
 use Rattle.scheme.specs.Scheme.{coded}
-use Rattle.scheme.specs.Shapes.{room_of_expression}
 use Rattle.scheme.specs.declared.making.Active.{Active}
 use Rattle.scheme.specs.declared.making.Piece.{Piece}
 use Rattle.scheme_stands.proofs.Growth.{calm, Final, before as before_part, before_free, before_put, before_take, later}
 use Rattle.scheme_stands.proofs.Parts.{grows, grows_next}
 use Rattle.scheme_stands.specs.Words.{Fn}
+use Rattle.same_flow.specs.Space.{space_of_expression}
 use Rattle.reads_back.proofs.Mentions.{IsAhead, ahead_behind, ahead_front, mentions_in, made_behind, made_both}
 use Rattle.reads_back.proofs.PassedMentions.{PassesMentions, next_passes}
 use Rattle.reads_back.proofs.OperatorsSame.{few_more}
@@ -84,7 +84,7 @@ last_alone false w other m = refl
 
 module _ {f : Function} {g : Fn} {active : List Active} {listed : List ℕ} {z : Maker} {lefts : ℕ → List (Option Inner)} {before behind : ℕ} {e : Expression} {v : Value}
     (value : Rewritten f g active listed z lefts before behind e v) (alone : (m : Maker) → (code e).spine m ≡ next_reg (code e) m) where
-  alone_few : (n : ℕ) → (on_right BinaryOp.Concat (wording f listed z lefts before n v)).levels ≤ 3 * depth_of_expression e + 3
+  alone_few : (n : ℕ) → (on_right BinaryOp.Concat (wording f listed z lefts before n v)).levels ≤ 3 * depth_of_expression e + 203
   alone_few n =
       let w = wording f listed z lefts before n v in
       let one = levels_wrapped (right_binds 4 false w.words) w in
@@ -99,7 +99,7 @@ module _ {f : Function} {g : Fn} {active : List Active} {listed : List ℕ} {z :
         let w = wording f listed z lefts before (length m.constants) v in
         last_alone (right_binds 4 false w.words) w (bare_alone w.words) m ∙ ap (take_registers 1) (value.to_reg m.free m ahead alone_final) ∙ sym (alone m)
 
-    alone_low : is_joined e ≡ false → f.short ≡ true → formed_expression e ≡ true → right_binds 4 true e ≡ true → (on_right BinaryOp.Concat (wording f listed z lefts before (length m.constants) v)).levels ≤ room_of_expression e
+    alone_low : is_joined e ≡ false → f.short ≡ true → formed_expression e ≡ true → right_binds 4 true e ≡ true → (on_right BinaryOp.Concat (wording f listed z lefts before (length m.constants) v)).levels ≤ space_of_expression e
     alone_low other short formed binds =
         right_in (is_bare (place f.of listed f.short) (length m.constants) v) e (wording f listed z lefts before (length m.constants) v) 4 false (value.low short formed m ahead (inl (m.free, alone_final))) (tighter e other binds)
 
@@ -137,7 +137,7 @@ module _ {f : Function} {g : Fn} {active : List Active} {listed : List ℕ} {z :
       ∙ ap (λ fs. with_binary BinaryOp.Concat (on_left BinaryOp.Concat w) (chain (word_each at (taken_behind v n) fs rest))) first.leaves
       ∙ ap (λ n. with_binary BinaryOp.Concat (on_left BinaryOp.Concat w) (chain (word_each at n (lefts mid) rest))) taken
 
-  joined_few : (n : ℕ) → (chain (word_each (place f.of listed f.short) n (lefts before) (and_value v rest))).levels ≤ 3 * (1 + max (depth_of_expression l) (depth_of_expression r)) + 2
+  joined_few : (n : ℕ) → (chain (word_each (place f.of listed f.short) n (lefts before) (and_value v rest))).levels ≤ 3 * (1 + max (depth_of_expression l) (depth_of_expression r)) + 202
   joined_few n =
       let w = wording f listed z lefts before n v in
       let n' = taken_behind v n in
@@ -175,7 +175,7 @@ module _ {f : Function} {g : Fn} {active : List Active} {listed : List ℕ} {z :
         ∙ others.spine (next_reg (code l) m) others_ahead others_final
 
     -- in the forms of fewest levels
-    joined_low : (line : ℕ) → f.short ≡ true → formed_expression (binary_expression line BinaryOp.Concat l r) ≡ true → (chain (word_each (place f.of listed f.short) (length m.constants) (lefts before) (and_value v rest))).levels ≤ 1 + max (room_of_expression l) (room_of_expression r)
+    joined_low : (line : ℕ) → f.short ≡ true → formed_expression (binary_expression line BinaryOp.Concat l r) ≡ true → (chain (word_each (place f.of listed f.short) (length m.constants) (lefts before) (and_value v rest))).levels ≤ 1 + max (space_of_expression l) (space_of_expression r)
     joined_low line short formed =
         let w = wording f listed z lefts before (length m.constants) v in
         let u = chain (word_each (place f.of listed f.short) (length (next_reg (code l) m).constants) (lefts mid) rest) in

@@ -1,7 +1,6 @@
 -- What is written of values that are adjusted to a count makes the same code as the expressions, whichever of the values are written; and so does what is written of a `local` statement.
 use Rattle.reads_back.proofs.Rooms.{some_room}
 use Rattle.lua_tree.specs.Names.{are_some_names}
-use Rattle.scheme.specs.Shapes.{room_of_expressions}
 use Rattle.std.proofs.Common.{◌≡◌, ℕ, suc, ◌+◌, ◌-◌, ◌*◌, ◌≤◌, ◌<◌, Bool, true, false, cond, List, [], ◌∷◌, length, nat_lt, lt-ltb, Option, Some, None, refl, sym, ap, ◌∙◌, subst, arith, ap₂, max}
 use Rattle.std.proofs.lemmas.Bool.{eqb-true, eqb-false, le-ltb, ltb-false, ltb-true}
 use Rattle.std.specs.Prelude.{◌&&◌, ◌==◌, not}
@@ -30,6 +29,7 @@ use Rattle.scheme_stands.proofs.Growth.{Final, before as before_part, before_fre
 use Rattle.scheme_stands.proofs.Lines.{all_next_free, grows_activate, grows_declare}
 use Rattle.scheme_stands.proofs.Parts.{grow_all}
 use Rattle.scheme_stands.specs.Words.{Fn}
+use Rattle.same_flow.specs.Space.{space_of_expressions}
 use Rattle.reads_back.specs.Acted.{declared, declared_values, ends_with_nil, filled as filled_values, without_nil}
 use Rattle.reads_back.specs.Cores.{AllHaveCores, AreCores, ends_open}
 use Rattle.reads_back.proofs.DeclaredValues.{nil_last}
@@ -96,7 +96,7 @@ none_last : (vs : Values) → and_last_value vs nil_value ≡ no_values → ⊥
 none_last no_values is = cc
 none_last (and_value v rest) is = cc
 
-room_for_nil : (es : Expressions) → (es ≡ no_expressions → ⊥) → 1 ≤ room_of_expressions es
+room_for_nil : (es : Expressions) → (es ≡ no_expressions → ⊥) → 1 ≤ space_of_expressions es
 room_for_nil no_expressions some = absurd (some refl)
 room_for_nil (syntax.expression e es) some = omega (arith, some_room e)
 
@@ -179,10 +179,10 @@ module _ (f : Function) (g : Fn) (active : List Active) (listed : List ℕ) (z :
     pub can : can_write_values (place f.of listed f.short) (lefts before) vs ≡ true
     pub leaves : left_by_values vs (lefts before) ≡ lefts behind
     pub makes : behind ≡ made_behind (mentions_in_all es) before
-    pub fine : (n : ℕ) → EachFine (place f.of listed f.short) (3 * depth_of_expressions es + 2) n (lefts before) vs
+    pub fine : (n : ℕ) → EachFine (place f.of listed f.short) (3 * depth_of_expressions es + 202) n (lefts before) vs
     -- in the forms of fewest levels, where there are values if any are written
     pub low : (es ≡ no_expressions → vs ≡ no_values) → f.short ≡ true → formed_expressions es ≡ true → (m : Maker) → IsAhead g active before (mentions_in_all es) m → Final (length m.labels) (adjust 1 (codes_of es) count m) z →
-        (word_values (place f.of listed f.short) (length m.constants) (lefts before) vs all).levels ≤ room_of_expressions es
+        (word_values (place f.of listed f.short) (length m.constants) (lefts before) vs all).levels ≤ space_of_expressions es
     pub same : (m : Maker) → IsAhead g active before (mentions_in_all es) m → Final (length m.labels) (adjust 1 (codes_of es) count m) z →
         adjust 1 (values_coded (place f.of listed f.short) (length m.constants) (lefts before) vs all) count m ≡ adjust 1 (codes_of es) count m
     pub taken : (m : Maker) → IsAhead g active before (mentions_in_all es) m → Final (length m.labels) (adjust 1 (codes_of es) count m) z → length (adjust 1 (codes_of es) count m).constants ≡ taken_behind_values vs (length m.constants)
@@ -193,7 +193,7 @@ module _ (f : Function) (g : Fn) (active : List Active) (listed : List ℕ) (z :
     can = adjusts.can;
     leaves = adjusts.leaves;
     makes = adjusts.makes;
-    few = λ n. omega (arith, list_few (place f.of listed f.short) (3 * depth_of_expressions es + 2) n (lefts before) vs all (adjusts.fine n));
+    few = λ n. omega (arith, list_few (place f.of listed f.short) (3 * depth_of_expressions es + 202) n (lefts before) vs all (adjusts.fine n));
     low = λ short formed m ahead final.
         let low = adjusts.low some short (second_of_both (are_some_names names) _ formed) (declare names m).after (names_ahead m ahead) (inner m final) in
         let same = ap (λ constants. (word_values (place f.of listed f.short) (length constants) (lefts before) vs all).levels) (declare_constants names m) in
@@ -235,7 +235,7 @@ module _ {f : Function} {g : Fn} {active : List Active} {listed : List ℕ} {z :
   cs = codes_of es
 
   abbrev deep : ℕ
-  deep = 3 * depth_of_expressions es + 2
+  deep = 3 * depth_of_expressions es + 202
 
   given : RewrittenGiven f g active listed z lefts before behind (argument_list es) (depth_of_expressions es) from (ends_open es)
   given = list_rewritten lefts made es before behind from (ends_open es) has written are refl

@@ -8,7 +8,7 @@ use Rattle.core_expr.specs.Values.{Value, nil_value, Values, no_values, and_valu
 use Rattle.recover_expr.specs.Entries.{Listed, and_last_value}
 use Rattle.recover_expr.specs.Lists.{before_last, is_nil, split_last, value_count}
 use Rattle.reads_back.specs.Acted.{Assigned, declared_values, ends_with_nil, filled, some_missing, values_assigned, with_last_nil, with_nil, without_nil}
-use Rattle.reads_back.proofs.Marks.{SamePart, both_same, nothing_behind, part_back, part_of, part_of_operand, part_then, parts_of, same_part}
+use Rattle.reads_back.proofs.Marks.{SamePart, both_same, exact_part, nothing_behind, part_back, part_of, part_of_operand, part_then, parts_of, same_part}
 use Rattle.reads_back.proofs.Tests.{first_of_both, not_so, second_of_both}
 
 nil_is : (v : Value) → is_nil v ≡ true → v ≡ nil_value
@@ -53,7 +53,7 @@ module _ (at : Place) (of : ℕ → Part) where
   with_nil_parts false vs = same_part (parts_of at of vs)
 
   without_nil_parts : (left_out : Bool) (vs : Values) → (left_out ≡ true → ends_with_nil vs ≡ true) → SamePart (parts_of at of (without_nil left_out vs).values) (parts_of at of vs)
-  without_nil_parts true vs ends = part_then (part_back (nil_behind (before_last (split_last vs)))) (λ place. ap (λ vs. parts_of at of vs place) (nil_last vs (ends refl)))
+  without_nil_parts true vs ends = part_then (part_back (nil_behind (before_last (split_last vs)))) (exact_part (λ place. ap (λ vs. parts_of at of vs place) (nil_last vs (ends refl))))
   without_nil_parts false vs ends = same_part (parts_of at of vs)
 
   filled_parts : (missing_some : Bool) (count : ℕ) (missing_one : Bool) (vs : Values) → SamePart (parts_of at of (filled missing_some count missing_one vs).values) (parts_of at of vs)
@@ -64,7 +64,7 @@ module _ (at : Place) (of : ℕ → Part) where
 
   pub declared_parts : (count : ℕ) (is_open : Bool) (from vs : Values) (all : Bool) → declared_values count is_open from ≡ record { values = vs; all = all } → SamePart (parts_of at of vs) (parts_of at of from)
   declared_parts count is_open from vs all is =
-      part_then (λ place. ap (λ (list : Listed). parts_of at of list.values place) (sym is)) (filled_parts (not is_open && nat_lt (suc (value_count from)) count) count (not is_open && (suc (value_count from) == count)) from)
+      part_then (exact_part (λ place. ap (λ (list : Listed). parts_of at of list.values place) (sym is))) (filled_parts (not is_open && nat_lt (suc (value_count from)) count) count (not is_open && (suc (value_count from) == count)) from)
 
   -- ---- of an assignment, with the operand that goes to a part of a table
 
@@ -89,4 +89,4 @@ module _ (at : Place) (of : ℕ → Part) where
 
   pub assigned_parts : (count : ℕ) (t : Option TargetValue) (is_open : Bool) (from : Values) (to : Assigned) → values_assigned count t is_open from ≡ to → SamePart (assigned_part to) (parts_of at of from)
   assigned_parts count t is_open from to is =
-      part_then (λ place. ap (λ (to : Assigned). assigned_part to place) (sym is)) (missing_parts (not is_open && nat_lt (value_count from) count) (suc (value_count from) == count) t from)
+      part_then (exact_part (λ place. ap (λ (to : Assigned). assigned_part to place) (sym is))) (missing_parts (not is_open && nat_lt (value_count from) count) (suc (value_count from) == count) t from)

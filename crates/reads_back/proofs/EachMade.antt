@@ -7,10 +7,10 @@ use Rattle.lua_tree.specs.Syntax.{Arguments, Expression, Expressions, FunctionBo
 use Rattle.lua_tree.specs.WellFormed.{depth_of_arguments, depth_of_body, depth_of_expression, depth_of_expressions, depth_of_fields}
 use Rattle.recover_expr.specs.Situation.{Function}
 use Rattle.scheme.specs.Making.{Maker}
-use Rattle.scheme.specs.Shapes.{room_of_arguments, room_of_body, room_of_expression, room_of_expressions, room_of_fields}
 use Rattle.scheme.specs.Statements.{settle}
 use Rattle.scheme.specs.declared.making.Active.{Active}
 use Rattle.scheme_stands.specs.Words.{Fn}
+use Rattle.same_flow.specs.Space.{space_of_arguments, space_of_body, space_of_expression, space_of_expressions, space_of_fields}
 use Rattle.reads_back.specs.Acted.{IsAct, is_path, lean_assignment, lean_depth, lean_depth_of}
 use Rattle.reads_back.specs.Coming.{Coming, IsMadeNext, IsOwnNext, inside_local}
 use Rattle.reads_back.specs.Cores.{AllHaveCores, HasCore, HaveCores, HaveItems, IsPlainBody}
@@ -29,7 +29,7 @@ use Rattle.reads_back.proofs.StraightBlocks.{ComesNext, IsMadeWhole, comes_behin
 abbrev pub AreLowMentions : (high roomy : ℕ) → List Mention → Type 0
 AreLowMentions high roomy [] = Unit {0}
 AreLowMentions high roomy (name_mention text ∷ mentions) = AreLowMentions high roomy mentions
-AreLowMentions high roomy (function_mention body method ∷ mentions) = (IsPlainBody body × (depth_of_body body < high) × (room_of_body body < roomy)) × AreLowMentions high roomy mentions
+AreLowMentions high roomy (function_mention body method ∷ mentions) = (IsPlainBody body × (depth_of_body body < high) × (space_of_body body < roomy)) × AreLowMentions high roomy mentions
 AreLowMentions high roomy (locals_mention texts ∷ mentions) = AreLowMentions high roomy mentions
 AreLowMentions high roomy (own_mention text body ∷ mentions) = ⊥
 
@@ -52,7 +52,7 @@ pub both_low : (one other high little few roomy : ℕ) (mentions others : List M
 both_low one other high little few roomy mentions others up wider first second = low_then high roomy mentions others (lower one high little roomy mentions (omega (arith, up)) (omega (arith, wider)) first) (lower other high few roomy others (omega (arith, up)) (omega (arith, wider)) second)
 
 mutual
-  pub low_in : (e : Expression) → HasCore e → AreLowMentions (depth_of_expression e) (room_of_expression e) (mentions_in e)
+  pub low_in : (e : Expression) → HasCore e → AreLowMentions (depth_of_expression e) (space_of_expression e) (mentions_in e)
   low_in (nil_literal line) has = tt
   low_in (true_literal line) has = tt
   low_in (false_literal line) has = tt
@@ -61,32 +61,32 @@ mutual
   low_in (text_literal line text) has = tt
   low_in (name_expression line text) has = tt
   low_in (function_expression line body) has = ((has, omega arith, omega arith), tt)
-  low_in (index_expression line on key) has = both_low (depth_of_expression on) (depth_of_expression key) _ (room_of_expression on) (room_of_expression key) _ (mentions_in on) (mentions_in key) (omega arith) (omega arith) (low_in on has.0) (low_in key has.1)
-  low_in (field_expression line on text) has = lower (depth_of_expression on) _ (room_of_expression on) _ (mentions_in on) (omega arith) (omega arith) (low_in on has)
-  low_in (call_expression line on args on_line) has = both_low (depth_of_expression on) (depth_of_arguments args) _ (room_of_expression on) (room_of_arguments args) _ (mentions_in on) (mentions_given args) (omega arith) (omega arith) (low_in on has.0) (low_given args has.1)
-  low_in (method_call line on name args on_line) has = both_low (depth_of_expression on) (depth_of_arguments args) _ (room_of_expression on) (room_of_arguments args) _ (mentions_in on) (mentions_given args) (omega arith) (omega arith) (low_in on has.1) (low_given args has.2)
-  low_in (binary_expression line op left right) has = both_low (depth_of_expression left) (depth_of_expression right) _ (room_of_expression left) (room_of_expression right) _ (mentions_in left) (mentions_in right) (omega arith) (left_room line op left right) (low_in left has.1) (low_in right has.2)
-  low_in (unary_expression line op e) has = lower (depth_of_expression e) _ (room_of_expression e) _ (mentions_in e) (omega arith) (of_room line op e) (low_in e has)
-  low_in (constructor line fields) has = lower (depth_of_fields fields) _ (room_of_fields fields) _ (mentions_of_fields fields) (omega arith) (omega arith) (low_of_fields fields has)
-  low_in (parenthesized line e) has = lower (depth_of_expression e) _ (room_of_expression e) _ (mentions_in e) (omega arith) (inside_room line e) (low_in e has)
+  low_in (index_expression line on key) has = both_low (depth_of_expression on) (depth_of_expression key) _ (space_of_expression on) (space_of_expression key) _ (mentions_in on) (mentions_in key) (omega arith) (omega arith) (low_in on has.0) (low_in key has.1)
+  low_in (field_expression line on text) has = lower (depth_of_expression on) _ (space_of_expression on) _ (mentions_in on) (omega arith) (omega arith) (low_in on has)
+  low_in (call_expression line on args on_line) has = both_low (depth_of_expression on) (depth_of_arguments args) _ (space_of_expression on) (space_of_arguments args) _ (mentions_in on) (mentions_given args) (omega arith) (omega arith) (low_in on has.0) (low_given args has.1)
+  low_in (method_call line on name args on_line) has = both_low (depth_of_expression on) (depth_of_arguments args) _ (space_of_expression on) (space_of_arguments args) _ (mentions_in on) (mentions_given args) (omega arith) (omega arith) (low_in on has.1) (low_given args has.2)
+  low_in (binary_expression line op left right) has = both_low (depth_of_expression left) (depth_of_expression right) _ (space_of_expression left) (space_of_expression right) _ (mentions_in left) (mentions_in right) (omega arith) (left_room line op left right) (low_in left has.1) (low_in right has.2)
+  low_in (unary_expression line op e) has = lower (depth_of_expression e) _ (space_of_expression e) _ (mentions_in e) (omega arith) (of_room line op e) (low_in e has)
+  low_in (constructor line fields) has = lower (depth_of_fields fields) _ (space_of_fields fields) _ (mentions_of_fields fields) (omega arith) (omega arith) (low_of_fields fields has)
+  low_in (parenthesized line e) has = lower (depth_of_expression e) _ (space_of_expression e) _ (mentions_in e) (omega arith) (inside_room line e) (low_in e has)
   low_in e has = absurd has
 
-  low_given : (args : Arguments) → HaveCores args → AreLowMentions (depth_of_arguments args) (room_of_arguments args) (mentions_given args)
+  low_given : (args : Arguments) → HaveCores args → AreLowMentions (depth_of_arguments args) (space_of_arguments args) (mentions_given args)
   low_given (argument_list es) have = low_in_all es have
   low_given (text_argument text) have = tt
   low_given (table_argument fields) have = low_of_fields fields have
 
-  low_of_fields : (fields : Fields) → HaveItems fields → AreLowMentions (depth_of_fields fields) (room_of_fields fields) (mentions_of_fields fields)
+  low_of_fields : (fields : Fields) → HaveItems fields → AreLowMentions (depth_of_fields fields) (space_of_fields fields) (mentions_of_fields fields)
   low_of_fields no_fields have = tt
-  low_of_fields (positional e separator rest) have = both_low (depth_of_expression e) (depth_of_fields rest) _ (room_of_expression e) (room_of_fields rest) _ (mentions_in e) (mentions_of_fields rest) (omega arith) (omega arith) (low_in e have.0) (low_of_fields rest have.1)
-  low_of_fields (named text e separator rest) have = both_low (depth_of_expression e) (depth_of_fields rest) _ (room_of_expression e) (room_of_fields rest) _ (mentions_in e) (mentions_of_fields rest) (omega arith) (omega arith) (low_in e have.0) (low_of_fields rest have.1)
+  low_of_fields (positional e separator rest) have = both_low (depth_of_expression e) (depth_of_fields rest) _ (space_of_expression e) (space_of_fields rest) _ (mentions_in e) (mentions_of_fields rest) (omega arith) (omega arith) (low_in e have.0) (low_of_fields rest have.1)
+  low_of_fields (named text e separator rest) have = both_low (depth_of_expression e) (depth_of_fields rest) _ (space_of_expression e) (space_of_fields rest) _ (mentions_in e) (mentions_of_fields rest) (omega arith) (omega arith) (low_in e have.0) (low_of_fields rest have.1)
   low_of_fields (keyed key e separator rest) have =
-      let item = both_low (depth_of_expression key) (depth_of_expression e) (max (depth_of_expression key) (depth_of_expression e)) (room_of_expression key) (room_of_expression e) (max (room_of_expression key) (room_of_expression e)) (mentions_in key) (mentions_in e) (omega arith) (omega arith) (low_in key have.0) (low_in e have.1) in
-      both_low (max (depth_of_expression key) (depth_of_expression e)) (depth_of_fields rest) _ (max (room_of_expression key) (room_of_expression e)) (room_of_fields rest) _ (mentions_in key ++ mentions_in e) (mentions_of_fields rest) (omega arith) (omega arith) item (low_of_fields rest have.2)
+      let item = both_low (depth_of_expression key) (depth_of_expression e) (max (depth_of_expression key) (depth_of_expression e)) (space_of_expression key) (space_of_expression e) (max (space_of_expression key) (space_of_expression e)) (mentions_in key) (mentions_in e) (omega arith) (omega arith) (low_in key have.0) (low_in e have.1) in
+      both_low (max (depth_of_expression key) (depth_of_expression e)) (depth_of_fields rest) _ (max (space_of_expression key) (space_of_expression e)) (space_of_fields rest) _ (mentions_in key ++ mentions_in e) (mentions_of_fields rest) (omega arith) (omega arith) item (low_of_fields rest have.2)
 
-  pub low_in_all : (es : Expressions) → AllHaveCores es → AreLowMentions (depth_of_expressions es) (room_of_expressions es) (mentions_in_all es)
+  pub low_in_all : (es : Expressions) → AllHaveCores es → AreLowMentions (depth_of_expressions es) (space_of_expressions es) (mentions_in_all es)
   low_in_all no_expressions have = tt
-  low_in_all (syntax.expression e es) have = both_low (depth_of_expression e) (depth_of_expressions es) _ (room_of_expression e) (room_of_expressions es) _ (mentions_in e) (mentions_in_all es) (omega arith) (omega arith) (low_in e have.0) (low_in_all es have.1)
+  low_in_all (syntax.expression e es) have = both_low (depth_of_expression e) (depth_of_expressions es) _ (space_of_expression e) (space_of_expressions es) _ (mentions_in e) (mentions_in_all es) (omega arith) (omega arith) (low_in e have.0) (low_in_all es have.1)
 
 -- a path mentions none
 path_low : (target : Expression) (high roomy : ℕ) → is_path target ≡ true → AreLowMentions high roomy (mentions_in target)
@@ -98,16 +98,16 @@ path_low target high roomy is = cc
 assigned_low : (targets es : Expressions) → AllHaveCores targets → AllHaveCores es → AreLowMentions (lean_assignment targets es) (lean_room_assignment targets es) (mentions_in_all targets ++ mentions_in_all es)
 assigned_low (syntax.expression target no_expressions) (syntax.expression (function_expression line body) no_expressions) to from = by (is_path target) refl
   where
-    by : (path : Bool) → is_path target ≡ path → AreLowMentions (if path then suc (depth_of_body body) else max (depth_of_expression target) (suc (depth_of_body body))) (if path then suc (room_of_body body) else max (room_of_expression target) (suc (room_of_body body))) ((mentions_in target ++ []) ++ (function_mention body false ∷ []))
+    by : (path : Bool) → is_path target ≡ path → AreLowMentions (if path then suc (depth_of_body body) else max (depth_of_expression target) (suc (depth_of_body body))) (if path then suc (space_of_body body) else max (space_of_expression target) (suc (space_of_body body))) ((mentions_in target ++ []) ++ (function_mention body false ∷ []))
     by true is =
         let high = suc (depth_of_body body) in
-        let roomy = suc (room_of_body body) in
+        let roomy = suc (space_of_body body) in
         low_then high roomy (mentions_in target ++ []) (function_mention body false ∷ []) (low_then high roomy (mentions_in target) [] (path_low target high roomy is) tt) ((from.0, omega arith, omega arith), tt)
     by false is =
         let high = max (depth_of_expression target) (suc (depth_of_body body)) in
-        let roomy = max (room_of_expression target) (suc (room_of_body body)) in
-        both_low (depth_of_expressions (syntax.expression target no_expressions)) (suc (depth_of_body body)) high (room_of_expressions (syntax.expression target no_expressions)) (suc (room_of_body body)) roomy (mentions_in target ++ []) (function_mention body false ∷ []) (omega arith) (omega arith) (low_in_all (syntax.expression target no_expressions) to) ((from.0, omega arith, omega arith), tt)
-assigned_low targets es to from = both_low (depth_of_expressions targets) (depth_of_expressions es) _ (room_of_expressions targets) (room_of_expressions es) _ (mentions_in_all targets) (mentions_in_all es) (omega arith) (omega arith) (low_in_all targets to) (low_in_all es from)
+        let roomy = max (space_of_expression target) (suc (space_of_body body)) in
+        both_low (depth_of_expressions (syntax.expression target no_expressions)) (suc (depth_of_body body)) high (space_of_expressions (syntax.expression target no_expressions)) (suc (space_of_body body)) roomy (mentions_in target ++ []) (function_mention body false ∷ []) (omega arith) (omega arith) (low_in_all (syntax.expression target no_expressions) to) ((from.0, omega arith, omega arith), tt)
+assigned_low targets es to from = both_low (depth_of_expressions targets) (depth_of_expressions es) _ (space_of_expressions targets) (space_of_expressions es) _ (mentions_in_all targets) (mentions_in_all es) (omega arith) (omega arith) (low_in_all targets to) (low_in_all es from)
 
 -- no local function, which alone mentions one of its own
 abbrev pub IsNotLocal : Statement → Type 0
@@ -137,7 +137,7 @@ pub record IsMadeAt (f : Function) (g : Fn) (high roomy number : ℕ) : Type 0 w
   pub number_is : c.functions ≡ number
   pub plain : IsPlainBody body
   pub low : depth_of_body body < high
-  pub in_room : room_of_body body < roomy
+  pub in_room : space_of_body body < roomy
 
 -- and so with fewer levels than more
 pub made_lower : {f : Function} {g : Fn} (high higher roomy more number : ℕ) → high ≤ higher → roomy ≤ more → IsMadeAt f g high roomy number → IsMadeAt f g higher more number
@@ -159,7 +159,7 @@ mentioned_made g active all high roomy (own_mention text body ∷ mentions) c me
 mentioned_made g active all high roomy (locals_mention texts ∷ mentions) c meant low number from below = mentioned_made g active all high roomy mentions (behind_mention active g.upvalue_names (locals_mention texts) c) meant.1 low number from below
 
 -- that of a local function
-own_made : {f : Function} (g : Fn) (active : List Active) (text : Text) (body : FunctionBody) (c : Coming) → OwnListed f g active (local_function text body) → IsPlainBody body → IsOwnNext g active text body c → (number : ℕ) → c.functions ≤ number → number < suc c.functions → IsMadeAt f g (1 + depth_of_body body) (1 + room_of_body body) number
+own_made : {f : Function} (g : Fn) (active : List Active) (text : Text) (body : FunctionBody) (c : Coming) → OwnListed f g active (local_function text body) → IsPlainBody body → IsOwnNext g active text body c → (number : ℕ) → c.functions ≤ number → number < suc c.functions → IsMadeAt f g (1 + depth_of_body body) (1 + space_of_body body) number
 own_made g active text body c listed plain own number from below =
     let all = listed own.local c.ahead own.is_local in
     record { active = active ++ own.local ∷ []; listed = all.0; all = all.1; body = body; method = false; c = inside_local text c; is = own.next; number_is = omega (arith, from, below); plain = plain; low = omega arith; in_room = omega arith }

@@ -1,6 +1,5 @@
 -- Values that are stored to the places of targets: what is written of them makes the same code as the expressions, where each target has its value; a nil that is missing is stored as one in parentheses; and which constants the stores take.
 use Rattle.reads_back.proofs.InRoom.{levels_in}
-use Rattle.scheme.specs.Shapes.{room_of_expressions}
 use Rattle.std.proofs.Common.{◌≡◌, ℕ, suc, ◌+◌, ◌*◌, ◌≤◌, Bool, true, false, List, [], ◌∷◌, ◌++◌, length, Option, Some, refl, sym, ap, ◌∙◌, subst, arith, true≢false, max, inl}
 use Rattle.std.specs.Prelude.{◌&&◌, not}
 use Rattle.lua_num.specs.Bytes.{Text}
@@ -28,6 +27,7 @@ use Rattle.scheme.specs.declared.making.Piece.{Piece}
 use Rattle.scheme_stands.proofs.Growth.{Final, before as before_part, before_put, calm, on_constant, start}
 use Rattle.scheme_stands.proofs.Parts.{AllGrow, Grows, grow_all, grows, grows_next, grows_operand, grows_rk}
 use Rattle.scheme_stands.specs.Words.{Fn}
+use Rattle.same_flow.specs.Space.{space_of_expressions}
 use Rattle.reads_back.specs.Acted.{EndWithOperand, IsVariableTarget, all_named_behind, is_part, last_target, named_behind, words_assigned}
 use Rattle.reads_back.specs.Cores.{AllHaveCores, AreCores, HasCore}
 use Rattle.reads_back.proofs.ConstantsSame.{constant_taken}
@@ -188,7 +188,7 @@ module _ (f : Function) (g : Fn) (active : List Active) (listed : List ℕ) (z :
     pub takes : (m : Maker) → IsAhead g active before (mentions_in_all es) m → Final (length m.labels) (each_stored 1 (places placed) (codes_of es) m) z →
         length (each_stored 1 (places placed) (codes_of es) m).constants ≡ all_named_behind (targets_of placed) (taken (length m.constants))
     -- in the forms of fewest levels it needs no more than there is room for
-    pub low : f.short ≡ true → formed_expressions es ≡ true → (m : Maker) → IsAhead g active before (mentions_in_all es) m → Final (length m.labels) (each_stored 1 (places placed) (codes_of es) m) z → levels (length m.constants) ≤ room_of_expressions es
+    pub low : f.short ≡ true → formed_expressions es ≡ true → (m : Maker) → IsAhead g active before (mentions_in_all es) m → Final (length m.labels) (each_stored 1 (places placed) (codes_of es) m) z → levels (length m.constants) ≤ space_of_expressions es
 
 module _ {f : Function} {g : Fn} {active : List Active} {listed : List ℕ} {z : Maker} {lefts : ℕ → List (Option Inner)} {before behind : ℕ} (made : IsMadeBy f g active listed z) where
   -- the last value goes to a name
@@ -304,10 +304,10 @@ module _ (f : Function) (listed : List ℕ) (z : Maker) (lefts : ℕ → List (O
     pub mid : ℕ
     pub leaves : left_by_values vs (lefts before) ≡ lefts mid
     pub makes : behind ≡ made_behind (mentions_in_all es) before
-    pub few : (n : ℕ) → (word_values (place f.of listed f.short) n (lefts before) vs true).levels ≤ 3 * depth_of_expressions es + 3
+    pub few : (n : ℕ) → (word_values (place f.of listed f.short) n (lefts before) vs true).levels ≤ 3 * depth_of_expressions es + 203
     pub last_can : can_write_operand (place f.of listed f.short) (lefts mid) o ≡ true
     pub last_leaves : left_by_operand o (lefts mid) ≡ lefts behind
-    pub last_few : (n : ℕ) → (operand_wording f listed z lefts mid n o).levels ≤ 3 * depth_of_expressions es + 3
+    pub last_few : (n : ℕ) → (operand_wording f listed z lefts mid n o).levels ≤ 3 * depth_of_expressions es + 203
 
 module _ {f : Function} {g : Fn} {active : List Active} {listed : List ℕ} {z : Maker} (lefts : ℕ → List (Option Inner)) (made : IsMadeBy f g active listed z) where
   pub operand_written : (es : Expressions) (before behind : ℕ) (vs : Values) (o : OperandValue) → AllHaveCores es → AllRewritten f g active listed z lefts es → EndWithOperand g active es o before behind vs →

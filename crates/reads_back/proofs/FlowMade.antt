@@ -14,12 +14,12 @@ use Rattle.recover_expr.specs.Situation.{Function}
 use Rattle.recover_expr.specs.declared.steps.StepKind.{StepKind}
 use Rattle.scheme.specs.Expressions.{is_comparison}
 use Rattle.scheme.specs.Making.{Ahead, Maker, declare}
-use Rattle.scheme.specs.Shapes.{room_of_expression, room_of_expressions, room_of_statement}
 use Rattle.scheme_stands.proofs.Growth.{spot}
 use Rattle.scheme_stands.proofs.Lines.{declare_functions}
 use Rattle.scheme_stands.specs.Relation.{StatementAt}
 use Rattle.scheme_stands.specs.Words.{Fn}
 use Rattle.same_flow.specs.Performed.{Performance, part_at, performed_to}
+use Rattle.same_flow.specs.Space.{space_of_expression, space_of_expressions, space_of_statement}
 use Rattle.same_flow.specs.Told.{at_beginning}
 use Rattle.reads_back.specs.Acted.{lean_depth}
 use Rattle.reads_back.specs.Coming.{Coming}
@@ -44,31 +44,31 @@ use Rattle.reads_back.proofs.TestsMeant.{test_meant}
 
 abbrev pub HasRoomyPart : Part → Type 0
 HasRoomyPart nothing_part = Unit {0}
-HasRoomyPart (statement_part s) = room_of_statement s < 200
-HasRoomyPart (values_part es) = room_of_expressions es < 200
-HasRoomyPart (condition_part e) = room_of_expression e < 200
-HasRoomyPart (head_part es names) = room_of_expressions es < 200
+HasRoomyPart (statement_part s) = space_of_statement s < 200
+HasRoomyPart (values_part es) = space_of_expressions es < 200
+HasRoomyPart (condition_part e) = space_of_expression e < 200
+HasRoomyPart (head_part es names) = space_of_expressions es < 200
 
-lean_roomy : (s : Statement) → lean_room s ≤ room_of_statement s
+lean_roomy : (s : Statement) → lean_room s ≤ space_of_statement s
 lean_roomy (assignment targets es) = lean_room_less targets es
 lean_roomy s = omega arith
 
 -- ---- the levels of what a test and a head mention
 
 tested_low : (compares : Bool) (line : ℕ) (op : BinaryOp) (l r : Expression) → HasTestBy compares l r (binary_expression line op l r) →
-    AreLowMentions (depth_of_expression (binary_expression line op l r)) (room_of_expression (binary_expression line op l r)) (mentions_in (binary_expression line op l r))
+    AreLowMentions (depth_of_expression (binary_expression line op l r)) (space_of_expression (binary_expression line op l r)) (mentions_in (binary_expression line op l r))
 tested_low true line op l r has =
-    both_low (depth_of_expression l) (depth_of_expression r) _ (room_of_expression l) (room_of_expression r) _ (mentions_in l) (mentions_in r) (omega arith) (left_room line op l r) (low_in l has.0) (low_in r has.1)
+    both_low (depth_of_expression l) (depth_of_expression r) _ (space_of_expression l) (space_of_expression r) _ (mentions_in l) (mentions_in r) (omega arith) (left_room line op l r) (low_in l has.0) (low_in r has.1)
 tested_low false line op l r has = low_in (binary_expression line op l r) has.0
 
-test_low : (e : Expression) → HasTest e → AreLowMentions (depth_of_expression e) (room_of_expression e) (mentions_in e)
+test_low : (e : Expression) → HasTest e → AreLowMentions (depth_of_expression e) (space_of_expression e) (mentions_in e)
 test_low (binary_expression line op l r) has = tested_low (is_comparison op) line op l r has
 test_low (unary_expression line UnaryOp.Not e) has = absurd has
 test_low (parenthesized line e) has = absurd has
 test_low e has = low_in e has.0
 
 -- a step that is not said mentions nothing
-counted_low : (es : Expressions) → AreCounted es → AllHaveCores es → AreLowMentions (depth_of_expressions es) (room_of_expressions es) (mentions_of_head true es)
+counted_low : (es : Expressions) → AreCounted es → AllHaveCores es → AreLowMentions (depth_of_expressions es) (space_of_expressions es) (mentions_of_head true es)
 counted_low (syntax.expression first (syntax.expression last no_expressions)) counted has = low_in_all (syntax.expression first (syntax.expression last no_expressions)) has
 counted_low (syntax.expression first (syntax.expression last (syntax.expression by no_expressions))) counted has = low_in_all (syntax.expression first (syntax.expression last (syntax.expression by no_expressions))) has
 counted_low es counted has = absurd counted
@@ -92,7 +92,7 @@ module _ {Left : Type 0} {f : Function} {g : Fn} {z : Maker} {code : Steps} {par
         made_lower high 200 roomy 200 number shallow room (mentioned_made g m.active all high roomy mentions (coming m) meant.meant low number from (omega (arith, below, ap (λ (c : Coming). c.functions) meant.behind)))
 
     -- of an act
-    act_made : (s : Statement) → IsFlowAct s → OwnListed f g m.active s → StatementAt g None s m.active made.active (spot m) (spot made) → room_of_statement s < 200 →
+    act_made : (s : Statement) → IsFlowAct s → OwnListed f g m.active s → StatementAt g None s m.active made.active (spot m) (spot made) → space_of_statement s < 200 →
         (number : ℕ) → length m.functions ≤ number → number < length made.functions → IsMadeAt f g 200 200 number
     act_made s flow own stands room number from below =
         let less = is.within in
@@ -112,18 +112,18 @@ module _ {Left : Type 0} {f : Function} {g : Fn} {z : Maker} {code : Steps} {par
         let m = before_at of at in
         meant_on (adjust_meant es 3 (each_meant g m.active es is.flow.has) m.free (spot (declare texts m).after) is.stands.mid is.stands.first_at) (word_keeps is.stands.second_at)
 
-    head_low : (numeric : Bool) → StepIs of at (StepKind.Head numeric foot end variables_end captured) (head_part es texts) → AreLowMentions (depth_of_expressions es) (room_of_expressions es) (mentions_of_head numeric es)
+    head_low : (numeric : Bool) → StepIs of at (StepKind.Head numeric foot end variables_end captured) (head_part es texts) → AreLowMentions (depth_of_expressions es) (space_of_expressions es) (mentions_of_head numeric es)
     head_low true is = counted_low es (counted_of es is.fits.0) is.flow.has
     head_low false is = low_in_all es is.flow.has
 
-    head_made : (numeric : Bool) → StepIs of at (StepKind.Head numeric foot end variables_end captured) (head_part es texts) → room_of_expressions es < 200 →
+    head_made : (numeric : Bool) → StepIs of at (StepKind.Head numeric foot end variables_end captured) (head_part es texts) → space_of_expressions es < 200 →
         (number : ℕ) → length (before_at of at).functions ≤ number → number < length (made_at of at (StepKind.Head numeric foot end variables_end captured) (head_part es texts)).functions → IsMadeAt f g 200 200 number
     head_made numeric is room number from below =
         let less = is.within in
         let m = before_at of at in
         let declared = (declare texts m).after in
         let high = depth_of_expressions es in
-        let little = room_of_expressions es in
+        let little = space_of_expressions es in
         let mentions = mentions_of_head numeric es in
         let all = (made_before of at (omega (arith, less))).all in
         let meant = head_meant numeric is in
@@ -138,7 +138,7 @@ module _ {Left : Type 0} {f : Function} {g : Fn} {z : Maker} {code : Steps} {par
   step_made {at} (StepKind.Test when target negated) (condition_part e) is room =
       let m = before_at of at in
       let made = made_at of at (StepKind.Test when target negated) (condition_part e) in
-      mentions_made is (depth_of_expression e) (room_of_expression e) (mentions_in e) (test_meant g m.active (length m.active) when (pcs of target) e is.flow.has (spot m) (spot made) is.stands) (test_low e is.flow.has) is.flow.shallow (omega (arith, room))
+      mentions_made is (depth_of_expression e) (space_of_expression e) (mentions_in e) (test_meant g m.active (length m.active) when (pcs of target) e is.flow.has (spot m) (spot made) is.stands) (test_low e is.flow.has) is.flow.shallow (omega (arith, room))
   step_made (StepKind.Jump target) part is room = λ number from below. absurd (omega (arith, from, below))
   step_made (StepKind.Close first declared) part is room = λ number from below. absurd (omega (arith, from, below))
   step_made (StepKind.Head true foot end variables_end captured) (head_part es texts) is room = head_made true is room

@@ -7,10 +7,10 @@ use Rattle.lua_tree.specs.OneLine.{one_line_body, one_line_expression, one_line_
 use Rattle.lua_tree.specs.Syntax as syntax
 use Rattle.lua_tree.specs.Syntax.{Expression, Expressions, FunctionBody, Statement, Statements, assignment, field_expression, function_body, function_expression, function_statement, name_expression, nil_literal, no_expressions, no_statements}
 use Rattle.lua_tree.specs.WellFormed.{begins_with_paren, depth_of_body, depth_of_expression, depth_of_expressions, depth_of_statement, depth_of_statements, ends_block, formed_body, formed_expression, formed_statement, formed_statements, is_optional_name, is_prefix, is_target, may_follow, statement_begins_with_paren, statement_takes_arguments}
+use Rattle.same_flow.specs.Space.{space_of_body, space_of_expression, space_of_expressions, space_of_statement, space_of_statements}
 use Rattle.reads_back.specs.Assignments.{as_assignment, fields_behind, path_target, with_method_name, with_self}
 use Rattle.reads_back.specs.Acted.{AreActsBy, is_path, lean_assignment, lean_depth, lean_depth_of}
 use Rattle.reads_back.specs.Straight.{AreStraightBy, HasCoreBy, IsActBy, IsActTargetBy, IsStraightBody, IsStraightStatementBy, StatementIndexesNoTable, IndexesNoTable, is_constructor}
-use Rattle.scheme.specs.Shapes.{room_of_body, room_of_expression, room_of_expressions, room_of_statement, room_of_statements}
 use Rattle.reads_back.proofs.Rooms.{lean_room, lean_room_assignment, lean_room_of}
 use Rattle.reads_back.proofs.PlainStraight.{AreOnLine}
 use Rattle.reads_back.proofs.Tests.{both_hold, first_of_both, not_so, second_of_both}
@@ -212,18 +212,18 @@ acts_lean deep (syntax.statement line semi s rest) are formed =
 
 -- ---- and it has as much room
 
-pub lean_room_less : (targets es : Expressions) → lean_room_assignment targets es ≤ max (room_of_expressions targets) (room_of_expressions es)
+pub lean_room_less : (targets es : Expressions) → lean_room_assignment targets es ≤ max (space_of_expressions targets) (space_of_expressions es)
 lean_room_less (syntax.expression target no_expressions) (syntax.expression (function_expression line body) no_expressions) = by (is_path target)
   where
-    by : (path : Bool) → (if path then suc (room_of_body body) else max (room_of_expression target) (suc (room_of_body body))) ≤ max (max (room_of_expression target) 0) (max (1 + room_of_body body) 0)
+    by : (path : Bool) → (if path then suc (space_of_body body) else max (space_of_expression target) (suc (space_of_body body))) ≤ max (max (space_of_expression target) 0) (max (1 + space_of_body body) 0)
     by true = omega arith
     by false = omega arith
 lean_room_less targets es = omega arith
 
-self_room : (method : Bool) (body : FunctionBody) → room_of_body (with_self method body) ≡ room_of_body body
+self_room : (method : Bool) (body : FunctionBody) → space_of_body (with_self method body) ≡ space_of_body body
 self_room method (function_body params vararg block first last) = refl
 
-assigned_roomy : (s : Statement) → formed_statement s ≡ true → lean_room (as_assignment s) ≤ room_of_statement s
+assigned_roomy : (s : Statement) → formed_statement s ≡ true → lean_room (as_assignment s) ≤ space_of_statement s
 assigned_roomy (function_statement [] method body) formed = not_so formed
 assigned_roomy (function_statement (name ∷ names) method body) formed =
     let behind = second_of_both (are_some_names (name ∷ names)) _ formed in
@@ -233,13 +233,13 @@ assigned_roomy (function_statement (name ∷ names) method body) formed =
     inside : FunctionBody
     inside = with_self (is_some method) body
 
-    by : (path : Bool) → path ≡ true → (if path then suc (room_of_body inside) else max (room_of_expression (path_target (name ∷ names) method)) (suc (room_of_body inside))) ≤ 1 + room_of_body body
+    by : (path : Bool) → path ≡ true → (if path then suc (space_of_body inside) else max (space_of_expression (path_target (name ∷ names) method)) (suc (space_of_body inside))) ≤ 1 + space_of_body body
     by true is = omega (arith, self_room (is_some method) body)
     by false is = not_so is
 assigned_roomy (assignment targets es) formed = lean_room_less targets es
 assigned_roomy s formed = omega arith
 
-pub acts_roomy : (deep : ℕ) (block : Statements) → AreStraightBy (IsStraightBody deep) block → formed_statements block ≡ true → lean_room_of (as_assignments block) ≤ room_of_statements block
+pub acts_roomy : (deep : ℕ) (block : Statements) → AreStraightBy (IsStraightBody deep) block → formed_statements block ≡ true → lean_room_of (as_assignments block) ≤ space_of_statements block
 acts_roomy deep no_statements are formed = omega arith
 acts_roomy deep (syntax.statement line semi s rest) are formed =
     let behind = second_of_both (may_follow s semi rest) _ (second_of_both (formed_statement s) _ formed) in

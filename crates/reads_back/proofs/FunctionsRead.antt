@@ -11,7 +11,7 @@ use Rattle.proto.specs.Short.{AreShort, HasShortLists, IsShort}
 use Rattle.scheme.specs.Functions.{Finished, Heading, chunk_of, empty_maker, whole_function}
 use Rattle.scheme.specs.Making.{Ahead}
 use Rattle.scheme.specs.Scheme.{inner, statements_made}
-use Rattle.scheme.specs.Shapes.{plain_body, room_of_statements}
+use Rattle.scheme.specs.Shapes.{plain_body}
 use Rattle.scheme_stands.proofs.Growth.{Final, fn_of}
 use Rattle.scheme_stands.proofs.Makers.{StandFrom, body_stands}
 use Rattle.scheme_stands.proofs.Every.{statements_at}
@@ -20,6 +20,7 @@ use Rattle.scheme_stands.proofs.Whole.{statements_final}
 use Rattle.scheme_stands.specs.Functions.{FunctionAt}
 use Rattle.scheme_stands.specs.Relation.{FunctionOf, StatementsAt}
 use Rattle.scheme_stands.specs.Words.{Names, asking}
+use Rattle.same_flow.specs.Space.{space_of_body, space_of_statements}
 use Rattle.reads_back.specs.Cores.{IsPlainBody}
 use Rattle.reads_back.specs.Straight.{AreStraightBy, IsStraightBody}
 use Rattle.reads_back.specs.Acted.{AreActs, lean_depth_of}
@@ -27,10 +28,10 @@ use Rattle.reads_back.proofs.FunctionStatements.{acts_are, acts_formed, acts_lea
 use Rattle.reads_back.proofs.SameStatements.{block_made_same, block_part_same, block_stands}
 use Rattle.reads_back.proofs.InnerNames.{placed_known}
 use Rattle.reads_back.proofs.InnerReads.{AreNamedBy, IsEverRead, IsFunctionRead, IsReadAsBody, function_read}
-use Rattle.reads_back.proofs.Marks.{SamePart, part_then}
+use Rattle.reads_back.proofs.Marks.{SamePart, exact_part, part_then}
 use Rattle.reads_back.proofs.PlainBodies.{plain_block}
 use Rattle.reads_back.proofs.PlainStraight.{AreOnLine, each_on_line}
-use Rattle.reads_back.proofs.Rooms.{lean_room_of}
+use Rattle.reads_back.proofs.Rooms.{body_room, lean_room_of}
 use Rattle.reads_back.proofs.SameFunctions.{good_params, same_function, same_function_part}
 use Rattle.reads_back.proofs.StraightFunctions.{IsStraightFunction, begun_of, maker_of}
 use Rattle.reads_back.proofs.Tests.{both_hold, first_of_both, second_of_both}
@@ -44,7 +45,7 @@ pub record AreTheActs (params names : List Text) (before : Ahead) (block : State
   pub formed : formed_statements (as_assignments block) ≡ true
   pub shallow : depth_of_statements (as_assignments block) ≤ 200
   pub lean : lean_depth_of (as_assignments block) ≤ depth_of_statements block
-  pub roomy : lean_room_of (as_assignments block) ≤ room_of_statements block
+  pub roomy : lean_room_of (as_assignments block) ≤ space_of_statements block
   pub made : statements_made (as_assignments block) None (begun_of params names before) ≡ statements_made block None (begun_of params names before)
   pub maker : maker_of params (as_assignments block) names before ≡ maker_of params block names before
   pub part : SamePart (statements_part (as_assignments block)) (statements_part block)
@@ -64,7 +65,7 @@ the_acts params names before deep block straight formed on_line low =
       roomy = acts_roomy deep block straight formed;
       made = same;
       maker = ap (λ m. whole_function 1 params (λ n. m) (empty_maker before names)) same;
-      part = block_part_same block formed on_line;
+      part = exact_part (block_part_same block formed on_line);
     }
 
 body_acts : (deep : ℕ) (params : List Text) (vararg : Bool) (block : Statements) → IsStraightBody deep (function_body params vararg block 1 1) → (all names : List Text) (before : Ahead) → formed_statements block ≡ true → AreOnLine block → depth_of_statements block ≤ 200 → AreTheActs all names before block
@@ -124,10 +125,11 @@ module _ (is_short : Bool) (mine : Own) (functions : Functions) (ever : (number 
       is_read zero low = absurd (omega (arith, low))
       is_read (suc deep) low =
           let r : IsFunctionRead is_short deep heading (all_params method params) (as_assignments block) names before (function mine functions) = function_read is_short deep functions ever straight (omega (arith, low, acts.lean)) in
+          let enough : space_of_statements block ≤ space_of_body body = body_room params vararg block 1 1 in
           record {
             found = r.found;
             read = r.read;
-            strict = λ roomy. r.strict (λ is. omega (arith, roomy is, acts.roomy));
+            strict = λ roomy. r.strict (λ is. omega (arith, roomy is, acts.roomy, enough));
             fine = record {
               formed = ap formed_body r.body ∙ both_hold _ _ good r.formed;
               shallow = λ few. omega (arith, ap depth_of_body r.body, r.shallow);
@@ -135,8 +137,8 @@ module _ (is_short : Bool) (mine : Own) (functions : Functions) (ever : (number 
             };
             same = ap (λ body. inner body false names before) r.body ∙ same_function params vararg method block r.written names before (r.made ∙ acts.made);
             few = omega (arith, r.few, acts.lean);
-            low = λ is. omega (arith, r.low is, acts.roomy);
-            part = part_then (λ here. ap (λ body. body_part false body here) r.body) (same_function_part params vararg method block r.written (part_then r.part acts.part));
+            low = λ is. omega (arith, r.low is, acts.roomy, enough);
+            part = part_then (exact_part (λ here. ap (λ body. body_part false body here) r.body)) (same_function_part params vararg method block r.written (part_then r.part acts.part));
           }
 
   body_read : IsEverRead is_short (function mine functions)

@@ -17,11 +17,11 @@ use Rattle.scheme.specs.Expressions.{Coded, is_multiple, load, next_reg}
 use Rattle.scheme.specs.Lists.{all_multi, all_next, ends_open as opens, list_count, open_list}
 use Rattle.scheme.specs.Making.{Maker, constant}
 use Rattle.scheme.specs.Scheme.{all_coded, coded}
-use Rattle.scheme.specs.Shapes.{room_of_expressions}
 use Rattle.scheme.specs.declared.making.Active.{Active}
 use Rattle.scheme_stands.proofs.Growth.{Final, before as before_part, before_put, before_take, calm, later}
 use Rattle.scheme_stands.proofs.Parts.{grow_all, grows, grows_next, grows_open}
 use Rattle.scheme_stands.specs.Words.{Fn}
+use Rattle.same_flow.specs.Space.{space_of_expressions}
 use Rattle.reads_back.specs.Cores.{AllHaveCores, AreCores, HasCore, HasNumber, IsCore, IsTextGiven, ends_open}
 use Rattle.reads_back.proofs.ConstantsSame.{constant_taken}
 use Rattle.reads_back.proofs.LiteralReads.{constant_there}
@@ -77,13 +77,13 @@ AllRewritten f g active listed z lefts (syntax.expression e es) =
 -- the levels of a list, in the forms of fewest levels
 abbrev pub ListLow : Function → Fn → List Active → (listed : List ℕ) → Maker → (lefts : ℕ → List (Option Inner)) (before : ℕ) → Expressions → (all : Bool) → Values → Type 0
 ListLow f g active listed z lefts before es all values =
-    f.short ≡ true → formed_expressions es ≡ true → (m : Maker) → IsAhead g active before (mentions_in_all es) m → Final (length m.labels) (open_list (all_coded (one_line_expressions es)) m) z → (word_values (place f.of listed f.short) (length m.constants) (lefts before) values all).levels ≤ room_of_expressions es
+    f.short ≡ true → formed_expressions es ≡ true → (m : Maker) → IsAhead g active before (mentions_in_all es) m → Final (length m.labels) (open_list (all_coded (one_line_expressions es)) m) z → (word_values (place f.of listed f.short) (length m.constants) (lefts before) values all).levels ≤ space_of_expressions es
 
 abbrev ListGiven : Function → Fn → List Active → (listed : List ℕ) → Maker → (lefts : ℕ → List (Option Inner)) (before behind : ℕ) → Expressions → (all : Bool) → Values → Type 0
 ListGiven f g active listed z lefts before behind es all values = RewrittenGiven f g active listed z lefts before behind (argument_list es) (depth_of_expressions es) values all × ListLow f g active listed z lefts before es all values
 
 -- the short form of a list needs no more
-list_in : (f : Function) (listed : List ℕ) (z : Maker) (lefts : ℕ → List (Option Inner)) (before n deep most : ℕ) (values : Values) (all : Bool) → deep ≤ 200 → (arguments_wording f listed z lefts before n values all).levels ≤ 3 * deep + 4 → (arguments_wording f listed z lefts before n values all).levels ≤ most →
+list_in : (f : Function) (listed : List ℕ) (z : Maker) (lefts : ℕ → List (Option Inner)) (before n deep most : ℕ) (values : Values) (all : Bool) → deep ≤ 200 → (arguments_wording f listed z lefts before n values all).levels ≤ 3 * deep + 204 → (arguments_wording f listed z lefts before n values all).levels ≤ most →
     (given_wording f listed z lefts before n values all).levels ≤ most
 list_in f listed z lefts before n deep most values all shallow few low =
     let less = (arguments_alike (place f.of listed f.short) n (lefts before) f.short values all).levels (omega (arith, few, shallow)) in
@@ -114,7 +114,7 @@ module _ {f : Function} {g : Fn} {active : List Active} {listed : List ℕ} {z :
       leaves = written.leaves;
       makes = written.makes ∙ sym (made_both (mentions_in e) [] before);
       few = few_here;
-      low = λ short formed shallow m ahead final. list_in f listed z lefts before (length m.constants) (depth_of_expressions (syntax.expression e no_expressions)) (room_of_expressions (syntax.expression e no_expressions)) (and_value v no_values) true shallow (few_here (length m.constants)) (low_here short formed m ahead final);
+      low = λ short formed shallow m ahead final. list_in f listed z lefts before (length m.constants) (depth_of_expressions (syntax.expression e no_expressions)) (space_of_expressions (syntax.expression e no_expressions)) (and_value v no_values) true shallow (few_here (length m.constants)) (low_here short formed m ahead final);
       counts = λ n. count_by (coded (wording f listed z lefts before n v).words ∷ []) true (written_opens n) ∙ sym (count_by (code e ∷ []) true (opens_last e true is));
       part = λ m ahead final.
           open_by (coded (wording f listed z lefts before (length m.constants) v).words ∷ []) true m (written_opens (length m.constants))
@@ -131,7 +131,7 @@ module _ {f : Function} {g : Fn} {active : List Active} {listed : List ℕ} {z :
       inner : (m : Maker) → Final (length m.labels) (open_list (code e ∷ []) m) z → Final (length m.labels) ((code e).multi Op.Call None m) z
       inner m final = subst (λ n. Final (length m.labels) n z) (open_by (code e ∷ []) true m (opens_last e true is)) final
 
-      few_here : (n : ℕ) → (arguments_wording f listed z lefts before n (and_value v no_values) true).levels ≤ 3 * depth_of_expressions (syntax.expression e no_expressions) + 4
+      few_here : (n : ℕ) → (arguments_wording f listed z lefts before n (and_value v no_values) true).levels ≤ 3 * depth_of_expressions (syntax.expression e no_expressions) + 204
       few_here n = omega (arith, written.few n)
 
       low_here : ListLow f g active listed z lefts before (syntax.expression e no_expressions) true (and_value v no_values)
@@ -147,7 +147,7 @@ module _ {f : Function} {g : Fn} {active : List Active} {listed : List ℕ} {z :
       leaves = written.leaves;
       makes = written.makes ∙ sym (made_both (mentions_in e) [] before);
       few = few_here;
-      low = λ short formed shallow m ahead final. list_in f listed z lefts before (length m.constants) (depth_of_expressions (syntax.expression e no_expressions)) (room_of_expressions (syntax.expression e no_expressions)) (and_value v no_values) false shallow (few_here (length m.constants)) (low_here short formed m ahead final);
+      low = λ short formed shallow m ahead final. list_in f listed z lefts before (length m.constants) (depth_of_expressions (syntax.expression e no_expressions)) (space_of_expressions (syntax.expression e no_expressions)) (and_value v no_values) false shallow (few_here (length m.constants)) (low_here short formed m ahead final);
       counts = λ n. count_by (coded (last n).words ∷ []) false (written_closed n) ∙ sym (count_by (code e ∷ []) false (opens_last e false is));
       part = λ m ahead final.
           open_by (coded (last (length m.constants)).words ∷ []) false m (written_closed (length m.constants))
@@ -168,7 +168,7 @@ module _ {f : Function} {g : Fn} {active : List Active} {listed : List ℕ} {z :
       inner : (m : Maker) → Final (length m.labels) (open_list (code e ∷ []) m) z → Final (length m.labels) (next_reg (code e) m) z
       inner m final = subst (λ n. Final (length m.labels) n z) (open_by (code e ∷ []) false m (opens_last e false is)) final
 
-      few_here : (n : ℕ) → (arguments_wording f listed z lefts before n (and_value v no_values) false).levels ≤ 3 * depth_of_expressions (syntax.expression e no_expressions) + 4
+      few_here : (n : ℕ) → (arguments_wording f listed z lefts before n (and_value v no_values) false).levels ≤ 3 * depth_of_expressions (syntax.expression e no_expressions) + 204
       few_here n = omega (arith, written.few n, levels_wrapped (not (true && can_be_several v)) (wording f listed z lefts before n v))
 
       low_here : ListLow f g active listed z lefts before (syntax.expression e no_expressions) false (and_value v no_values)
@@ -192,7 +192,7 @@ module _ {f : Function} {g : Fn} {active : List Active} {listed : List ℕ} {z :
       leaves = ap (left_by_values (and_value w rest)) first.leaves ∙ others.0.leaves;
       makes = others.0.makes ∙ ap (made_behind rest_mentions) first.makes ∙ sym (made_both (mentions_in e) rest_mentions before);
       few = few_here;
-      low = λ short formed shallow m ahead final. list_in f listed z lefts before (length m.constants) (depth_of_expressions (syntax.expression e (syntax.expression d es))) (room_of_expressions (syntax.expression e (syntax.expression d es))) (and_value v (and_value w rest)) all shallow (few_here (length m.constants)) (low_here short formed m ahead final);
+      low = λ short formed shallow m ahead final. list_in f listed z lefts before (length m.constants) (depth_of_expressions (syntax.expression e (syntax.expression d es))) (space_of_expressions (syntax.expression e (syntax.expression d es))) (and_value v (and_value w rest)) all shallow (few_here (length m.constants)) (low_here short formed m ahead final);
       counts = λ n.
           count_more (coded (wording f listed z lefts before n v).words) (second (taken_behind v n) (left_by v (lefts before))) (others_behind (taken_behind v n) (left_by v (lefts before)))
           ∙ ap (λ fs. option_map suc (list_count (written (taken_behind v n) fs))) first.leaves
@@ -247,7 +247,7 @@ module _ {f : Function} {g : Fn} {active : List Active} {listed : List ℕ} {z :
       final_behind : (m : Maker) → Final (length m.labels) (open_list (code e ∷ behind_first) m) z → Final (length (next_reg (code e) m).labels) (open_list behind_first (next_reg (code e) m)) z
       final_behind m final = let grown = grows_next {v = calm} (code e) (grows calm (one_line_expression e)) m in later grown.more (inner m final)
 
-      few_here : (n : ℕ) → (arguments_wording f listed z lefts before n (and_value v (and_value w rest)) all).levels ≤ 3 * depth_of_expressions (syntax.expression e (syntax.expression d es)) + 4
+      few_here : (n : ℕ) → (arguments_wording f listed z lefts before n (and_value v (and_value w rest)) all).levels ≤ 3 * depth_of_expressions (syntax.expression e (syntax.expression d es)) + 204
       few_here n =
           let same = ap (λ fs. (word_values (place f.of listed f.short) (taken_behind v n) fs (and_value w rest) all).levels) first.leaves in
           omega (arith, same, first.few n, others.0.few (taken_behind v n))

@@ -19,7 +19,7 @@ use Rattle.reads_back.specs.Cores.{AllHaveCores, ends_open}
 use Rattle.reads_back.proofs.DeclaredValues.{with_nil_parts}
 use Rattle.reads_back.proofs.HeadValues.{IsHeaded, counted_list, head_wording, headed_by, headed_values}
 use Rattle.reads_back.proofs.HeadsSame.{AreCounted, AreOfHead, counted_cores, counted_depth}
-use Rattle.reads_back.proofs.Marks.{ArePartsLeft, SamePart, both_same, nothing_behind, part_back, part_then, parts_of, same_part, values_part}
+use Rattle.reads_back.proofs.Marks.{ArePartsLeft, SamePart, both_same, exact_part, nothing_behind, part_back, part_then, parts_of, same_part, values_part}
 use Rattle.reads_back.proofs.MarksSame.{ArePartsMade, list_part}
 use Rattle.reads_back.proofs.NameReads.{AreListed}
 use Rattle.reads_back.proofs.Tests.{not_so}
@@ -56,7 +56,7 @@ module _ (at : Place) (of : ℕ → Part) where
 
   headed_parts : (is_open : Bool) (from : Values) (headed : Listed) → headed_values is_open from ≡ headed → SamePart (parts_of at of headed.values) (parts_of at of from)
   headed_parts is_open from headed is =
-      part_then (λ here. ap (λ (list : Listed). parts_of at of list.values here) (sym is)) (headed_by_parts (not is_open && nat_lt (suc (value_count from)) 3) (not is_open && (suc (value_count from) == 3)) from)
+      part_then (exact_part (λ here. ap (λ (list : Listed). parts_of at of list.values here) (sym is))) (headed_by_parts (not is_open && nat_lt (suc (value_count from)) 3) (not is_open && (suc (value_count from) == 3)) from)
 
 -- ---- heads
 

@@ -24,7 +24,6 @@ use Rattle.scheme.specs.Expressions.{next_reg}
 use Rattle.scheme.specs.Lists.{adjust, all_next}
 use Rattle.scheme.specs.Making.{Got, Maker, Part, activate, declare, jump_to, put, take_registers, used}
 use Rattle.scheme.specs.Scheme.{all_coded, coded}
-use Rattle.scheme.specs.Shapes.{room_of_expressions}
 use Rattle.scheme.specs.Statements.{generic_names, numeric_names, step_part}
 use Rattle.scheme.specs.declared.making.Active.{Active}
 use Rattle.scheme.specs.declared.making.Local.{Local}
@@ -34,6 +33,7 @@ use Rattle.scheme_stands.proofs.Lines.{grows_activate, grows_declare}
 use Rattle.scheme_stands.proofs.Parts.{grows, grows_next}
 use Rattle.scheme_stands.specs.Words.{Fn}
 use Rattle.same_flow.specs.Performed.{counted_values, head_made, kind_made}
+use Rattle.same_flow.specs.Space.{space_of_expressions}
 use Rattle.reads_back.specs.Cores.{AllHaveCores, AreCores, IsCore, ends_open}
 use Rattle.reads_back.proofs.ActsRewritten.{AllWritten, each_written}
 use Rattle.reads_back.proofs.DeclaredLocals.{declare_passes}
@@ -196,9 +196,9 @@ pub record RewrittenHead (f : Function) (g : Fn) (active : List Active) (listed 
   pub can : can_write_values (place f.of listed f.short) (lefts before) headed.values ≡ true
   pub leaves : left_by_values headed.values (lefts before) ≡ lefts behind
   pub makes : behind ≡ made_behind (mentions_of_head numeric es) before
-  pub few : (n : ℕ) → (head_wording numeric (place f.of listed f.short) n (lefts before) headed).levels ≤ 3 * depth_of_expressions es + 3
+  pub few : (n : ℕ) → (head_wording numeric (place f.of listed f.short) n (lefts before) headed).levels ≤ 3 * depth_of_expressions es + 203
   pub low : f.short ≡ true → formed_expressions es ≡ true → (m : Maker) → IsAhead g active before (mentions_of_head numeric es) m → Final (length m.labels) (values_made numeric (one_line_expressions es) m) z →
-      (head_wording numeric (place f.of listed f.short) (length m.constants) (lefts before) headed).levels ≤ room_of_expressions es
+      (head_wording numeric (place f.of listed f.short) (length m.constants) (lefts before) headed).levels ≤ space_of_expressions es
   pub same : (m : Maker) → IsAhead g active before (mentions_of_head numeric es) m → Final (length m.labels) (values_made numeric (one_line_expressions es) m) z →
       values_made numeric (head_wording numeric (place f.of listed f.short) (length m.constants) (lefts before) headed).words m ≡ values_made numeric (one_line_expressions es) m
   pub taken : (m : Maker) → IsAhead g active before (mentions_of_head numeric es) m → Final (length m.labels) (values_made numeric (one_line_expressions es) m) z → length (values_made numeric (one_line_expressions es) m).constants ≡ taken_behind_values headed.values (length m.constants)
@@ -217,7 +217,7 @@ module _ (f : Function) (g : Fn) (active : List Active) (listed : List ℕ) (z :
       omega (arith, one)
 
   counted_low : (es : Expressions) → AreCounted es → AllHaveCores (counted_list es) → AllRewritten f g active listed z lefts (counted_list es) → AreCores g active (counted_list es) before behind vs → f.short ≡ true → formed_expressions es ≡ true →
-      (m : Maker) → IsAhead g active before (mentions_in_all (counted_list es)) m → Final (length m.labels) (all_next (codes_of (counted_list es)) m) z → (word_values at_place (length m.constants) (lefts before) vs true).levels ≤ room_of_expressions es
+      (m : Maker) → IsAhead g active before (mentions_in_all (counted_list es)) m → Final (length m.labels) (all_next (codes_of (counted_list es)) m) z → (word_values at_place (length m.constants) (lefts before) vs true).levels ≤ space_of_expressions es
   counted_low (syntax.expression first (syntax.expression last no_expressions)) counted has written (mid, (a, rest, core, (mid_two, (b, rest_two, core_two, (mid_three, (c, rest_three, core_three, (none_made, none), is_three)), is_two)), is)) short formed m ahead final =
       let n = length m.constants in
       let fs = lefts before in
@@ -284,7 +284,7 @@ module _ {f : Function} {g : Fn} {active : List Active} {listed : List ℕ} {z :
         can = adjusts.can;
         leaves = adjusts.leaves;
         makes = adjusts.makes;
-        few = λ n. omega (arith, list_few (place f.of listed f.short) (3 * depth_of_expressions es + 2) n (lefts before) headed.values headed.all (adjusts.fine n));
+        few = λ n. omega (arith, list_few (place f.of listed f.short) (3 * depth_of_expressions es + 202) n (lefts before) headed.values headed.all (adjusts.fine n));
         low = λ short formed m ahead final. adjusts.low (λ none. not_so (sym (ap has_expressions none) ∙ some)) short formed m ahead final;
         same = adjusts.same;
         taken = adjusts.taken;
@@ -373,7 +373,7 @@ module _ {f : Function} {g : Fn} {active : List Active} {listed : List ℕ} {z :
         ∙ ap (λ (constants : List Constant). taken_behind_values headed.values (length constants)) (declare_constants names m)
 
     -- in the forms of fewest levels its step needs no more than the expressions have room for, and one more
-    pub head_low : f.short ≡ true → formed_expressions es ≡ true → one_more (head_wording numeric (place f.of listed f.short) (length m.constants) (lefts before) headed).levels ≤ suc (room_of_expressions es)
+    pub head_low : f.short ≡ true → formed_expressions es ≡ true → one_more (head_wording numeric (place f.of listed f.short) (length m.constants) (lefts before) headed).levels ≤ suc (space_of_expressions es)
     head_low short formed =
         let low = written.low short formed named.after values_ahead values_final in
         let same = ap (λ (constants : List Constant). (head_wording numeric (place f.of listed f.short) (length constants) (lefts before) headed).levels) (declare_constants names m) in

@@ -8,7 +8,6 @@ use Rattle.lua_tree.specs.OneLine.{one_line_expression}
 use Rattle.lua_tree.specs.Syntax.{Expression, text_literal, index_expression, field_expression}
 use Rattle.lua_tree.specs.WellFormed.{depth_of_expression, formed_expression, is_prefix}
 use Rattle.lua_tree.specs.Precedence.{is_unary, level_of}
-use Rattle.scheme.specs.Shapes.{room_of_expression}
 use Rattle.reads_back.proofs.InRoom.{prefix_in}
 use Rattle.reads_back.proofs.Rooms.{some_room}
 use Rattle.opcode.specs.declared.op.Op.{Op}
@@ -27,6 +26,7 @@ use Rattle.scheme.specs.declared.making.Piece.{Piece}
 use Rattle.scheme_stands.proofs.Growth.{calm, Grown, Final, before as before_part, before_free, before_put, later}
 use Rattle.scheme_stands.proofs.Parts.{grows, grows_operand, grows_rk, grows_rk_text}
 use Rattle.scheme_stands.specs.Words.{Fn}
+use Rattle.same_flow.specs.Space.{space_of_expression}
 use Rattle.reads_back.proofs.Deeper.{some_depth}
 use Rattle.reads_back.proofs.Mentions.{AskingPasses, IsAhead, ahead_behind, ahead_front, mentions_in, Mention, made_behind, made_both}
 use Rattle.reads_back.proofs.Operators.{last_taken}
@@ -194,7 +194,7 @@ pub record KeyWritten (f : Function) (g : Fn) (active : List Active) (listed : L
   pub can : can_write_operand (place f.of listed f.short) (lefts before) key ≡ true
   pub leaves : left_by_operand key (lefts before) ≡ lefts behind
   pub makes : behind ≡ made_behind mentions before
-  pub few : (n : ℕ) → (operand_wording f listed z lefts before n key).levels ≤ 3 * deep + 3
+  pub few : (n : ℕ) → (operand_wording f listed z lefts before n key).levels ≤ 3 * deep + 203
   -- where it is well formed
   pub low : f.short ≡ true → formed ≡ true → (m : Maker) → IsAhead g active before mentions m → Final (length m.labels) (asked m).after z → (operand_wording f listed z lefts before (length m.constants) key).levels ≤ roomy
   pub grown : (m : Maker) → Grown calm m (asked m).after
@@ -209,12 +209,12 @@ pub record KeySame (f : Function) (g : Fn) (active : List Active) (listed : List
 -- an expression that indexes this one, with a key that is well formed and has so much room
 pub record IsIndexing (e on : Expression) (good : Bool) (roomy : ℕ) : Type 0 where
   pub parts : formed_expression e ≡ true → (is_prefix on ≡ true) × (formed_expression on ≡ true) × (good ≡ true)
-  pub roomier : suc (max (room_of_expression on) roomy) ≤ room_of_expression e
+  pub roomier : suc (max (space_of_expression on) roomy) ≤ space_of_expression e
   prefix : is_prefix e ≡ true
   level : level_of e ≡ 9
   unary : is_unary e ≡ false
 
-pub index_indexing : (line : ℕ) (on key : Expression) → IsIndexing (index_expression line on key) on (formed_expression key) (room_of_expression key)
+pub index_indexing : (line : ℕ) (on key : Expression) → IsIndexing (index_expression line on key) on (formed_expression key) (space_of_expression key)
 index_indexing line on key = record {
   parts = λ formed. let parts = second_of_both (is_prefix on) _ formed in (first_of_both _ _ formed, first_of_both _ _ parts, second_of_both (formed_expression on) _ parts);
   roomier = omega arith;
@@ -249,13 +249,13 @@ module _ {f : Function} {g : Fn} {active : List Active} {listed : List ℕ} {z :
       ∙ ap (λ fs. with_key (field_name at key) (as_prefix (wording f listed z lefts before n o)) (word_operand at (taken_behind o n) fs key)) first.leaves
       ∙ ap (λ n'. with_key (field_name at key) (as_prefix (wording f listed z lefts before n o)) (word_operand at n' (lefts mid) key)) taken
 
-  indexed_few : (n : ℕ) → (wording f listed z lefts before n v).levels ≤ 3 * suc (max (depth_of_expression on) deep) + 2
+  indexed_few : (n : ℕ) → (wording f listed z lefts before n v).levels ≤ 3 * suc (max (depth_of_expression on) deep) + 202
   indexed_few n =
       let w = wording f listed z lefts before n o in
       let u = operand_wording f listed z lefts mid (taken_behind o n) key in
       let same : (wording f listed z lefts before n v).levels ≡ (with_key (field_name (place f.of listed f.short) key) (as_prefix w) u).levels = ap (λ w. w.levels) (indexed_is n (taken_behind o n) refl) in
       let one = levels_wrapped (is_prefix w.words) w in
-      let all = key_few (field_name (place f.of listed f.short) key) (as_prefix w) u (3 * depth_of_expression on + 3) (3 * deep + 3) (omega (arith, first.few n, one)) (second.few (taken_behind o n)) in
+      let all = key_few (field_name (place f.of listed f.short) key) (as_prefix w) u (3 * depth_of_expression on + 203) (3 * deep + 203) (omega (arith, first.few n, one)) (second.few (taken_behind o n)) in
       omega (arith, same, all)
 
   indexed_can : suc (depth_of_expression on) ≤ 200 → can_write (place f.of listed f.short) (lefts before) v ≡ true
@@ -295,7 +295,7 @@ module _ {f : Function} {g : Fn} {active : List Active} {listed : List ℕ} {z :
         ∙ ap (behind_key to m x.value) (key_asks_same at (length m1.constants) (lefts mid) key m1 ∙ second.as_rk m1 key_ahead behind_final)
 
     -- in the forms of fewest levels
-    indexed_low : f.short ≡ true → formed_expression on ≡ true → is_prefix on ≡ true → good ≡ true → (wording f listed z lefts before (length m.constants) v).levels ≤ suc (max (room_of_expression on) roomy)
+    indexed_low : f.short ≡ true → formed_expression on ≡ true → is_prefix on ≡ true → good ≡ true → (wording f listed z lefts before (length m.constants) v).levels ≤ suc (max (space_of_expression on) roomy)
     indexed_low short formed prefix good =
         let n = length m.constants in
         let m1 = (operand (code on) m).after in
@@ -303,7 +303,7 @@ module _ {f : Function} {g : Fn} {active : List Active} {listed : List ℕ} {z :
         let u = operand_wording f listed z lefts mid (length m1.constants) key in
         let same = ap (λ (w : Wording). w.levels) (indexed_is n (length m1.constants) (sym (operand_taken first m on_ahead front_final))) in
         let one = prefix_in (is_bare (place f.of listed f.short) n o) on w (operand_low first short formed m on_ahead front_final) prefix in
-        let all = key_few (field_name (place f.of listed f.short) key) (as_prefix w) u (room_of_expression on) roomy one (second.low short good m1 key_ahead behind_final) in
+        let all = key_few (field_name (place f.of listed f.short) key) (as_prefix w) u (space_of_expression on) roomy one (second.low short good m1 key_ahead behind_final) in
         omega (arith, same, all)
 
     indexed_taken : length (freeing (indexed_value 1 (code on) asked to) m).constants ≡ taken_behind v (length m.constants)
@@ -350,7 +350,7 @@ module _ {f : Function} {g : Fn} {active : List Active} {listed : List ℕ} {z :
 
 module _ {f : Function} {g : Fn} {active : List Active} {listed : List ℕ} {z : Maker} {lefts : ℕ → List (Option Inner)} {before behind : ℕ} where
   -- a key that is an expression
-  operand_key : (key : Expression) (k : OperandValue) → RewrittenOperand f g active listed z lefts before behind key k → KeyWritten f g active listed z lefts before behind (rk (code key)) (mentions_in key) k (depth_of_expression key) (formed_expression key) (room_of_expression key)
+  operand_key : (key : Expression) (k : OperandValue) → RewrittenOperand f g active listed z lefts before behind key k → KeyWritten f g active listed z lefts before behind (rk (code key)) (mentions_in key) k (depth_of_expression key) (formed_expression key) (space_of_expression key)
   operand_key key k operand = record {
     can = operand.can;
     leaves = operand.leaves;
@@ -375,7 +375,7 @@ module _ {f : Function} {g : Fn} {active : List Active} {listed : List ℕ} {z :
       indexed_rewritten first key.written made (field_expression line on text) (sym (append-nil (mentions_in on))) (omega (arith, some_depth on)) shallow refl refl refl (field_indexing line on text) (λ to m. refl) kept
 
 module _ {f : Function} {g : Fn} {active : List Active} {listed : List ℕ} {z : Maker} {lefts : ℕ → List (Option Inner)} {before behind : ℕ} where
-  pub expression_key : (key : Expression) (k : OperandValue) → PassesMentions (mentions_in key) (code key) → RewrittenOperand f g active listed z lefts before behind key k → KeySame f g active listed z lefts before behind (rk (code key)) (mentions_in key) k (depth_of_expression key) (formed_expression key) (room_of_expression key)
+  pub expression_key : (key : Expression) (k : OperandValue) → PassesMentions (mentions_in key) (code key) → RewrittenOperand f g active listed z lefts before behind key k → KeySame f g active listed z lefts before behind (rk (code key)) (mentions_in key) k (depth_of_expression key) (formed_expression key) (space_of_expression key)
   expression_key key k passed operand = record { written = operand_key key k operand; passes = rk_passes (mentions_in key) (code key) passed }
 
   pub key_deeper : {asked : Asks ℕ} {mentions : List Mention} {k : OperandValue} {deep more : ℕ} {good : Bool} {roomy : ℕ} → deep ≤ more → KeySame f g active listed z lefts before behind asked mentions k deep good roomy → KeySame f g active listed z lefts before behind asked mentions k more good roomy

@@ -14,10 +14,11 @@ use Rattle.recover_expr.specs.declared.steps.Step.{Step}
 use Rattle.scheme.specs.Functions.{Heading, chunk_of, without_sources}
 use Rattle.scheme.specs.Making.{Ahead, Maker, head_or}
 use Rattle.scheme.specs.Scheme.{inner, statements_made}
-use Rattle.scheme.specs.Shapes.{plain_statements, room_of_body}
+use Rattle.scheme.specs.Shapes.{plain_statements}
 use Rattle.scheme.specs.declared.making.Active.{Active}
 use Rattle.scheme_stands.specs.Relation.{FunctionOf}
 use Rattle.scheme_stands.specs.Words.{Fn, Law, Names, law_inside, names_in, onto}
+use Rattle.same_flow.specs.Space.{space_of_body}
 use Rattle.reads_back.specs.Coming.{Coming, IsMadeNext}
 use Rattle.reads_back.specs.Acted.{lean_depth_of}
 use Rattle.reads_back.specs.Cores.{IsPlainBody}
@@ -28,7 +29,7 @@ use Rattle.reads_back.proofs.Rooms.{lean_room_of}
 use Rattle.reads_back.proofs.StepsPlaced.{AreLow}
 use Rattle.reads_back.proofs.EachMade.{IsMadeAt, each_made}
 use Rattle.reads_back.proofs.LeftFunctions.{AreAllRead, all_read, all_strict, each_left, left_behind, next_left, others_left}
-use Rattle.reads_back.proofs.Marks.{IsPartLeft, SamePart, part_then}
+use Rattle.reads_back.proofs.Marks.{IsPartLeft, SamePart, exact_part, part_then}
 use Rattle.reads_back.proofs.NameReads.{AreListed}
 use Rattle.reads_back.proofs.NamesInside.{named_inside}
 use Rattle.reads_back.proofs.ReadOnce.{same_found}
@@ -48,11 +49,11 @@ pub record IsReadAsBody (short : Bool) (deep : ℕ) (chunk : Chunk) (body : Func
   pub found : Inner
   pub read : IsLooselyRead short deep chunk found
   -- and so where its body has room
-  pub strict : (short ≡ true → room_of_body body ≤ 200) → IsRead short deep chunk found
+  pub strict : (short ≡ true → space_of_body body ≤ 200) → IsRead short deep chunk found
   pub fine : IsFineFunction found
   pub same : inner found.body false names before ≡ inner body method names before
-  pub few : found.levels ≤ 3 * depth_of_body body + 4
-  pub low : short ≡ true → found.levels ≤ room_of_body body
+  pub few : found.levels ≤ 3 * depth_of_body body + 204
+  pub low : short ≡ true → found.levels ≤ space_of_body body
   pub part : SamePart (body_part false found.body) (body_part method body)
 
 -- whatever plain function the chunk stands as, but for the numbers of lines
@@ -124,7 +125,7 @@ pub record IsFunctionRead (short : Bool) (deep : ℕ) (heading : Heading) (param
   pub formed : formed_statements written ≡ true
   pub simple : plain_statements written ≡ true
   pub shallow : depth_of_statements written ≤ found.levels
-  pub few : found.levels ≤ 3 * lean_depth_of block + 1
+  pub few : found.levels ≤ 3 * lean_depth_of block + 201
   pub low : short ≡ true → found.levels ≤ lean_room_of block
   pub part : SamePart (statements_part written) (statements_part block)
   pub made : statements_made written None (begun_of params names ahead) ≡ statements_made block None (begun_of params names ahead)
@@ -210,8 +211,8 @@ module _ (short : Bool) (deep high roomy : ℕ) (functions : Functions) (ever : 
         let back = founds.back number found is in
         let r = number_read number back.0 back.1 in
         subst IsFineFunction (same_found short deep deep back.0 r.found found r.read back.2) r.fine);
-    parts = each_left (IsPartLeft parts) founds.founds (λ number found is. λ here. ap (λ found. part_found found here) (sym is));
-    made = λ active listed all body c plain shallow next. part_then (λ here. ap (λ found. part_found found here) (now_found all plain shallow next)) (now_read all plain shallow next).part;
+    parts = each_left (IsPartLeft parts) founds.founds (λ number found is. exact_part (λ here. ap (λ found. part_found found here) (sym is)));
+    made = λ active listed all body c plain shallow next. part_then (exact_part (λ here. ap (λ found. part_found found here) (now_found all plain shallow next))) (now_read all plain shallow next).part;
   }
 
   strictly_found : (short ≡ true → roomy ≤ 200) → AreRead short deep functions (lefts 0)
@@ -250,8 +251,8 @@ module _ (short : Bool) (deep : ℕ) (functions : Functions) (ever : (number : �
   abbrev found : Inner
   found = record { body = function_body from.steps.params (is_vararg mine) from.written 1 1; levels = most_levels from.steps.steps }
 
-  levels_low : IsLow short (3 * lean_depth_of block + 1) (lean_room_of block) found.levels
-  levels_low = low_levels short (3 * lean_depth_of block + 1) (lean_room_of block) from.steps.steps from.low
+  levels_low : IsLow short (3 * lean_depth_of block + 201) (lean_room_of block) found.levels
+  levels_low = low_levels short (3 * lean_depth_of block + 201) (lean_room_of block) from.steps.steps from.low
 
   read_loosely : IsLooselyReadFrom short (function mine functions) (those.lefts 0) found
   read_loosely = record {

@@ -225,6 +225,7 @@ pub mod StraightBlocks
 pub mod StraightFunctions
 pub mod StraightScopes
 pub mod StraightSources
+pub mod StraightSpace
 pub mod TableItems
 pub mod TableReads
 pub mod TableValues
@@ -257,7 +258,6 @@ pub mod ThroughParts
 pub mod ThroughStatements
 pub mod ThroughTests
 pub mod ThroughTurns
-pub mod UnbrokenParts
 pub mod UnfreeParts
 pub mod UsedPlaces
 pub mod ValueReads

@@ -1,6 +1,5 @@
 -- What is written of a list of values makes the same code as the expressions: each value goes to the next register, or the last one gives several; and a nil behind the values.
 use Rattle.reads_back.proofs.InRoom.{levels_in, closed_in}
-use Rattle.scheme.specs.Shapes.{room_of_expressions}
 use Rattle.std.proofs.Common.{◌≡◌, ℕ, suc, ◌+◌, ◌*◌, ◌≤◌, Bool, true, false, List, [], ◌++◌, length, Option, refl, sym, ap, ◌∙◌, subst, arith, inr}
 use Rattle.std.specs.Prelude.{◌&&◌, not}
 use Rattle.lua_tree.specs.OneLine.{one_line_expression, one_line_expressions}
@@ -23,6 +22,7 @@ use Rattle.scheme.specs.declared.making.Active.{Active}
 use Rattle.scheme_stands.proofs.Growth.{Final, before as before_part, calm, later}
 use Rattle.scheme_stands.proofs.Parts.{grow_all, grows, grows_all, grows_multi, grows_next}
 use Rattle.scheme_stands.specs.Words.{Fn}
+use Rattle.same_flow.specs.Space.{space_of_expressions}
 use Rattle.reads_back.specs.Cores.{AllHaveCores, AreCores, ends_open}
 use Rattle.reads_back.proofs.GivenSame.{AllRewritten, closed_unless}
 use Rattle.reads_back.proofs.Mentions.{IsAhead, ahead_behind, ahead_front, mentions_in, mentions_in_all, made_behind}
@@ -84,22 +84,22 @@ module _ (at : Place) (deep : ℕ) where
   fine_front n fs (and_value v rest) fine = (fine.0, fine.1, fine_front (taken_behind v n) (left_by v fs) rest fine.2)
 
 pub cores_fine : (f : Function) (g : Fn) (active : List Active) (listed : List ℕ) (z : Maker) (lefts : ℕ → List (Option Inner)) (deep : ℕ) (es : Expressions) (before behind : ℕ) (vs : Values) →
-    depth_of_expressions es ≤ deep → AllRewritten f g active listed z lefts es → AreCores g active es before behind vs → (n : ℕ) → EachFine (place f.of listed f.short) (3 * deep + 2) n (lefts before) vs
-cores_fine f g active listed z lefts deep no_expressions before behind vs shallow written are n = subst (EachFine (place f.of listed f.short) (3 * deep + 2) n (lefts before)) (sym are.1) tt
+    depth_of_expressions es ≤ deep → AllRewritten f g active listed z lefts es → AreCores g active es before behind vs → (n : ℕ) → EachFine (place f.of listed f.short) (3 * deep + 202) n (lefts before) vs
+cores_fine f g active listed z lefts deep no_expressions before behind vs shallow written are n = subst (EachFine (place f.of listed f.short) (3 * deep + 202) n (lefts before)) (sym are.1) tt
 cores_fine f g active listed z lefts deep (syntax.expression e es) before behind vs shallow written (mid, (v, rest, core, are, is)) n =
     let at = place f.of listed f.short in
     let one = written.0 before mid v core in
-    subst (EachFine at (3 * deep + 2) n (lefts before)) (sym is) (
+    subst (EachFine at (3 * deep + 202) n (lefts before)) (sym is) (
       omega (arith, one.few n, shallow),
       one.several n,
-      subst (λ fs. EachFine at (3 * deep + 2) (taken_behind v n) fs rest) (sym one.leaves) (cores_fine f g active listed z lefts deep es mid behind rest (omega (arith, shallow)) written.1 are (taken_behind v n)),
+      subst (λ fs. EachFine at (3 * deep + 202) (taken_behind v n) fs rest) (sym one.leaves) (cores_fine f g active listed z lefts deep es mid behind rest (omega (arith, shallow)) written.1 are (taken_behind v n)),
     )
 
 pub cores_few : (f : Function) (g : Fn) (active : List Active) (listed : List ℕ) (z : Maker) (lefts : ℕ → List (Option Inner)) (es : Expressions) (before behind : ℕ) (vs : Values) (all : Bool) →
-    AllRewritten f g active listed z lefts es → AreCores g active es before behind vs → (n : ℕ) → (word_values (place f.of listed f.short) n (lefts before) vs all).levels ≤ 3 * depth_of_expressions es + 3
+    AllRewritten f g active listed z lefts es → AreCores g active es before behind vs → (n : ℕ) → (word_values (place f.of listed f.short) n (lefts before) vs all).levels ≤ 3 * depth_of_expressions es + 203
 cores_few f g active listed z lefts es before behind vs all written are n =
     let deep = depth_of_expressions es in
-    omega (arith, list_few (place f.of listed f.short) (3 * deep + 2) n (lefts before) vs all (cores_fine f g active listed z lefts deep es before behind vs (omega arith) written are n))
+    omega (arith, list_few (place f.of listed f.short) (3 * deep + 202) n (lefts before) vs all (cores_fine f g active listed z lefts deep es before behind vs (omega arith) written are n))
 
 -- where all values of the last one are wanted, no parentheses stand there
 pub stays_bare : (a b : Bool) → not ((a && false) && b) ≡ true
@@ -231,7 +231,7 @@ module _ (f : Function) (g : Fn) (active : List Active) (listed : List ℕ) (z :
 
   -- where all values of the last one are not wanted, it gives one
   pub next_all_low : (es : Expressions) (before behind : ℕ) (vs : Values) (all : Bool) → AllHaveCores es → AllRewritten f g active listed z lefts es → AreCores g active es before behind vs → (all ≡ false → ends_open es ≡ false) → f.short ≡ true → formed_expressions es ≡ true →
-      (m : Maker) → IsAhead g active before (mentions_in_all es) m → Final (length m.labels) (all_next (codes_of es) m) z → (word_values (place f.of listed f.short) (length m.constants) (lefts before) vs all).levels ≤ room_of_expressions es
+      (m : Maker) → IsAhead g active before (mentions_in_all es) m → Final (length m.labels) (all_next (codes_of es) m) z → (word_values (place f.of listed f.short) (length m.constants) (lefts before) vs all).levels ≤ space_of_expressions es
   next_all_low no_expressions before behind vs all has written are closed short formed m ahead final = omega (arith, ap (λ vs. (word_values (place f.of listed f.short) (length m.constants) (lefts before) vs all).levels) are.1)
   next_all_low (syntax.expression e no_expressions) before behind vs all has written (between, (v, rest, core, are, is)) closed short formed m ahead final = by all closed
     where
@@ -241,7 +241,7 @@ module _ (f : Function) (g : Fn) (active : List Active) (listed : List ℕ) (z :
       low : HasRoom f listed z lefts before n e v
       low = next_low (written.0 before between v core) short (first_of_both _ _ formed) m (first_ahead e no_expressions has m ahead) (first_next e no_expressions m final)
 
-      by : (all : Bool) → (all ≡ false → is_multiple e ≡ false) → (word_values (place f.of listed f.short) n (lefts before) vs all).levels ≤ room_of_expressions (syntax.expression e no_expressions)
+      by : (all : Bool) → (all ≡ false → is_multiple e ≡ false) → (word_values (place f.of listed f.short) n (lefts before) vs all).levels ≤ space_of_expressions (syntax.expression e no_expressions)
       by true closed =
           let words = ap (λ vs. (word_values (place f.of listed f.short) n (lefts before) vs true).levels) (is ∙ ap (and_value v) are.1) in
           omega (arith, words, levels_in (is_bare (place f.of listed f.short) n v) e (wording f listed z lefts before n v) low)
@@ -267,7 +267,7 @@ module _ (f : Function) (g : Fn) (active : List Active) (listed : List ℕ) (z :
 
   -- all values of the last one are wanted
   pub multi_all_low : (op : Op) (want : Want) (es : Expressions) (before behind : ℕ) (vs : Values) → AllHaveCores es → AllRewritten f g active listed z lefts es → AreCores g active es before behind vs → ends_open es ≡ true → f.short ≡ true → formed_expressions es ≡ true →
-      (m : Maker) → IsAhead g active before (mentions_in_all es) m → Final (length m.labels) (all_multi op want (codes_of es) m) z → (word_values (place f.of listed f.short) (length m.constants) (lefts before) vs true).levels ≤ room_of_expressions es
+      (m : Maker) → IsAhead g active before (mentions_in_all es) m → Final (length m.labels) (all_multi op want (codes_of es) m) z → (word_values (place f.of listed f.short) (length m.constants) (lefts before) vs true).levels ≤ space_of_expressions es
   multi_all_low op want no_expressions before behind vs has written are ends short formed m ahead final = not_so ends
   multi_all_low op want (syntax.expression e no_expressions) before behind vs has written (between, (v, rest, core, are, is)) ends short formed m ahead final =
       let n = length m.constants in

@@ -24,7 +24,7 @@ use Rattle.reads_back.specs.Cores.{IsPlainBody}
 use Rattle.reads_back.proofs.FreeCaptured.{captured_if_free}
 use Rattle.reads_back.proofs.FreeNames.{free_in_body}
 use Rattle.reads_back.proofs.InnerNames.{among_both, among_names, first_or, second_or}
-use Rattle.reads_back.proofs.Marks.{SamePart, both_same, part_then, same_part}
+use Rattle.reads_back.proofs.Marks.{SamePart, both_same, exact_part, part_back, part_then, same_part}
 use Rattle.reads_back.proofs.NamesInside.{named_inside}
 use Rattle.reads_back.proofs.OwnLocals.{own_found}
 use Rattle.reads_back.proofs.MarksSame.{OwnPartsMade}
@@ -80,16 +80,20 @@ module _ {f : Function} {g : Fn} {active : List Active} (is_function : IsFunctio
 
     -- given to its local it mentions the same
     pub given_marks : is_among text (own next.next.chunk).upvalue_names ≡ false → SamePart (λ here. both (declares 1 0 (text ∷ [])) (both (of c.functions) (come 0 (text ∷ []) here.declarations)) here) (statement_part 1 (one_line_statement (local_function text body)))
-    given_marks other here =
-        let free = not_free other in
-        let body_line : one_line_body body ≡ body = plain.on_line in
-        both_same (same_part (declares 1 0 (text ∷ [])))
-        (λ place. both_same inside_part (same_part (come 0 (text ∷ []) here.declarations)) place
-        ∙ sym (unfree_part text body free here.declarations place)
-        ∙ ap (λ body. both (come 0 (text ∷ []) here.declarations) (body_part false body) place) (sym body_line)) here
+    given_marks other = record {
+      each = λ here.
+          let free = not_free other in
+          let body_line : one_line_body body ≡ body = plain.on_line in
+          (both_same (same_part (declares 1 0 (text ∷ [])))
+          (part_then (both_same inside_part (same_part (come 0 (text ∷ []) here.declarations)))
+          (part_then (part_back (exact_part (unfree_part text body free here.declarations)))
+          (exact_part (λ place. ap (λ body. both (come 0 (text ∷ []) here.declarations) (body_part false body) place) (sym body_line)))))).each here;
+    }
 
     -- and so as one that captures itself
     pub own_marks : (found : Inner) → SamePart (body_part false found.body) (of c.functions) → SamePart (statement_part 1 (local_function text found.body)) (statement_part 1 (one_line_statement (local_function text body)))
-    own_marks found same here =
-        both_same (same_part (declares 1 0 (text ∷ [])))
-        (both_same (same_part (come 0 (text ∷ []) here.declarations)) (part_then same (part_then inside_part (λ place. ap (λ body. body_part false body place) (sym plain.on_line))))) here
+    own_marks found same = record {
+      each = λ here.
+          (both_same (same_part (declares 1 0 (text ∷ [])))
+          (both_same (same_part (come 0 (text ∷ []) here.declarations)) (part_then same (part_then inside_part (exact_part (λ place. ap (λ body. body_part false body place) (sym plain.on_line))))))).each here;
+    }

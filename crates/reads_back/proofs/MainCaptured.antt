@@ -19,11 +19,9 @@ use Rattle.scheme_stands.proofs.Growth.{fn_of, spot}
 use Rattle.scheme_stands.proofs.Here.{here_all, here_as}
 use Rattle.scheme_stands.proofs.Makers.{begun, main_maker, no_names}
 use Rattle.same_flow.specs.SameFlow.{begun_of}
-use Rattle.same_flow.specs.SameMarks.{but_breaks}
 use Rattle.reads_back.proofs.ActiveCaptured.{AllHome, captures_active_params, home_below}
 use Rattle.reads_back.proofs.CapturedFlow.{steps_capture_like, steps_capture_no_hidden}
 use Rattle.reads_back.proofs.CapturedInEnd.{CapturedInside, captured_in_end}
-use Rattle.reads_back.proofs.CapturedStretches.{by_place}
 use Rattle.reads_back.proofs.FlowPlaced.{AreCapturedLike}
 use Rattle.reads_back.proofs.FlowThere.{IsFlowFunction}
 use Rattle.reads_back.proofs.FunctionLocals.{number_at}
@@ -40,13 +38,12 @@ pub flow_captured_like : {f : Function} {g : Fn} {z : Maker} {lefts : ℕ → Li
 flow_captured_like {code = code} {block = block} of takes formed all place rest between scope begun declarations functions marks ahead_is start inside =
     let counted = counted_reached all place block rest between.reached in
     let comes = comes_at of all place rest between scope formed begun declarations functions marks ahead_is counted start in
-    let by = by_place (but_breaks all) in
     captured_in_end of takes all place rest begun declarations functions marks ahead_is formed
-    (steps_capture_like of by place formed comes)
+    (steps_capture_like of place formed comes)
     (captures_active_params of formed all place rest begun declarations functions marks ahead_is counted scope.declared)
     (captures_no_later of place scope.declared)
-    (captures_own of by place formed scope.declared (number_at of formed all place rest begun) comes)
-    (steps_capture_no_hidden of by place formed comes)
+    (captures_own of place formed scope.declared (number_at of formed all place rest begun) comes)
+    (steps_capture_no_hidden of place formed comes)
     inside counted
 
 -- The main function is such.

@@ -1,9 +1,9 @@
--- What is written of the value of an expression mentions the same names in the same order as the expression, where each function that is left is the part of the source that has its number.
+-- What is written of the value of an expression mentions the same names in the same order as the expression, where each function that is left is, but for breaks, the part of the source that has its number.
 use Rattle.std.proofs.Common.{◌≡◌, ℕ, Bool, true, false, ◌&&◌, List, [], ◌∷◌, ◌++◌, append-nil, append_assoc, Option, Some, None, is_some, refl, sym, ap, ap₂, ◌∙◌}
 use Rattle.std.proofs.lemmas.Option.{same_Some}
 use Rattle.std.specs.Prelude.{ℤ, pos, negsuc, ◌==◌, ◌-◌, ◌^◌, suc, not, if◌then◌else◌}
 use Rattle.lua_num.specs.Bytes.{Text}
-use Rattle.lua_tree.specs.Outline.{Mark, Part, Place as Where, Walk, both, dots, expression_part, expressions_part, arguments_part, body_part, fields_part, marked, mentions, nothing}
+use Rattle.lua_tree.specs.Outline.{Mark, Part, Place as Where, Walk, both, dots, expression_part, expressions_part, arguments_part, body_part, fields_part, marked, mentions, nothing, within}
 use Rattle.lua_tree.specs.declared.tree.BinaryOp.{BinaryOp}
 use Rattle.lua_tree.specs.declared.tree.Separator.{Separator}
 use Rattle.lua_tree.specs.declared.tree.UnaryOp.{UnaryOp}
@@ -12,32 +12,74 @@ use Rattle.core_expr.specs.Counting.{left_by, left_by_operand, taken_behind, tak
 use Rattle.core_expr.specs.Places.{Place, as_text, constant_at, constant_name, field_name, local_name, upvalue_name}
 use Rattle.core_expr.specs.Values.{Inner, ItemList, OperandList, OperandValue, Value, Values, and_keyed, and_operand, and_positional, and_value, binary_value, bool_value, call_value, concat_value, constant_operand, constant_value, function_value, global_value, index_value, local_value, method_value, nil_value, no_items, no_operands, no_values, table_value, unary_value, upvalue_value, value_operand, vararg_value}
 use Rattle.core_expr.specs.Writing.{ArgumentWording, FieldWording, Wording, and_keyed_item, as_arguments, as_prefix, as_text_argument, can_write_items, word_items, can_write, can_write_operand, can_write_operands, can_write_values, chained, constant_word, ends_values, function_left, function_word, is_bare, literal, name_word, number_word, numeral, truth, unless, with_binary, with_key, with_unary, word, word_each, word_keys, word_only, word_operand, word_short, word_values}
+use Rattle.same_flow.proofs.Breaks.{breaks_append}
+use Rattle.same_flow.specs.SameMarks.{but_breaks}
 use Rattle.reads_back.proofs.FunctionsLeft.{EachLeft, each_by, each_by_operand, left_there}
 use Rattle.reads_back.proofs.Tests.{first_of_both, not_so, second_of_both}
 
 -- ---- parts of an outline
 
-abbrev pub SamePart : Part → Part → Type 0
-SamePart a b = (place : Where) → a place ≡ b place
+-- what stands in a part but for the breaks that stand in a loop, and the place behind it
+abbrev pub but_breaks_of : Walk → Walk
+but_breaks_of walk = record { marks = but_breaks walk.marks; next = walk.next }
+
+-- one walk, and another behind it
+abbrev joined : Walk → Walk → Walk
+joined one other = record { marks = one.marks ++ other.marks; next = other.next }
+
+-- just the same stands in two parts, wherever they begin
+abbrev pub SameWalk : Part → Part → Type 0
+SameWalk a b = (place : Where) → a place ≡ b place
+
+pub same_walk : (a : Part) → SameWalk a a
+same_walk a place = refl
+
+pub walk_then : {a b c : Part} → SameWalk a b → SameWalk b c → SameWalk a c
+walk_then one other place = one place ∙ other place
+
+pub both_walk : {a b c d : Part} → SameWalk a c → SameWalk b d → SameWalk (both a b) (both c d)
+both_walk {a} {b} {c} {d} first second place = ap₂ joined (first place) (ap (λ (one : Walk). b one.next) (first place) ∙ second (c place).next)
+
+pub nothing_walk : (a : Part) → SameWalk (both a nothing) a
+nothing_walk a place = ap (λ (marks : List Mark). record { marks = marks; next = (a place).next }) (append-nil (a place).marks)
+
+-- the same stands in them, but for the breaks that stand in a loop, and behind them is the same place
+pub record SamePart (a b : Part) : Type 0 where
+  pub each : (place : Where) → but_breaks_of (a place) ≡ but_breaks_of (b place)
+
+pub exact_part : {a b : Part} → SameWalk a b → SamePart a b
+exact_part same = record { each = λ place. ap but_breaks_of (same place) }
 
 pub same_part : (a : Part) → SamePart a a
-same_part a place = refl
+same_part a = record { each = λ place. refl }
 
 pub part_then : {a b c : Part} → SamePart a b → SamePart b c → SamePart a c
-part_then one other place = one place ∙ other place
+part_then one other = record { each = λ place. one.each place ∙ other.each place }
 
 pub part_back : {a b : Part} → SamePart a b → SamePart b a
-part_back one place = sym (one place)
+part_back one = record { each = λ place. sym (one.each place) }
+
+both_but_breaks : (a b : Part) (place : Where) → but_breaks_of (both a b place) ≡ joined (but_breaks_of (a place)) (but_breaks_of (b (a place).next))
+both_but_breaks a b place = ap (λ (marks : List Mark). record { marks = marks; next = (b (a place).next).next }) (breaks_append (a place).marks (b (a place).next).marks)
 
 pub both_same : {a b c d : Part} → SamePart a c → SamePart b d → SamePart (both a b) (both c d)
-both_same {a} {b} {c} {d} first second place =
-    ap₂ (λ (one other : Walk). record { marks = one.marks ++ other.marks; next = other.next }) (first place) (ap (λ (one : Walk). b one.next) (first place) ∙ second (c place).next)
+both_same {a} {b} {c} {d} first second = record {
+  each = λ place.
+      both_but_breaks a b place
+      ∙ ap₂ joined (first.each place) (ap (λ (one : Walk). but_breaks_of (b one.next)) (first.each place) ∙ second.each (c place).next)
+      ∙ sym (both_but_breaks c d place);
+}
 
 pub both_assoc : (a b c : Part) → SamePart (both (both a b) c) (both a (both b c))
-both_assoc a b c place = ap (λ (marks : List Mark). record { marks = marks; next = (c (b (a place).next).next).next }) (append_assoc (a place).marks (b (a place).next).marks (c (b (a place).next).next).marks)
+both_assoc a b c = exact_part (λ place. ap (λ (marks : List Mark). record { marks = marks; next = (c (b (a place).next).next).next }) (append_assoc (a place).marks (b (a place).next).marks (c (b (a place).next).next).marks))
 
 pub nothing_behind : (a : Part) → SamePart (both a nothing) a
-nothing_behind a place = ap (λ (marks : List Mark). record { marks = marks; next = (a place).next }) (append-nil (a place).marks)
+nothing_behind a = exact_part (nothing_walk a)
+
+pub within_same : (enter : Where → Where) {a b : Part} → SamePart a b → SamePart (within enter a) (within enter b)
+within_same enter same = record {
+  each = λ place. ap (λ (inside : Walk). record { marks = inside.marks; next = record place { declarations = inside.next.declarations; functions = inside.next.functions } }) (same.each (enter place));
+}
 
 -- each function that is left is the part of the source that has its number
 abbrev pub IsPartLeft : (of : ℕ → Part) → ℕ → Inner → Type 0
@@ -89,34 +131,34 @@ module _ (at : Place) (of : ℕ → Part) where
 -- ---- what is written
 
 unless_part : (b : Bool) (w : Wording) → SamePart (expression_part (unless b w).words) (expression_part w.words)
-unless_part true w place = refl
-unless_part false w place = refl
+unless_part true w = same_part _
+unless_part false w = same_part _
 
 truth_part : (b : Bool) → SamePart (expression_part (truth b).words) nothing
-truth_part true place = refl
-truth_part false place = refl
+truth_part true = same_part _
+truth_part false = same_part _
 
 negative_part : (b : Bool) (n : ℕ) → SamePart (expression_part (if b then with_binary BinaryOp.Sub (with_unary UnaryOp.Neg (number_word (pos (2 ^ 63 - 1)))) (number_word (pos 1)) else with_unary UnaryOp.Neg (number_word (pos (suc n)))).words) nothing
-negative_part true n place = refl
-negative_part false n place = refl
+negative_part true n = same_part _
+negative_part false n = same_part _
 
 numeral_part : (n : ℤ) → SamePart (expression_part (numeral n).words) nothing
-numeral_part (pos n) place = refl
-numeral_part (negsuc n) place = negative_part (n == 2 ^ 63 - 1) n place
+numeral_part (pos n) = same_part _
+numeral_part (negsuc n) = negative_part (n == 2 ^ 63 - 1) n
 
 literal_part : (k : Constant) → SamePart (expression_part (literal k).words) nothing
-literal_part Constant.Nil place = refl
-literal_part (Constant.Bool b) place = truth_part b place
-literal_part (Constant.Number n) place = numeral_part n place
-literal_part (Constant.Text text) place = refl
+literal_part Constant.Nil = same_part _
+literal_part (Constant.Bool b) = truth_part b
+literal_part (Constant.Number n) = numeral_part n
+literal_part (Constant.Text text) = same_part _
 
 constant_part : (k : Option Constant) → SamePart (expression_part (constant_word k).words) nothing
-constant_part None place = refl
-constant_part (Some k) place = literal_part k place
+constant_part None = same_part _
+constant_part (Some k) = literal_part k
 
 name_part : (name : Option Text) → SamePart (expression_part (name_word name).words) (name_mentioned name)
-name_part None place = refl
-name_part (Some text) place = refl
+name_part None = same_part _
+name_part (Some text) = same_part _
 
 keyed_part : (at : Place) (of : ℕ → Part) (n : ℕ) (fs : List (Option Inner)) (key : OperandValue) (name : Option Text) → field_name at key ≡ name → (on : Wording) → SamePart (expression_part (word_operand at n fs key).words) (part_of_operand at of key) →
     SamePart (expression_part (with_key name on (word_operand at n fs key)).words) (both (expression_part on.words) (part_of_operand at of key))
@@ -153,7 +195,7 @@ function_part of number fs (Some found) parts_left there some = left_there (IsPa
 -- ---- a string or a constructor that is the only argument, without parentheses
 
 text_argument_part : (k : Option Constant) (args : ArgumentWording) → as_text_argument (as_text k) ≡ Some args → SamePart (arguments_part args.words) nothing
-text_argument_part (Some (Constant.Text text)) args is = λ place. ap (λ (args : ArgumentWording). arguments_part args.words place) (sym (same_Some _ args is))
+text_argument_part (Some (Constant.Text text)) args is = exact_part (λ place. ap (λ (args : ArgumentWording). arguments_part args.words place) (sym (same_Some _ args is)))
 text_argument_part None args is = cc
 text_argument_part (Some Constant.Nil) args is = cc
 text_argument_part (Some (Constant.Bool b)) args is = cc
@@ -162,7 +204,7 @@ text_argument_part (Some (Constant.Number n)) args is = cc
 module _ (at : Place) (n : ℕ) (fs : List (Option Inner)) where
   only_part : (v : Value) (args : ArgumentWording) → word_only at n fs v ≡ Some args → SamePart (arguments_part args.words) (expressions_part (word_values at n fs (and_value v no_values) false).words)
   only_part (constant_value k) args is = part_then (text_argument_part (constant_at at k) args is) (part_back (part_then (nothing_behind (expression_part (constant_word (constant_at at k)).words)) (constant_part (constant_at at k))))
-  only_part (table_value items all depth) args is = part_then (λ place. ap (λ (args : ArgumentWording). arguments_part args.words place) (sym (same_Some _ args is))) (part_back (nothing_behind (fields_part (word_items at n fs items all).words)))
+  only_part (table_value items all depth) args is = part_then (exact_part (λ place. ap (λ (args : ArgumentWording). arguments_part args.words place) (sym (same_Some _ args is)))) (part_back (nothing_behind (fields_part (word_items at n fs items all).words)))
   only_part v args is = cc
 
   short_part : (vs : Values) (only : Option ArgumentWording) → word_short at n fs vs ≡ only → SamePart (arguments_part (as_arguments true only (word_values at n fs vs false)).words) (expressions_part (word_values at n fs vs false).words)

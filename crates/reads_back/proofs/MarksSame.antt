@@ -22,7 +22,7 @@ use Rattle.scheme_stands.specs.Words.{Fn}
 use Rattle.reads_back.specs.Coming.{Coming, IsMadeNext, declared_local}
 use Rattle.reads_back.specs.Cores.{HasNumber, IsKey, IsSmall, IsVariable, AllHaveCores, AreCores, AreGiven, HasCore, HaveCores, IsClosure, IsConstant, IsCore, IsFoldedOr, IsItem, IsKeyedItem, AreItems, HaveItems, IsOperandBy, IsOperator, core, only, first_and, Counted, CountedItems, IsPlainBody}
 use Rattle.reads_back.proofs.LiteralReads.{constant_there}
-use Rattle.reads_back.proofs.Marks.{SamePart, both_assoc, both_same, name_mentioned, nothing_behind, part_back, part_of, part_of_operand, part_then, parts_of, parts_of_items, parts_of_operands, same_part}
+use Rattle.reads_back.proofs.Marks.{SamePart, both_assoc, both_same, exact_part, name_mentioned, nothing_behind, part_back, part_of, part_of_operand, part_then, parts_of, parts_of_items, parts_of_operands, same_part}
 use Rattle.reads_back.proofs.NameReads.{AreListed, IsListed}
 use Rattle.reads_back.proofs.Rooms.{folded_both, folded_one}
 use Rattle.reads_back.proofs.Tests.{given_is, not_so}
@@ -39,7 +39,7 @@ module _ (at : Place) (of : ℕ → Part) where
   last_part (and_operand o rest) key = part_then (both_same (same_part (part_of_operand at of o)) (last_part rest key)) (part_back (both_assoc (part_of_operand at of o) (parts_of_operands at of rest) (part_of_operand at of key)))
 
   is_part : (v w : Value) → v ≡ w → SamePart (part_of at of v) (part_of at of w)
-  is_part v w same place = ap (λ v. part_of at of v place) same
+  is_part v w same = exact_part (λ place. ap (λ v. part_of at of v place) same)
 
   index_part : (on : Value) (key : OperandValue) (v : Value) → made_index on key ≡ Some v → SamePart (part_of at of v) (both (part_of at of on) (part_of_operand at of key))
   index_part (index_value on keys depth) key v is =
@@ -92,18 +92,18 @@ module _ {f : Function} {g : Fn} {active : List Active} {listed : List ℕ} (is_
       ap (λ there. as_name (as_text there)) (constant_there number (Constant.Text text) is_function has.is) ∙ ap (λ good. if good then Some text else None) good
 
   named_part : (text : Text) (v : Value) (w : Where) → is_name text ≡ true → IsListed f (length active) listed text w → IsVariable g text w v → SamePart (part_of at of v) (mentions 1 text)
-  named_part text v (in_register r) good there is = part_then (is_part at of v (local_value r) is) (λ place. ap (λ name. name_mentioned name place) there.1)
-  named_part text v (in_upvalue slot) good there is = part_then (is_part at of v (upvalue_value slot) is) (λ place. ap (λ name. name_mentioned name place) there)
-  named_part text v in_globals good there is = part_then (is_part at of v (global_value is.0) is.2) (λ place. ap (λ name. name_mentioned name place) (constant_text text is.0 good is.1))
+  named_part text v (in_register r) good there is = part_then (is_part at of v (local_value r) is) (exact_part (λ place. ap (λ name. name_mentioned name place) there.1))
+  named_part text v (in_upvalue slot) good there is = part_then (is_part at of v (upvalue_value slot) is) (exact_part (λ place. ap (λ name. name_mentioned name place) there))
+  named_part text v in_globals good there is = part_then (is_part at of v (global_value is.0) is.2) (exact_part (λ place. ap (λ name. name_mentioned name place) (constant_text text is.0 good is.1)))
 
   operand_part : (o : OperandValue) (v : Value) (part : Part) → o ≡ value_operand v → SamePart (part_of at of v) part → SamePart (part_of_operand at of o) part
-  operand_part o v part is same place = ap (λ o. part_of_operand at of o place) is ∙ same place
+  operand_part o v part is same = part_then (exact_part (λ place. ap (λ o. part_of_operand at of o place) is)) same
 
   small_part : (o : OperandValue) (k : Constant) → IsSmall g k o → SamePart (part_of_operand at of o) nothing
-  small_part o k is place = ap (λ o. part_of_operand at of o place) is.3
+  small_part o k is = exact_part (λ place. ap (λ o. part_of_operand at of o place) is.3)
 
   first_part : (vs : Values) (first : Value) (rest : Values) (one others : Part) → vs ≡ and_value first rest → SamePart (part_of at of first) one → SamePart (parts_of at of rest) others → SamePart (parts_of at of vs) (both one others)
-  first_part vs first rest one others is first_same rest_same = part_then (λ place. ap (λ vs. parts_of at of vs place) is) (both_same first_same rest_same)
+  first_part vs first rest one others is first_same rest_same = part_then (exact_part (λ place. ap (λ vs. parts_of at of vs place) is)) (both_same first_same rest_same)
 
   pub key_part : (text : Text) (before behind : ℕ) (o : OperandValue) → IsKey g text before behind o → SamePart (part_of_operand at of o) nothing
   key_part text before behind o (inl small) = small_part o (Constant.Text text) small.1
@@ -171,7 +171,7 @@ module _ {f : Function} {g : Fn} {active : List Active} {listed : List ℕ} (is_
   nothing_last (keyed key e separator rest) several last = not_so last
 
   are_items : (items others : ItemList) (part : Part) → items ≡ others → SamePart (parts_of_items at of others) part → SamePart (parts_of_items at of items) part
-  are_items items others part is same place = ap (λ items. parts_of_items at of items place) is ∙ same place
+  are_items items others part is same = part_then (exact_part (λ place. ap (λ items. parts_of_items at of items place) is)) same
 
   item_part : (is_open : Bool) (Is : Counted Value) (Rest : CountedItems) (before behind : ℕ) (value others : Part) → ((before behind : ℕ) (v : Value) → Is before behind v → SamePart (part_of at of v) value) → (is_open ≡ true → SamePart nothing others) →
       ((before behind : ℕ) (rest : ItemList) (open_last : Bool) → Rest before behind rest open_last → SamePart (parts_of_items at of rest) others) → (items : ItemList) (open_last : Bool) → IsItem is_open Is Rest before behind items open_last → SamePart (parts_of_items at of items) (both value others)
@@ -191,8 +191,8 @@ module _ {f : Function} {g : Fn} {active : List Active} {listed : List ℕ} (is_
 
   closure_part : (body : FunctionBody) → IsPlainBody body → depth_of_body body ≤ 199 → (before behind : ℕ) (v : Value) → IsClosure g active body false before behind v → SamePart (part_of at of v) (body_part false (one_line_body body))
   closure_part body plain few before behind v is =
-      let same = part_then (parts_made body is.2 plain few is.4) (λ place. ap (λ body. body_part false body place) (sym plain.on_line)) in
-      part_then (is_part at of v _ is.1) (part_then (λ place. ap (λ number. of number place) (sym is.3)) same)
+      let same = part_then (parts_made body is.2 plain few is.4) (exact_part (λ place. ap (λ body. body_part false body place) (sym plain.on_line))) in
+      part_then (is_part at of v _ is.1) (part_then (exact_part (λ place. ap (λ number. of number place) (sym is.3))) same)
 
   mutual
     pub marks_of : (e : Expression) → HasCore e → depth_of_expression e ≤ 200 → HasMarks e
@@ -251,7 +251,7 @@ module _ {f : Function} {g : Fn} {active : List Active} {listed : List ℕ} (is_
         keyed_part _ _ (AreItems g active rest) before behind _ _ _ (λ before behind o. of_operand key before behind o (literal key) refl (marks_of key has.0 (omega (arith, few))).one) (λ before behind o. of_operand e before behind o (literal e) refl (marks_of e has.1 (omega (arith, few))).one) (items_marks rest has.2 (omega (arith, few))) items open_last is
 
     pub list_part : (es : Expressions) → AllHaveCores es → depth_of_expressions es ≤ 200 → (before behind : ℕ) (vs : Values) → AreCores g active es before behind vs → SamePart (parts_of at of vs) (expressions_part (one_line_expressions es))
-    list_part no_expressions has few before behind vs is = λ place. ap (λ vs. parts_of at of vs place) is.1
+    list_part no_expressions has few before behind vs is = exact_part (λ place. ap (λ vs. parts_of at of vs place) is.1)
     list_part (syntax.expression e es) has few before behind vs is =
         let first = marks_of e has.0 (omega (arith, few)) in
         let parts = is.1 in

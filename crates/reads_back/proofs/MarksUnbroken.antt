@@ -43,6 +43,29 @@ part_ahead all place marks rest =
     ∙ ahead_unbroken all place marks (but_breaks rest)
     ∙ sym (all_unbroken all place (marks ++ but_breaks rest))
 
+-- where breaks are left out, none is left to leave out
+breaks_again : (marks : List Mark) → but_breaks (but_breaks marks) ≡ but_breaks marks
+breaks_again [] = refl
+breaks_again (leave line true ∷ marks) = breaks_again marks
+breaks_again (mark ∷ marks) = ap (λ (rest : List Mark). mark ∷ rest) (breaks_again marks)
+
+between_again : (before marks behind : List Mark) → but_breaks (before ++ (but_breaks marks ++ behind)) ≡ but_breaks (before ++ (marks ++ behind))
+between_again before marks behind =
+    breaks_append before (but_breaks marks ++ behind)
+    ∙ ap (λ (rest : List Mark). but_breaks before ++ rest)
+    (breaks_append (but_breaks marks) behind ∙ ap (λ (own : List Mark). own ++ but_breaks behind) (breaks_again marks) ∙ sym (breaks_append marks behind))
+    ∙ sym (breaks_append before (marks ++ behind))
+
+-- marks between others may stand with their breaks
+pub ahead_between : (before marks behind : List Mark) (place : Place) → ahead_at (before ++ (but_breaks marks ++ behind)) place (but_breaks marks ++ behind) ≡ ahead_at (before ++ (marks ++ behind)) place (marks ++ behind)
+ahead_between before marks behind place =
+    let without = before ++ (but_breaks marks ++ behind) in
+    let with_them = before ++ (marks ++ behind) in
+    ahead_unbroken without place marks behind
+    ∙ sym (all_unbroken without place (marks ++ behind))
+    ∙ ap (λ (all : List Mark). ahead_at all place (marks ++ behind)) (between_again before marks behind)
+    ∙ all_unbroken with_them place (marks ++ behind)
+
 -- ---- what is mentioned, and how much is declared
 
 pub mentions_unbroken : (P : Option Binding → List ℕ → Type 0) (marks : List Mark) → Mentions P marks → Mentions P (but_breaks marks)

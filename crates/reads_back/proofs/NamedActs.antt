@@ -14,7 +14,7 @@ use Rattle.core_expr.specs.Writing.{can_write, name_word, operand_count, text_or
 use Rattle.recover_expr.specs.Assigning.{all_but_first, function_as, last_name, names_before_last, takes_self, without_self}
 use Rattle.reads_back.specs.Acted.{can_write_targets}
 use Rattle.reads_back.proofs.FunctionsLeft.{left_there}
-use Rattle.reads_back.proofs.Marks.{SamePart, both_same, name_mentioned, nothing_behind, part_back, part_of, part_of_operand, part_then, parts_of_operands, same_part}
+use Rattle.reads_back.proofs.Marks.{SamePart, both_same, exact_part, name_mentioned, nothing_behind, part_back, part_of, part_of_operand, part_then, parts_of_operands, same_part}
 use Rattle.reads_back.proofs.Paths.{IsNamed, function_as_holds, last_there, long_is, params_part}
 use Rattle.reads_back.proofs.Tests.{both_hold, first_of_both, not_so, second_of_both}
 use Rattle.reads_back.proofs.WrittenFormed.{AreFineLeft, IsFineFunction, word_fine}
@@ -70,15 +70,15 @@ function_as_ends path body = function_as_holds (λ s. ends_block s ≡ false) pa
 -- ---- what it mentions
 
 method_body_part : (body : FunctionBody) → takes_self body ≡ true → SamePart (body_part true (without_self body)) (body_part false body)
-method_body_part (function_body params vararg block first last) takes place =
-    ap (λ params. body_part false (function_body params vararg block first last) place) (params_part params takes)
+method_body_part (function_body params vararg block first last) takes =
+    exact_part (λ place. ap (λ params. body_part false (function_body params vararg block first last) place) (params_part params takes))
 
 method_part : (line : ℕ) (path : List Text) (body : FunctionBody) → nat_lt 1 (length path) ≡ true → takes_self body ≡ true →
     SamePart (statement_part line (function_statement (names_before_last path) (last_name path) (without_self body))) (both (path_part line path) (body_part false body))
 method_part line [] body long takes = not_so long
 method_part line (name ∷ []) body long takes = not_so long
 method_part line (name ∷ other ∷ path) body long takes =
-    both_same (same_part (mentions line name)) (part_then (λ place. ap (λ method. body_part method (without_self body) place) (last_there other path)) (method_body_part body takes))
+    both_same (same_part (mentions line name)) (part_then (exact_part (λ place. ap (λ method. body_part method (without_self body) place) (last_there other path))) (method_body_part body takes))
 
 -- the first name of its path, and what the function does
 pub function_as_part : (line : ℕ) (path : List Text) (body : FunctionBody) → SamePart (statement_part line (function_as path body)) (both (path_part line path) (body_part false body))
@@ -171,7 +171,7 @@ module _ (at : Place) (of : ℕ → Part) where
       let long = long_is at on keys key path is in
       let first = variable_part on (variable_there at fs on long.variable can) in
       let behind = both_same (both_same (same_part (part_of at of on)) (fields_part keys long.fields)) (both_same (field_part key long.field) (same_part nothing)) in
-      part_then (λ place. ap (λ path. path_part 1 path place) (sym long.same))
+      part_then (exact_part (λ place. ap (λ path. path_part 1 path place) (sym long.same)))
       (part_then first (part_back (part_then behind (part_then (nothing_behind (both (part_of at of on) nothing)) (nothing_behind (part_of at of on))))))
 
   -- names behind a value
@@ -183,4 +183,4 @@ module _ (at : Place) (of : ℕ → Part) where
 
   -- a name alone
   pub single_path_part : (name : Option Text) (path : List Text) → is_some name ≡ true → Some (text_or_empty name ∷ []) ≡ Some path → SamePart (path_part 1 path) (name_mentioned name)
-  single_path_part name path some is = part_then (λ place. ap (λ path. path_part 1 path place) (sym (same_Some (text_or_empty name ∷ []) path is))) (name_part name some)
+  single_path_part name path some is = part_then (exact_part (λ place. ap (λ path. path_part 1 path place) (sym (same_Some (text_or_empty name ∷ []) path is)))) (name_part name some)

@@ -24,13 +24,13 @@ use Rattle.scheme.specs.Scheme.{coded, inner, statement_made}
 use Rattle.scheme.specs.Statements.{assign_part, path_from, with_fields, with_method}
 use Rattle.scheme.specs.declared.making.Active.{Active}
 use Rattle.scheme_stands.specs.Words.{Fn}
+use Rattle.same_flow.specs.Space.{space_of_body, space_of_expression, space_of_expressions, space_of_statement}
 use Rattle.reads_back.specs.Assignments.{fields_behind}
 use Rattle.reads_back.specs.Acted.{AreAssigned, Assigned, IsTarget, IsVariableTarget, act_levels, act_statement, assigned, assigned_levels, assigned_statement, can_act, can_write_last, can_write_targets, function_in, is_path, lean_assignment, left_by_targets, named_by, levels_or, levels_by, path_to, taken_behind_targets, words_assigned, AreWithOperand, AreValues, values_assigned}
 use Rattle.reads_back.specs.Cores.{IsCore, IsKey, HasNumber, IsVariable}
 use Rattle.reads_back.proofs.ConstantsSame.{constant_is}
 use Rattle.reads_back.proofs.Paths.{assign_same, coded_fields, function_alone, function_as_holds, function_there_yet, last_there, long_is, named_or_holds, params_part, path_leaves}
 use Rattle.reads_back.proofs.Rewriting.{IsMadeBy}
-use Rattle.scheme.specs.Shapes.{room_of_body, room_of_expression, room_of_expressions, room_of_statement}
 use Rattle.reads_back.proofs.Rooms.{lean_room_assignment}
 use Rattle.reads_back.proofs.Tests.{both_hold, first_of_both, given_is, not_below, second_of_both}
 
@@ -332,12 +332,12 @@ module _ {f : Function} {g : Fn} {active : List Active} {listed : List ℕ} {z :
 
   -- and has as much room
   lean_room_by : (path : Bool) (target : Expression) (line : ℕ) (body : FunctionBody) → is_path target ≡ path → (is_path target ≡ true → ⊥) →
-      room_of_statement (syntax.assignment (syntax.expression target no_expressions) (syntax.expression (function_expression line body) no_expressions)) ≤ (if path then suc (room_of_body body) else max (room_of_expression target) (suc (room_of_body body)))
+      space_of_statement (syntax.assignment (syntax.expression target no_expressions) (syntax.expression (function_expression line body) no_expressions)) ≤ (if path then suc (space_of_body body) else max (space_of_expression target) (suc (space_of_body body)))
   lean_room_by true target line body is other = absurd (other is)
   lean_room_by false target line body is other = omega arith
 
   pub lean_room_alone : (targets es : Expressions) (before behind : ℕ) (ts : List TargetValue) (to : Assigned) → AreAssigned g active targets es ts before behind to → named_by named_at ts to.values to.last ≡ None →
-      room_of_statement (syntax.assignment targets es) ≤ lean_room_assignment targets es
+      space_of_statement (syntax.assignment targets es) ≤ lean_room_assignment targets es
   lean_room_alone (syntax.expression target no_expressions) (syntax.expression (function_expression line body) no_expressions) before behind ts to stored none =
       lean_room_by (is_path target) target line body refl (λ is. said_alone target line body before behind ts to is stored none)
   lean_room_alone targets es before behind ts to stored none = omega arith
@@ -351,10 +351,10 @@ pub lean_values : (targets es : Expressions) → depth_of_expressions es ≤ lea
 lean_values (syntax.expression target no_expressions) (syntax.expression (function_expression line body) no_expressions) = lean_values_by (is_path target) target line body
 lean_values targets es = omega arith
 
-lean_room_values_by : (path : Bool) (target : Expression) (line : ℕ) (body : FunctionBody) → room_of_expressions (syntax.expression (function_expression line body) no_expressions) ≤ (if path then suc (room_of_body body) else max (room_of_expression target) (suc (room_of_body body)))
+lean_room_values_by : (path : Bool) (target : Expression) (line : ℕ) (body : FunctionBody) → space_of_expressions (syntax.expression (function_expression line body) no_expressions) ≤ (if path then suc (space_of_body body) else max (space_of_expression target) (suc (space_of_body body)))
 lean_room_values_by true target line body = omega arith
 lean_room_values_by false target line body = omega arith
 
-pub lean_room_values : (targets es : Expressions) → room_of_expressions es ≤ lean_room_assignment targets es
+pub lean_room_values : (targets es : Expressions) → space_of_expressions es ≤ lean_room_assignment targets es
 lean_room_values (syntax.expression target no_expressions) (syntax.expression (function_expression line body) no_expressions) = lean_room_values_by (is_path target) target line body
 lean_room_values targets es = omega arith

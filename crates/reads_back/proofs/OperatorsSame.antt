@@ -21,12 +21,12 @@ use Rattle.recover_expr.specs.Situation.{Function}
 use Rattle.scheme.specs.Making.{Maker, free_from, freeing, put}
 use Rattle.scheme.specs.Expressions.{Coded, arith_op, arithmetic, binary_value, fold, fold_binary, fold_unary, load_or, operand, rk, unary_value, unary_word}
 use Rattle.scheme.specs.Scheme.{coded}
-use Rattle.scheme.specs.Shapes.{room_of_expression}
 use Rattle.scheme.specs.declared.making.Active.{Active}
 use Rattle.scheme.specs.declared.making.Piece.{Piece}
 use Rattle.scheme_stands.proofs.Growth.{calm, Final, before as before_part, before_free, before_put, later}
 use Rattle.scheme_stands.proofs.Parts.{grows, grows_rk}
 use Rattle.scheme_stands.specs.Words.{Fn}
+use Rattle.same_flow.specs.Space.{space_of_expression}
 use Rattle.reads_back.proofs.ConstantsSame.{literal_few}
 use Rattle.reads_back.proofs.Deeper.{some_depth}
 use Rattle.reads_back.proofs.Mentions.{IsAhead, ahead_behind, ahead_front, mentions_in, made_behind, made_both}
@@ -52,14 +52,14 @@ truth_few : (b : Bool) → (truth b).levels ≤ 3
 truth_few true = omega arith
 truth_few false = omega arith
 
-wrapped_few : (bare : Bool) (w : Wording) (e : Expression) → w.levels ≤ 3 → (unless bare w).levels ≤ 3 * depth_of_expression e + 2
+wrapped_few : (bare : Bool) (w : Wording) (e : Expression) → w.levels ≤ 3 → (unless bare w).levels ≤ 3 * depth_of_expression e + 202
 wrapped_few bare w e few = omega (arith, few, levels_wrapped bare w, some_depth e)
 
-pub constant_operand_few : (f : Function) (listed : List ℕ) (z : Maker) (lefts : ℕ → List (Option Inner)) (before : ℕ) (e : Expression) (k n : ℕ) → (operand_wording f listed z lefts before n (constant_operand k)).levels ≤ 3 * depth_of_expression e + 2
+pub constant_operand_few : (f : Function) (listed : List ℕ) (z : Maker) (lefts : ℕ → List (Option Inner)) (before : ℕ) (e : Expression) (k n : ℕ) → (operand_wording f listed z lefts before n (constant_operand k)).levels ≤ 3 * depth_of_expression e + 202
 constant_operand_few f listed z lefts before e k n = wrapped_few true (constant_word (constant_at (place f.of listed f.short) k)) e (constant_few (constant_at (place f.of listed f.short) k))
 
 module _ {f : Function} {g : Fn} {active : List Active} {listed : List ℕ} {z : Maker} {lefts : ℕ → List (Option Inner)} {before behind : ℕ} where
-  pub value_operand_few : (e : Expression) (v : Value) → Rewritten f g active listed z lefts before behind e v → (n : ℕ) → (operand_wording f listed z lefts before n (value_operand v)).levels ≤ 3 * depth_of_expression e + 2
+  pub value_operand_few : (e : Expression) (v : Value) → Rewritten f g active listed z lefts before behind e v → (n : ℕ) → (operand_wording f listed z lefts before n (value_operand v)).levels ≤ 3 * depth_of_expression e + 202
   value_operand_few e values.nil_value rewritten n = wrapped_few _ (wording f listed z lefts before n values.nil_value) e (omega arith)
   value_operand_few e (values.bool_value b) rewritten n = wrapped_few _ (wording f listed z lefts before n (values.bool_value b)) e (truth_few b)
   value_operand_few e (values.constant_value k) rewritten n = wrapped_few _ (wording f listed z lefts before n (values.constant_value k)) e (constant_few (constant_at (place f.of listed f.short) k))
@@ -99,8 +99,8 @@ module _ {f : Function} {g : Fn} {active : List Active} {listed : List ℕ} {z :
       ap (λ a. fold_binary (arith_op op) a (fold (on_right op u).words)) (fold_wrapped (left_binds (level_of_op op) (is_right_associative op) w.words) w ∙ first.folded n)
       ∙ ap (fold_binary (arith_op op) (fold l)) (fold_wrapped (right_binds (level_of_op op) (is_power op) u.words) u ∙ ap (λ w. fold w.words) (second_is f listed z lefts before mid n n' x y first.leaves refl) ∙ second.folded n')
 
-  binary_few : ((n : ℕ) → (operand_wording f listed z lefts before n x).levels ≤ 3 * depth_of_expression l + 2) → ((n : ℕ) → (operand_wording f listed z lefts mid n y).levels ≤ 3 * depth_of_expression r + 2) → (n : ℕ) →
-      (joined op (operand_wording f listed z lefts before n x) (second_wording f listed (lefts before) n x y)).levels ≤ 3 * (1 + max (depth_of_expression l) (depth_of_expression r)) + 2
+  binary_few : ((n : ℕ) → (operand_wording f listed z lefts before n x).levels ≤ 3 * depth_of_expression l + 202) → ((n : ℕ) → (operand_wording f listed z lefts mid n y).levels ≤ 3 * depth_of_expression r + 202) → (n : ℕ) →
+      (joined op (operand_wording f listed z lefts before n x) (second_wording f listed (lefts before) n x y)).levels ≤ 3 * (1 + max (depth_of_expression l) (depth_of_expression r)) + 202
   binary_few few_first few_second n =
       let w = operand_wording f listed z lefts before n x in
       let u = second_wording f listed (lefts before) n x y in
@@ -171,7 +171,7 @@ module _ {f : Function} {g : Fn} {active : List Active} {listed : List ℕ} {z :
         let other = (second.low short (second_of_both (formed_expression l) _ parts) m1 (behind_ahead m ahead) (behind_of line to m final)).right op (ap (λ power. right_binds (level_of_op op) power r) power ∙ first_of_both _ _ binds) in
         let other_same = ap (λ (w : Wording). (on_right op w).levels) same in
         let all = few_more (max (on_left op w).levels (on_right op u).levels) in
-        let room = unfolded_room (binary_expression line op l r) (1 + max (room_of_expression l) (room_of_expression r)) none in
+        let room = unfolded_room (binary_expression line op l r) (1 + max (space_of_expression l) (space_of_expression r)) none in
         inr (record {
           low = omega (arith, one, other, other_same, all, room);
           binds = record { prefix = refl; level = refl; unary = refl; several = refl };
@@ -179,7 +179,7 @@ module _ {f : Function} {g : Fn} {active : List Active} {listed : List ℕ} {z :
           unfolded = none;
         })
 
-    binary_rewritten : (line depth : ℕ) → is_power op ≡ is_right_associative op → ((n : ℕ) → (operand_wording f listed z lefts before n x).levels ≤ 3 * depth_of_expression l + 2) → ((n : ℕ) → (operand_wording f listed z lefts mid n y).levels ≤ 3 * depth_of_expression r + 2) →
+    binary_rewritten : (line depth : ℕ) → is_power op ≡ is_right_associative op → ((n : ℕ) → (operand_wording f listed z lefts before n x).levels ≤ 3 * depth_of_expression l + 202) → ((n : ℕ) → (operand_wording f listed z lefts mid n y).levels ≤ 3 * depth_of_expression r + 202) →
         Rewritten f g active listed z lefts before behind (binary_expression line op l r) (values.binary_value op x y depth)
     binary_rewritten line depth power few_first few_second = record {
       can = and_from _ _ first.can (ap (λ fs. can_write_operand (place f.of listed f.short) fs y) first.leaves ∙ second.can);
@@ -203,7 +203,7 @@ module _ {f : Function} {g : Fn} {active : List Active} {listed : List ℕ} {z :
   -- operators of arithmetic that are not folded; an operand needs no more levels than a value, since what stands in parentheses as an operand has few of its own
   pub arithmetic_rewritten : (line : ℕ) (op : BinaryOp) (kind : ArithOp) (l r : Expression) (x y : OperandValue) (v : Value) → arith_op op ≡ Some kind → fold (binary_expression line op l r) ≡ None → PassesMentions (mentions_in l) (code l) →
       RewrittenOperand f g active listed z lefts before mid l x → RewrittenOperand f g active listed z lefts mid behind r y →
-      ((n : ℕ) → (operand_wording f listed z lefts before n x).levels ≤ 3 * depth_of_expression l + 2) → ((n : ℕ) → (operand_wording f listed z lefts mid n y).levels ≤ 3 * depth_of_expression r + 2) →
+      ((n : ℕ) → (operand_wording f listed z lefts before n x).levels ≤ 3 * depth_of_expression l + 202) → ((n : ℕ) → (operand_wording f listed z lefts mid n y).levels ≤ 3 * depth_of_expression r + 202) →
       made_binary op x y ≡ Some v → Rewritten f g active listed z lefts before behind (binary_expression line op l r) v
   arithmetic_rewritten line op kind l r x y v is none kept first second few_first few_second made =
       subst (Rewritten f g active listed z lefts before behind (binary_expression line op l r)) (given_is (nat_lt (max (depth_of_operand x) (depth_of_operand y)) 400) _ v made) (by_op op is none (suc (max (depth_of_operand x) (depth_of_operand y))))
@@ -226,7 +226,7 @@ module _ {f : Function} {g : Fn} {active : List Active} {listed : List ℕ} {z :
   unary_folded : (n : ℕ) → fold (applied op (wording f listed z lefts before n of)).words ≡ fold_unary op (fold e)
   unary_folded n = let w = wording f listed z lefts before n of in ap (fold_unary op) (fold_wrapped (left_binds 7 false w.words) w ∙ inside.folded n)
 
-  unary_few : (n : ℕ) → (applied op (wording f listed z lefts before n of)).levels ≤ 3 * (1 + depth_of_expression e) + 2
+  unary_few : (n : ℕ) → (applied op (wording f listed z lefts before n of)).levels ≤ 3 * (1 + depth_of_expression e) + 202
   unary_few n =
       let w = wording f listed z lefts before n of in
       let one = levels_wrapped (left_binds 7 false w.words) w in
@@ -259,7 +259,7 @@ module _ {f : Function} {g : Fn} {active : List Active} {listed : List ℕ} {z :
         let w = wording f listed z lefts before n of in
         let one = left_in (is_bare (place f.of listed f.short) n of) e w 7 false (operand_low inside short (second_of_both (left_binds 7 false e) _ formed) m ahead operand_final) (first_of_both _ _ formed) in
         let all = few_more (unless (left_binds 7 false w.words) w).levels in
-        let room = unfolded_room (unary_expression line op e) (1 + room_of_expression e) none in
+        let room = unfolded_room (unary_expression line op e) (1 + space_of_expression e) none in
         inr (record {
           low = omega (arith, one, all, room);
           binds = record { prefix = refl; level = refl; unary = refl; several = refl };

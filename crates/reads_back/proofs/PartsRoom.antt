@@ -14,11 +14,11 @@ use Rattle.recover_expr.specs.Testing.{negated_levels}
 use Rattle.recover_expr.specs.declared.steps.Step.{Step}
 use Rattle.recover_expr.specs.declared.steps.StepKind.{StepKind}
 use Rattle.scheme.specs.Making.{Ahead, Maker}
-use Rattle.scheme.specs.Shapes.{room_of_expressions, room_of_statement}
 use Rattle.scheme_stands.specs.Words.{Fn}
 use Rattle.same_flow.specs.Written.{AreInRoom, ArePartsFormed, IsPartFormed, KindInRoom, NegatedInRoom}
 use Rattle.same_flow.specs.Alike.{IsKindLike}
 use Rattle.same_flow.specs.Performed.{part_at}
+use Rattle.same_flow.specs.Space.{space_of_expressions, space_of_statement}
 use Rattle.reads_back.specs.Acted.{lean_depth}
 use Rattle.reads_back.specs.Written.{AreFew, HasNegated, IsPartFew}
 use Rattle.reads_back.proofs.FlowRead.{PartRead, as_many, writing}
@@ -35,7 +35,7 @@ use Rattle.reads_back.proofs.TestsLow.{NumbersStay, test_low}
 
 -- ---- parts of steps
 
-lean_room_low : (s : Statement) → lean_room s ≤ room_of_statement s
+lean_room_low : (s : Statement) → lean_room s ≤ space_of_statement s
 lean_room_low (assignment targets es) = lean_room_less targets es
 lean_room_low s = omega arith
 
@@ -45,7 +45,7 @@ KindInLeanRoom levels kind (statement_part s) = levels ≤ suc (lean_room s)
 KindInLeanRoom levels kind part = KindInRoom levels kind part
 
 abbrev pub IsPartLeanFew : (levels : ℕ) → Part → Type 0
-IsPartLeanFew levels (statement_part s) = levels ≤ 3 * lean_depth s + 4
+IsPartLeanFew levels (statement_part s) = levels ≤ 3 * lean_depth s + 204
 IsPartLeanFew levels part = IsPartFew levels part
 
 lean_few : (levels : ℕ) (part : Part) → IsPartLeanFew levels part → IsPartFew levels part
@@ -53,15 +53,15 @@ lean_few levels (statement_part s) few = omega (arith, few, lean_low s)
 lean_few levels part few = few
 
 -- whatever the kind of its step is
-statement_room : (levels : ℕ) (kind : StepKind) (s : Statement) → levels ≤ suc (room_of_statement s) → KindInRoom levels kind (statement_part s)
+statement_room : (levels : ℕ) (kind : StepKind) (s : Statement) → levels ≤ suc (space_of_statement s) → KindInRoom levels kind (statement_part s)
 statement_room levels (StepKind.Test when target negated) s low = low
 statement_room levels kind s low = low
 
-return_room : (levels : ℕ) (kind : StepKind) (es : Expressions) → levels ≤ suc (room_of_expressions es) → KindInRoom levels kind (values_part es)
+return_room : (levels : ℕ) (kind : StepKind) (es : Expressions) → levels ≤ suc (space_of_expressions es) → KindInRoom levels kind (values_part es)
 return_room levels (StepKind.Test when target negated) es low = low
 return_room levels kind es low = low
 
-head_room : (levels : ℕ) (kind : StepKind) (es : Expressions) (texts : List Text) → levels ≤ suc (room_of_expressions es) → KindInRoom levels kind (head_part es texts)
+head_room : (levels : ℕ) (kind : StepKind) (es : Expressions) (texts : List Text) → levels ≤ suc (space_of_expressions es) → KindInRoom levels kind (head_part es texts)
 head_room levels (StepKind.Test when target negated) es texts low = low
 head_room levels kind es texts low = low
 
@@ -115,7 +115,7 @@ module _ {f : Function} {g : Fn} {z : Maker} {lefts : ℕ → List (Option Inner
   Few kind part draft = IsPartLeanFew draft.levels part
 
   -- a path that a function goes to does not count
-  pub act_few : (at : ℕ) (s : Statement) (behind : ℕ) (draft : Drafted) → ActThere of at s behind draft → draft.levels ≤ 3 * lean_depth s + 4
+  pub act_few : (at : ℕ) (s : Statement) (behind : ℕ) (draft : Drafted) → ActThere of at s behind draft → draft.levels ≤ 3 * lean_depth s + 204
   act_few at s behind draft act =
       let few = act.rewritten.few (length (before_at of at).constants) in
       let levels = act.read.levels in

@@ -17,7 +17,6 @@ use Rattle.scheme_stands.proofs.Growth.{spot}
 use Rattle.scheme_stands.specs.Relation.{StatementAt}
 use Rattle.scheme_stands.specs.Words.{Fn}
 use Rattle.same_flow.specs.Alike.{SayLike, SaysLike}
-use Rattle.same_flow.specs.SameMarks.{but_breaks}
 use Rattle.same_flow.specs.Told.{IsActPart, IsDeclarationPart}
 use Rattle.reads_back.specs.Acted.{Acted, IsActed, act_statement, returned}
 use Rattle.reads_back.specs.ReadAs.{part_of}
@@ -31,7 +30,7 @@ use Rattle.reads_back.proofs.FlowThere.{IsFlowAct, IsFlowFunction, StepIs, befor
 use Rattle.reads_back.proofs.HeadValues.{head_wording}
 use Rattle.reads_back.proofs.HeadsMarks.{head_marks}
 use Rattle.reads_back.proofs.LocalsLeave.{listed_of}
-use Rattle.reads_back.proofs.Marks.{SamePart, both_same, part_back, part_then, same_part}
+use Rattle.reads_back.proofs.Marks.{SamePart, both_same, exact_part, part_back, part_then, same_part}
 use Rattle.reads_back.proofs.PartsMake.{TestTurns}
 use Rattle.reads_back.proofs.Rewriting.{OwnListed}
 use Rattle.reads_back.proofs.StraightActs.{written_ends, written_marks}
@@ -40,7 +39,7 @@ use Rattle.reads_back.proofs.TestsWritten.{test_writes}
 
 -- parts of an outline that are the same say the same
 pub says_like : {one other : outline.Part} → SamePart one other → SaysLike one other
-says_like same = record { marks = λ here. ap (λ (walk : Walk). but_breaks walk.marks) (same here); next = λ here. ap (λ (walk : Walk). walk.next) (same here) }
+says_like same = record { marks = λ here. ap (λ (walk : Walk). walk.marks) (same.each here); next = λ here. ap (λ (walk : Walk). walk.next) (same.each here) }
 
 -- a statement that ends no block is a part by itself
 goes_on_part : (s : Statement) → ends_block s ≡ false → part_of s ≡ statement_part s
@@ -69,7 +68,7 @@ module _ {f : Function} {g : Fn} {z : Maker} {lefts : ℕ → List (Option Inner
     act_says =
         let m = before_at of at in
         let same = written_marks (acts.here of is s flow makes stands own) of.left s flow.is flow.shallow own (length m.functions) (length (made_at of at kind part).functions) read.acted (length m.constants) read.is in
-        says_like (part_back (part_then same (λ here. ap (λ s. outline.statement_part 1 s here) flow.on_line)))
+        says_like (part_back (part_then same (exact_part (λ here. ap (λ s. outline.statement_part 1 s here) flow.on_line))))
 
     act_part : ends_block s ≡ false → draft.part ≡ statement_part statement
     act_part goes_on =
@@ -98,7 +97,7 @@ module _ {f : Function} {g : Fn} {z : Maker} {lefts : ℕ → List (Option Inner
       let writes = test_writes lefts known of.left.again (as_many of at) (length m.constants) (length m.functions) behind e is.flow.has is.flow.shallow read.tested read.is in
       let same = test_marks of.made.is_function known.all (as_many of at) parts (of.left.made m.active (listed_of m.active) known.all) (length m.constants) (length m.functions) behind read.tested (lefts (length m.functions)) (of.left.parts (length m.functions)) writes.can e is.flow.has is.flow.shallow read.is keeps in
       subst (SayLike (StepKind.Test when target negated) (condition_part e)) (sym read.part)
-      (says_like (part_back (part_then same (λ here. ap (λ e. expression_part e here) is.flow.on_line))))
+      (says_like (part_back (part_then same (exact_part (λ here. ap (λ e. expression_part e here) is.flow.on_line)))))
 
   head_says : {at foot end variables_end : ℕ} {captured : Bool} {es : Expressions} {texts : List Text} (numeric : Bool) (is : StepIs of at (StepKind.Head numeric foot end variables_end captured) (head_part es texts)) →
       (draft : Drafted) → HeadPart f g lefts (before_at of at) numeric es texts (length (made_at of at (StepKind.Head numeric foot end variables_end captured) (head_part es texts)).functions) draft →
@@ -113,9 +112,9 @@ module _ {f : Function} {g : Fn} {z : Maker} {lefts : ℕ → List (Option Inner
       part_back
       (part_then
       (head_marks of.made.is_function known.all parts (of.left.made m.active (listed_of m.active) known.all) numeric es (of_heads.of_head of at foot end variables_end captured es texts numeric is) is.flow.has is.flow.shallow (length m.functions) behind read.headed (length m.constants) (lefts (length m.functions)) (of.left.parts (length m.functions)) read.is written.can)
-      (λ here. ap (λ es. expressions_part es here) is.flow.on_line)) in
+      (exact_part (λ here. ap (λ es. expressions_part es here) is.flow.on_line))) in
       subst (SayLike kind (head_part es texts)) (sym read.part)
-      (says_like (λ here. both_same (same_part (declares 1 3 texts)) (both_same values (same_part (come 3 texts here.declarations))) here))
+      (says_like (record { each = λ here. (both_same (same_part (declares 1 3 texts)) (both_same values (same_part (come 3 texts here.declarations)))).each here }))
 
   -- what is written of a step says the same as its part
   pub say_like : {at : ℕ} (kind : StepKind) (part : Part) (is : StepIs of at kind part) → TestTurns of at kind part → (draft : Drafted) → PartRead f g lefts (before_at of at) (pcs of) kind part (length (made_at of at kind part).functions) draft → SayLike kind part draft.part

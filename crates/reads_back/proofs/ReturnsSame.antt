@@ -174,7 +174,7 @@ module _ {f : Function} {g : Fn} {active : List Active} {listed : List ℕ} {z :
   -- several values are a list
   returns_list : (e d : Expression) (es : Expressions) (v w : Value) (rest : Values) (all : Bool) → let all_es = syntax.expression e (syntax.expression d es) in
       RewrittenGiven f g active listed z lefts before behind (argument_list all_es) (depth_of_expressions all_es) (and_value v (and_value w rest)) all →
-      ((n : ℕ) → (word_values (place f.of listed f.short) n (lefts before) (and_value v (and_value w rest)) all).levels ≤ 3 * depth_of_expressions all_es + 3) →
+      ((n : ℕ) → (word_values (place f.of listed f.short) n (lefts before) (and_value v (and_value w rest)) all).levels ≤ 3 * depth_of_expressions all_es + 203) →
       ListLow f g active listed z lefts before all_es all (and_value v (and_value w rest)) → RewrittenAct f g active listed z lefts before behind (return_statement all_es) (returned (and_value v (and_value w rest)) all)
   returns_list e d es v w rest all given few low = record {
     can = given.can;
@@ -214,5 +214,5 @@ module _ {f : Function} {g : Fn} {active : List Active} {listed : List ℕ} {z :
       subst (λ vs. RewrittenAct f g active listed z lefts before behind (return_statement all_es) (returned vs all)) (sym same)
       (returns_list e d es first.0 more.0 more.1 all
       (subst (λ vs. RewrittenGiven f g active listed z lefts before behind (argument_list all_es) (depth_of_expressions all_es) vs all) same (list_rewritten lefts made all_es before behind vs all has written are is))
-      (subst (λ vs. (n : ℕ) → (word_values (place f.of listed f.short) n (lefts before) vs all).levels ≤ 3 * depth_of_expressions all_es + 3) same (cores_few f g active listed z lefts all_es before behind vs all written are))
+      (subst (λ vs. (n : ℕ) → (word_values (place f.of listed f.short) n (lefts before) vs all).levels ≤ 3 * depth_of_expressions all_es + 203) same (cores_few f g active listed z lefts all_es before behind vs all written are))
       (subst (λ vs. ListLow f g active listed z lefts before all_es all vs) same (list_low lefts made all_es before behind vs all has written are is)))

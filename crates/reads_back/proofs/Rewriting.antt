@@ -14,7 +14,6 @@ use Rattle.recover_expr.specs.Situation.{Function}
 use Rattle.scheme.specs.Expressions.{Coded, Want, fold, is_multiple, is_name, local_register, rk}
 use Rattle.scheme.specs.Making.{Maker, Where, Ahead}
 use Rattle.scheme.specs.Scheme.{coded, given, statement_made, inner}
-use Rattle.scheme.specs.Shapes.{room_of_arguments, room_of_body, room_of_expression}
 use Rattle.scheme.specs.declared.making.Active.{Active}
 use Rattle.scheme_stands.proofs.Growth.{Final}
 use Rattle.scheme_stands.specs.Words.{Fn, Means}
@@ -28,6 +27,7 @@ use Rattle.reads_back.specs.Cores.{IsPlainBody}
 use Rattle.reads_back.specs.Coming.{Coming, IsMadeNext, captured_names, declared_local}
 use Rattle.std.specs.Prelude.{◌&&◌, not, slice_set}
 use Rattle.scheme.specs.Functions.{without_sources}
+use Rattle.same_flow.specs.Space.{space_of_arguments, space_of_body, space_of_expression}
 
 -- the function that is read is the one that is made in the end
 pub record IsMadeBy (f : Function) (g : Fn) (active : List Active) (listed : List ℕ) (z : Maker) : Type 0 where
@@ -41,8 +41,8 @@ pub record IsMadeBy (f : Function) (g : Fn) (active : List Active) (listed : Lis
 -- a function that is written where the next one is made has the same code, and so few levels
 pub record IsAgain (short : Bool) (g : Fn) (active : List Active) (body : FunctionBody) (method : Bool) (c : Coming) (found : Inner) : Type 0 where
   pub same : inner found.body false (captured_names active g.upvalue_names c.ahead) (without_sources c.ahead) ≡ inner body method (captured_names active g.upvalue_names c.ahead) (without_sources c.ahead)
-  pub few : found.levels ≤ 3 * depth_of_body body + 4
-  pub low : short ≡ true → found.levels ≤ room_of_body body
+  pub few : found.levels ≤ 3 * depth_of_body body + 204
+  pub low : short ≡ true → found.levels ≤ space_of_body body
 
 -- the functions that are left where so many were made: the next one is there, and behind it the others are left
 pub record AreAgain (f : Function) (g : Fn) (lefts : ℕ → List (Option Inner)) : Type 0 where
@@ -109,7 +109,7 @@ module _ (f : Function) (g : Fn) (active : List Active) (listed : List ℕ) (z :
     pub folded : (n : ℕ) → fold (wording f listed z lefts before n v).words ≡ fold e
     pub several : (n : ℕ) → is_multiple (wording f listed z lefts before n v).words ≡ can_be_several v
     pub gives : is_multiple e ≡ true → can_be_several v ≡ true
-    pub few : (n : ℕ) → (wording f listed z lefts before n v).levels ≤ 3 * depth_of_expression e + 2
+    pub few : (n : ℕ) → (wording f listed z lefts before n v).levels ≤ 3 * depth_of_expression e + 202
     pub low : f.short ≡ true → formed_expression e ≡ true → (m : Maker) → IsAhead g active before (mentions_in e) m → IsMadeAs e m z → HasRoom f listed z lefts before (length m.constants) e v
     pub keys : keys_of v ≤ depth_of_expression e
     -- a local takes no constant
@@ -125,7 +125,7 @@ module _ (f : Function) (g : Fn) (active : List Active) (listed : List ℕ) (z :
     pub leaves : left_by_operand o (lefts before) ≡ lefts behind
     pub makes : behind ≡ made_behind (mentions_in e) before
     pub folded : (n : ℕ) → fold (operand_wording f listed z lefts before n o).words ≡ fold e
-    pub few : (n : ℕ) → (operand_wording f listed z lefts before n o).levels ≤ 3 * depth_of_expression e + 3
+    pub few : (n : ℕ) → (operand_wording f listed z lefts before n o).levels ≤ 3 * depth_of_expression e + 203
     pub low : f.short ≡ true → formed_expression e ≡ true → (m : Maker) → IsAhead g active before (mentions_in e) m → Final (length m.labels) (rk (code e) m).after z → IsOperandInRoom e (operand_wording f listed z lefts before (length m.constants) o)
     pub as_rk : (m : Maker) → IsAhead g active before (mentions_in e) m → Final (length m.labels) (rk (code e) m).after z → rk (coded (operand_wording f listed z lefts before (length m.constants) o).words) m ≡ rk (code e) m
     pub taken : (m : Maker) → IsAhead g active before (mentions_in e) m → Final (length m.labels) (rk (code e) m).after z → length (rk (code e) m).after.constants ≡ taken_behind_operand o (length m.constants)
@@ -135,8 +135,8 @@ module _ (f : Function) (g : Fn) (active : List Active) (listed : List ℕ) (z :
     pub can : can_write_values (place f.of listed f.short) (lefts before) values ≡ true
     pub leaves : left_by_values values (lefts before) ≡ lefts behind
     pub makes : behind ≡ made_behind (mentions_in e) before
-    pub few : (n : ℕ) → (chain (word_each (place f.of listed f.short) n (lefts before) values)).levels ≤ 3 * depth_of_expression e + 3
-    pub low : f.short ≡ true → formed_expression e ≡ true → right_binds 4 true e ≡ true → (m : Maker) → IsAhead g active before (mentions_in e) m → Final (length m.labels) ((code e).spine m) z → (chain (word_each (place f.of listed f.short) (length m.constants) (lefts before) values)).levels ≤ room_of_expression e
+    pub few : (n : ℕ) → (chain (word_each (place f.of listed f.short) n (lefts before) values)).levels ≤ 3 * depth_of_expression e + 203
+    pub low : f.short ≡ true → formed_expression e ≡ true → right_binds 4 true e ≡ true → (m : Maker) → IsAhead g active before (mentions_in e) m → Final (length m.labels) ((code e).spine m) z → (chain (word_each (place f.of listed f.short) (length m.constants) (lefts before) values)).levels ≤ space_of_expression e
     pub spine : (m : Maker) → IsAhead g active before (mentions_in e) m → Final (length m.labels) ((code e).spine m) z → (coded (chain (word_each (place f.of listed f.short) (length m.constants) (lefts before) values)).words).spine m ≡ (code e).spine m
     pub taken : (m : Maker) → IsAhead g active before (mentions_in e) m → Final (length m.labels) ((code e).spine m) z → length ((code e).spine m).constants ≡ taken_behind_values values (length m.constants)
 
@@ -145,8 +145,8 @@ module _ (f : Function) (g : Fn) (active : List Active) (listed : List ℕ) (z :
     pub can : can_write_values (place f.of listed f.short) (lefts before) values ≡ true
     pub leaves : left_by_values values (lefts before) ≡ lefts behind
     pub makes : behind ≡ made_behind (mentions_given args) before
-    pub few : (n : ℕ) → (arguments_wording f listed z lefts before n values all).levels ≤ 3 * deep + 4
-    pub low : f.short ≡ true → formed_arguments args ≡ true → deep ≤ 200 → (m : Maker) → IsAhead g active before (mentions_given args) m → Final (length m.labels) ((given (one_line_arguments args) 1).part m) z → (given_wording f listed z lefts before (length m.constants) values all).levels ≤ room_of_arguments args
+    pub few : (n : ℕ) → (arguments_wording f listed z lefts before n values all).levels ≤ 3 * deep + 204
+    pub low : f.short ≡ true → formed_arguments args ≡ true → deep ≤ 200 → (m : Maker) → IsAhead g active before (mentions_given args) m → Final (length m.labels) ((given (one_line_arguments args) 1).part m) z → (given_wording f listed z lefts before (length m.constants) values all).levels ≤ space_of_arguments args
     pub counts : (n : ℕ) → (given (arguments_wording f listed z lefts before n values all).words 1).count ≡ (given (one_line_arguments args) 1).count
     pub part : (m : Maker) → IsAhead g active before (mentions_given args) m → Final (length m.labels) ((given (one_line_arguments args) 1).part m) z → (given (arguments_wording f listed z lefts before (length m.constants) values all).words 1).part m ≡ (given (one_line_arguments args) 1).part m
     pub taken : (m : Maker) → IsAhead g active before (mentions_given args) m → Final (length m.labels) ((given (one_line_arguments args) 1).part m) z → length ((given (one_line_arguments args) 1).part m).constants ≡ taken_behind_values values (length m.constants)
@@ -156,7 +156,7 @@ module _ (f : Function) (g : Fn) (active : List Active) (listed : List ℕ) (z :
     pub can : can_act (place f.of listed f.short) (lefts before) acted ≡ true
     pub leaves : left_by_act acted (lefts before) ≡ lefts behind
     pub makes : behind ≡ made_behind (mentions_of_statement s) before
-    pub few : (n : ℕ) → act_levels (place f.of listed f.short) n (lefts before) acted ≤ 3 * lean_depth s + 4
+    pub few : (n : ℕ) → act_levels (place f.of listed f.short) n (lefts before) acted ≤ 3 * lean_depth s + 204
     pub low : f.short ≡ true → formed_statement s ≡ true → (m : Maker) → IsAhead g active before (mentions_of_statement s) m → Final (length m.labels) (statement_made (one_line_statement s) 1 None m) z → act_levels (place f.of listed f.short) (length m.constants) (lefts before) acted ≤ suc (lean_room s)
     pub made : (m : Maker) → IsAhead g active before (mentions_of_statement s) m → Final (length m.labels) (statement_made (one_line_statement s) 1 None m) z → statement_made (act_statement (place f.of listed f.short) (length m.constants) (lefts before) acted) 1 None m ≡ statement_made (one_line_statement s) 1 None m
     pub taken : (m : Maker) → IsAhead g active before (mentions_of_statement s) m → Final (length m.labels) (statement_made (one_line_statement s) 1 None m) z → length (statement_made (one_line_statement s) 1 None m).constants ≡ taken_behind_act acted (length m.constants)

@@ -1,13 +1,16 @@
 -- How much room the parts of a straight source have: what is folded counts four levels, and a path that a function goes to does not count.
-use Rattle.std.proofs.Common.{◌≡◌, ℕ, ◌+◌, suc, max, ◌≤◌, if◌then◌else◌, Option, Some, None, arith, is_some, refl, ap}
+use Rattle.std.proofs.Common.{◌≡◌, ℕ, ◌+◌, suc, max, ◌≤◌, Bool, true, false, List, if◌then◌else◌, Option, Some, None, arith, is_some, refl, ap}
 use Rattle.std.specs.Prelude.{ℤ}
+use Rattle.lua_num.specs.Bytes.{Text}
 use Rattle.lua_tree.specs.Syntax as syntax
-use Rattle.lua_tree.specs.Syntax.{Expression, Expressions, FunctionBody, Statement, Statements, assignment, binary_expression, function_expression, nil_literal, no_expressions, no_statements, number_literal, parenthesized, unary_expression}
+use Rattle.lua_tree.specs.Syntax.{Expression, Expressions, FunctionBody, Statement, Statements, assignment, binary_expression, function_body, function_expression, nil_literal, no_expressions, no_statements, number_literal, parenthesized, unary_expression}
 use Rattle.lua_tree.specs.declared.tree.BinaryOp.{BinaryOp}
 use Rattle.lua_tree.specs.declared.tree.UnaryOp.{UnaryOp}
 use Rattle.lua_num.specs.declared.arith.ArithOp.{ArithOp}
 use Rattle.scheme.specs.Expressions.{arith_op, fold, fold_binary, fold_unary}
-use Rattle.scheme.specs.Shapes.{room_of_body, room_of_expression, room_of_expressions, room_of_statement, unless_folded}
+use Rattle.scheme.specs.Shapes.{unless_folded}
+use Rattle.same_flow.specs.Never.{nevers_of_statements}
+use Rattle.same_flow.specs.Space.{has_blocks, space_of_statements, space_of_body, space_of_expression, space_of_expressions, space_of_statement}
 use Rattle.reads_back.specs.Acted.{is_path}
 
 -- ---- expressions
@@ -17,7 +20,7 @@ unless_one (Some n) depth some = omega arith
 unless_one None depth some = some
 
 -- an expression has room for one level at least
-pub some_room : (e : Expression) → 1 ≤ room_of_expression e
+pub some_room : (e : Expression) → 1 ≤ space_of_expression e
 some_room (binary_expression line op left right) = unless_one (fold (binary_expression line op left right)) _ (omega arith)
 some_room (unary_expression line op e) = unless_one (fold (unary_expression line op e)) _ (omega arith)
 some_room (parenthesized line e) = unless_one (fold e) _ (omega arith)
@@ -29,7 +32,7 @@ four_folded : (folded : Option ℤ) (n : ℤ) (depth : ℕ) → folded ≡ Some 
 four_folded (Some k) n depth is = refl
 four_folded None n depth is = cc
 
-pub folded_room : (e : Expression) (n : ℤ) → fold e ≡ Some n → room_of_expression e ≡ 4
+pub folded_room : (e : Expression) (n : ℤ) → fold e ≡ Some n → space_of_expression e ≡ 4
 folded_room (number_literal line k) n is = refl
 folded_room (binary_expression line op left right) n is = four_folded (fold (binary_expression line op left right)) n _ is
 folded_room (unary_expression line op e) n is = four_folded (fold (unary_expression line op e)) n _ is
@@ -54,36 +57,46 @@ folded_one UnaryOp.Not a n is = cc
 folded_one UnaryOp.Len a n is = cc
 
 -- no part has room for more
-pub left_room : (line : ℕ) (op : BinaryOp) (left right : Expression) → max (room_of_expression left) (room_of_expression right) ≤ room_of_expression (binary_expression line op left right)
+pub left_room : (line : ℕ) (op : BinaryOp) (left right : Expression) → max (space_of_expression left) (space_of_expression right) ≤ space_of_expression (binary_expression line op left right)
 left_room line op left right = by (fold (binary_expression line op left right)) refl
   where
-    by : (folded : Option ℤ) → fold (binary_expression line op left right) ≡ folded → max (room_of_expression left) (room_of_expression right) ≤ (if is_some folded then 4 else 1 + max (room_of_expression left) (room_of_expression right))
+    by : (folded : Option ℤ) → fold (binary_expression line op left right) ≡ folded → max (space_of_expression left) (space_of_expression right) ≤ (if is_some folded then 4 else 1 + max (space_of_expression left) (space_of_expression right))
     by (Some n) is = let both = folded_both (arith_op op) (fold left) (fold right) n is in omega (arith, folded_room left both.0.0 both.0.1, folded_room right both.1.0 both.1.1)
     by None is = omega arith
 
-pub of_room : (line : ℕ) (op : UnaryOp) (e : Expression) → room_of_expression e ≤ room_of_expression (unary_expression line op e)
+pub of_room : (line : ℕ) (op : UnaryOp) (e : Expression) → space_of_expression e ≤ space_of_expression (unary_expression line op e)
 of_room line op e = by (fold (unary_expression line op e)) refl
   where
-    by : (folded : Option ℤ) → fold (unary_expression line op e) ≡ folded → room_of_expression e ≤ (if is_some folded then 4 else 1 + room_of_expression e)
+    by : (folded : Option ℤ) → fold (unary_expression line op e) ≡ folded → space_of_expression e ≤ (if is_some folded then 4 else 1 + space_of_expression e)
     by (Some n) is = let one = folded_one op (fold e) n is in omega (arith, folded_room e one.0 one.1)
     by None is = omega arith
 
-pub inside_room : (line : ℕ) (e : Expression) → room_of_expression e ≤ room_of_expression (parenthesized line e)
+pub inside_room : (line : ℕ) (e : Expression) → space_of_expression e ≤ space_of_expression (parenthesized line e)
 inside_room line e = by (fold e) refl
   where
-    by : (folded : Option ℤ) → fold e ≡ folded → room_of_expression e ≤ (if is_some folded then 4 else 1 + room_of_expression e)
+    by : (folded : Option ℤ) → fold e ≡ folded → space_of_expression e ≤ (if is_some folded then 4 else 1 + space_of_expression e)
     by (Some n) is = omega (arith, folded_room e n is)
     by None is = omega arith
+
+-- ---- functions
+
+-- a function has room for its statements
+pub body_room : (params : List Text) (vararg : Bool) (block : Statements) (first last : ℕ) → space_of_statements block ≤ space_of_body (function_body params vararg block first last)
+body_room params vararg block first last = by (has_blocks block)
+  where
+    by : (has : Bool) → space_of_statements block ≤ (if has then suc (space_of_statements block + nevers_of_statements block) else space_of_statements block)
+    by true = omega arith
+    by false = omega arith
 
 -- ---- statements
 
 abbrev pub lean_room_assignment : (targets es : Expressions) → ℕ
-lean_room_assignment (syntax.expression target no_expressions) (syntax.expression (function_expression line body) no_expressions) = if is_path target then suc (room_of_body body) else max (room_of_expression target) (suc (room_of_body body))
-lean_room_assignment targets es = max (room_of_expressions targets) (room_of_expressions es)
+lean_room_assignment (syntax.expression target no_expressions) (syntax.expression (function_expression line body) no_expressions) = if is_path target then suc (space_of_body body) else max (space_of_expression target) (suc (space_of_body body))
+lean_room_assignment targets es = max (space_of_expressions targets) (space_of_expressions es)
 
 abbrev pub lean_room : Statement → ℕ
 lean_room (assignment targets es) = lean_room_assignment targets es
-lean_room s = room_of_statement s
+lean_room s = space_of_statement s
 
 abbrev pub lean_room_of : Statements → ℕ
 lean_room_of no_statements = 0

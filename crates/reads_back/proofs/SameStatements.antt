@@ -20,7 +20,7 @@ use Rattle.scheme_stands.specs.Statements.{AssignAt, LoopAt, StaysAt, rel_fields
 use Rattle.scheme_stands.specs.Words.{Fn}
 use Rattle.reads_back.specs.Assignments.{as_assignment, fields_behind, path_target, with_method_name, with_self}
 use Rattle.reads_back.proofs.FunctionStatements.{as_assignments}
-use Rattle.reads_back.proofs.Marks.{SamePart, both_same, nothing_behind, part_then, same_part}
+use Rattle.reads_back.proofs.Marks.{SameWalk, both_walk, nothing_walk, same_walk, walk_then}
 use Rattle.reads_back.proofs.Paths.{assign_same, coded_fields}
 use Rattle.reads_back.proofs.PlainStraight.{AreOnLine}
 use Rattle.reads_back.proofs.Tests.{first_of_both, not_so, second_of_both}
@@ -105,21 +105,21 @@ method_part_same : (on : Expression) (method : Option Text) → expression_part 
 method_part_same on None = refl
 method_part_same on (Some text) = refl
 
-self_part : (method : Bool) (body : FunctionBody) → SamePart (body_part false (with_self method body)) (body_part method body)
+self_part : (method : Bool) (body : FunctionBody) → SameWalk (body_part false (with_self method body)) (body_part method body)
 self_part method (function_body params vararg block first last) place = refl
 
-path_mentioned : (name : Text) (names : List Text) (method : Option Text) → SamePart (expression_part (path_target (name ∷ names) method)) (path_part 1 (name ∷ names))
+path_mentioned : (name : Text) (names : List Text) (method : Option Text) → SameWalk (expression_part (path_target (name ∷ names) method)) (path_part 1 (name ∷ names))
 path_mentioned name names method place = ap (λ (part : Part). part place) (method_part_same (fields_behind (name_expression 1 name) names) method ∙ fields_part_same (name_expression 1 name) names)
 
-pub statement_part_same : (line : ℕ) (s : Statement) → formed_statement s ≡ true → line ≡ 1 → SamePart (statement_part line (as_assignment s)) (statement_part line s)
+pub statement_part_same : (line : ℕ) (s : Statement) → formed_statement s ≡ true → line ≡ 1 → SameWalk (statement_part line (as_assignment s)) (statement_part line s)
 statement_part_same line (function_statement [] method body) formed first place = not_so formed
 statement_part_same line (function_statement (name ∷ names) method body) formed first place =
-    both_same (part_then (nothing_behind _) (path_mentioned name names method)) (part_then (nothing_behind _) (self_part (is_some method) body)) place
+    both_walk (walk_then (nothing_walk _) (path_mentioned name names method)) (walk_then (nothing_walk _) (self_part (is_some method) body)) place
     ∙ ap (λ (line : ℕ). both (path_part line (name ∷ names)) (body_part (is_some method) body) place) (sym first)
 statement_part_same line s formed first place = refl
 
-pub block_part_same : (block : Statements) → formed_statements block ≡ true → AreOnLine block → SamePart (statements_part (as_assignments block)) (statements_part block)
-block_part_same no_statements formed on = same_part nothing
+pub block_part_same : (block : Statements) → formed_statements block ≡ true → AreOnLine block → SameWalk (statements_part (as_assignments block)) (statements_part block)
+block_part_same no_statements formed on = same_walk nothing
 block_part_same (syntax.statement line semi s rest) formed on =
     let behind = second_of_both (may_follow s semi rest) _ (second_of_both (formed_statement s) _ formed) in
-    both_same (statement_part_same line s (first_of_both _ _ formed) on.0) (block_part_same rest behind on.2)
+    both_walk (statement_part_same line s (first_of_both _ _ formed) on.0) (block_part_same rest behind on.2)

@@ -23,7 +23,6 @@ use Rattle.scheme_stands.specs.Places.{Between, ScopeAt, ahead_at, ahead_by}
 use Rattle.scheme_stands.specs.Words.{Fn}
 use Rattle.scheme_stands.proofs.Entering.{behind_name}
 use Rattle.same_flow.specs.SameFlow.{begun_of}
-use Rattle.same_flow.specs.SameMarks.{but_breaks}
 use Rattle.same_flow.proofs.Walks.{state_of}
 use Rattle.reads_back.proofs.ActiveCaptured.{AllHome, distinct_active, only_own_before}
 use Rattle.reads_back.proofs.CapturedFlow.{StepComes}
@@ -36,7 +35,7 @@ use Rattle.reads_back.proofs.FunctionLocals.{number_at, sound_to, stand_before, 
 use Rattle.reads_back.proofs.LocalsBrought.{either_part}
 use Rattle.reads_back.proofs.NamesCome.{names_mean}
 use Rattle.reads_back.proofs.StatementsMeant.{own_active}
-use Rattle.reads_back.proofs.StepsHere.{rest_at, scope_before, step_here}
+use Rattle.reads_back.proofs.StepsHere.{all_at, rest_at, scope_before, step_here}
 use Rattle.reads_back.proofs.StepsKnown.{state_before}
 use Rattle.reads_back.proofs.WordsRead.{IsFunction}
 
@@ -128,9 +127,6 @@ module _ {f : Function} {g : Fn} {z : Maker} {lefts : ℕ → List (Option Inner
     (begun : (begun_of params names ahead).ahead ≡ ahead_at all place ((statements_part block place).marks ++ rest))
     (declarations functions : ℕ) (marks : List Mark) (ahead_is : ahead ≡ ahead_by all declarations functions marks) (counted : (statements_part block place).next.declarations ≤ declarations_in all)
     (start : AllHome declarations (innermost place.around) place.scope) where
-  abbrev pub bare : List Mark
-  bare = but_breaks all
-
   abbrev place_at : ℕ → Place
   place_at at = (state_before code (state_of place []) at).place
 
@@ -143,35 +139,42 @@ module _ {f : Function} {g : Fn} {z : Maker} {lefts : ℕ → List (Option Inner
     only_own_before of formed all place rest begun declarations functions marks ahead_is counted start at most register one d there declared,
   )
 
-  own_catching : {at : ℕ} {end : ℕ} {captured : Bool} {text : Text} {body : FunctionBody} → StepIs of at (StepKind.Declaration end captured) (statement_part (local_function text body)) →
-      Catching f g (by_place bare) (behind_name 1 text (place_at at)) (made_at of at (StepKind.Declaration end captured) (statement_part (local_function text body))).active
-  own_catching {at} {end} {captured} {text} {body} is =
+  own_catching : (every : List Mark) {at : ℕ} {end : ℕ} {captured : Bool} {text : Text} {body : FunctionBody} → StepIs of at (StepKind.Declaration end captured) (statement_part (local_function text body)) →
+      Catching f g (by_place every) (behind_name 1 text (place_at at)) (made_at of at (StepKind.Declaration end captured) (statement_part (local_function text body))).active
+  own_catching every {at} {end} {captured} {text} {body} is =
       let less = is.within in
       let most : at ≤ length code.steps = omega (arith, less) in
       let made = made_at of at (StepKind.Declaration end captured) (statement_part (local_function text body)) in
       let own = own_active body is.stands in
       let scoped = scope_before of all place rest between scope at most in
       let number : own.local.local.declaration ≡ Some (place_at at).declarations = ap (λ (local : Local). local.declaration) own.is_local ∙ ap Some (number_at of formed all place rest begun at most) in
-      catching_at bare (behind_name 1 text (place_at at)) made.active of.made.is_function
+      catching_at every (behind_name 1 text (place_at at)) made.active of.made.is_function
       (distinct_behind text (place_at at) scoped (before_at of at).active made.active own.local own.is_after number (distinct_at at most) (known_at at most))
       (known_behind text (place_at at) scoped (before_at of at).active made.active own.local own.is_after number (distinct_at at most) (known_at at most))
 
-  kind_catching : {at : ℕ} (kind : StepKind) (part : Part) → StepIs of at kind part → KindCatching f g (by_place bare) (place_at at) kind part (before_at of at).active (made_at of at kind part).active
-  kind_catching {at} kind part is =
+  kind_catching : (every : List Mark) {at : ℕ} (kind : StepKind) (part : Part) → StepIs of at kind part → KindCatching f g (by_place every) (place_at at) kind part (before_at of at).active (made_at of at kind part).active
+  kind_catching every {at} kind part is =
       let less = is.within in
       let most : at ≤ length code.steps = omega (arith, less) in
       record {
-        here = catching_at bare (place_at at) (before_at of at).active of.made.is_function (distinct_at at most) (known_at at most);
+        here = catching_at every (place_at at) (before_at of at).active of.made.is_function (distinct_at at most) (known_at at most);
         own = λ end captured text body kind_is part_is. own kind part is end captured text body kind_is part_is;
       }
     where
       own : (kind : StepKind) (part : Part) → StepIs of at kind part → (end : ℕ) (captured : Bool) (text : Text) (body : FunctionBody) → kind ≡ StepKind.Declaration end captured → part ≡ statement_part (local_function text body) →
-          Catching f g (by_place bare) (behind_name 1 text (place_at at)) (made_at of at kind part).active
+          Catching f g (by_place every) (behind_name 1 text (place_at at)) (made_at of at kind part).active
       own kind part is end captured text body kind_is part_is =
-          subst (λ (kind : StepKind). StepIs of at kind part → Catching f g (by_place bare) (behind_name 1 text (place_at at)) (made_at of at kind part).active) (sym kind_is)
-          (subst (λ (part : Part). StepIs of at (StepKind.Declaration end captured) part → Catching f g (by_place bare) (behind_name 1 text (place_at at)) (made_at of at (StepKind.Declaration end captured) part).active) (sym part_is)
-          own_catching) is
+          subst (λ (kind : StepKind). StepIs of at kind part → Catching f g (by_place every) (behind_name 1 text (place_at at)) (made_at of at kind part).active) (sym kind_is)
+          (subst (λ (part : Part). StepIs of at (StepKind.Declaration end captured) part → Catching f g (by_place every) (behind_name 1 text (place_at at)) (made_at of at (StepKind.Declaration end captured) part).active) (sym part_is)
+          (own_catching every)) is
 
   -- At each step its marks come next, and so much is known there.
-  pub comes_at : (at : ℕ) (kind : StepKind) (part : Part) → StepIs of at kind part → StepComes of (by_place bare) place at kind part
-  comes_at at kind part is = record { rest = rest_at of all place rest between scope at; here = step_here of all place rest between scope formed begun is; catching = kind_catching kind part is }
+  pub comes_at : (at : ℕ) (kind : StepKind) (part : Part) → StepIs of at kind part → StepComes of place at kind part
+  comes_at at kind part is =
+      let every = all_at of all place rest between scope at kind part in
+      record {
+        all = by_place every;
+        rest = rest_at of all place rest between scope at;
+        here = step_here of all place rest between scope formed begun is;
+        catching = kind_catching every kind part is;
+      }

@@ -1,4 +1,4 @@
--- Before each step of a function all is known of its marks, which come next at its place among those of the source without breaks.
+-- Before each step of a function all is known of its marks, which come next at its place among those of the other steps without breaks.
 use Rattle.std.proofs.Common.{◌≡◌, ◌<◌, ◌≤◌, ◌⊎◌, inl, inr, ℕ, zero, suc, ◌+◌, ◌-◌, Bool, true, false, nat_lt, List, [], ◌∷◌, ◌++◌, append-nil, append_assoc, length, refl, sym, ap, ap₂, ◌∙◌, subst, arith, if◌then◌else◌}
 use Rattle.std.proofs.lemmas.Bool.{eq-eqb}
 use Rattle.std.specs.Prelude.{◌||◌, Option, Some}
@@ -32,11 +32,10 @@ use Rattle.reads_back.proofs.ActiveCaptured.{around_ended, around_stays}
 use Rattle.reads_back.proofs.FlowThere.{IsFlowFunction, StepIs, before_at, step_is}
 use Rattle.reads_back.proofs.LocalsBrought.{names_by}
 use Rattle.reads_back.proofs.MarksCaptured.{all_marks, declarations_stay, marks_to, run_marks, run_place}
-use Rattle.reads_back.proofs.MarksUnbroken.{declarations_unbroken, functions_unbroken, mentions_unbroken, part_ahead}
+use Rattle.reads_back.proofs.MarksUnbroken.{ahead_between, declarations_unbroken, functions_unbroken, mentions_unbroken, part_ahead}
 use Rattle.reads_back.proofs.NamesCome.{Comes, Stays, names_mean, step_scoped}
 use Rattle.reads_back.proofs.NoLaterCaptured.{low_before}
 use Rattle.reads_back.proofs.StepsKnown.{known_laid, part_said, says_part, state_before, state_to}
-use Rattle.reads_back.proofs.UnbrokenParts.{part_unbroken}
 
 -- ---- parts of steps
 
@@ -127,7 +126,7 @@ homes_said around own kind part state fits same are = by (step_scoped kind part 
 
 module _ {f : Function} {g : Fn} {z : Maker} {lefts : ℕ → List (Option Inner)} {parts : ℕ → outline.Part} {code : Steps} {params names : List Text} {ahead : Ahead} {block : Statements} (of : IsFlowFunction f g z lefts parts code params names ahead block)
     (all : List Mark) (place : Place) (rest : List Mark) (between : Between all (statements_part block) place rest) (scope : ScopeAt place) where
-  abbrev pub bare : List Mark
+  abbrev bare : List Mark
   bare = but_breaks all
 
   abbrev after : List Mark
@@ -158,8 +157,8 @@ module _ {f : Function} {g : Fn} {z : Maker} {lefts : ℕ → List (Option Inner
     said_is : said ≡ says kind part (state_before code first at)
     said_is = ap₂ (λ kind part. says_at kind part (state_before code first at)) is.there is.part_there
 
-    said_marks : said.marks ≡ walk.marks
-    said_marks = ap (λ (it : Said). it.marks) said_is ∙ (says_part kind part (state_before code first at) is.fits).0 ∙ part_unbroken kind part is.fits is.flow (place_at at)
+    said_marks : said.marks ≡ but_breaks walk.marks
+    said_marks = ap (λ (it : Said). it.marks) said_is ∙ (says_part kind part (state_before code first at) is.fits).0
 
     said_next : said.after.place ≡ walk.next
     said_next = ap (λ (it : Said). it.after.place) said_is ∙ (says_part kind part (state_before code first at) is.fits).1
@@ -173,7 +172,7 @@ module _ {f : Function} {g : Fn} {z : Maker} {lefts : ℕ → List (Option Inner
     around_next : (place_at (suc at)).around ≡ walk.next.around
     around_next = around_ended (suc at) said.after.place said.after.entries ∙ ap (λ (place : Place). place.around) said_next
 
-    marks_next : marks_before (suc at) ≡ marks_before at ++ walk.marks
+    marks_next : marks_before (suc at) ≡ marks_before at ++ but_breaks walk.marks
     marks_next = sym (append_assoc (but_breaks between.reached.before) (marks_to code first at) said.marks) ∙ ap (λ (marks : List Mark). marks_before at ++ marks) said_marks
 
     passes : AllOf (λ g. g < (place_at at).functions) (place_at at).around → Passes (part_said kind part) (place_at at)
@@ -203,18 +202,32 @@ module _ {f : Function} {g : Fn} {z : Maker} {lefts : ℕ → List (Option Inner
       let counted = (part_tame kind part is.fits).counted (place_at at) in
       let passed = passes is forward.around in
       let before = marks_before at in
+      let own = but_breaks w.marks in
       let grown = passed.grown in
       let same = marks_next is in
       let declared = counted.declarations in
       let opened = counted.functions in
       record {
-        declarations = let sum = declared_both before w.marks in let there = forward.declarations in let next = declarations_next is in let all = ap declarations_in same in omega (arith, sum, there, next, all, declared);
-        functions = let sum = opened_both before w.marks in let there = forward.functions in let next = functions_next is in let all = ap functions_in same in omega (arith, sum, there, next, all, opened);
+        declarations =
+            let sum = declared_both before own in
+            let there = forward.declarations in
+            let next = declarations_next is in
+            let all = ap declarations_in same in
+            let few = declarations_unbroken w.marks in
+            omega (arith, sum, there, next, all, few, declared);
+        functions =
+            let sum = opened_both before own in
+            let there = forward.functions in
+            let next = functions_next is in
+            let all = ap functions_in same in
+            let few = functions_unbroken w.marks in
+            omega (arith, sum, there, next, all, few, opened);
         mentioned =
             subst (λ n. Mentions (Below n) (marks_before (suc at))) (sym (functions_next is))
             (subst (Mentions (Below w.next.functions)) (sym same)
-            (mentions_both (Below w.next.functions) before w.marks
-            (mentions_more (Below (place_at at).functions) (Below w.next.functions) (λ means around below. below_more (place_at at).functions w.next.functions grown around below) before forward.mentioned) passed.upto));
+            (mentions_both (Below w.next.functions) before own
+            (mentions_more (Below (place_at at).functions) (Below w.next.functions) (λ means around below. below_more (place_at at).functions w.next.functions grown around below) before forward.mentioned)
+            (mentions_unbroken (Below w.next.functions) w.marks passed.upto)));
         around =
             subst (λ n. AllOf (λ g. g < n) (place_at (suc at)).around) (sym (functions_next is))
             (subst (AllOf (λ g. g < w.next.functions)) (sym (around_next is)) passed.around);
@@ -255,7 +268,7 @@ module _ {f : Function} {g : Fn} {z : Maker} {lefts : ℕ → List (Option Inner
       let functions = functions_next step.2 in
       let grown = passed.grown in
       subst (Mentions (Behind (place_at at))) (sym (append_assoc (said step.2).marks others after))
-      (mentions_both (Behind (place_at at)) (said step.2).marks (others ++ after) (subst (Mentions (Behind (place_at at))) (sym (said_marks step.2)) passed.behind)
+      (mentions_both (Behind (place_at at)) (said step.2).marks (others ++ after) (subst (Mentions (Behind (place_at at))) (sym (said_marks step.2)) (mentions_unbroken (Behind (place_at at)) w.marks passed.behind))
       (mentions_more (Behind (place_at (suc at))) (Behind (place_at at)) (behind_earlier (place_at at) (place_at (suc at)) (around_next step.2 ∙ passed.same) (omega (arith, functions, grown))) (others ++ after)
       (behind_from count (suc at) (omega (arith, is)))))
 
@@ -287,7 +300,11 @@ module _ {f : Function} {g : Fn} {z : Maker} {lefts : ℕ → List (Option Inner
   abbrev pub rest_at : ℕ → List Mark
   rest_at at = marks_from (suc at) (length code.steps - suc at) ++ after
 
-  all_is : {at : ℕ} {kind : StepKind} {part : Part} (is : StepIs of at kind part) → bare ≡ marks_before at ++ ((walk is).marks ++ rest_at at)
+  -- the marks of the source, where only those of one step stand with their breaks
+  abbrev pub all_at : (at : ℕ) → StepKind → Part → List Mark
+  all_at at kind part = marks_before at ++ ((part_said kind part (place_at at)).marks ++ rest_at at)
+
+  all_is : {at : ℕ} {kind : StepKind} {part : Part} (is : StepIs of at kind part) → bare ≡ marks_before at ++ (but_breaks (walk is).marks ++ rest_at at)
   all_is {at} is =
       let less = is.within in
       let left = length code.steps - suc at in
@@ -295,21 +312,22 @@ module _ {f : Function} {g : Fn} {z : Maker} {lefts : ℕ → List (Option Inner
       let own = (statements_part block place).marks in
       let to = marks_to code first at in
       let others = marks_from (suc at) left in
+      let said_of = but_breaks (walk is).marks in
       let last : length code.steps ≡ at + suc left = omega (arith, less) in
-      let parted : but_breaks own ≡ to ++ ((walk is).marks ++ others) =
+      let parted : but_breaks own ≡ to ++ (said_of ++ others) =
       sym (all_marks code params names ahead block of.laid place) ∙ ap (marks_to code first) last ∙ sym (run_marks code first (suc left) at) ∙ ap (λ (marks : List Mark). to ++ (marks ++ others)) (said_marks is) in
       ap but_breaks between.reached.is
       ∙ breaks_append between.reached.before (own ++ rest)
-      ∙ ap (λ (marks : List Mark). before ++ marks) (breaks_append own rest ∙ ap (λ (marks : List Mark). marks ++ after) parted ∙ append_assoc to ((walk is).marks ++ others) after ∙ ap (λ (marks : List Mark). to ++ marks) (append_assoc (walk is).marks others after))
-      ∙ sym (append_assoc before to ((walk is).marks ++ (others ++ after)))
+      ∙ ap (λ (marks : List Mark). before ++ marks) (breaks_append own rest ∙ ap (λ (marks : List Mark). marks ++ after) parted ∙ append_assoc to (said_of ++ others) after ∙ ap (λ (marks : List Mark). to ++ marks) (append_assoc said_of others after))
+      ∙ sym (append_assoc before to (said_of ++ (others ++ after)))
 
-  between_at : {at : ℕ} {kind : StepKind} {part : Part} → StepIs of at kind part → Between bare (part_said kind part) (place_at at) (rest_at at)
+  between_at : {at : ℕ} {kind : StepKind} {part : Part} → StepIs of at kind part → Between (all_at at kind part) (part_said kind part) (place_at at) (rest_at at)
   between_at {at} is =
       let less = is.within in
       let forward = forward_to at (omega (arith, less)) in
       let functions = functions_next is in
       record {
-        reached = record { before = marks_before at; is = all_is is; declarations = forward.declarations; functions = forward.functions };
+        reached = record { before = marks_before at; is = refl; declarations = forward.declarations; functions = forward.functions };
         before_it = forward.mentioned;
         around_it = forward.around;
         behind_it =
@@ -319,11 +337,11 @@ module _ {f : Function} {g : Fn} {z : Maker} {lefts : ℕ → List (Option Inner
 
   module _ (formed : formed_statements block ≡ true) (begun : (begun_of params names ahead).ahead ≡ ahead_at all place ((statements_part block place).marks ++ rest)) where
     -- so it is at the beginning
-    pub bare_begun : (begun_of params names ahead).ahead ≡ ahead_at bare place ((statements_part block place).marks ++ after)
+    bare_begun : (begun_of params names ahead).ahead ≡ ahead_at bare place ((statements_part block place).marks ++ after)
     bare_begun = begun ∙ part_ahead all place (statements_part block place).marks rest
 
     -- Before a step its marks come next.
-    pub step_here : {at : ℕ} {kind : StepKind} {part : Part} → StepIs of at kind part → Here bare (part_said kind part) (place_at at) (rest_at at) (spot (before_at of at))
+    pub step_here : {at : ℕ} {kind : StepKind} {part : Part} → StepIs of at kind part → Here (all_at at kind part) (part_said kind part) (place_at at) (rest_at at) (spot (before_at of at))
     step_here {at} {kind} {part} is =
         let less = is.within in
         let left = length code.steps - suc at in
@@ -335,5 +353,7 @@ module _ {f : Function} {g : Fn} {z : Maker} {lefts : ℕ → List (Option Inner
           ahead =
               known
               ∙ ap (ahead_at bare (place_at at)) (append_assoc (said is).marks others after)
-              ∙ ap (λ (own : List Mark). ahead_at bare (place_at at) (own ++ (others ++ after))) (said_marks is);
+              ∙ ap (λ (own : List Mark). ahead_at bare (place_at at) (own ++ (others ++ after))) (said_marks is)
+              ∙ ap (λ (all : List Mark). ahead_at all (place_at at) (but_breaks (walk is).marks ++ rest_at at)) (all_is is)
+              ∙ ahead_between (marks_before at) (walk is).marks (rest_at at) (place_at at);
         }

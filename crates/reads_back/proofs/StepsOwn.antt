@@ -26,7 +26,6 @@ use Rattle.reads_back.proofs.CapturedFlow.{StepComes, begins_again, own_captures
 use Rattle.reads_back.proofs.CapturedInEnd.{CapturesOwn}
 use Rattle.reads_back.proofs.CapturedMarks.{InScope, captured_both, expressions_captured}
 use Rattle.reads_back.proofs.CapturedSteps.{declares_silent}
-use Rattle.reads_back.proofs.CapturedStretches.{Onward}
 use Rattle.reads_back.proofs.FlowRead.{Begins, PartRead, as_many, within_last}
 use Rattle.reads_back.proofs.FlowSteps.{kind_step_read, later_at}
 use Rattle.reads_back.proofs.FlowThere.{IsFlowFunction, StepIs, before_at, made_at, pcs, step_is}
@@ -75,11 +74,11 @@ and_nothing false = refl
 -- ---- along the steps of a function
 
 module _ {f : Function} {g : Fn} {z : Maker} {lefts : ℕ → List (Option Inner)} {parts : ℕ → outline.Part} {code : Steps} {params names : List Text} {ahead : Ahead} {block : Statements} (of : IsFlowFunction f g z lefts parts code params names ahead block)
-    (all : Onward) (place : Place) (formed : formed_statements block ≡ true) (low : LowAt place) where
+    (place : Place) (formed : formed_statements block ≡ true) (low : LowAt place) where
   abbrev place_at : ℕ → Place
   place_at at = (state_before code (state_of place []) at).place
 
-  module _ (number : (at : ℕ) → at ≤ length code.steps → (before_at of at).ahead.declarations ≡ (place_at at).declarations) (comes : (at : ℕ) (kind : StepKind) (part : Part) → StepIs of at kind part → StepComes of all place at kind part)
+  module _ (number : (at : ℕ) → at ≤ length code.steps → (before_at of at).ahead.declarations ≡ (place_at at).declarations) (comes : (at : ℕ) (kind : StepKind) (part : Part) → StepIs of at kind part → StepComes of place at kind part)
       (at : ℕ) (now behind : Situation) (draft : Drafted) (begins : Begins of at now) (reads : step_at f at (pcs of at) now ≡ Some (draft, behind)) where
     part_is_read : {kind : StepKind} {part : Part} → StepIs of at kind part → PartRead f g lefts (before_at of at) (pcs of) kind part (length (made_at of at kind part).functions) draft
     part_is_read {kind} {part} is =
@@ -104,8 +103,8 @@ module _ {f : Function} {g : Fn} {z : Maker} {lefts : ℕ → List (Option Inner
         let there : slice_get made.active register ≡ Some own.local =
         ap (λ (active : List Active). slice_get active register) own.is_after ∙ element_right (before_at of at).active (own.local ∷ []) 0 register (omega arith) in
         let base : length now.scope.active ≡ register = ap length begins.active ∙ as_many of at in
-        sym (own_captures_like of all place formed is (comes at kind part is) register (place_at at).declarations own.local there declared)
-        ∙ sym (ap (has_register register) (step_registers of all place at now behind draft less begins reads))
+        sym (own_captures_like of place formed is (comes at kind part is) register (place_at at).declarations own.local there declared)
+        ∙ sym (ap (has_register register) (step_registers of place at now behind draft less begins reads))
         ∙ sym (ap (λ register. has_register register (captured_by_step f at (pcs of at) now)) base)
         ∙ sym (step_exact f at (pcs of at) now draft behind reads).own
 
@@ -133,11 +132,11 @@ module _ {f : Function} {g : Fn} {z : Maker} {lefts : ℕ → List (Option Inner
     own_names kind part is low_at i few = absurd is.fits
 
   -- So it is with each step that is read.
-  pub captures_own : ((at : ℕ) → at ≤ length code.steps → (before_at of at).ahead.declarations ≡ (place_at at).declarations) → ((at : ℕ) (kind : StepKind) (part : Part) → StepIs of at kind part → StepComes of all place at kind part) → CapturesOwn of place
+  pub captures_own : ((at : ℕ) → at ≤ length code.steps → (before_at of at).ahead.declarations ≡ (place_at at).declarations) → ((at : ℕ) (kind : StepKind) (part : Part) → StepIs of at kind part → StepComes of place at kind part) → CapturesOwn of place
   captures_own number comes at now behind draft less begins reads kind part there part_there i few =
       let step = step_is of at less in
       let same : kind ≡ step.0 = same_Some kind step.0 (sym there ∙ step.2.there) in
       let same_part : part ≡ step.1 = same_Some part step.1 (sym part_there ∙ step.2.part_there) in
       let count : length (names_by kind part) ≡ length (names_by step.0 step.1) = ap₂ (λ kind part. length (names_by kind part)) same same_part in
-      said_captures of all place step.2 ((place_at at).declarations + i)
+      said_captures of place step.2 ((place_at at).declarations + i)
       ∙ own_names number comes at now behind draft begins reads step.0 step.1 step.2 (low_before of place low at (omega (arith, less))).0 i (omega (arith, few, count))

@@ -80,7 +80,7 @@ module _ {f : Function} {g : Fn} {active : List Active} {listed : List ℕ} {z :
     can : CanAct f g active listed lefts s
     can = record { can = λ before behind acted acts. (written before behind acted acts).can }
 
-    pub few_levels : (before behind : ℕ) (acted : Acted) (n : ℕ) → IsActed g active s before behind acted → act_levels at n (lefts before) acted ≤ 3 * lean_depth s + 4
+    pub few_levels : (before behind : ℕ) (acted : Acted) (n : ℕ) → IsActed g active s before behind acted → act_levels at n (lefts before) acted ≤ 3 * lean_depth s + 204
     few_levels before behind acted n acts = (written before behind acted acts).few n
 
     pub written_formed : (before behind : ℕ) (acted : Acted) (n : ℕ) → IsActed g active s before behind acted → formed_statement (act_statement at n (lefts before) acted) ≡ true

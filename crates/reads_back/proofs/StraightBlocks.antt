@@ -26,7 +26,7 @@ use Rattle.reads_back.specs.ReadAs.{ArePlain, begin_with_paren}
 use Rattle.reads_back.proofs.ActsRead.{numbers_from}
 use Rattle.reads_back.proofs.BlockMakers.{AllStand, AreAllActs, all_made, entries_by, entries_from, made_by, statement_listed, statement_moves, actives_by}
 use Rattle.reads_back.proofs.ListedLocals.{ended, listed_behind}
-use Rattle.reads_back.proofs.Marks.{SamePart, both_same, part_then}
+use Rattle.reads_back.proofs.Marks.{SamePart, both_same, exact_part, part_then}
 use Rattle.reads_back.proofs.Mentions.{IsAhead}
 use Rattle.reads_back.proofs.StatementsMeant.{statement_meant}
 use Rattle.reads_back.proofs.OwnLocals.{listed_same}
@@ -225,12 +225,12 @@ module _ {f : Function} {g : Fn} {z : Maker} {lefts : ℕ → List (Option Inner
 
   -- where each function that is made is the part of the source that has its number
   pub block_marks : (block tree : Statements) (taken : ℕ) (m : Maker) → ComesNext f g z block m → AreWritten f g lefts taken block tree m → SamePart (statements_part tree) (statements_part block)
-  block_marks no_statements tree taken m next are = λ here. ap (λ block. statements_part block here) are
+  block_marks no_statements tree taken m next are = exact_part (λ here. ap (λ block. statements_part block here) are)
   block_marks (syntax.statement line semi s rest) tree taken m next are =
-      let on : SamePart (statement_part 1 (one_line_statement s)) (statement_part line s) = λ here. ap (λ s. statement_part 1 s here) next.on_line.1 ∙ ap (λ line. statement_part line s here) (sym next.on_line.0) in
+      let on : SamePart (statement_part 1 (one_line_statement s)) (statement_part line s) = exact_part (λ here. ap (λ s. statement_part 1 s here) next.on_line.1 ∙ ap (λ line. statement_part line s here) (sym next.on_line.0)) in
       let one = part_then (written_marks (made_there whole.made next) whole.left s next.straight.0.0 (low whole.made next) (own_listed whole.made next) (length m.functions) (length (made_by s m).functions) are.0 taken are.2) on in
       let others = block_marks rest are.1 (taken_behind_act are.0 taken) (settle (made_by s m)) (comes_behind whole.made next) are.3 in
-      part_then (λ here. ap (λ block. statements_part block here) are.4) (both_same one others)
+      part_then (exact_part (λ here. ap (λ block. statements_part block here) are.4)) (both_same one others)
 
   -- ---- lines and semicolons
 

@@ -130,7 +130,7 @@ pub record IsWrittenFrom (short : Bool) (heading : Heading) (params : List Text)
   pub params_are : steps.params ≡ params
   pub parts : steps.parts ≡ parts_of written
   pub are : AreStepsOf (length steps.steps) written steps.steps
-  pub low : AreLow (IsLow short (3 * lean_depth_of block + 1) (lean_room_of block)) steps.steps
+  pub low : AreLow (IsLow short (3 * lean_depth_of block + 201) (lean_room_of block)) steps.steps
   pub plain : ArePlain written
   pub formed : formed_statements written ≡ true
   pub simple : plain_statements written ≡ true
@@ -282,8 +282,8 @@ module _ {n : Names} {heading : Heading} {params : List Text} {block : Statement
       seen = sym (ap length begins.constants);
     }
 
-    is_read : StepsRead whole (3 * lean_depth_of block + 1) (lean_room_of block) block first [] before
-    is_read = block_read whole (3 * lean_depth_of block + 1) (lean_room_of block) block first [] before first_next of.formed (omega arith) (omega arith) (sym last_is) there
+    is_read : StepsRead whole (3 * lean_depth_of block + 201) (lean_room_of block) block first [] before
+    is_read = block_read whole (3 * lean_depth_of block + 201) (lean_room_of block) block first [] before first_next of.formed (omega arith) (omega arith) (sym last_is) there
 
     within : f.last < length f.of.code
     within = omega (arith, words_count)
@@ -291,8 +291,8 @@ module _ {n : Names} {heading : Heading} {params : List Text} {block : Statement
     ending : AreEnding f
     ending = record { entries = first.locals ++ entries_from block first; listed = listed; within = within }
 
-    all_placed : (steps : List Step) × (placed f is_read.behind.scope params is_read.more ≡ Some (record { params = params; steps = steps; parts = parts_of is_read.written })) × AreStepsOf (length steps) is_read.written steps × AreLow (IsLow short (3 * lean_depth_of block + 1) (lean_room_of block)) steps
-    all_placed = steps_are_placed f is_read.behind.scope ending (IsLow short (3 * lean_depth_of block + 1) (lean_room_of block)) params is_read.written is_read.more is_read.drafts_are
+    all_placed : (steps : List Step) × (placed f is_read.behind.scope params is_read.more ≡ Some (record { params = params; steps = steps; parts = parts_of is_read.written })) × AreStepsOf (length steps) is_read.written steps × AreLow (IsLow short (3 * lean_depth_of block + 201) (lean_room_of block)) steps
+    all_placed = steps_are_placed f is_read.behind.scope ending (IsLow short (3 * lean_depth_of block + 201) (lean_room_of block)) params is_read.written is_read.more is_read.drafts_are
 
     abbrev steps : Steps
     steps = record { params = params; steps = all_placed.0; parts = parts_of is_read.written }

@@ -3,9 +3,9 @@ use Rattle.std.proofs.Common.{◌≡◌, ◌≤◌, Bool, true, [], Some, None, 
 use Rattle.std.specs.Prelude.{IsSome}
 use Rattle.lua_num.specs.Bytes.{Text}
 use Rattle.lua_tree.specs.OneLine.{on_one_line}
-use Rattle.lua_tree.specs.Outline.{beginning, outline}
-use Rattle.lua_tree.specs.Resolved.{resolved, resolved_by}
-use Rattle.lua_tree.specs.Scoping.{Scoped, first_breach}
+use Rattle.lua_tree.specs.Outline.{Walk, beginning, outline}
+use Rattle.lua_tree.specs.Resolved.{Resolved, resolved, resolved_by}
+use Rattle.lua_tree.specs.Scoping.{Scoped, breach_of, first_breach}
 use Rattle.lua_tree.specs.Syntax.{Source}
 use Rattle.lua_tree.specs.WellFormed.{WellFormed}
 use Rattle.proto.specs.Chunk.{Own, Functions, each, function, no_lines}
@@ -19,6 +19,8 @@ use Rattle.scheme_stands.proofs.Makers.{begun, block_final, no_names, statements
 use Rattle.scheme_stands.specs.Functions.{FunctionAt}
 use Rattle.scheme_stands.specs.Relation.{MainAt, StatementsAt}
 use Rattle.scheme_stands.specs.Words.{asking}
+use Rattle.same_flow.proofs.Breaks.{breaks_say_nothing}
+use Rattle.same_flow.specs.SameMarks.{but_breaks}
 use Rattle.reads_back.specs.ReadAs.{IsSourceRead, IsSourceReadAs, IsStraightChunk, StraightSourcesAreRead}
 use Rattle.reads_back.specs.Straight.{Straight}
 use Rattle.reads_back.proofs.FunctionsRead.{AreTheActs, each_read, the_acts}
@@ -29,6 +31,7 @@ use Rattle.reads_back.proofs.Marks.{part_then}
 use Rattle.reads_back.proofs.SameStatements.{block_stands}
 use Rattle.reads_back.proofs.PlainStraight.{plain_formed, plain_straight, source_on_line}
 use Rattle.reads_back.proofs.StraightFunctions.{IsStraightFunction, own_of_same, begun_of}
+use Rattle.reads_back.proofs.StraightSpace.{block_space}
 
 -- what the words of the chunk of a source stand with
 abbrev pub NamesStand : Type 0
@@ -96,18 +99,25 @@ module _ (stand : NamesStand) (semicolons : SemicolonsDoNotMatter) (mine : Own) 
     formed : is_read.found.levels ≤ 200 → WellFormed tree
     formed low = record { formed = is_read.formed; shallow = omega (arith, is_read.shallow, low) }
 
-    outline_same : outline tree ≡ outline plain
-    outline_same = ap (λ walk. walk.marks) (part_then is_read.part acts.part beginning)
+    outline_same : but_breaks (outline tree) ≡ but_breaks (outline plain)
+    outline_same = ap (λ (walk : Walk). walk.marks) ((part_then is_read.part acts.part).each beginning)
+
+    -- names mean the same in it, which breaks a rule where the source does
+    resolved_same : resolved tree ≡ resolved plain
+    resolved_same = sym (breaks_say_nothing (outline tree)).0 ∙ ap resolved_by outline_same ∙ (breaks_say_nothing (outline plain)).0
+
+    breach_same : breach_of tree ≡ breach_of plain
+    breach_same = sym (breaks_say_nothing (outline tree)).1 ∙ ap (first_breach []) outline_same ∙ (breaks_say_nothing (outline plain)).1
 
     scheme_same : (name : Text) → scheme_of tree name ≡ scheme_of plain name
     scheme_same name =
         let main : Heading = record { source = Some name; first_line = 0; last_line = 0; params = 0; vararg = true } in
-        ap (λ marks. function_from main 1 [] (statements_made is_read.written None) [] (ahead_of (resolved_by marks))) outline_same
+        ap (λ (scopes : Resolved). function_from main 1 [] (statements_made is_read.written None) [] (ahead_of scopes)) resolved_same
         ∙ ap (λ m. finished main (whole_function 1 [] (λ n. m) (begun plain))) (is_read.made ∙ acts.made)
 
     tree_alike : AreAlike of.source tree
     tree_alike = record {
-      scoped = λ scoped. ap (first_breach []) outline_same ∙ alike.scoped scoped;
+      scoped = λ scoped. breach_same ∙ alike.scoped scoped;
       fits = λ fits. ap (λ (made : Finished). made.misfits) (scheme_same []) ∙ alike.fits fits;
       same = λ name. alike.same name ∙ sym (ap (λ (made : Finished). each no_lines made.chunk) (scheme_same name));
     }
@@ -115,7 +125,7 @@ module _ (stand : NamesStand) (semicolons : SemicolonsDoNotMatter) (mine : Own) 
     read_as : IsSourceReadAs fewest of.source (function mine functions)
     read_as = record {
       found = is_read.found;
-      read = is_read.strict (λ is. omega (arith, acts.roomy, straight_plain.room));
+      read = is_read.strict (λ is. omega (arith, acts.roomy, straight_plain.room, block_space straight_plain.deep plain.body straight_plain.acts));
       tree = tree;
       body = is_read.body;
       formed = formed;

@@ -6,7 +6,6 @@ use Rattle.lua_tree.specs.OneLine.{one_line_expression, one_line_fields}
 use Rattle.lua_tree.specs.Syntax.{Expression, table_argument, Fields, no_fields, positional, named, keyed, constructor}
 use Rattle.lua_tree.specs.WellFormed.{depth_of_expression, depth_of_fields, ends_item, formed_expression, formed_fields}
 use Rattle.lua_tree.specs.Names.{is_name}
-use Rattle.scheme.specs.Shapes.{room_of_expression, room_of_fields}
 use Rattle.reads_back.proofs.InRoom.{levels_in, unless_in}
 use Rattle.reads_back.proofs.Rooms.{some_room}
 use Rattle.lua_tree.specs.declared.tree.Separator.{Separator}
@@ -26,6 +25,7 @@ use Rattle.scheme_stands.proofs.Growth.{Final, Grown, before as before_part, bef
 use Rattle.scheme_stands.proofs.Parts.{grow_entries, grows, grows_entries, grows_next, grows_rk, grows_set_list, grows_when}
 use Rattle.scheme_stands.specs.Lists.{is_last_item}
 use Rattle.scheme_stands.specs.Words.{Fn}
+use Rattle.same_flow.specs.Space.{space_of_expression, space_of_fields}
 use Rattle.reads_back.specs.Cores.{HasCore}
 use Rattle.reads_back.proofs.IndexSame.{KeySame, key_asks, key_asks_same}
 use Rattle.reads_back.proofs.Mentions.{IsAhead, Passed, ahead_behind, ahead_front, mentions_in, mentions_of_fields, Mention, made_behind, made_both}
@@ -81,9 +81,9 @@ module _ (f : Function) (g : Fn) (active : List Active) (listed : List ℕ) (z :
     pub can : can_write_items (place f.of listed f.short) (lefts before) items ≡ true
     pub leaves : left_by_items items (lefts before) ≡ lefts behind
     pub makes : behind ≡ made_behind (mentions_of_fields fields) before
-    pub few : (n : ℕ) → (items_wording f listed z lefts before n items all).levels ≤ 3 * deep + 3
+    pub few : (n : ℕ) → (items_wording f listed z lefts before n items all).levels ≤ 3 * deep + 203
     pub low : f.short ≡ true → formed_fields fields ≡ true → (t done pending : ℕ) (m : Maker) → IsAhead g active before (mentions_of_fields fields) m → Final (length m.labels) (entries_from 1 t done pending (entries (one_line_fields fields)) m) z →
-        (items_wording f listed z lefts before (length m.constants) items all).levels ≤ room_of_fields fields
+        (items_wording f listed z lefts before (length m.constants) items all).levels ≤ space_of_fields fields
     pub last : (n : ℕ) → is_last (entries (items_wording f listed z lefts before n items all).words) ≡ is_last (entries (one_line_fields fields))
     pub positions : (n : ℕ) → positional_count (entries (items_wording f listed z lefts before n items all).words) ≡ positional_count (entries (one_line_fields fields))
     pub others : (n : ℕ) → other_count (entries (items_wording f listed z lefts before n items all).words) ≡ other_count (entries (one_line_fields fields))
@@ -223,20 +223,20 @@ module _ {f : Function} {g : Fn} {active : List Active} {listed : List ℕ} {z :
           let last_item : is_last_item rest ≡ true = sym (last_is rest) ∙ sym (others.last n) ∙ items_end (place f.of listed f.short) n (lefts mid) items all ends in
           ap (λ (last : Bool). last && is_multiple e) (sym last_item) ∙ closed
 
-      item_low : (n : ℕ) → HasRoom f listed z lefts before n e v → (item n).levels ≤ room_of_expression e
+      item_low : (n : ℕ) → HasRoom f listed z lefts before n e v → (item n).levels ≤ space_of_expression e
       item_low n low = by (ends_items items) refl
         where
           wanted_one : Bool → Bool
           wanted_one ends = not ((ends && not all) && can_be_several v)
 
-          wrapped : (ends : Bool) → ((unless (wanted_one ends) (wording f listed z lefts before n v)).levels ≤ room_of_expression e) → ends_items items ≡ ends → (item n).levels ≤ room_of_expression e
+          wrapped : (ends : Bool) → ((unless (wanted_one ends) (wording f listed z lefts before n v)).levels ≤ space_of_expression e) → ends_items items ≡ ends → (item n).levels ≤ space_of_expression e
           wrapped ends low is = let same = ap (λ (ends : Bool). (unless (wanted_one ends) (wording f listed z lefts before n v)).levels) is in omega (arith, low, same)
 
           stays : (open_last : Bool) → can_be_several v ≡ false → not (not open_last && can_be_several v) ≡ true
           stays true single = refl
           stays false single = ap not single
 
-          by : (ends : Bool) → ends_items items ≡ ends → (item n).levels ≤ room_of_expression e
+          by : (ends : Bool) → ends_items items ≡ ends → (item n).levels ≤ space_of_expression e
           by true is =
               wrapped true (unless_in (is_bare (place f.of listed f.short) n v) e (wording f listed z lefts before n v) (wanted_one true) low (λ alike. stays all (sym (first.several n) ∙ alike.several ∙ single_there n is))) is
           by false is = wrapped false (levels_in (is_bare (place f.of listed f.short) n v) e (wording f listed z lefts before n v) low) is
@@ -304,7 +304,7 @@ pub record IsKeyed (fields : Fields) (asked : Asks ℕ) (mentions : List Mention
   positions : positional_count (entries (one_line_fields fields)) ≡ positional_count (entries (one_line_fields rest))
   others : other_count (entries (one_line_fields fields)) ≡ suc (other_count (entries (one_line_fields rest)))
   parts : formed_fields fields ≡ true → (good ≡ true) × (formed_expression e ≡ true) × (formed_fields rest ≡ true)
-  room : max roomy (max (room_of_expression e) (room_of_fields rest)) ≤ room_of_fields fields
+  room : max roomy (max (space_of_expression e) (space_of_fields rest)) ≤ space_of_fields fields
 
 pub named_keyed : (text : Text) (e : Expression) (separator : Separator) (rest : Fields) → IsKeyed (named text e separator rest) (rk_text 1 text) [] e rest true 1
 named_keyed text e separator rest = record {
@@ -317,7 +317,7 @@ named_keyed text e separator rest = record {
   room = omega (arith, some_room e);
 }
 
-pub keyed_keyed : (key e : Expression) (separator : Separator) (rest : Fields) → IsKeyed (keyed key e separator rest) (rk (code key)) (mentions_in key) e rest (formed_expression key) (room_of_expression key)
+pub keyed_keyed : (key e : Expression) (separator : Separator) (rest : Fields) → IsKeyed (keyed key e separator rest) (rk (code key)) (mentions_in key) e rest (formed_expression key) (space_of_expression key)
 keyed_keyed key e separator rest = record {
   names = refl;
   from = λ t done pending m. refl;
@@ -432,7 +432,7 @@ module _ {f : Function} {g : Fn} {active : List Active} {listed : List ℕ} {z :
         behind_key key c others = behind_item key (rk c key.after) others
 
     -- in the forms of fewest levels
-    keyed_low : f.short ≡ true → formed_fields fields ≡ true → (items_wording f listed z lefts before (length m.constants) (and_keyed k o items) all).levels ≤ room_of_fields fields
+    keyed_low : f.short ≡ true → formed_fields fields ≡ true → (items_wording f listed z lefts before (length m.constants) (and_keyed k o items) all).levels ≤ space_of_fields fields
     keyed_low short formed =
         let n = length m.constants in
         let n1 = taken_behind_operand k n in
@@ -444,7 +444,7 @@ module _ {f : Function} {g : Fn} {active : List Active} {listed : List ℕ} {z :
         let e_taken = ap (λ n. (e_words n).levels) key_count in
         let rest_taken = ap (λ n. (rest_words n).levels) e_count in
         let room = is.room in
-        let all_low = keyed_few (field_name at k) (key_words n) (e_words n1) (separator_before items) (rest_words n2) (room_of_fields fields) (omega (arith, one, room)) (omega (arith, other, e_taken, room)) (omega (arith, rest_low, rest_taken, room)) in
+        let all_low = keyed_few (field_name at k) (key_words n) (e_words n1) (separator_before items) (rest_words n2) (space_of_fields fields) (omega (arith, one, room)) (omega (arith, other, e_taken, room)) (omega (arith, rest_low, rest_taken, room)) in
         omega (arith, ap (λ (w : FieldWording). w.levels) (written_is n), all_low)
 
     keyed_taken : length (entries_from 1 t done pending (entries (one_line_fields fields)) m).constants ≡ taken_behind_items (and_keyed k o items) (length m.constants)
@@ -458,7 +458,7 @@ module _ {f : Function} {g : Fn} {active : List Active} {listed : List ℕ} {z :
     few = λ n.
         let n1 = taken_behind_operand k n in
         let same = ap (λ (w : FieldWording). w.levels) (written_is n) in
-        let low = keyed_few (field_name at k) (key_words n) (e_words n1) (separator_before items) (rest_words (taken_behind_operand o n1)) (3 * deep + 3) (key_same.written.few n) (omega (arith, e_same.few n1, deeper)) (rest_same.few (taken_behind_operand o n1)) in
+        let low = keyed_few (field_name at k) (key_words n) (e_words n1) (separator_before items) (rest_words (taken_behind_operand o n1)) (3 * deep + 203) (key_same.written.few n) (omega (arith, e_same.few n1, deeper)) (rest_same.few (taken_behind_operand o n1)) in
         omega (arith, same, low);
     low = λ short formed t done pending m ahead final. keyed_low t done pending m ahead final short formed;
     last = λ n. ap (λ (w : FieldWording). is_last (entries w.words)) (written_is n) ∙ keyed_last (field_name at k) _ _ _ _ ∙ sym is.last;

@@ -6,7 +6,6 @@ use Rattle.lua_tree.specs.OneLine.{one_line_expression, one_line_expressions}
 use Rattle.lua_tree.specs.Syntax as syntax
 use Rattle.lua_tree.specs.Syntax.{Expressions, no_expressions, Expression, parenthesized, name_expression, index_expression, field_expression, text_literal}
 use Rattle.lua_tree.specs.WellFormed.{depth_of_expression, depth_of_expressions, formed_expression, formed_expressions, is_prefix}
-use Rattle.scheme.specs.Shapes.{room_of_expression, room_of_expressions}
 use Rattle.reads_back.proofs.InRoom.{prefix_in}
 use Rattle.proto.specs.declared.parts.Constant.{Constant}
 use Rattle.core_expr.specs.Counting.{taken_behind, taken_behind_operand, left_by_operand}
@@ -23,6 +22,7 @@ use Rattle.scheme.specs.declared.making.Active.{Active}
 use Rattle.scheme_stands.proofs.Growth.{Final, Grown, before as before_part, calm, later, on_part, on_put, on_take, start}
 use Rattle.scheme_stands.proofs.Parts.{AllGrow, asks_cond, grow_all, grows, grows_operand}
 use Rattle.scheme_stands.specs.Words.{Fn, Means}
+use Rattle.same_flow.specs.Space.{space_of_expression, space_of_expressions}
 use Rattle.reads_back.specs.Acted.{IsVariableTarget, can_write_targets, is_part, left_by_targets, taken_behind_targets, words_targets}
 use Rattle.reads_back.specs.Cores.{HasCore, IsCore, IsKey, IsOperand, IsOperandBy}
 use Rattle.reads_back.proofs.ConstantsSame.{numeral_plain}
@@ -161,8 +161,8 @@ module _ (f : Function) (g : Fn) (active : List Active) (listed : List ℕ) (z :
     pub can : can_write_target (place f.of listed f.short) (lefts before) t ≡ true
     pub leaves : left_by_target t (lefts before) ≡ lefts behind
     pub makes : behind ≡ made_behind (mentions_in target) before
-    pub few : (n : ℕ) → (word_target (place f.of listed f.short) n (lefts before) t).levels ≤ 3 * depth_of_expression target + 3
-    pub low : f.short ≡ true → formed_expression target ≡ true → (m : Maker) → IsAhead g active before (mentions_in target) m → Final (length m.labels) ((code target).target m).after z → (word_target (place f.of listed f.short) (length m.constants) (lefts before) t).levels ≤ room_of_expression target
+    pub few : (n : ℕ) → (word_target (place f.of listed f.short) n (lefts before) t).levels ≤ 3 * depth_of_expression target + 203
+    pub low : f.short ≡ true → formed_expression target ≡ true → (m : Maker) → IsAhead g active before (mentions_in target) m → Final (length m.labels) ((code target).target m).after z → (word_target (place f.of listed f.short) (length m.constants) (lefts before) t).levels ≤ space_of_expression target
     pub passes : AskingPasses (mentions_in target) (code target).target
     pub same : (m : Maker) → IsAhead g active before (mentions_in target) m → Final (length m.labels) ((code target).target m).after z → (coded (word_target (place f.of listed f.short) (length m.constants) (lefts before) t).words).target m ≡ (code target).target m
     pub taken : (m : Maker) → IsAhead g active before (mentions_in target) m → Final (length m.labels) ((code target).target m).after z → length ((code target).target m).after.constants ≡ taken_behind_target t (length m.constants)
@@ -214,12 +214,12 @@ module _ {f : Function} {g : Fn} {active : List Active} {listed : List ℕ} {z :
   words_are : (n : ℕ) → word_target (place f.of listed f.short) n (lefts before) (index_target x k) ≡ words_at n
   words_are n = ap (λ fs. with_key (field_name (place f.of listed f.short) k) (as_prefix (wording f listed z lefts before n x)) (word_operand (place f.of listed f.short) (taken_behind x n) fs k)) first.leaves
 
-  part_few : (n : ℕ) → (word_target (place f.of listed f.short) n (lefts before) (index_target x k)).levels ≤ 3 * depth_of_expression target + 3
+  part_few : (n : ℕ) → (word_target (place f.of listed f.short) n (lefts before) (index_target x k)).levels ≤ 3 * depth_of_expression target + 203
   part_few n =
       let w = wording f listed z lefts before n x in
       let u = operand_wording f listed z lefts mid (taken_behind x n) k in
       let one = levels_wrapped (is_prefix w.words) w in
-      let all = key_few (field_name (place f.of listed f.short) k) (as_prefix w) u (3 * depth_of_expression on + 3) (3 * deep + 3) (omega (arith, first.few n, one)) (second.written.few (taken_behind x n)) in
+      let all = key_few (field_name (place f.of listed f.short) k) (as_prefix w) u (3 * depth_of_expression on + 203) (3 * deep + 203) (omega (arith, first.few n, one)) (second.written.few (taken_behind x n)) in
       omega (arith, all, ap (λ (w : Wording). w.levels) (words_are n), deeper)
 
   part_passes : AskingPasses (mentions_in target) (code target).target
@@ -283,14 +283,14 @@ module _ {f : Function} {g : Fn} {active : List Active} {listed : List ℕ} {z :
         (key_asks_same at (length on_at.after.constants) (lefts mid) k on_at.after ∙ second.written.as_rk on_at.after key_ahead key_later)
         ∙ sym (target_is m)
 
-    part_low : f.short ≡ true → formed_expression target ≡ true → (word_target (place f.of listed f.short) (length m.constants) (lefts before) (index_target x k)).levels ≤ room_of_expression target
+    part_low : f.short ≡ true → formed_expression target ≡ true → (word_target (place f.of listed f.short) (length m.constants) (lefts before) (index_target x k)).levels ≤ space_of_expression target
     part_low short formed =
         let n = length m.constants in
         let parts = indexing.parts formed in
         let w = wording f listed z lefts before n x in
         let u = operand_wording f listed z lefts mid (length on_at.after.constants) k in
         let one = prefix_in (is_bare (place f.of listed f.short) n x) on w (operand_low first short parts.1 m on_ahead on_final) parts.0 in
-        let all = key_few (field_name (place f.of listed f.short) k) (as_prefix w) u (room_of_expression on) roomy one (second.written.low short parts.2 on_at.after key_ahead key_later) in
+        let all = key_few (field_name (place f.of listed f.short) k) (as_prefix w) u (space_of_expression on) roomy one (second.written.low short parts.2 on_at.after key_ahead key_later) in
         let same = ap (λ (w : Wording). w.levels) (words_are n) in
         let taken = ap (λ n. (with_key (field_name (place f.of listed f.short) k) (as_prefix w) (operand_wording f listed z lefts mid n k)).levels) on_taken in
         omega (arith, same, taken, all, indexing.roomier)
@@ -316,7 +316,7 @@ module _ {f : Function} {g : Fn} {active : List Active} {listed : List ℕ} {z :
       ((v : Value) → IsCore g active key mid behind v → Rewritten f g active listed z lefts mid behind key v) → IsOperand g active key mid behind k →
       TargetSame f g active listed z lefts before behind (index_expression line on key) (index_target x k)
   index_same line on key before mid behind x k on_has key_has first written is =
-      part_target_same (index_expression line on key) on x k (rk (code key)) (is_name (code key).e) (mentions_in key) (depth_of_expression key) (formed_expression key) (room_of_expression key) first
+      part_target_same (index_expression line on key) on x k (rk (code key)) (is_name (code key).e) (mentions_in key) (depth_of_expression key) (formed_expression key) (space_of_expression key) first
       (expression_key key k (mentions_passed key key_has) (operand_rewritten lefts made key mid behind k key_has is written))
       (λ n. operand_named key k is written n ∙ sym (same_name key) ∙ sym (ap is_name (coded_is (one_line_expression key)))) (mentions_passed on on_has) refl (omega arith) (index_indexing line on key) (λ m. refl)
 
@@ -333,8 +333,8 @@ module _ (f : Function) (g : Fn) (active : List Active) (listed : List ℕ) (z :
     pub can : can_write_targets (place f.of listed f.short) (lefts before) ts ≡ true
     pub leaves : left_by_targets ts (lefts before) ≡ lefts behind
     pub makes : behind ≡ made_behind (mentions_in_all targets) before
-    pub few : (n : ℕ) → (words_targets (place f.of listed f.short) n (lefts before) ts).levels ≤ 3 * depth_of_expressions targets + 3
-    pub low : f.short ≡ true → formed_expressions targets ≡ true → (m : Maker) → IsAhead g active before (mentions_in_all targets) m → Final (length m.labels) (all_targets (codes_of targets) m).after z → (words_targets (place f.of listed f.short) (length m.constants) (lefts before) ts).levels ≤ room_of_expressions targets
+    pub few : (n : ℕ) → (words_targets (place f.of listed f.short) n (lefts before) ts).levels ≤ 3 * depth_of_expressions targets + 203
+    pub low : f.short ≡ true → formed_expressions targets ≡ true → (m : Maker) → IsAhead g active before (mentions_in_all targets) m → Final (length m.labels) (all_targets (codes_of targets) m).after z → (words_targets (place f.of listed f.short) (length m.constants) (lefts before) ts).levels ≤ space_of_expressions targets
     pub count : length (codes_of targets) ≡ length ts
     pub passes : AskingPasses (mentions_in_all targets) (all_targets (codes_of targets))
     pub same : (m : Maker) → IsAhead g active before (mentions_in_all targets) m → Final (length m.labels) (all_targets (codes_of targets) m).after z →

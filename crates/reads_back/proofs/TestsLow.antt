@@ -14,10 +14,10 @@ use Rattle.recover_expr.specs.Situation.{Function}
 use Rattle.recover_expr.specs.Testing.{TestedValue, negated_levels, tested_comparison}
 use Rattle.scheme.specs.Expressions.{arith_op, fold, fold_binary, is_comparison, literal}
 use Rattle.scheme.specs.Making.{Maker}
-use Rattle.scheme.specs.Shapes.{room_of_expression}
 use Rattle.scheme.specs.declared.making.Active.{Active}
 use Rattle.scheme_stands.proofs.Growth.{Final}
 use Rattle.scheme_stands.specs.Words.{Fn}
+use Rattle.same_flow.specs.Space.{space_of_expression}
 use Rattle.same_flow.specs.Written.{NegatedInRoom}
 use Rattle.reads_back.specs.Cores.{HasCore}
 use Rattle.reads_back.proofs.ComparisonsSame.{NumberStays, comparison_low, tested_op}
@@ -42,8 +42,8 @@ no_arithmetic BinaryOp.Gt is = refl
 no_arithmetic BinaryOp.Ge is = refl
 no_arithmetic op is = cc
 
-compared_room : (line : ℕ) (op : BinaryOp) (l r : Expression) → is_comparison op ≡ true → room_of_expression (binary_expression line op l r) ≡ 1 + max (room_of_expression l) (room_of_expression r)
-compared_room line op l r is = unfolded_room (binary_expression line op l r) (1 + max (room_of_expression l) (room_of_expression r)) (ap (λ (op : Option ArithOp). fold_binary op (fold l) (fold r)) (no_arithmetic op is))
+compared_room : (line : ℕ) (op : BinaryOp) (l r : Expression) → is_comparison op ≡ true → space_of_expression (binary_expression line op l r) ≡ 1 + max (space_of_expression l) (space_of_expression r)
+compared_room line op l r is = unfolded_room (binary_expression line op l r) (1 + max (space_of_expression l) (space_of_expression r)) (ap (λ (op : Option ArithOp). fold_binary op (fold l) (fold r)) (no_arithmetic op is))
 
 -- what is no `==` is negated with more levels
 no_equality : (negated line : ℕ) (op : BinaryOp) (l r : Expression) → is_comparison op ≡ false → NegatedInRoom negated (binary_expression line op l r)
@@ -62,21 +62,21 @@ turned_stay g active n before behind e can = tt
 
 -- there is room for it
 pub record TestInRoom (f : Function) (listed : List ℕ) (lefts : ℕ → List (Option Inner)) (before : ℕ) (e : Expression) (tested : TestedValue) (n : ℕ) : Type 0 where
-  pub low : (condition_word (place f.of listed f.short) n (lefts before) tested).levels ≤ room_of_expression e
+  pub low : (condition_word (place f.of listed f.short) n (lefts before) tested).levels ≤ space_of_expression e
   pub negated : NegatedInRoom (negated_levels (condition_word (place f.of listed f.short) n (lefts before) tested).words (condition_word (place f.of listed f.short) n (lefts before) tested).levels) e
 
 module _ (lefts : ℕ → List (Option Inner)) {f : Function} {g : Fn} {active : List Active} {listed : List ℕ} {z : Maker} (made : IsMadeBy f g active listed z) (again : AreAgain f g lefts) (sized : length listed ≡ length active) (before behind : ℕ) (truth : Bool) (label : ℕ) (m : Maker) (short : f.short ≡ true) where
   value_low : (e : Expression) (tested : TestedValue) → HasTest e → HasCore e → literal e ≡ None → depth_of_expression e ≤ 200 → IsValueTested g active e before behind tested → formed_expression e ≡ true → IsAhead g active before (mentions_in e) m → Final (length m.labels) ((code e).jump_if truth label m) z →
-      (condition_word (place f.of listed f.short) (length m.constants) (lefts before) tested).levels ≤ room_of_expression e
+      (condition_word (place f.of listed f.short) (length m.constants) (lefts before) tested).levels ≤ space_of_expression e
   value_low e tested test has none few (v, core, is) formed ahead final =
       let rewritten = (rewritten_all lefts made again e has few).value before behind v core in
       let room = operand_low rewritten short formed m ahead (operand_is_final e v test has none core rewritten truth label m ahead final) in
       let low = levels_in (is_bare (place f.of listed f.short) (length m.constants) v) e (wording f listed z lefts before (length m.constants) v) room in
-      subst (λ (tested : TestedValue). (condition_word (place f.of listed f.short) (length m.constants) (lefts before) tested).levels ≤ room_of_expression e) (sym is) low
+      subst (λ (tested : TestedValue). (condition_word (place f.of listed f.short) (length m.constants) (lefts before) tested).levels ≤ space_of_expression e) (sym is) low
 
   -- a comparison, with `~=` for `==`
   compared_in_room : (line : ℕ) (op : BinaryOp) (l r : Expression) → is_comparison op ≡ true → (both : BothTested g active l r before behind) →
-      (condition_word (place f.of listed f.short) (length m.constants) (lefts before) (tested_comparison (comparison_of op both.x both.y both.first both.second))).levels ≤ room_of_expression (binary_expression line op l r) →
+      (condition_word (place f.of listed f.short) (length m.constants) (lefts before) (tested_comparison (comparison_of op both.x both.y both.first both.second))).levels ≤ space_of_expression (binary_expression line op l r) →
       TestInRoom f listed lefts before (binary_expression line op l r) (tested_comparison (comparison_of op both.x both.y both.first both.second)) (length m.constants)
   compared_in_room line BinaryOp.Eq l r is both low = record { low = low; negated = low }
   compared_in_room line op l r is both low = record { low = low; negated = tt }

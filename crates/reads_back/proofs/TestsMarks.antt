@@ -24,7 +24,7 @@ use Rattle.reads_back.proofs.ComparisonOrder.{HasLocal, IsNextNumber, early_seco
 use Rattle.reads_back.proofs.ComparisonsSame.{Order, order_of, ordered, other_op, tested_op, turned}
 use Rattle.reads_back.proofs.FunctionsLeft.{each_by_operand}
 use Rattle.reads_back.proofs.LocalOperands.{OneConstant}
-use Rattle.reads_back.proofs.Marks.{ArePartsLeft, IsPartLeft, SamePart, both_same, nothing_behind, operand_part, part_back, part_of_operand, part_then, same_part, word_part}
+use Rattle.reads_back.proofs.Marks.{ArePartsLeft, IsPartLeft, SamePart, both_same, exact_part, nothing_behind, operand_part, part_back, part_of_operand, part_then, same_part, word_part}
 use Rattle.reads_back.proofs.MarksSame.{ArePartsMade, literal_part, marks_of, of_operand}
 use Rattle.reads_back.proofs.NameReads.{AreListed}
 use Rattle.reads_back.proofs.TestedAs.{BothTested, HasTest, HasTestBy, IsTested, IsTestedBy, IsValueTested, can_test, comparison_of, condition_word, is_turned}
@@ -126,7 +126,7 @@ module _ (at : Place) (of : ℕ → Part) where
       (part_then (unless_part _ (word_operand at (taken_behind_operand o1 n) (left_by_operand o1 fs) o2)) (operand_part at of o2 (taken_behind_operand o1 n) (left_by_operand o1 fs) (each_by_operand (IsPartLeft of) o1 fs parts_left) (second_of_both _ _ can)))
 
   constant_nothing : (number : ℕ) (o : OperandValue) → o ≡ constant_operand number → SamePart (part_of_operand at of o) nothing
-  constant_nothing number o is = λ here. ap (λ o. part_of_operand at of o here) is
+  constant_nothing number o is = exact_part (λ here. ap (λ o. part_of_operand at of o here) is)
 
 -- where its operands are written the other way round, they are both in registers only where one of them is a number or a string
 abbrev pub KeepsNames : Fn → List Active → (n before behind : ℕ) → Expression → Type 0
@@ -142,13 +142,13 @@ module _ {f : Function} {g : Fn} {active : List Active} {listed : List ℕ} (is_
   module _ (n before behind : ℕ) (tested : TestedValue) (left : List (Option Inner)) (parts_left : ArePartsLeft of left) (can : can_test at_place n left tested ≡ true) where
     value_marks : (e : Expression) → HasCore e → depth_of_expression e ≤ 200 → IsValueTested g active e before behind tested → SamePart (expression_part (condition_word at_place n left tested).words) (expression_part (one_line_expression e))
     value_marks e has shallow (v, core, is) =
-        part_then (λ here. ap (λ (tested : TestedValue). expression_part (condition_word at_place n left tested).words here) is)
+        part_then (exact_part (λ here. ap (λ (tested : TestedValue). expression_part (condition_word at_place n left tested).words here) is))
         (part_then (word_part at_place of v n left parts_left (subst (λ (tested : TestedValue). can_test at_place n left tested ≡ true) is can)) ((marks_of is_function listed_names of parts_made e has shallow).one before behind v core))
 
     both_marks : (op : BinaryOp) (l r : Expression) → is_comparison op ≡ true → HasCore l → HasCore r → depth_of_expression l ≤ 200 → depth_of_expression r ≤ 200 → (both_are : BothTested g active l r before behind) → tested ≡ tested_comparison (comparison_of op both_are.x both_are.y both_are.first both_are.second) →
         (is_swapped (length active) n (comparison_of op both_are.x both_are.y both_are.first both_are.second) ≡ not (is_turned op) → HasLocal (length active) both_are.x both_are.y both_are.first both_are.second → OneConstant l r) →
         SamePart (expression_part (condition_word at_place n left tested).words) (both (expression_part (one_line_expression l)) (expression_part (one_line_expression r)))
-    both_marks op l r is has_l has_r shallow_l shallow_r both_are same names = part_then (λ here. ap (λ (tested : TestedValue). expression_part (condition_word at_place n left tested).words here) same) (by (either_order at_place n left both_are.x both_are.y both_are.first both_are.second op is))
+    both_marks op l r is has_l has_r shallow_l shallow_r both_are same names = part_then (exact_part (λ here. ap (λ (tested : TestedValue). expression_part (condition_word at_place n left tested).words here) same)) (by (either_order at_place n left both_are.x both_are.y both_are.first both_are.second op is))
       where
         c : Comparison
         c = comparison_of op both_are.x both_are.y both_are.first both_are.second
@@ -181,11 +181,11 @@ module _ {f : Function} {g : Fn} {active : List Active} {listed : List ℕ} (is_
             ⊎ (InOrder at_place n left both_are.x both_are.y both_are.first both_are.second (other_op op) both_are.second both_are.first c × (is_swapped (length listed) n c ≡ not (is_turned op))) →
             SamePart (expression_part (word_comparison at_place n left c).words) (both (expression_part (one_line_expression l)) (expression_part (one_line_expression r)))
         by (inl order) =
-            part_then (λ here. ap (λ (w : Wording). expression_part w.words here) order.word_is)
+            part_then (exact_part (λ here. ap (λ (w : Wording). expression_part w.words here) order.word_is))
             (part_then (both_part at_place of (tested_op op) n left both_are.first both_are.second parts_left (sym order.can_is ∙ writes)) (both_same first second))
         by (inr (order, swapped)) =
             let swapped' = ap (λ count. is_swapped count n c) (sym sized) ∙ swapped in
-            part_then (λ here. ap (λ (w : Wording). expression_part w.words here) order.word_is)
+            part_then (exact_part (λ here. ap (λ (w : Wording). expression_part w.words here) order.word_is))
             (part_then (both_part at_place of (other_op op) n left both_are.second both_are.first parts_left (sym order.can_is ∙ writes))
             (part_then (turn (one_is both_are listed_names.few n op is swapped') (names swapped')) (both_same first second)))
 

@@ -80,7 +80,7 @@ none_of {active = active} both (local_among (v, w, first, second, inr low)) = in
 pub record WritesTest (f : Function) (listed : List ℕ) (lefts : ℕ → List (Option Inner)) (before behind : ℕ) (e : Expression) (tested : TestedValue) (n : ℕ) : Type 0 where
   pub can : can_test (place f.of listed f.short) n (lefts before) tested ≡ true
   pub leaves : left_by_test (place f.of listed f.short) n (lefts before) tested ≡ lefts behind
-  pub few : (condition_word (place f.of listed f.short) n (lefts before) tested).levels ≤ 3 * depth_of_expression e + 2
+  pub few : (condition_word (place f.of listed f.short) n (lefts before) tested).levels ≤ 3 * depth_of_expression e + 202
 
 module _ (lefts : ℕ → List (Option Inner)) {f : Function} {g : Fn} {active : List Active} {listed : List ℕ} {z : Maker} (made : IsMadeBy f g active listed z) (again : AreAgain f g lefts) (sized : length listed ≡ length active) (n before behind : ℕ) where
   abbrev at_place : Place
@@ -102,7 +102,7 @@ module _ (lefts : ℕ → List (Option Inner)) {f : Function} {g : Fn} {active :
     c = comparison_of op both.x both.y both.first both.second
 
     abbrev most : ℕ
-    most = 3 * max (depth_of_expression l) (depth_of_expression r) + 3
+    most = 3 * max (depth_of_expression l) (depth_of_expression r) + 203
 
     record WritesBoth (o1 o2 : OperandValue) : Type 0 where
       can : can_write_both at_place (lefts before) o1 o2 ≡ true

@@ -6,7 +6,6 @@ use Rattle.lua_num.specs.Bytes.{Text}
 use Rattle.lua_tree.specs.Syntax as syntax
 use Rattle.lua_tree.specs.Syntax.{Expression, Expressions, argument_list, binary_expression, call_expression, false_literal, field_expression, index_expression, method_call, name_expression, nil_literal, no_expressions, number_literal, parenthesized, text_argument, text_literal, true_literal, unary_expression, vararg_expression, constructor, table_argument, Fields, no_fields, positional, named, keyed, function_expression}
 use Rattle.lua_tree.specs.WellFormed.{depth_of_expression, depth_of_expressions, depth_of_fields, formed_expression}
-use Rattle.scheme.specs.Shapes.{room_of_expression}
 use Rattle.lua_tree.specs.declared.tree.BinaryOp.{BinaryOp}
 use Rattle.lua_tree.specs.declared.tree.Separator.{Separator}
 use Rattle.lua_tree.specs.declared.tree.UnaryOp.{UnaryOp}
@@ -20,6 +19,7 @@ use Rattle.scheme.specs.Making.{Maker}
 use Rattle.scheme.specs.declared.making.Active.{Active}
 use Rattle.scheme_stands.specs.Lists.{is_last_item}
 use Rattle.scheme_stands.specs.Words.{Fn}
+use Rattle.same_flow.specs.Space.{space_of_expression}
 use Rattle.reads_back.specs.Cores.{AllHaveCores, HasCore, IsCore, IsFirst, IsFoldedOr, IsOnly, IsOperand, IsOperandBy, IsOperator, IsSpineBy, core, HaveItems, AreItems, IsItem, IsTableGiven, Counted, arithmetic_by, first_and, unary_by, only, still, table_by, AreGiven}
 use Rattle.reads_back.proofs.CallsSame.{call_rewritten, list_within, method_rewritten, table_within, text_within}
 use Rattle.reads_back.proofs.ConcatsSame.{is_joined, concat_rewritten, spine_of_first, spine_of_one}
@@ -64,11 +64,11 @@ module _ (lefts : ℕ → List (Option Inner)) {f : Function} {g : Fn} {active :
   still_rewritten e before behind v as_many same = subst (λ (behind : ℕ). Rewritten f g active listed z lefts before behind e v) (sym as_many) same
 
   operand_few : (e : Expression) (before behind : ℕ) (o : OperandValue) (k : Option Constant) → ((v : Value) → IsCore g active e before behind v → Rewritten f g active listed z lefts before behind e v) → IsOperandBy k g (IsCore g active e) before behind o → (n : ℕ) →
-      (operand_wording f listed z lefts before n o).levels ≤ 3 * depth_of_expression e + 2
+      (operand_wording f listed z lefts before n o).levels ≤ 3 * depth_of_expression e + 202
   operand_few e before behind o (Some k) same (inl (as_many, small)) n =
-      subst (λ (o : OperandValue). (operand_wording f listed z lefts before n o).levels ≤ 3 * depth_of_expression e + 2) (sym small.3) (constant_operand_few f listed z lefts before e small.0 n)
-  operand_few e before behind o (Some k) same (inr (large, (v, core, is))) n = subst (λ (o : OperandValue). (operand_wording f listed z lefts before n o).levels ≤ 3 * depth_of_expression e + 2) (sym is) (value_operand_few e v (same v core) n)
-  operand_few e before behind o None same (v, core, is) n = subst (λ (o : OperandValue). (operand_wording f listed z lefts before n o).levels ≤ 3 * depth_of_expression e + 2) (sym is) (value_operand_few e v (same v core) n)
+      subst (λ (o : OperandValue). (operand_wording f listed z lefts before n o).levels ≤ 3 * depth_of_expression e + 202) (sym small.3) (constant_operand_few f listed z lefts before e small.0 n)
+  operand_few e before behind o (Some k) same (inr (large, (v, core, is))) n = subst (λ (o : OperandValue). (operand_wording f listed z lefts before n o).levels ≤ 3 * depth_of_expression e + 202) (sym is) (value_operand_few e v (same v core) n)
+  operand_few e before behind o None same (v, core, is) n = subst (λ (o : OperandValue). (operand_wording f listed z lefts before n o).levels ≤ 3 * depth_of_expression e + 202) (sym is) (value_operand_few e v (same v core) n)
 
   arithmetic_made : (line : ℕ) (op : BinaryOp) (kind : ArithOp) (l r : Expression) (before behind : ℕ) (v : Value) → arith_op op ≡ Some kind → fold (binary_expression line op l r) ≡ None → HasCore l → HasCore r → RewrittenAll l → RewrittenAll r →
       arithmetic_by op (IsOperand g active l) (IsOperand g active r) before behind v → Rewritten f g active listed z lefts before behind (binary_expression line op l r) v
@@ -273,7 +273,7 @@ module _ (lefts : ℕ → List (Option Inner)) {f : Function} {g : Fn} {active :
         let item = rewritten_all e has.1 (omega (arith, few)) in
         let others = items_rewritten rest has.2 (omega (arith, few)) deep (omega (arith, low)) last behind more all are in
         subst (λ (items : ItemList). RewrittenItems f g active listed z lefts before behind (keyed key e separator rest) deep items all) (sym is)
-        (keyed_rewritten (keyed key e separator rest) (rk (code key)) (mentions_in key) e rest by of more all deep (formed_expression key) (room_of_expression key) (keyed_keyed key e separator rest) (mentions_passed e has.1)
+        (keyed_rewritten (keyed key e separator rest) (rk (code key)) (mentions_in key) e rest by of more all deep (formed_expression key) (space_of_expression key) (keyed_keyed key e separator rest) (mentions_passed e has.1)
         (key_deeper (omega (arith, low)) (expression_key key by (mentions_passed key has.0) (operand_rewritten lefts made key before mid by has.0 is_key (first.value before mid))))
         (operand_rewritten lefts made e mid last of has.1 is_item (item.value mid last)) (omega (arith, low)) others)
 

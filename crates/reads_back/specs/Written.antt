@@ -29,10 +29,10 @@ AreLevelled code = (at : ℕ) (step : Step) → slice_get code.steps at ≡ Some
 
 -- in natural forms they need so many at most, for each level of the source three
 abbrev pub IsPartFew : (levels : ℕ) → Part → Type 0
-IsPartFew levels (statement_part s) = levels ≤ 3 * depth_of_statement s + 4
-IsPartFew levels (values_part es) = levels ≤ 3 * depth_of_expressions es + 4
-IsPartFew levels (condition_part e) = levels ≤ 3 * depth_of_expression e + 4
-IsPartFew levels (head_part es names) = levels ≤ 3 * depth_of_expressions es + 4
+IsPartFew levels (statement_part s) = levels ≤ 3 * depth_of_statement s + 204
+IsPartFew levels (values_part es) = levels ≤ 3 * depth_of_expressions es + 204
+IsPartFew levels (condition_part e) = levels ≤ 3 * depth_of_expression e + 204
+IsPartFew levels (head_part es names) = levels ≤ 3 * depth_of_expressions es + 204
 IsPartFew levels part = levels ≤ 4
 
 abbrev pub AreFew : Steps → Type 0

@@ -6,10 +6,10 @@ use Rattle.lua_tree.specs.OneLine.{one_line_body, one_line_branches, one_line_ex
 use Rattle.lua_tree.specs.Syntax as syntax
 use Rattle.lua_tree.specs.Syntax.{Statements, no_statements, Statement, do_block, while_loop, repeat_loop, if_statement, numeric_for, generic_for, function_statement, Branches, no_branches, branch, Otherwise, no_otherwise, otherwise, FunctionBody, function_body}
 use Rattle.lua_tree.specs.WellFormed.{ends_block, formed_branches, formed_expression, formed_expressions, formed_otherwise, formed_statement, formed_statements, formed_step, has_branches, has_expressions, may_follow, statement_begins_with_paren, statement_takes_arguments}
+use Rattle.same_flow.specs.Never.{nevers_of_branches, nevers_of_further, nevers_of_otherwise, nevers_of_statement, nevers_of_statements}
 use Rattle.reads_back.specs.Assignments.{as_assignment, with_self}
 use Rattle.reads_back.proofs.FunctionStatements.{assigned_formed, path_on_line, same_begins, same_ends, same_takes}
 use Rattle.reads_back.proofs.Tests.{both_hold, first_of_both, second_of_both}
-use Rattle.built_flow.specs.Never.{nevers_of_branches, nevers_of_further, nevers_of_otherwise, nevers_of_statement, nevers_of_statements}
 use Rattle.recovers.specs.Assigned.{assigned_branches, assigned_otherwise, assigned_statement, assigned_statements}
 
 -- ---- on one line

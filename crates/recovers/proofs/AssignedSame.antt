@@ -17,7 +17,7 @@ use Rattle.scheme.specs.Scheme.{all_coded, branches_made, coded, has_branch, has
 use Rattle.scheme.specs.Statements.{Loop, arm_part, block_part, end_block, generic_names, generic_part, numeric_names, numeric_part, repeat_captured, repeat_part, repeat_plain, settle, step_part, turn, while_part}
 use Rattle.scheme.specs.declared.making.Local.{Local}
 use Rattle.scheme.specs.declared.making.Piece.{Piece}
-use Rattle.reads_back.proofs.Marks.{SamePart, both_same, same_part}
+use Rattle.reads_back.proofs.Marks.{SameWalk, both_walk, same_walk}
 use Rattle.reads_back.proofs.SameStatements.{made_same, statement_part_same}
 use Rattle.reads_back.proofs.Tests.{first_of_both, second_of_both}
 use Rattle.recovers.specs.Assigned.{assigned_branches, assigned_otherwise, assigned_statement, assigned_statements}
@@ -144,49 +144,49 @@ mutual
 
 -- ---- what it declares and mentions
 
-same_within : (enter : Place → Place) (one other : outline.Part) → SamePart one other → SamePart (within enter one) (within enter other)
+same_within : (enter : Place → Place) (one other : outline.Part) → SameWalk one other → SameWalk (within enter one) (within enter other)
 same_within enter one other same place = ap (λ (inside : Walk). record { marks = inside.marks; next = record place { declarations = inside.next.declarations; functions = inside.next.functions } }) (same (enter place))
 
 mutual
-  pub block_says : (block : Statements) → formed_statements block ≡ true → one_line_statements block ≡ block → SamePart (statements_part (assigned_statements block)) (statements_part block)
-  block_says no_statements formed on = same_part nothing
+  pub block_says : (block : Statements) → formed_statements block ≡ true → one_line_statements block ≡ block → SameWalk (statements_part (assigned_statements block)) (statements_part block)
+  block_says no_statements formed on = same_walk nothing
   block_says (syntax.statement line semi s rest) formed on =
       let behind = second_of_both (may_follow s semi rest) _ (second_of_both (formed_statement s) _ formed) in
-      both_same (statement_says s (first_of_both _ _ formed) (cc) line cc) (block_says rest behind cc)
+      both_walk (statement_says s (first_of_both _ _ formed) (cc) line cc) (block_says rest behind cc)
 
-  statement_says : (s : Statement) → formed_statement s ≡ true → one_line_statement s ≡ s → (line : ℕ) → line ≡ 1 → SamePart (statement_part line (assigned_statement s)) (statement_part line s)
+  statement_says : (s : Statement) → formed_statement s ≡ true → one_line_statement s ≡ s → (line : ℕ) → line ≡ 1 → SameWalk (statement_part line (assigned_statement s)) (statement_part line s)
   statement_says (do_block block) formed on line first = same_within stay (statements_part (assigned_statements block)) (statements_part block) (block_says block formed cc)
   statement_says (while_loop e block) formed on line first =
-      both_same (same_part (expression_part e)) (same_within in_loop (statements_part (assigned_statements block)) (statements_part block) (block_says block (second_of_both (formed_expression e) _ formed) cc))
+      both_walk (same_walk (expression_part e)) (same_within in_loop (statements_part (assigned_statements block)) (statements_part block) (block_says block (second_of_both (formed_expression e) _ formed) cc))
   statement_says (repeat_loop block e) formed on line first =
       same_within in_loop (both (statements_part (assigned_statements block)) (expression_part e)) (both (statements_part block) (expression_part e))
-      (both_same (block_says block (first_of_both _ _ formed) cc) (same_part (expression_part e)))
+      (both_walk (block_says block (first_of_both _ _ formed) cc) (same_walk (expression_part e)))
   statement_says (if_statement branches last) formed on line first =
       let arms = second_of_both (has_branches branches) _ formed in
-      both_same (branches_say branches (first_of_both _ _ arms) cc) (otherwise_says last (second_of_both (formed_branches branches) _ arms) cc)
+      both_walk (branches_say branches (first_of_both _ _ arms) cc) (otherwise_says last (second_of_both (formed_branches branches) _ arms) cc)
   statement_says (numeric_for name from to by block) formed on line first = λ place.
       let values = second_of_both (is_name name) _ formed in
       let behind = second_of_both (formed_expression from) _ values in
       let steps = second_of_both (formed_expression to) _ behind in
-      both_same (same_part (declares line 3 (name ∷ [])))
-      (both_same (same_part (both (expression_part from) (both (expression_part to) (outline.step_part by))))
+      both_walk (same_walk (declares line 3 (name ∷ [])))
+      (both_walk (same_walk (both (expression_part from) (both (expression_part to) (outline.step_part by))))
       (same_within (λ inside. in_loop (with_locals 3 (name ∷ []) place.declarations inside)) (statements_part (assigned_statements block)) (statements_part block) (block_says block (second_of_both (formed_step by) _ steps) cc))) place
   statement_says (generic_for names es block) formed on line first = λ place.
       let some = second_of_both (are_some_names names) _ formed in
       let values = second_of_both (has_expressions es) _ some in
-      both_same (same_part (declares line 3 names))
-      (both_same (same_part (expressions_part es))
+      both_walk (same_walk (declares line 3 names))
+      (both_walk (same_walk (expressions_part es))
       (same_within (λ inside. in_loop (with_locals 3 names place.declarations inside)) (statements_part (assigned_statements block)) (statements_part block) (block_says block (second_of_both (formed_expressions es) _ values) cc))) place
   statement_says (function_statement path method body) formed on line first = statement_part_same line (function_statement path method body) formed first
-  statement_says s formed on line first = same_part (statement_part line s)
+  statement_says s formed on line first = same_walk (statement_part line s)
 
-  branches_say : (branches : Branches) → formed_branches branches ≡ true → one_line_branches branches ≡ branches → SamePart (branches_part (assigned_branches branches)) (branches_part branches)
-  branches_say no_branches formed on = same_part nothing
+  branches_say : (branches : Branches) → formed_branches branches ≡ true → one_line_branches branches ≡ branches → SameWalk (branches_part (assigned_branches branches)) (branches_part branches)
+  branches_say no_branches formed on = same_walk nothing
   branches_say (branch e block rest) formed on =
       let behind = second_of_both (formed_expression e) _ formed in
-      both_same (same_part (expression_part e))
-      (both_same (same_within stay (statements_part (assigned_statements block)) (statements_part block) (block_says block (first_of_both _ _ behind) cc)) (branches_say rest (second_of_both (formed_statements block) _ behind) cc))
+      both_walk (same_walk (expression_part e))
+      (both_walk (same_within stay (statements_part (assigned_statements block)) (statements_part block) (block_says block (first_of_both _ _ behind) cc)) (branches_say rest (second_of_both (formed_statements block) _ behind) cc))
 
-  otherwise_says : (last : Otherwise) → formed_otherwise last ≡ true → one_line_otherwise last ≡ last → SamePart (otherwise_part (assigned_otherwise last)) (otherwise_part last)
-  otherwise_says no_otherwise formed on = same_part nothing
+  otherwise_says : (last : Otherwise) → formed_otherwise last ≡ true → one_line_otherwise last ≡ last → SameWalk (otherwise_part (assigned_otherwise last)) (otherwise_part last)
+  otherwise_says no_otherwise formed on = same_walk nothing
   otherwise_says (otherwise block) formed on = same_within stay (statements_part (assigned_statements block)) (statements_part block) (block_says block formed cc)

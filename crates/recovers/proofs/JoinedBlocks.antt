@@ -8,12 +8,12 @@ use Rattle.lua_tree.specs.Syntax.{Statements, no_statements, Statement, assignme
 use Rattle.lua_tree.specs.WellFormed.{depth_of_branches, depth_of_expression, depth_of_otherwise, depth_of_statement, depth_of_statements, depth_of_step, formed_branches, formed_expression, formed_expressions, formed_otherwise, formed_statement, formed_statements, formed_step, has_branches, has_expressions, may_follow}
 use Rattle.proto.specs.declared.parts.Constant.{Constant}
 use Rattle.recover_expr.specs.Drafts.{head_part}
-use Rattle.scheme.specs.Shapes.{room_of_branches, room_of_expression, room_of_otherwise, room_of_statement, room_of_statements, room_of_step}
 use Rattle.same_flow.specs.Blocks.{BranchesHold, OtherwiseHolds, StatementHolds, StatementsHold}
 use Rattle.same_flow.specs.Laid.{head_values}
+use Rattle.same_flow.specs.Never.{nevers_of_statements}
+use Rattle.same_flow.specs.Space.{space_of_branches, space_of_expression, space_of_otherwise, space_of_statement, space_of_statements, space_of_step}
 use Rattle.reads_back.specs.Straight.{AllHaveCoresBy, IsStraightBody}
 use Rattle.reads_back.proofs.Tests.{both_hold, first_of_both, second_of_both}
-use Rattle.built_flow.specs.Never.{nevers_of_statements}
 use Rattle.recovers.specs.Assigned.{assigned_branches, assigned_otherwise, assigned_statement, assigned_statements}
 use Rattle.recovers.specs.FlowSources.{IsReadablePart}
 use Rattle.recovers.specs.Joined.{IsJoined, IsJoinedPart}
@@ -26,7 +26,7 @@ module _ (constants : List Constant) (deep : ℕ) where
 
   numeric_joined : (name : Text) (first last : Expression) (by : ForStep) → AllHaveCoresBy (IsStraightBody deep) (head_values first last by) → is_name name ≡ true →
       formed_expression first ≡ true → formed_expression last ≡ true → formed_step by ≡ true →
-      depth_of_expression first ≤ 200 → depth_of_expression last ≤ 200 → depth_of_step by ≤ 200 → room_of_expression first < 200 → room_of_expression last < 200 → room_of_step by < 200 →
+      depth_of_expression first ≤ 200 → depth_of_expression last ≤ 200 → depth_of_step by ≤ 200 → space_of_expression first < 200 → space_of_expression last < 200 → space_of_step by < 200 →
       IsJoinedPart constants (head_part (head_values (one_line_expression first) (one_line_expression last) (one_line_step by)) (name ∷ []))
   numeric_joined name first last no_step have good formed_first formed_last formed_by deep_first deep_last deep_by room_first room_last room_by =
       head_joined constants deep (syntax.expression first (syntax.expression last no_expressions)) (name ∷ []) have refl (both_hold _ _ good refl)
@@ -39,7 +39,7 @@ module _ (constants : List Constant) (deep : ℕ) where
 
   mutual
     pub block_joined : (looped : Bool) (block : Statements) → StatementsHold (IsReadablePart constants (IsStraightBody deep)) looped block →
-        formed_statements block ≡ true → depth_of_statements block ≤ 200 → room_of_statements (assigned_statements block) < 200 → StatementsHold (IsJoinedPart constants) looped (assigned_statements (one_line_statements block))
+        formed_statements block ≡ true → depth_of_statements block ≤ 200 → space_of_statements (assigned_statements block) < 200 → StatementsHold (IsJoinedPart constants) looped (assigned_statements (one_line_statements block))
     block_joined looped no_statements holds formed shallow roomy = tt
     block_joined looped (syntax.statement line semi s rest) holds formed shallow roomy =
         let behind = second_of_both (may_follow s semi rest) _ (second_of_both (formed_statement s) _ formed) in (
@@ -48,7 +48,7 @@ module _ (constants : List Constant) (deep : ℕ) where
         )
 
     statement_joined : (looped : Bool) (s : Statement) → StatementHolds (IsReadablePart constants (IsStraightBody deep)) looped s →
-        formed_statement s ≡ true → depth_of_statement s ≤ 199 → room_of_statement (assigned_statement s) < 200 → StatementHolds (IsJoinedPart constants) looped (assigned_statement (one_line_statement s))
+        formed_statement s ≡ true → depth_of_statement s ≤ 199 → space_of_statement (assigned_statement s) < 200 → StatementHolds (IsJoinedPart constants) looped (assigned_statement (one_line_statement s))
     statement_joined looped (do_block block) holds formed shallow roomy = block_joined looped block holds formed (omega (arith, shallow)) roomy
     statement_joined looped (while_loop e block) holds formed shallow roomy = (
       test_joined constants deep e holds.0 (first_of_both _ _ formed) (omega (arith, shallow)) (omega (arith, roomy)),
@@ -86,7 +86,7 @@ module _ (constants : List Constant) (deep : ℕ) where
     statement_joined looped (function_statement path method body) holds formed shallow roomy = function_joined constants deep path method body holds formed shallow roomy
 
     branches_joined : (looped : Bool) (branches : Branches) → BranchesHold (IsReadablePart constants (IsStraightBody deep)) looped branches →
-        formed_branches branches ≡ true → depth_of_branches branches ≤ 199 → room_of_branches (assigned_branches branches) < 200 → BranchesHold (IsJoinedPart constants) looped (assigned_branches (one_line_branches branches))
+        formed_branches branches ≡ true → depth_of_branches branches ≤ 199 → space_of_branches (assigned_branches branches) < 200 → BranchesHold (IsJoinedPart constants) looped (assigned_branches (one_line_branches branches))
     branches_joined looped no_branches holds formed shallow roomy = tt
     branches_joined looped (branch e block rest) holds formed shallow roomy =
         let behind = second_of_both (formed_expression e) _ formed in (
@@ -96,7 +96,7 @@ module _ (constants : List Constant) (deep : ℕ) where
         )
 
     otherwise_joined : (looped : Bool) (last : Otherwise) → OtherwiseHolds (IsReadablePart constants (IsStraightBody deep)) looped last →
-        formed_otherwise last ≡ true → depth_of_otherwise last ≤ 199 → room_of_otherwise (assigned_otherwise last) < 200 → OtherwiseHolds (IsJoinedPart constants) looped (assigned_otherwise (one_line_otherwise last))
+        formed_otherwise last ≡ true → depth_of_otherwise last ≤ 199 → space_of_otherwise (assigned_otherwise last) < 200 → OtherwiseHolds (IsJoinedPart constants) looped (assigned_otherwise (one_line_otherwise last))
     otherwise_joined looped no_otherwise holds formed shallow roomy = tt
     otherwise_joined looped (otherwise block) holds formed shallow roomy = block_joined looped block holds formed (omega (arith, shallow)) roomy
 
@@ -104,10 +104,10 @@ module _ (constants : List Constant) (deep : ℕ) where
 
 pub on_one_line_joined : (constants : List Constant) (deep : ℕ) (block : Statements) →
     formed_statements block ≡ true → depth_of_statements block ≤ 200 → StatementsHold (IsReadablePart constants (IsStraightBody deep)) false block →
-    room_of_statements (assigned_statements block) + nevers_of_statements block < 200 → IsJoined constants (assigned_statements (one_line_statements block))
+    space_of_statements (assigned_statements block) + nevers_of_statements block < 200 → IsJoined constants (assigned_statements (one_line_statements block))
 on_one_line_joined constants deep block formed shallow holds room =
     let line = one_line_statements block in
-    let roomy : room_of_statements (assigned_statements line) ≡ room_of_statements (assigned_statements block) = ap room_of_statements (sym (block_line block)) ∙ block_as_roomy (assigned_statements block) in
+    let roomy : space_of_statements (assigned_statements line) ≡ space_of_statements (assigned_statements block) = ap space_of_statements (sym (block_line block)) ∙ block_as_roomy (assigned_statements block) in
     let nevers : nevers_of_statements (assigned_statements line) ≡ nevers_of_statements block = block_never line ∙ block_as_never block in
     record {
       again = block_line line ∙ ap assigned_statements (block_again block);

@@ -11,9 +11,10 @@ use Rattle.lua_tree.specs.declared.tree.UnaryOp.{UnaryOp}
 use Rattle.proto.specs.declared.parts.Constant.{Constant}
 use Rattle.recover_expr.specs.Drafts.{condition_part, head_part, statement_part, values_part}
 use Rattle.scheme.specs.Expressions.{literal}
-use Rattle.scheme.specs.Shapes.{plainness, room_of_expression, room_of_expressions, room_of_statement}
+use Rattle.scheme.specs.Shapes.{plainness}
 use Rattle.same_flow.specs.Blocks.{AloneHolds, TestHolds, tested_as}
 use Rattle.same_flow.specs.Renaming.{IsOneStep, IsTested}
+use Rattle.same_flow.specs.Space.{space_of_expression, space_of_expressions, space_of_statement}
 use Rattle.reads_back.specs.Assignments.{as_assignment}
 use Rattle.reads_back.specs.Cores.{AllHaveCores, HasCore}
 use Rattle.reads_back.specs.Ordered.{IsOrderedAmong, NumbersStay, OperandsStay, names_stay}
@@ -36,7 +37,7 @@ use Rattle.recovers.proofs.OneLineBlocks.{expression_again, expression_as_deep, 
 -- ---- what a leaf is tested as
 
 -- what is tested as a whole
-abbrev IsLeaf : Expression → Type 0
+abbrev pub IsLeaf : Expression → Type 0
 IsLeaf (and_expression line left right) = ⊥
 IsLeaf (or_expression line left right) = ⊥
 IsLeaf (unary_expression line UnaryOp.Not e) = ⊥
@@ -55,7 +56,7 @@ tested_as_deep : (e : Expression) → depth_of_expression (tested_as e) ≡ dept
 tested_as_deep (binary_expression line BinaryOp.Ne left right) = refl
 tested_as_deep e = refl
 
-tested_as_roomy : (e : Expression) → room_of_expression (tested_as e) ≡ room_of_expression e
+tested_as_roomy : (e : Expression) → space_of_expression (tested_as e) ≡ space_of_expression e
 tested_as_roomy (binary_expression line BinaryOp.Ne left right) = refl
 tested_as_roomy e = refl
 
@@ -119,7 +120,7 @@ module _ (constants : List Constant) (deep : ℕ) where
   }
 
   pub act_joined : (s : Statement) → IsOneStep (one_line_statement s) → ends_block (one_line_statement s) ≡ false → IsActBy (IsStraightBody deep) s × StatementIndexesNoTable s →
-      formed_statement s ≡ true → depth_of_statement s ≤ 199 → room_of_statement s < 200 → IsJoinedPart constants (statement_part (one_line_statement s))
+      formed_statement s ≡ true → depth_of_statement s ≤ 199 → space_of_statement s < 200 → IsJoinedPart constants (statement_part (one_line_statement s))
   act_joined s one goes_on is formed shallow roomy = record {
     plain = (one, act_plain (straight_plain deep) (one_line_statement s) (act_on_line (bodies_stay deep) s is.0));
     flow = flow_act s is.0 is.1 formed shallow;
@@ -130,14 +131,14 @@ module _ (constants : List Constant) (deep : ℕ) where
 
   -- a function statement as the assignment that it stands for
   pub function_joined : (path : List Text) (method : Option Text) (body : FunctionBody) → let s = function_statement path method body in IsStraightStatementBy (IsStraightBody deep) s × StatementIndexesNoTable s →
-      formed_statement s ≡ true → depth_of_statement s ≤ 199 → room_of_statement (as_assignment s) < 200 → IsJoinedPart constants (statement_part (as_assignment (one_line_statement s)))
+      formed_statement s ≡ true → depth_of_statement s ≤ 199 → space_of_statement (as_assignment s) < 200 → IsJoinedPart constants (statement_part (as_assignment (one_line_statement s)))
   function_joined path method body is formed shallow roomy =
       let s = function_statement path method body in
       subst (λ (s : Statement). IsJoinedPart constants (statement_part s)) (assignment_line s)
       (act_joined (as_assignment s) tt refl (statement_is_act deep s is.0 formed, indexes_still s is.1 formed) (assigned_formed s formed) (assigned_shallow deep s is.0 shallow) roomy)
 
   pub values_joined : (es : Expressions) → AllHaveCoresBy (IsStraightBody deep) es →
-      formed_expressions es ≡ true → depth_of_expressions es ≤ 199 → room_of_expressions es < 200 → IsJoinedPart constants (values_part (one_line_expressions es))
+      formed_expressions es ≡ true → depth_of_expressions es ≤ 199 → space_of_expressions es < 200 → IsJoinedPart constants (values_part (one_line_expressions es))
   values_joined es have formed shallow roomy = record {
     plain = cores_plain (straight_plain deep) (one_line_expressions es) (cores_on_line (bodies_stay deep) es have);
     flow = flow_act (return_statement es) have tt formed shallow;
@@ -147,7 +148,7 @@ module _ (constants : List Constant) (deep : ℕ) where
   }
 
   pub head_joined : (es : Expressions) (names : List Text) → AllHaveCoresBy (IsStraightBody deep) es → has_expressions es ≡ true → are_some_names names ≡ true →
-      formed_expressions es ≡ true → depth_of_expressions es ≤ 200 → room_of_expressions es < 200 → IsJoinedPart constants (head_part (one_line_expressions es) names)
+      formed_expressions es ≡ true → depth_of_expressions es ≤ 200 → space_of_expressions es < 200 → IsJoinedPart constants (head_part (one_line_expressions es) names)
   head_joined es names have some good formed shallow roomy =
       let some_there : has_expressions (one_line_expressions es) ≡ true = same_some es ∙ some in
       record {
@@ -166,7 +167,7 @@ module _ (constants : List Constant) (deep : ℕ) where
 
   -- ---- conditions
 
-  operands_have : (line : ℕ) (op : BinaryOp) (left right : Expression) → IsLeafBy (IsStraightBody deep) (tested_as (binary_expression line op left right)) →
+  pub operands_have : (line : ℕ) (op : BinaryOp) (left right : Expression) → IsLeafBy (IsStraightBody deep) (tested_as (binary_expression line op left right)) →
       HasCoreBy (IsStraightBody deep) left × HasCoreBy (IsStraightBody deep) right
   operands_have line BinaryOp.Ne left right are = are
   operands_have line op left right are = are
@@ -197,7 +198,7 @@ module _ (constants : List Constant) (deep : ℕ) where
   leaf_has e leaf none is formed = (core_joined e is formed, same_literal e ∙ none)
 
   leaf_joined : (e : Expression) → IsLeaf e → literal e ≡ None → IsReadablePart constants (IsStraightBody deep) (condition_part (tested_as e)) →
-      formed_expression e ≡ true → depth_of_expression e ≤ 200 → room_of_expression e < 200 → IsJoinedPart constants (condition_part (tested_as (one_line_expression e)))
+      formed_expression e ≡ true → depth_of_expression e ≤ 200 → space_of_expression e < 200 → IsJoinedPart constants (condition_part (tested_as (one_line_expression e)))
   leaf_joined e leaf none is formed shallow roomy =
       let line = one_line_expression e in
       record {
@@ -214,7 +215,7 @@ module _ (constants : List Constant) (deep : ℕ) where
       }
 
   alone_joined : (e : Expression) → IsLeaf e → (k : Option Constant) → literal e ≡ k → AloneHolds (IsReadablePart constants (IsStraightBody deep)) k e →
-      formed_expression e ≡ true → depth_of_expression e ≤ 200 → room_of_expression e < 200 → AloneHolds (IsJoinedPart constants) (literal (one_line_expression e)) (one_line_expression e)
+      formed_expression e ≡ true → depth_of_expression e ≤ 200 → space_of_expression e < 200 → AloneHolds (IsJoinedPart constants) (literal (one_line_expression e)) (one_line_expression e)
   alone_joined e leaf k is holds formed shallow roomy = subst (λ (k : Option Constant). AloneHolds (IsJoinedPart constants) k (one_line_expression e)) (sym (same_literal e ∙ is)) (by k is holds)
     where
       by : (k : Option Constant) → literal e ≡ k → AloneHolds (IsReadablePart constants (IsStraightBody deep)) k e → AloneHolds (IsJoinedPart constants) k (one_line_expression e)
@@ -223,7 +224,7 @@ module _ (constants : List Constant) (deep : ℕ) where
 
   -- the leaves of a condition
   pub test_joined : (e : Expression) → TestHolds (IsReadablePart constants (IsStraightBody deep)) e →
-      formed_expression e ≡ true → depth_of_expression e ≤ 200 → room_of_expression e < 200 → TestHolds (IsJoinedPart constants) (one_line_expression e)
+      formed_expression e ≡ true → depth_of_expression e ≤ 200 → space_of_expression e < 200 → TestHolds (IsJoinedPart constants) (one_line_expression e)
   test_joined (and_expression line left right) holds formed shallow roomy =
       let parts = second_of_both (right_binds 2 false right) _ (second_of_both (left_binds 2 false left) _ formed) in (
         test_joined left holds.0 (first_of_both _ _ parts) (omega (arith, shallow)) (omega (arith, roomy)),

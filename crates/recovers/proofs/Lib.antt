@@ -11,6 +11,7 @@ pub mod JoinedBlocks
 pub mod JoinedParts
 pub mod MainFlow
 pub mod OneLineBlocks
+pub mod ReadableSpace
 pub mod SmallSource
 pub mod SourceRecovered
 pub mod StraightFound

@@ -1,5 +1,5 @@
 -- The main function of a source with blocks stands among its words, and the functions in it are left to it.
-use Rattle.std.proofs.Common.{◌≡◌, ◌∙◌, Bool, true, [], None, Some, refl, sym, ap, subst, subst₂, arith}
+use Rattle.std.proofs.Common.{◌≡◌, ◌∙◌, Bool, true, false, [], None, Some, refl, sym, ap, subst, subst₂, arith}
 use Rattle.lua_tree.specs.OneLine.{on_one_line, one_line_statements}
 use Rattle.lua_tree.specs.Outline.{Place, Walk, statements_part}
 use Rattle.lua_tree.specs.Resolved.{resolved}
@@ -40,6 +40,7 @@ use Rattle.recovers.proofs.FlowLikes.{FlowLaws, flow_is_read}
 use Rattle.recovers.proofs.FlowStepsRead.{each_is_made, flow, takes}
 use Rattle.recovers.proofs.JoinedBlocks.{on_one_line_joined}
 use Rattle.recovers.proofs.OneLineBlocks.{block_again, block_as_deep, block_formed}
+use Rattle.recovers.proofs.ReadableSpace.{readable_space}
 
 module _ (stand : NamesStand) (semicolons : SemicolonsDoNotMatter) (mine : Own) (functions : Functions)
     (of : IsFlowChunk (function mine functions)) (short : IsShort (function mine functions)) where
@@ -78,7 +79,7 @@ module _ (stand : NamesStand) (semicolons : SemicolonsDoNotMatter) (mine : Own) 
   still = block_again of.source.body
 
   joined_block : IsJoined mine.constants block
-  joined_block = on_one_line_joined mine.constants of.deep of.source.body of.formed.formed of.formed.shallow of.blocks of.room
+  joined_block = on_one_line_joined mine.constants of.deep of.source.body of.formed.formed of.formed.shallow of.blocks (omega (arith, of.room, readable_space mine.constants of.deep false of.source.body of.blocks))
 
   same_made : tree_of [] [] begins_with block ≡ tree_of [] [] begins_with plain_source.body
   same_made = block_makes plain_source.body formed_plain.formed still None (begun plain_source)

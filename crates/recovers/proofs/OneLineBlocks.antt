@@ -1,6 +1,6 @@
 -- Any block on one line stays as it is, and is as deep, has as much room and as many arms whose condition never fails as before; and it keeps the rules of form.
-use Rattle.std.proofs.Common.{◌≡◌, ◌+◌, ◌*◌, max, ℕ, Bool, true, false, not, ◌&&◌, Option, is_some, if◌then◌else◌, refl, ap, ap₂, ◌∙◌}
-use Rattle.std.specs.Prelude.{ℤ}
+use Rattle.std.proofs.Common.{◌≡◌, suc, ◌+◌, ◌*◌, max, ℕ, Bool, true, false, not, ◌&&◌, Option, is_some, if◌then◌else◌, refl, ap, ap₂, ◌∙◌}
+use Rattle.std.specs.Prelude.{ℤ, ◌||◌}
 use Rattle.lua_tree.specs.Names.{is_name, are_names, are_some_names}
 use Rattle.lua_tree.specs.OneLine.{one_line_arguments, one_line_body, one_line_branches, one_line_expression, one_line_expressions, one_line_fields, one_line_otherwise, one_line_statement, one_line_statements, one_line_step}
 use Rattle.lua_tree.specs.Precedence.{is_right_associative, left_binds, level_of_op, right_binds}
@@ -9,11 +9,12 @@ use Rattle.lua_tree.specs.Syntax.{Statements, no_statements, Statement, assignme
 use Rattle.lua_tree.specs.WellFormed.{are_targets, depth_of_arguments, depth_of_body, depth_of_branches, depth_of_expression, depth_of_expressions, depth_of_fields, depth_of_otherwise, depth_of_statement, depth_of_statements, depth_of_step, ends_item, formed_arguments, formed_body, formed_branches, formed_expression, formed_expressions, formed_fields, formed_otherwise, formed_statement, formed_statements, formed_step, has_branches, has_expressions, is_call, is_optional_name, is_prefix, may_follow, on_its_line}
 use Rattle.lua_tree.specs.declared.tree.UnaryOp.{UnaryOp}
 use Rattle.proto.specs.declared.parts.Constant.{Constant}
-use Rattle.scheme.specs.Shapes.{branch_count, logic_count, room_of_arguments, room_of_body, room_of_branches, room_of_expression, room_of_expressions, room_of_fields, room_of_otherwise, room_of_statement, room_of_statements, room_of_step}
+use Rattle.scheme.specs.Shapes.{branch_count, logic_count}
+use Rattle.same_flow.specs.Never.{is_other_literal, never_is, nevers_of_branches, nevers_of_further, nevers_of_otherwise, nevers_of_statement, nevers_of_statements, one_if}
+use Rattle.same_flow.specs.Space.{has_block, has_blocks, space_of_arguments, space_of_body, space_of_branches, space_of_expression, space_of_expressions, space_of_fields, space_of_otherwise, space_of_statement, space_of_statements, space_of_step}
 use Rattle.reads_back.proofs.PlainStraight.{given_on_line, same_follow, same_item, same_left, same_prefix, same_right, same_some, same_targets}
 use Rattle.reads_back.proofs.Tests.{both_hold, first_of_both, second_of_both}
 use Rattle.reads_back.proofs.WordsSame.{same_fold, same_literal}
-use Rattle.built_flow.specs.Never.{is_other_literal, never_is, nevers_of_branches, nevers_of_further, nevers_of_otherwise, nevers_of_statement, nevers_of_statements, one_if}
 
 -- ---- it stays as it is
 
@@ -147,96 +148,6 @@ mutual
   fields_as_deep (named name e separator rest) = cc (expression_as_deep e, fields_as_deep rest)
   fields_as_deep (keyed key e separator rest) = cc (expression_as_deep key, expression_as_deep e, fields_as_deep rest)
 
--- ---- it has as much room
-
-same_count : (e : Expression) → logic_count (one_line_expression e) ≡ logic_count e
-same_count (and_expression line left right) = cc (same_count left, same_count right)
-same_count (or_expression line left right) = cc (same_count left, same_count right)
-same_count (unary_expression line UnaryOp.Not e) = cc (same_count e)
-same_count (parenthesized line e) = same_count e
-same_count e = refl
-
-same_counts : (branches : Branches) → branch_count (one_line_branches branches) ≡ branch_count branches
-same_counts no_branches = refl
-same_counts (branch e block rest) = ap₂ (λ (one others : ℕ). one + others) (same_count e) (same_counts rest)
-
-same_most : {one many other more : ℕ} → one ≡ many → other ≡ more → max one other ≡ max many more
-same_most is also = ap₂ (λ (one other : ℕ). max one other) is also
-
-one_more : {one many : ℕ} → one ≡ many → 1 + one ≡ 1 + many
-one_more is = ap (λ (one : ℕ). 1 + one) is
-
--- with the conditions of a statement
-counted_most : {count counts one many other more : ℕ} → count ≡ counts → one ≡ many → other ≡ more → 2 * count + max one other ≡ 2 * counts + max many more
-counted_most counted is also = ap₂ (λ (count most : ℕ). 2 * count + most) counted (same_most is also)
-
-mutual
-  pub block_as_roomy : (block : Statements) → room_of_statements (one_line_statements block) ≡ room_of_statements block
-  block_as_roomy no_statements = refl
-  block_as_roomy (syntax.statement line semi s rest) = same_most (one_more (statement_as_roomy s)) (block_as_roomy rest)
-
-  pub statement_as_roomy : (s : Statement) → room_of_statement (one_line_statement s) ≡ room_of_statement s
-  statement_as_roomy (assignment targets es) = same_most (expressions_as_roomy targets) (expressions_as_roomy es)
-  statement_as_roomy (call_statement e) = expression_as_roomy e
-  statement_as_roomy (do_block block) = block_as_roomy block
-  statement_as_roomy (while_loop e block) = counted_most (same_count e) (expression_as_roomy e) (block_as_roomy block)
-  statement_as_roomy (repeat_loop block e) = counted_most (same_count e) (block_as_roomy block) (expression_as_roomy e)
-  statement_as_roomy (if_statement branches last) = counted_most (same_counts branches) (branches_as_roomy branches) (otherwise_as_roomy last)
-  statement_as_roomy (numeric_for name first last by block) =
-      same_most (same_most (expression_as_roomy first) (expression_as_roomy last)) (same_most (step_as_roomy by) (block_as_roomy block))
-  statement_as_roomy (generic_for names es block) = same_most (expressions_as_roomy es) (block_as_roomy block)
-  statement_as_roomy (function_statement path method body) = one_more (body_as_roomy body)
-  statement_as_roomy (local_function name body) = one_more (body_as_roomy body)
-  statement_as_roomy (local_statement names es) = expressions_as_roomy es
-  statement_as_roomy (return_statement es) = expressions_as_roomy es
-  statement_as_roomy break_statement = refl
-
-  branches_as_roomy : (branches : Branches) → room_of_branches (one_line_branches branches) ≡ room_of_branches branches
-  branches_as_roomy no_branches = refl
-  branches_as_roomy (branch e block rest) = same_most (same_most (expression_as_roomy e) (block_as_roomy block)) (branches_as_roomy rest)
-
-  otherwise_as_roomy : (last : Otherwise) → room_of_otherwise (one_line_otherwise last) ≡ room_of_otherwise last
-  otherwise_as_roomy no_otherwise = refl
-  otherwise_as_roomy (otherwise block) = block_as_roomy block
-
-  step_as_roomy : (by : ForStep) → room_of_step (one_line_step by) ≡ room_of_step by
-  step_as_roomy no_step = refl
-  step_as_roomy (by_step e) = expression_as_roomy e
-
-  body_as_roomy : (body : FunctionBody) → room_of_body (one_line_body body) ≡ room_of_body body
-  body_as_roomy (function_body params vararg block first last) = block_as_roomy block
-
-  pub expressions_as_roomy : (es : Expressions) → room_of_expressions (one_line_expressions es) ≡ room_of_expressions es
-  expressions_as_roomy no_expressions = refl
-  expressions_as_roomy (syntax.expression e rest) = same_most (expression_as_roomy e) (expressions_as_roomy rest)
-
-  pub expression_as_roomy : (e : Expression) → room_of_expression (one_line_expression e) ≡ room_of_expression e
-  expression_as_roomy (function_expression line body) = one_more (body_as_roomy body)
-  expression_as_roomy (index_expression line on key) = one_more (same_most (expression_as_roomy on) (expression_as_roomy key))
-  expression_as_roomy (field_expression line on name) = one_more (expression_as_roomy on)
-  expression_as_roomy (call_expression line on args on_line) = one_more (same_most (expression_as_roomy on) (arguments_as_roomy args))
-  expression_as_roomy (method_call line on name args on_line) = one_more (same_most (expression_as_roomy on) (arguments_as_roomy args))
-  expression_as_roomy (and_expression line left right) = one_more (same_most (expression_as_roomy left) (expression_as_roomy right))
-  expression_as_roomy (or_expression line left right) = one_more (same_most (expression_as_roomy left) (expression_as_roomy right))
-  expression_as_roomy (binary_expression line op left right) =
-      let same = one_more (same_most (expression_as_roomy left) (expression_as_roomy right)) in
-      ap₂ (λ (folded : Option ℤ) (depth : ℕ). if is_some folded then 4 else depth) (same_fold (binary_expression line op left right)) same
-  expression_as_roomy (unary_expression line op e) = ap₂ (λ (folded : Option ℤ) (depth : ℕ). if is_some folded then 4 else 1 + depth) (same_fold (unary_expression line op e)) (expression_as_roomy e)
-  expression_as_roomy (constructor line fields) = one_more (fields_as_roomy fields)
-  expression_as_roomy (parenthesized line e) = ap₂ (λ (folded : Option ℤ) (depth : ℕ). if is_some folded then 4 else 1 + depth) (same_fold e) (expression_as_roomy e)
-  expression_as_roomy e = refl
-
-  arguments_as_roomy : (args : Arguments) → room_of_arguments (one_line_arguments args) ≡ room_of_arguments args
-  arguments_as_roomy (argument_list es) = expressions_as_roomy es
-  arguments_as_roomy (text_argument text) = refl
-  arguments_as_roomy (table_argument fields) = fields_as_roomy fields
-
-  fields_as_roomy : (fields : Fields) → room_of_fields (one_line_fields fields) ≡ room_of_fields fields
-  fields_as_roomy no_fields = refl
-  fields_as_roomy (positional e separator rest) = same_most (expression_as_roomy e) (fields_as_roomy rest)
-  fields_as_roomy (named name e separator rest) = same_most (expression_as_roomy e) (fields_as_roomy rest)
-  fields_as_roomy (keyed key e separator rest) = same_most (same_most (expression_as_roomy key) (expression_as_roomy e)) (fields_as_roomy rest)
-
 -- ---- as many further arms have conditions that never fail
 
 same_never : (sense : Bool) (e : Expression) → never_is sense (one_line_expression e) ≡ never_is sense e
@@ -276,6 +187,107 @@ mutual
   otherwise_as_never : (last : Otherwise) → nevers_of_otherwise (one_line_otherwise last) ≡ nevers_of_otherwise last
   otherwise_as_never no_otherwise = refl
   otherwise_as_never (otherwise block) = block_as_never block
+
+-- ---- it has as much room
+
+same_count : (e : Expression) → logic_count (one_line_expression e) ≡ logic_count e
+same_count (and_expression line left right) = cc (same_count left, same_count right)
+same_count (or_expression line left right) = cc (same_count left, same_count right)
+same_count (unary_expression line UnaryOp.Not e) = cc (same_count e)
+same_count (parenthesized line e) = same_count e
+same_count e = refl
+
+same_counts : (branches : Branches) → branch_count (one_line_branches branches) ≡ branch_count branches
+same_counts no_branches = refl
+same_counts (branch e block rest) = ap₂ (λ (one others : ℕ). one + others) (same_count e) (same_counts rest)
+
+pub same_most : {one many other more : ℕ} → one ≡ many → other ≡ more → max one other ≡ max many more
+same_most is also = ap₂ (λ (one other : ℕ). max one other) is also
+
+pub one_more : {one many : ℕ} → one ≡ many → 1 + one ≡ 1 + many
+one_more is = ap (λ (one : ℕ). 1 + one) is
+
+-- with the conditions of a statement
+pub counted_most : {count counts one many other more : ℕ} → count ≡ counts → one ≡ many → other ≡ more → 2 * count + max one other ≡ 2 * counts + max many more
+counted_most counted is also = ap₂ (λ (count most : ℕ). 2 * count + most) counted (same_most is also)
+
+same_block : (s : Statement) → has_block (one_line_statement s) ≡ has_block s
+same_block (do_block block) = refl
+same_block s = refl
+
+same_blocks : (block : Statements) → has_blocks (one_line_statements block) ≡ has_blocks block
+same_blocks no_statements = refl
+same_blocks (syntax.statement line semi s rest) = ap₂ (λ (one others : Bool). one || others) (same_block s) (same_blocks rest)
+
+same_around : {has have : Bool} {levels many nevers more : ℕ} → has ≡ have → levels ≡ many → nevers ≡ more → (if has then suc (levels + nevers) else levels) ≡ (if have then suc (many + more) else many)
+same_around is levels nevers = cc (is, levels, nevers)
+
+mutual
+  pub block_as_roomy : (block : Statements) → space_of_statements (one_line_statements block) ≡ space_of_statements block
+  block_as_roomy no_statements = refl
+  block_as_roomy (syntax.statement line semi s rest) = same_most (one_more (statement_as_roomy s)) (block_as_roomy rest)
+
+  pub statement_as_roomy : (s : Statement) → space_of_statement (one_line_statement s) ≡ space_of_statement s
+  statement_as_roomy (assignment targets es) = same_most (expressions_as_roomy targets) (expressions_as_roomy es)
+  statement_as_roomy (call_statement e) = expression_as_roomy e
+  statement_as_roomy (do_block block) = block_as_roomy block
+  statement_as_roomy (while_loop e block) = counted_most (same_count e) (expression_as_roomy e) (block_as_roomy block)
+  statement_as_roomy (repeat_loop block e) = counted_most (same_count e) (block_as_roomy block) (expression_as_roomy e)
+  statement_as_roomy (if_statement branches last) = counted_most (same_counts branches) (branches_as_roomy branches) (otherwise_as_roomy last)
+  statement_as_roomy (numeric_for name first last by block) =
+      same_most (same_most (expression_as_roomy first) (expression_as_roomy last)) (same_most (step_as_roomy by) (block_as_roomy block))
+  statement_as_roomy (generic_for names es block) = same_most (expressions_as_roomy es) (block_as_roomy block)
+  statement_as_roomy (function_statement path method body) = one_more (body_as_roomy body)
+  statement_as_roomy (local_function name body) = one_more (body_as_roomy body)
+  statement_as_roomy (local_statement names es) = expressions_as_roomy es
+  statement_as_roomy (return_statement es) = expressions_as_roomy es
+  statement_as_roomy break_statement = refl
+
+  branches_as_roomy : (branches : Branches) → space_of_branches (one_line_branches branches) ≡ space_of_branches branches
+  branches_as_roomy no_branches = refl
+  branches_as_roomy (branch e block rest) = same_most (same_most (expression_as_roomy e) (block_as_roomy block)) (branches_as_roomy rest)
+
+  otherwise_as_roomy : (last : Otherwise) → space_of_otherwise (one_line_otherwise last) ≡ space_of_otherwise last
+  otherwise_as_roomy no_otherwise = refl
+  otherwise_as_roomy (otherwise block) = block_as_roomy block
+
+  step_as_roomy : (by : ForStep) → space_of_step (one_line_step by) ≡ space_of_step by
+  step_as_roomy no_step = refl
+  step_as_roomy (by_step e) = expression_as_roomy e
+
+  body_as_roomy : (body : FunctionBody) → space_of_body (one_line_body body) ≡ space_of_body body
+  body_as_roomy (function_body params vararg block first last) = same_around (same_blocks block) (block_as_roomy block) (block_as_never block)
+
+  pub expressions_as_roomy : (es : Expressions) → space_of_expressions (one_line_expressions es) ≡ space_of_expressions es
+  expressions_as_roomy no_expressions = refl
+  expressions_as_roomy (syntax.expression e rest) = same_most (expression_as_roomy e) (expressions_as_roomy rest)
+
+  pub expression_as_roomy : (e : Expression) → space_of_expression (one_line_expression e) ≡ space_of_expression e
+  expression_as_roomy (function_expression line body) = one_more (body_as_roomy body)
+  expression_as_roomy (index_expression line on key) = one_more (same_most (expression_as_roomy on) (expression_as_roomy key))
+  expression_as_roomy (field_expression line on name) = one_more (expression_as_roomy on)
+  expression_as_roomy (call_expression line on args on_line) = one_more (same_most (expression_as_roomy on) (arguments_as_roomy args))
+  expression_as_roomy (method_call line on name args on_line) = one_more (same_most (expression_as_roomy on) (arguments_as_roomy args))
+  expression_as_roomy (and_expression line left right) = one_more (same_most (expression_as_roomy left) (expression_as_roomy right))
+  expression_as_roomy (or_expression line left right) = one_more (same_most (expression_as_roomy left) (expression_as_roomy right))
+  expression_as_roomy (binary_expression line op left right) =
+      let same = one_more (same_most (expression_as_roomy left) (expression_as_roomy right)) in
+      ap₂ (λ (folded : Option ℤ) (depth : ℕ). if is_some folded then 4 else depth) (same_fold (binary_expression line op left right)) same
+  expression_as_roomy (unary_expression line op e) = ap₂ (λ (folded : Option ℤ) (depth : ℕ). if is_some folded then 4 else 1 + depth) (same_fold (unary_expression line op e)) (expression_as_roomy e)
+  expression_as_roomy (constructor line fields) = one_more (fields_as_roomy fields)
+  expression_as_roomy (parenthesized line e) = ap₂ (λ (folded : Option ℤ) (depth : ℕ). if is_some folded then 4 else 1 + depth) (same_fold e) (expression_as_roomy e)
+  expression_as_roomy e = refl
+
+  arguments_as_roomy : (args : Arguments) → space_of_arguments (one_line_arguments args) ≡ space_of_arguments args
+  arguments_as_roomy (argument_list es) = expressions_as_roomy es
+  arguments_as_roomy (text_argument text) = refl
+  arguments_as_roomy (table_argument fields) = fields_as_roomy fields
+
+  fields_as_roomy : (fields : Fields) → space_of_fields (one_line_fields fields) ≡ space_of_fields fields
+  fields_as_roomy no_fields = refl
+  fields_as_roomy (positional e separator rest) = same_most (expression_as_roomy e) (fields_as_roomy rest)
+  fields_as_roomy (named name e separator rest) = same_most (expression_as_roomy e) (fields_as_roomy rest)
+  fields_as_roomy (keyed key e separator rest) = same_most (same_most (expression_as_roomy key) (expression_as_roomy e)) (fields_as_roomy rest)
 
 -- ---- it is well formed
 

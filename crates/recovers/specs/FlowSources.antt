@@ -10,10 +10,10 @@ use Rattle.recover_expr.specs.Drafts.{Part, nothing_part, statement_part, values
 use Rattle.scheme.specs.Scheme.{scheme, Fits}
 use Rattle.scheme.specs.Shapes.{room_of_statements}
 use Rattle.same_flow.specs.Blocks.{StatementsHold}
+use Rattle.same_flow.specs.Never.{nevers_of_statements}
 use Rattle.reads_back.specs.Ordered.{IsOrderedAmong}
 use Rattle.reads_back.specs.Straight.{AllHaveCoresBy, HasCoreBy, IsStraightBody, IsStraightStatementBy, StatementIndexesNoTable}
 use Rattle.recovers.specs.Assigned.{assigned_statements}
-use Rattle.built_flow.specs.Never.{nevers_of_statements}
 
 -- what is tested: two values that are compared, or one value
 abbrev pub IsLeafBy : (FunctionBody → Type 0) → Expression → Type 0

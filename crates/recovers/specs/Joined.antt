@@ -18,23 +18,23 @@ use Rattle.recover_flow.specs.Standing.{BodyStands}
 use Rattle.scheme.specs.Functions.{Heading, function_from}
 use Rattle.scheme.specs.Making.{Ahead}
 use Rattle.scheme.specs.Scheme.{statements_made}
-use Rattle.scheme.specs.Shapes.{room_of_expression, room_of_expressions, room_of_statement, room_of_statements}
 use Rattle.same_flow.specs.Written.{IsPartFormed}
 use Rattle.same_flow.specs.Blocks.{StatementsHold}
+use Rattle.same_flow.specs.Never.{nevers_of_statements}
 use Rattle.same_flow.specs.SameFlow.{IsPlainPart}
 use Rattle.same_flow.specs.SameMarks.{but_breaks}
+use Rattle.same_flow.specs.Space.{space_of_expression, space_of_expressions, space_of_statement, space_of_statements}
 use Rattle.reads_back.specs.ReadAs.{IsTold}
 use Rattle.reads_back.specs.Ordered.{IsOrderedPart}
 use Rattle.reads_back.proofs.FlowThere.{IsFlowPart}
-use Rattle.built_flow.specs.Never.{nevers_of_statements}
 
 -- it takes no more room than a tree has
 abbrev pub IsRoomyPart : Part → Type 0
 IsRoomyPart nothing_part = Unit {0}
-IsRoomyPart (statement_part s) = room_of_statement s < 200
-IsRoomyPart (values_part es) = room_of_expressions es < 200
-IsRoomyPart (condition_part e) = room_of_expression e < 200
-IsRoomyPart (head_part es names) = room_of_expressions es < 200
+IsRoomyPart (statement_part s) = space_of_statement s < 200
+IsRoomyPart (values_part es) = space_of_expressions es < 200
+IsRoomyPart (condition_part e) = space_of_expression e < 200
+IsRoomyPart (head_part es names) = space_of_expressions es < 200
 
 pub record IsJoinedPart (constants : List Constant) (part : Part) : Type 0 where
   pub plain : IsPlainPart part
@@ -47,7 +47,7 @@ pub record IsJoined (constants : List Constant) (block : Statements) : Type 0 wh
   pub again : one_line_statements block ≡ block
   pub formed : formed_statements block ≡ true
   pub parts : StatementsHold (IsJoinedPart constants) false block
-  pub room : room_of_statements block + nevers_of_statements block < 200
+  pub room : space_of_statements block + nevers_of_statements block < 200
 
 -- ---- what is read of a function
 

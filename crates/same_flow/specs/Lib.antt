@@ -3,9 +3,11 @@ pub mod Blocks
 pub mod Declaring
 pub mod Laid
 pub mod Listed
+pub mod Never
 pub mod Performed
 pub mod Renaming
 pub mod SameFlow
 pub mod SameMarks
+pub mod Space
 pub mod Told
 pub mod Written

@@ -9,8 +9,8 @@ use Rattle.recover_expr.specs.Placing.{Steps}
 use Rattle.recover_expr.specs.Testing.{negated_levels}
 use Rattle.recover_expr.specs.declared.steps.Step.{Step}
 use Rattle.recover_expr.specs.declared.steps.StepKind.{StepKind}
-use Rattle.scheme.specs.Shapes.{room_of_expression, room_of_expressions, room_of_statement}
 use Rattle.same_flow.specs.Performed.{part_at}
+use Rattle.same_flow.specs.Space.{space_of_expression, space_of_expressions, space_of_statement}
 use Rattle.same_flow.specs.Told.{PartFits}
 
 -- each step has a part of its kind
@@ -51,14 +51,14 @@ ArePartsDeep code = (at : ℕ) (step : Step) (part : Part) → slice_get code.st
 
 -- what is tested with `==` may be written with `~=`
 abbrev pub NegatedInRoom : (negated : ℕ) → Expression → Type 0
-NegatedInRoom negated (binary_expression line BinaryOp.Eq left right) = negated ≤ room_of_expression (binary_expression line BinaryOp.Eq left right)
+NegatedInRoom negated (binary_expression line BinaryOp.Eq left right) = negated ≤ space_of_expression (binary_expression line BinaryOp.Eq left right)
 NegatedInRoom negated e = Unit {0}
 
 abbrev pub KindInRoom : (levels : ℕ) → StepKind → Part → Type 0
-KindInRoom levels (StepKind.Test when target negated) (condition_part e) = (levels ≤ room_of_expression e) × NegatedInRoom negated e
-KindInRoom levels kind (statement_part s) = levels ≤ suc (room_of_statement s)
-KindInRoom levels kind (values_part es) = levels ≤ suc (room_of_expressions es)
-KindInRoom levels kind (head_part es names) = levels ≤ suc (room_of_expressions es)
+KindInRoom levels (StepKind.Test when target negated) (condition_part e) = (levels ≤ space_of_expression e) × NegatedInRoom negated e
+KindInRoom levels kind (statement_part s) = levels ≤ suc (space_of_statement s)
+KindInRoom levels kind (values_part es) = levels ≤ suc (space_of_expressions es)
+KindInRoom levels kind (head_part es names) = levels ≤ suc (space_of_expressions es)
 KindInRoom levels kind part = Unit {0}
 
 abbrev pub AreInRoom : Steps → Type 0
