@@ -24,6 +24,7 @@ use Rattle.scheme_stands.specs.Words.{Fn}
 use Rattle.same_flow.specs.Listed.{all_entries, entries_by, entries_where, names_declared}
 use Rattle.same_flow.specs.Told.{IsActPart, IsDeclarationPart}
 use Rattle.reads_back.specs.Acted.{Acted, IsAct, IsActed, act_levels, act_statement, assigned, called, declared, declared_function, left_by_act, returned, taken_behind_act}
+use Rattle.reads_back.specs.Assignments.{as_assignment}
 use Rattle.reads_back.specs.Coming.{declared_local}
 use Rattle.reads_back.specs.Placed.{listed_before}
 use Rattle.reads_back.specs.ReadAs.{part_of}
@@ -39,6 +40,7 @@ use Rattle.reads_back.proofs.Mentions.{IsAhead}
 use Rattle.reads_back.proofs.OwnLocals.{listed_same}
 use Rattle.reads_back.proofs.PlacedEnds.{length_entries, stands_in}
 use Rattle.reads_back.proofs.Rewriting.{IsMadeBy, OwnListed, RewrittenAct, mentions_of_statement}
+use Rattle.reads_back.proofs.SameStatements.{assigned_makes, assigned_stands}
 use Rattle.reads_back.proofs.StartingLocals.{StartFrom, start_later}
 use Rattle.reads_back.proofs.StatementsMeant.{statement_meant}
 use Rattle.reads_back.proofs.StraightActs.{StartsWith, act_read, written}
@@ -53,21 +55,23 @@ only_named texts y there good (suc register) one found = absurd (none-some one f
 -- ---- what an act is as a step
 
 module _ (g : Fn) (active : List Active) (first before behind : ℕ) where
-  act_is : (s : Statement) → IsActPart s → (acted : Acted) → IsActed g active s before behind acted → (kind_of_act first acted ≡ DraftKind.Act) × (locals_of acted ≡ 0)
+  act_is : (s : Statement) → IsActPart s → (acted : Acted) → IsActed g active (as_assignment s) before behind acted → (kind_of_act first acted ≡ DraftKind.Act) × (locals_of acted ≡ 0)
   act_is (call_statement e) fits (called v) acts = (refl, refl)
   act_is (assignment targets es) fits (assigned ts vs all last) acts = (refl, refl)
+  act_is (function_statement path method body) fits (assigned ts vs all last) acts = (refl, refl)
   act_is (local_statement names es) fits acted acts = absurd fits
   act_is (local_function text body) fits acted acts = absurd fits
   act_is (return_statement es) fits acted acts = absurd fits
   act_is s fits acted acts = absurd acts
 
-  declaration_is : (s : Statement) → IsDeclarationPart s → (acted : Acted) → IsActed g active s before behind acted →
+  declaration_is : (s : Statement) → IsDeclarationPart s → (acted : Acted) → IsActed g active (as_assignment s) before behind acted →
       (kind_of_act first acted ≡ DraftKind.Declaration first (length (names_declared (statement_part s)))) × (locals_of acted ≡ length (names_declared (statement_part s)))
   declaration_is (local_statement names es) fits (declared others vs all) acts = (ap (λ (names : List Text). DraftKind.Declaration first (length names)) acts.0, ap length acts.0)
   declaration_is (local_function text body) fits (declared names vs all) acts = let are = acts.4.1 in (ap (λ (names : List Text). DraftKind.Declaration first (length names)) are, ap length are)
   declaration_is (local_function text body) fits (declared_function name number) acts = (refl, refl)
   declaration_is (call_statement e) fits acted acts = absurd fits
   declaration_is (assignment targets es) fits acted acts = absurd fits
+  declaration_is (function_statement path method body) fits acted acts = absurd fits
   declaration_is (return_statement es) fits acted acts = absurd fits
   declaration_is s fits acted acts = absurd acts
 
@@ -75,15 +79,28 @@ module _ (g : Fn) (active : List Active) (first before behind : ℕ) where
   return_is es (returned vs all) acts = (refl, refl)
   return_is es acted acts = absurd acts
 
--- ---- the locals of an act
+-- ---- a function statement stands and makes what its assignment does
 
 module _ {Left : Type 0} {f : Function} {g : Fn} {z : Maker} {code : Steps} {params names : List Text} {ahead : Ahead} {block : Statements} (of : IsFlowBy Left f g z code params names ahead block) where
+  pub act_stands : {at : ℕ} {s : Statement} → StepIs of at StepKind.Act (statement_part s) →
+      StatementAt g None (as_assignment s) (before_at of at).active (made_at of at StepKind.Act (statement_part s)).active (spot (before_at of at)) (spot (made_at of at StepKind.Act (statement_part s)))
+  act_stands {at} {s} is = let m = before_at of at in let made = made_at of at StepKind.Act (statement_part s) in assigned_stands g s is.flow.formed m.active made.active (spot m) (spot made) is.stands
+
+  pub declaration_stands : {at end : ℕ} {captured : Bool} {s : Statement} → StepIs of at (StepKind.Declaration end captured) (statement_part s) →
+      StatementAt g None (as_assignment s) (before_at of at).active (made_at of at (StepKind.Declaration end captured) (statement_part s)).active (spot (before_at of at)) (spot (made_at of at (StepKind.Declaration end captured) (statement_part s)))
+  declaration_stands {at} {end} {captured} {s} is =
+      let m = before_at of at in
+      let made = made_at of at (StepKind.Declaration end captured) (statement_part s) in
+      assigned_stands g s is.flow.formed m.active made.active (spot m) (spot made) is.stands
+
+  -- ---- the locals of an act
+
   -- an act has no local of its own
-  pub act_own : (s : Statement) → IsActPart s → IsAct s → (active : List Active) → OwnListed f g active s
-  act_own (call_statement e) fits is active = tt
-  act_own (assignment targets es) fits is active = tt
-  act_own (function_statement path method body) fits is active = tt
-  act_own s fits is active = absurd fits
+  pub act_own : (s : Statement) → IsActPart s → (active : List Active) → OwnListed f g active (as_assignment s)
+  act_own (call_statement e) fits active = tt
+  act_own (assignment targets es) fits active = tt
+  act_own (function_statement path method body) fits active = tt
+  act_own s fits active = absurd fits
 
   -- the local of a local function is listed behind the others
   own_local_listed : {at end : ℕ} {captured : Bool} (text : Text) (body : FunctionBody) → StepIs of at (StepKind.Declaration end captured) (statement_part (local_function text body)) → OwnListed f g (before_at of at).active (local_function text body)
@@ -100,14 +117,14 @@ module _ {Left : Type 0} {f : Function} {g : Fn} {z : Maker} {code : Steps} {par
       let there : slice_get (texts_in (all_entries code params names ahead)) y.listed ≡ Some text =
       slice_get-map (λ (entry : LocVar). entry.name) (all_entries code params names ahead) y.listed
       ∙ ap (option_map (λ (entry : LocVar). entry.name)) (ap₂ (λ (entries : List LocVar) n. slice_get entries n) all (sym place_of.first) ∙ at_place place_of.front entry place_of.rest) in
-      let own : NamedIn (texts_in (all_entries code params names ahead)) (y ∷ []) = only_named (texts_in (all_entries code params names ahead)) y there (λ some. is.flow.is.0) in
+      let own : NamedIn (texts_in (all_entries code params names ahead)) (y ∷ []) = only_named (texts_in (all_entries code params names ahead)) y there (λ some. is.flow.act.is.0) in
       let named = named_both (texts_in (all_entries code params names ahead)) active (y ∷ []) (named_before of at (omega (arith, less))) own in
       let few = few_behind of at kind part is in
       let known = are_listed of (active ++ y ∷ []) named (omega (arith, few, length-append active (y ∷ []))) in
       (listed_of (active ++ y ∷ []), listed_same g active y x (sym same_local) known)
 
   -- the local of a local function is listed
-  pub own_listed : {at end : ℕ} {captured : Bool} (s : Statement) → IsDeclarationPart s → StepIs of at (StepKind.Declaration end captured) (statement_part s) → OwnListed f g (before_at of at).active s
+  pub own_listed : {at end : ℕ} {captured : Bool} (s : Statement) → IsDeclarationPart s → StepIs of at (StepKind.Declaration end captured) (statement_part s) → OwnListed f g (before_at of at).active (as_assignment s)
   own_listed (local_statement names es) fits is = tt
   own_listed (local_function text body) fits is = own_local_listed text body is
   own_listed s fits is = absurd fits
@@ -179,9 +196,15 @@ module _ {f : Function} {g : Fn} {z : Maker} {lefts : ℕ → List (Option Inner
 
   pub act_step_read : {at : ℕ} {s : Statement} → StepIs of at StepKind.Act (statement_part s) → (now : Situation) → Begins of at now → StartFrom (suc (pcs of (suc at))) (from_at of (suc at)) → KindRead of at StepKind.Act (statement_part s) now
   act_step_read {at} {s} is now begins rest =
-      let none = act_own of s is.fits is.flow.is (before_at of at).active in
-      let read = act is s is.flow refl is.stands none now begins rest tt (act_starts s is.fits is.flow.is now (length (made_at of at StepKind.Act (statement_part s)).items)) in
-      let counts = act_is g (before_at of at).active (length now.scope.declared) (length (before_at of at).functions) (length (made_at of at StepKind.Act (statement_part s)).functions) s is.fits read.acted read.is in
+      let m = before_at of at in
+      let made = made_at of at StepKind.Act (statement_part s) in
+      let other = as_assignment s in
+      let flow = is.flow.act in
+      let makes = assigned_makes s m is.flow.formed in
+      let stands = act_stands of is in
+      let none = act_own of s is.fits m.active in
+      let read = act is other flow makes stands none now begins rest tt (act_starts s is.fits now (length made.items)) in
+      let counts = act_is g m.active (length now.scope.declared) (length m.functions) (length made.functions) s is.fits read.acted read.is in
       let count : 0 ≡ locals_of read.acted = sym counts.1 in
       record {
         draft = read.draft;
@@ -189,19 +212,19 @@ module _ {f : Function} {g : Fn} {z : Maker} {lefts : ℕ → List (Option Inner
         reads = λ n few. read.reads n (omega (arith, few, last_is of is));
         kind_is = read.kind ∙ counts.0;
         next = read.next ∙ sym (last_is of is);
-        declares = act_declares is s is.flow refl is.stands none now begins rest tt _ count;
-        left = act_left is s is.flow refl is.stands none now begins rest tt _ count;
-        seen = act_seen is s is.flow refl is.stands none now begins rest tt _ count;
-        later = act_later is s is.flow refl is.stands none now begins rest tt _ count;
+        declares = act_declares is other flow makes stands none now begins rest tt _ count;
+        left = act_left is other flow makes stands none now begins rest tt _ count;
+        seen = act_seen is other flow makes stands none now begins rest tt _ count;
+        later = act_later is other flow makes stands none now begins rest tt _ count;
         own_later = tt;
-        part_read = act_part is s is.flow refl is.stands none now begins rest tt _ count;
+        part_read = act_part is other flow makes stands none now begins rest tt _ count;
       }
     where
-      act_starts : (s : Statement) → IsActPart s → IsAct s → (now : Situation) (last : ℕ) → StartsWith f s now last
-      act_starts (call_statement e) fits is now last = tt
-      act_starts (assignment targets es) fits is now last = tt
-      act_starts (function_statement path method body) fits is now last = tt
-      act_starts s fits is now last = absurd fits
+      act_starts : (s : Statement) → IsActPart s → (now : Situation) (last : ℕ) → StartsWith f (as_assignment s) now last
+      act_starts (call_statement e) fits now last = tt
+      act_starts (assignment targets es) fits now last = tt
+      act_starts (function_statement path method body) fits now last = tt
+      act_starts s fits now last = absurd fits
 
   pub return_step_read : {at : ℕ} {es : Expressions} → StepIs of at StepKind.Return (values_part es) → (now : Situation) → Begins of at now → StartFrom (suc (pcs of (suc at))) (from_at of (suc at)) → KindRead of at StepKind.Return (values_part es) now
   return_step_read {at} {es} is now begins rest =
@@ -225,17 +248,17 @@ module _ {f : Function} {g : Fn} {z : Maker} {lefts : ℕ → List (Option Inner
 
   -- ---- declarations
 
-  some_declared : (s : Statement) → IsDeclarationPart s → IsAct s → are_some_names (names_declared (statement_part s)) ≡ true
+  some_declared : (s : Statement) → IsDeclarationPart s → IsAct (as_assignment s) → are_some_names (names_declared (statement_part s)) ≡ true
   some_declared (local_statement names es) fits is = is.0
   some_declared (local_function text body) fits is = both_hold _ _ is.0 refl
   some_declared s fits is = absurd fits
 
   declared_starts : {at end : ℕ} {captured : Bool} (s : Statement) (fits : IsDeclarationPart s) (is : StepIs of at (StepKind.Declaration end captured) (statement_part s)) (now : Situation) → Begins of at now → StartFrom (suc (pcs of (suc at))) (from_at of (suc at)) →
-      StartsWith f s now (length (made_at of at (StepKind.Declaration end captured) (statement_part s)).items)
+      StartsWith f (as_assignment s) now (length (made_at of at (StepKind.Declaration end captured) (statement_part s)).items)
   declared_starts {at} {end} {captured} (local_statement names es) fits is now begins rest =
-      subst (StartHere f now.scope names) (last_is of is) (declaration_starts of at end captured (statement_part (local_statement names es)) is is.flow.is.0 rest now.scope begins.declared begins.active)
+      subst (StartHere f now.scope names) (last_is of is) (declaration_starts of at end captured (statement_part (local_statement names es)) is is.flow.act.is.0 rest now.scope begins.declared begins.active)
   declared_starts {at} {end} {captured} (local_function text body) fits is now begins rest =
-      subst (StartHere f now.scope (text ∷ [])) (last_is of is) (declaration_starts of at end captured (statement_part (local_function text body)) is (both_hold _ _ is.flow.is.0 refl) rest now.scope begins.declared begins.active)
+      subst (StartHere f now.scope (text ∷ [])) (last_is of is) (declaration_starts of at end captured (statement_part (local_function text body)) is (both_hold _ _ is.flow.act.is.0 refl) rest now.scope begins.declared begins.active)
   declared_starts s fits is now begins rest = absurd fits
 
   pub declaration_step_read : {at end : ℕ} {captured : Bool} {s : Statement} → StepIs of at (StepKind.Declaration end captured) (statement_part s) → (now : Situation) → Begins of at now → StartFrom (suc (pcs of (suc at))) (from_at of (suc at)) →
@@ -243,25 +266,31 @@ module _ {f : Function} {g : Fn} {z : Maker} {lefts : ℕ → List (Option Inner
   declaration_step_read {at} {end} {captured} {s} is now begins rest =
       let kind = StepKind.Declaration end captured in
       let texts = names_declared (statement_part s) in
+      let m = before_at of at in
+      let made = made_at of at kind (statement_part s) in
+      let other = as_assignment s in
+      let flow = is.flow.act in
+      let makes = assigned_makes s m is.flow.formed in
+      let stands = declaration_stands of is in
       let own = own_listed of s is.fits is in
       let from = row_from (pcs of (suc at)) (pcs of (suc at)) (pcs of end) texts (omega arith) in
       let starts = declared_starts s is.fits is now begins rest in
-      let read = act is s is.flow refl is.stands own now begins rest from starts in
-      let counts = declaration_is g (before_at of at).active (length now.scope.declared) (length (before_at of at).functions) (length (made_at of at kind (statement_part s)).functions) s is.fits read.acted read.is in
+      let read = act is other flow makes stands own now begins rest from starts in
+      let counts = declaration_is g m.active (length now.scope.declared) (length m.functions) (length made.functions) s is.fits read.acted read.is in
       let listed = length_entries (pcs of (suc at)) (pcs of end) texts in
       let count : length (entries_by (pcs of) at kind (statement_part s)) ≡ locals_of read.acted = listed ∙ sym counts.1 in
-      let some = some_names texts (some_declared s is.fits is.flow.is) in
-      let later = act_later is s is.flow refl is.stands own now begins rest from starts count in
+      let some = some_names texts (some_declared s is.fits flow.is) in
+      let later = act_later is other flow makes stands own now begins rest from starts count in
       record {
         draft = read.draft;
         behind = read.behind;
         reads = λ n few. read.reads n (omega (arith, few, last_is of is));
         kind_is = (read.kind ∙ counts.0 ∙ ap₂ DraftKind.Declaration begins.declared (sym listed), omega (arith, some, listed));
         next = read.next ∙ sym (last_is of is);
-        declares = act_declares is s is.flow refl is.stands own now begins rest from starts count;
-        left = act_left is s is.flow refl is.stands own now begins rest from starts count;
-        seen = act_seen is s is.flow refl is.stands own now begins rest from starts count;
+        declares = act_declares is other flow makes stands own now begins rest from starts count;
+        left = act_left is other flow makes stands own now begins rest from starts count;
+        seen = act_seen is other flow makes stands own now begins rest from starts count;
         later = later;
         own_later = row_from (suc (pcs of at)) (pcs of (suc at)) (pcs of end) texts (omega (arith, later));
-        part_read = act_part is s is.flow refl is.stands own now begins rest from starts count;
+        part_read = act_part is other flow makes stands own now begins rest from starts count;
       }

@@ -3,7 +3,7 @@ use Rattle.std.proofs.Common.{◌≡◌, ◌<◌, ◌≤◌, ◌⊎◌, inl, inr
 use Rattle.std.proofs.lemmas.Bool.{cases_lt}
 use Rattle.lua_num.specs.Bytes.{Text}
 use Rattle.lua_tree.specs.Syntax as syntax
-use Rattle.lua_tree.specs.Syntax.{Expression, Expressions, Statement, Statements, assignment, binary_expression, no_expressions, parenthesized, return_statement, unary_expression}
+use Rattle.lua_tree.specs.Syntax.{Expression, Expressions, Statement, Statements, binary_expression, no_expressions, parenthesized, return_statement, unary_expression}
 use Rattle.lua_tree.specs.WellFormed.{depth_of_expression, depth_of_expressions}
 use Rattle.lua_tree.specs.declared.tree.BinaryOp.{BinaryOp}
 use Rattle.lua_tree.specs.declared.tree.UnaryOp.{UnaryOp}
@@ -22,13 +22,14 @@ use Rattle.same_flow.specs.Performed.{Performance, part_at, performed_to}
 use Rattle.same_flow.specs.Space.{space_of_expression, space_of_expressions, space_of_statement}
 use Rattle.same_flow.specs.Told.{at_beginning}
 use Rattle.reads_back.specs.Acted.{lean_depth}
+use Rattle.reads_back.specs.Assignments.{as_assignment}
 use Rattle.reads_back.specs.Coming.{Coming}
 use Rattle.reads_back.specs.Cores.{AllHaveCores}
 use Rattle.reads_back.proofs.EachMade.{AreLowMentions, IsMadeAt, both_low, low_in, low_in_all, made_lower, mentioned_made, statement_made_at}
-use Rattle.reads_back.proofs.FlowActs.{act_own, own_listed}
+use Rattle.reads_back.proofs.FlowActs.{act_own, act_stands, declaration_stands, own_listed}
 use Rattle.reads_back.proofs.FlowHeads.{counted_meant, counted_of}
 use Rattle.reads_back.proofs.FlowThere.{IsFlowAct, IsFlowBy, StepIs, before_at, made_at, made_before, now_at, pcs, step_is}
-use Rattle.reads_back.proofs.FunctionStatements.{lean_room_less}
+use Rattle.reads_back.proofs.FunctionStatements.{assigned_roomy}
 use Rattle.reads_back.proofs.HeadsSame.{AreCounted, mentions_of_head}
 use Rattle.reads_back.proofs.Mentions.{Mention, coming, mentions_in}
 use Rattle.reads_back.proofs.MentionsMeant.{IsMeant, adjust_meant, each_meant, meant_on, word_keeps}
@@ -48,10 +49,6 @@ HasRoomyPart (statement_part s) = space_of_statement s < 200
 HasRoomyPart (values_part es) = space_of_expressions es < 200
 HasRoomyPart (condition_part e) = space_of_expression e < 200
 HasRoomyPart (head_part es names) = space_of_expressions es < 200
-
-lean_roomy : (s : Statement) → lean_room s ≤ space_of_statement s
-lean_roomy (assignment targets es) = lean_room_less targets es
-lean_roomy s = omega arith
 
 -- ---- the levels of what a test and a head mention
 
@@ -92,14 +89,14 @@ module _ {Left : Type 0} {f : Function} {g : Fn} {z : Maker} {code : Steps} {par
         made_lower high 200 roomy 200 number shallow room (mentioned_made g m.active all high roomy mentions (coming m) meant.meant low number from (omega (arith, below, ap (λ (c : Coming). c.functions) meant.behind)))
 
     -- of an act
-    act_made : (s : Statement) → IsFlowAct s → OwnListed f g m.active s → StatementAt g None s m.active made.active (spot m) (spot made) → space_of_statement s < 200 →
+    act_made : (s : Statement) → IsFlowAct s → OwnListed f g m.active s → StatementAt g None s m.active made.active (spot m) (spot made) → lean_room s < 200 →
         (number : ℕ) → length m.functions ≤ number → number < length made.functions → IsMadeAt f g 200 200 number
     act_made s flow own stands room number from below =
         let less = is.within in
         let all = (made_before of at (omega (arith, less))).all in
         let meant = statement_meant g s flow.is m.active made.active (spot m) (spot made) stands in
         let one = statement_made_at g m.active all s flow.is own (coming m) meant.meant number from (omega (arith, below, ap (λ (c : Coming). c.functions) meant.behind)) in
-        made_lower (lean_depth s) 200 (lean_room s) 200 number (omega (arith, flow.shallow, lean_low s)) (omega (arith, room, lean_roomy s)) one
+        made_lower (lean_depth s) 200 (lean_room s) 200 number (omega (arith, flow.shallow, lean_low s)) (omega (arith, room)) one
 
   -- of the head of a loop, whose variables are declared before its values are made
   module _ {at foot end variables_end : ℕ} {captured : Bool} {es : Expressions} {texts : List Text} where
@@ -132,8 +129,10 @@ module _ {Left : Type 0} {f : Function} {g : Fn} {z : Maker} {code : Steps} {par
         (mentioned_made g m.active all high little mentions (coming declared) meant.meant (head_low numeric is) number (omega (arith, from, same)) (omega (arith, below, ap (λ (c : Coming). c.functions) meant.behind)))
 
   step_made : {at : ℕ} (kind : StepKind) (part : Part) → StepIs of at kind part → HasRoomyPart part → (number : ℕ) → length (before_at of at).functions ≤ number → number < length (made_at of at kind part).functions → IsMadeAt f g 200 200 number
-  step_made {at} StepKind.Act (statement_part s) is room = act_made is s is.flow (act_own of s is.fits is.flow.is (before_at of at).active) is.stands room
-  step_made (StepKind.Declaration end captured) (statement_part s) is room = act_made is s is.flow (own_listed of s is.fits is) is.stands room
+  step_made {at} StepKind.Act (statement_part s) is room =
+      act_made is (as_assignment s) is.flow.act (act_own of s is.fits (before_at of at).active) (act_stands of is) (omega (arith, room, assigned_roomy s is.flow.formed))
+  step_made (StepKind.Declaration end captured) (statement_part s) is room =
+      act_made is (as_assignment s) is.flow.act (own_listed of s is.fits is) (declaration_stands of is) (omega (arith, room, assigned_roomy s is.flow.formed))
   step_made StepKind.Return (values_part es) is room = act_made is (return_statement es) is.flow tt is.stands room
   step_made {at} (StepKind.Test when target negated) (condition_part e) is room =
       let m = before_at of at in

@@ -24,6 +24,7 @@ use Rattle.scheme_stands.specs.Words.{Fn}
 use Rattle.same_flow.specs.Listed.{entries_by}
 use Rattle.same_flow.specs.Performed.{Performance}
 use Rattle.reads_back.specs.Acted.{Acted, IsActed, act_levels, act_statement}
+use Rattle.reads_back.specs.Assignments.{as_assignment}
 use Rattle.reads_back.specs.Placed.{IsDraftKind, listed_before}
 use Rattle.reads_back.specs.ReadAs.{part_of}
 use Rattle.reads_back.proofs.ActsRead.{Declares}
@@ -77,10 +78,10 @@ module _ (f : Function) (g : Fn) (lefts : ℕ → List (Option Inner)) (m : Make
     pub part : draft.part ≡ nothing_part
     pub levels : draft.levels ≡ 1
 
-  -- what is written of a step, behind which so many functions were made
+  -- what is written of a step, behind which so many functions were made; a function statement is read as the assignment that it stands for
   abbrev pub PartRead : (pcs : ℕ → ℕ) → StepKind → Part → (behind : ℕ) → Drafted → Type 0
-  PartRead pcs StepKind.Act (statement_part s) behind draft = ActPart s behind draft
-  PartRead pcs (StepKind.Declaration end captured) (statement_part s) behind draft = ActPart s behind draft
+  PartRead pcs StepKind.Act (statement_part s) behind draft = ActPart (as_assignment s) behind draft
+  PartRead pcs (StepKind.Declaration end captured) (statement_part s) behind draft = ActPart (as_assignment s) behind draft
   PartRead pcs StepKind.Return (values_part es) behind draft = ActPart (return_statement es) behind draft
   PartRead pcs (StepKind.Test when target negated) (condition_part e) behind draft = TestPart when (pcs target) e behind draft
   PartRead pcs (StepKind.Jump target) part behind draft = LonePart draft

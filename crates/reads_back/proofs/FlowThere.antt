@@ -8,8 +8,8 @@ use Rattle.lua_num.specs.Bytes.{Text}
 use Rattle.lua_tree.specs.Names.{are_names, are_some_names, is_name}
 use Rattle.lua_tree.specs.OneLine.{one_line_expression, one_line_expressions, one_line_statement}
 use Rattle.lua_tree.specs.Outline as outline
-use Rattle.lua_tree.specs.Syntax.{Expression, Expressions, Statement, Statements, assignment, call_statement, local_function, local_statement, return_statement}
-use Rattle.lua_tree.specs.WellFormed.{depth_of_expression, depth_of_expressions, depth_of_statement, has_expressions}
+use Rattle.lua_tree.specs.Syntax.{Expression, Expressions, Statement, Statements, assignment, call_statement, function_statement, local_function, local_statement, return_statement}
+use Rattle.lua_tree.specs.WellFormed.{depth_of_expression, depth_of_expressions, depth_of_statement, formed_statement, has_expressions}
 use Rattle.proto.specs.declared.parts.LocVar.{LocVar}
 use Rattle.core_expr.specs.Places.{name_of_entry, name_of_local, place}
 use Rattle.core_expr.specs.Values.{Inner}
@@ -34,6 +34,7 @@ use Rattle.same_flow.proofs.LocalsListed.{locals_listed}
 use Rattle.same_flow.proofs.StatementsTold.{laid_are_told, laid_tell}
 use Rattle.same_flow.proofs.StepsTold.{EndLater}
 use Rattle.reads_back.specs.Acted.{IsAct}
+use Rattle.reads_back.specs.Assignments.{as_assignment}
 use Rattle.reads_back.specs.Cores.{AllHaveCores}
 use Rattle.reads_back.specs.Stepped.{KindAt, StepStands, begun_by}
 use Rattle.reads_back.specs.Straight.{StatementIndexesNoTable}
@@ -61,6 +62,11 @@ pub record IsFlowAct (s : Statement) : Type 0 where
   pub shallow : depth_of_statement s ≤ 199
   pub on_line : one_line_statement s ≡ s
 
+-- a statement that is one, or a function statement that stands for one
+pub record IsFlowStatement (s : Statement) : Type 0 where
+  pub formed : formed_statement s ≡ true
+  pub act : IsFlowAct (as_assignment s)
+
 -- the leaf of a condition on one line, with `==` for `~=`
 pub record IsFlowTest (e : Expression) : Type 0 where
   pub has : HasTest e
@@ -78,7 +84,7 @@ pub record IsFlowHead (es : Expressions) (names : List Text) : Type 0 where
 
 abbrev pub IsFlowPart : Part → Type 0
 IsFlowPart nothing_part = Unit {0}
-IsFlowPart (statement_part s) = IsFlowAct s
+IsFlowPart (statement_part s) = IsFlowStatement s
 IsFlowPart (values_part es) = IsFlowAct (return_statement es)
 IsFlowPart (condition_part e) = IsFlowTest e
 IsFlowPart (head_part es names) = IsFlowHead es names
@@ -114,17 +120,18 @@ abbrev pub IsFlowFunction : Function → Fn → Maker → (lefts : ℕ → List 
 IsFlowFunction f g z lefts parts code params names ahead block = IsFlowBy (AreLeft f g lefts parts) f g z code params names ahead block
 
 -- names that a part declares can be written
-good_act : (s : Statement) → IsAct s → HasGoodNames (statement_part s)
+good_act : (s : Statement) → IsAct (as_assignment s) → HasGoodNames (statement_part s)
 good_act (local_statement names es) is = good_names names is.0
 good_act (local_function text body) is = both_hold _ _ is.0 refl
 good_act (call_statement e) is = refl
 good_act (assignment targets es) is = refl
+good_act (function_statement path method body) is = refl
 good_act (return_statement es) is = refl
 good_act s is = absurd is
 
 good_part : (part : Part) → IsFlowPart part → HasGoodNames part
 good_part nothing_part is = tt
-good_part (statement_part s) is = good_act s is.is
+good_part (statement_part s) is = good_act s is.act.is
 good_part (values_part es) is = tt
 good_part (condition_part e) is = tt
 good_part (head_part es names) is = good_names names is.good

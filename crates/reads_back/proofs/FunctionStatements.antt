@@ -126,11 +126,11 @@ pub same_ends : (s : Statement) → ends_block (as_assignment s) ≡ ends_block 
 same_ends (function_statement path method body) = refl
 same_ends s = refl
 
-pub same_takes : (s : Statement) → statement_takes_arguments (as_assignment s) ≡ statement_takes_arguments s
+same_takes : (s : Statement) → statement_takes_arguments (as_assignment s) ≡ statement_takes_arguments s
 same_takes (function_statement path method body) = refl
 same_takes s = refl
 
-pub same_begins : (s : Statement) → statement_begins_with_paren (as_assignment s) ≡ statement_begins_with_paren s
+same_begins : (s : Statement) → statement_begins_with_paren (as_assignment s) ≡ statement_begins_with_paren s
 same_begins (function_statement [] method body) = refl
 same_begins (function_statement (name ∷ names) method body) = (path_is_chain name names method).bare
 same_begins s = refl
@@ -188,7 +188,7 @@ lean_is_less (syntax.expression target no_expressions) (syntax.expression (funct
     by false = omega arith
 lean_is_less targets es = omega arith
 
-assigned_lean : (s : Statement) → formed_statement s ≡ true → lean_depth (as_assignment s) ≤ depth_of_statement s
+pub assigned_lean : (s : Statement) → formed_statement s ≡ true → lean_depth (as_assignment s) ≤ depth_of_statement s
 assigned_lean (function_statement [] method body) formed = not_so formed
 assigned_lean (function_statement (name ∷ names) method body) formed =
     let behind = second_of_both (are_some_names (name ∷ names)) _ formed in
@@ -212,7 +212,7 @@ acts_lean deep (syntax.statement line semi s rest) are formed =
 
 -- ---- and it has as much room
 
-pub lean_room_less : (targets es : Expressions) → lean_room_assignment targets es ≤ max (space_of_expressions targets) (space_of_expressions es)
+lean_room_less : (targets es : Expressions) → lean_room_assignment targets es ≤ max (space_of_expressions targets) (space_of_expressions es)
 lean_room_less (syntax.expression target no_expressions) (syntax.expression (function_expression line body) no_expressions) = by (is_path target)
   where
     by : (path : Bool) → (if path then suc (space_of_body body) else max (space_of_expression target) (suc (space_of_body body))) ≤ max (max (space_of_expression target) 0) (max (1 + space_of_body body) 0)
@@ -223,7 +223,7 @@ lean_room_less targets es = omega arith
 self_room : (method : Bool) (body : FunctionBody) → space_of_body (with_self method body) ≡ space_of_body body
 self_room method (function_body params vararg block first last) = refl
 
-assigned_roomy : (s : Statement) → formed_statement s ≡ true → lean_room (as_assignment s) ≤ space_of_statement s
+pub assigned_roomy : (s : Statement) → formed_statement s ≡ true → lean_room (as_assignment s) ≤ space_of_statement s
 assigned_roomy (function_statement [] method body) formed = not_so formed
 assigned_roomy (function_statement (name ∷ names) method body) formed =
     let behind = second_of_both (are_some_names (name ∷ names)) _ formed in

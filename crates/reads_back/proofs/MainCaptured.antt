@@ -5,19 +5,19 @@ use Rattle.lua_num.specs.Bytes.{Text}
 use Rattle.lua_tree.specs.Outline as tree
 use Rattle.lua_tree.specs.Outline.{Binding, Mark, Place, beginning, innermost, outline, statements_part}
 use Rattle.lua_tree.specs.Resolved.{resolved}
-use Rattle.lua_tree.specs.Scoping.{Scoped, is_captured}
+use Rattle.lua_tree.specs.Scoping.{is_captured}
 use Rattle.lua_tree.specs.Syntax.{Source, Statements}
-use Rattle.lua_tree.specs.WellFormed.{WellFormed, formed_statements}
+use Rattle.lua_tree.specs.WellFormed.{formed_statements}
 use Rattle.core_expr.specs.Values.{Inner}
 use Rattle.recover_expr.specs.Placing.{Steps}
 use Rattle.recover_expr.specs.Situation.{Function}
 use Rattle.scheme.specs.Making.{Ahead, Maker}
-use Rattle.scheme.specs.Scheme.{Fits, ahead_of}
+use Rattle.scheme.specs.Scheme.{ahead_of}
 use Rattle.scheme_stands.specs.Places.{Between, Here, ScopeAt, ahead_at, ahead_by}
-use Rattle.scheme_stands.specs.Words.{Fn, asking}
-use Rattle.scheme_stands.proofs.Growth.{fn_of, spot}
+use Rattle.scheme_stands.specs.Words.{Fn}
+use Rattle.scheme_stands.proofs.Growth.{spot}
 use Rattle.scheme_stands.proofs.Here.{here_all, here_as}
-use Rattle.scheme_stands.proofs.Makers.{begun, main_maker, no_names}
+use Rattle.scheme_stands.proofs.Makers.{begun}
 use Rattle.same_flow.specs.SameFlow.{begun_of}
 use Rattle.reads_back.proofs.ActiveCaptured.{AllHome, captures_active_params, home_below}
 use Rattle.reads_back.proofs.CapturedFlow.{steps_capture_like, steps_capture_no_hidden}
@@ -56,8 +56,3 @@ main_captured source {block = block} of takes formed same =
     let scope = here.scope in
     flow_captured_like of takes formed all beginning [] here.between scope here.ahead 0 1 all (main_ahead source) (home_below 0 (innermost beginning.around) beginning.scope scope.declared)
     (λ declaration low high. ap (λ (walk : tree.Walk). is_captured declaration walk.marks) (sym (same beginning)))
-
-pub main_captured_like : (source : Source) → WellFormed source → Scoped source → Fits source → {f : Function} {z : Maker} {lefts : ℕ → List (Option Inner)} {parts : ℕ → tree.Part} {code : Steps} {block : Statements}
-    (of : IsFlowFunction f (asking no_names (fn_of (main_maker source))) z lefts parts code [] [] (ahead_of (resolved source)) block) (takes : f.of.params ≡ 0) → formed_statements block ≡ true →
-    ((place : Place) → statements_part block place ≡ statements_part source.body place) → AreCapturedLike of takes
-main_captured_like source well scoped fits of takes formed same = main_captured source of takes formed same

@@ -108,7 +108,7 @@ step_scoped kind part state fits = absurd fits
 -- it brings a name
 pub names_some : (kind : StepKind) (part : Part) → IsBringing kind → PartFits kind part → IsFlowPart part → 0 < length (names_by kind part)
 names_some (StepKind.Declaration end captured) (statement_part (local_function text body)) brings fits flow = omega arith
-names_some (StepKind.Declaration end captured) (statement_part (local_statement names es)) brings fits flow = some_names names flow.is.0
+names_some (StepKind.Declaration end captured) (statement_part (local_statement names es)) brings fits flow = some_names names flow.act.is.0
 names_some (StepKind.Declaration end captured) (statement_part s) brings fits flow = absurd fits
 names_some (StepKind.Head true foot end variables_end captured) (head_part es names) brings fits flow = some_names names flow.good
 names_some (StepKind.Head false foot end variables_end captured) (head_part es names) brings fits flow = some_names names flow.good

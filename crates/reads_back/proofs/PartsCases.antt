@@ -18,15 +18,18 @@ use Rattle.scheme_stands.specs.Relation.{StatementAt}
 use Rattle.scheme_stands.specs.Words.{Fn}
 use Rattle.same_flow.specs.Performed.{kind_made}
 use Rattle.same_flow.specs.Told.{IsActPart, IsDeclarationPart}
-use Rattle.reads_back.proofs.FlowActs.{act_own, comes, final, own_listed}
+use Rattle.reads_back.specs.Assignments.{as_assignment}
+use Rattle.reads_back.proofs.FlowActs.{act_own, act_stands, comes, declaration_stands, final, own_listed}
 use Rattle.reads_back.proofs.FlowHeads.{comes as head_comes, of_head}
 use Rattle.reads_back.proofs.FlowRead.{ActPart, HeadPart, LonePart, PartRead, TestPart, as_many, final_here, upvalues_here}
 use Rattle.reads_back.proofs.FlowTests.{tested_is}
 use Rattle.reads_back.proofs.FlowThere.{IsFlowAct, IsFlowFunction, IsFlowHead, IsFlowTest, StepIs, before_at, made_at, made_before, pcs}
+use Rattle.reads_back.proofs.FunctionStatements.{same_ends}
 use Rattle.reads_back.proofs.HeadsSame.{AreOfHead, RewrittenHead, head_rewritten, mentions_of_loop}
 use Rattle.reads_back.proofs.LocalsLeave.{listed_of}
 use Rattle.reads_back.proofs.Mentions.{IsAhead, mentions_in}
 use Rattle.reads_back.proofs.Rewriting.{IsMadeBy, OwnListed, RewrittenAct, code as code_of, mentions_of_statement}
+use Rattle.reads_back.proofs.SameStatements.{assigned_makes}
 use Rattle.reads_back.proofs.StraightActs.{all_written, written}
 use Rattle.reads_back.proofs.TestsMeant.{test_meant}
 use Rattle.reads_back.proofs.TestsSame.{tested_expression}
@@ -153,9 +156,9 @@ module _ {f : Function} {g : Fn} {z : Maker} {lefts : ℕ → List (Option Inner
 
   -- ---- all cases
 
-  -- what holds of each kind of draft
+  -- what holds of each kind of draft; a function statement is read as the assignment that it stands for
   pub record Cases (Holds : StepKind → Part → Drafted → Type 0) : Type 0 where
-    pub acts : (at : ℕ) (kind : StepKind) (s : Statement) (behind : ℕ) (draft : Drafted) → IsActKind kind → ends_block s ≡ false → ActThere at s behind draft → Holds kind (statement_part s) draft
+    pub acts : (at : ℕ) (kind : StepKind) (s : Statement) (behind : ℕ) (draft : Drafted) → IsActKind kind → ends_block (as_assignment s) ≡ false → ActThere at (as_assignment s) behind draft → Holds kind (statement_part s) draft
     pub returns : (at : ℕ) (es : Expressions) (behind : ℕ) (draft : Drafted) → ActThere at (return_statement es) behind draft → Holds StepKind.Return (values_part es) draft
     pub tests : (at target negated : ℕ) (when : Bool) (e : Expression) (behind : ℕ) (draft : Drafted) → TestThere at target negated when e behind draft → Holds (StepKind.Test when target negated) (condition_part e) draft
     pub heads : (at foot end variables_end : ℕ) (captured numeric : Bool) (es : Expressions) (texts : List Text) (behind : ℕ) (draft : Drafted) → HeadThere at foot end variables_end captured numeric es texts behind draft →
@@ -166,11 +169,12 @@ module _ {f : Function} {g : Fn} {z : Maker} {lefts : ℕ → List (Option Inner
   pub by_cases : (Holds : StepKind → Part → Drafted → Type 0) → Cases Holds → {at : ℕ} (kind : StepKind) (part : Part) → StepIs of at kind part → (draft : Drafted) →
       PartRead f g lefts (before_at of at) (pcs of) kind part (length (made_at of at kind part).functions) draft → Holds kind part draft
   by_cases Holds cases {at} StepKind.Act (statement_part s) is draft read =
-      let goes_on = act_goes_on s is.fits in
-      cases.acts at StepKind.Act s (length (made_at of at StepKind.Act (statement_part s)).functions) draft tt goes_on (act_there is s is.flow refl is.stands (act_own of s is.fits is.flow.is (before_at of at).active) draft read)
+      let m = before_at of at in
+      let there = act_there is (as_assignment s) is.flow.act (assigned_makes s m is.flow.formed) (act_stands of is) (act_own of s is.fits m.active) draft read in
+      cases.acts at StepKind.Act s (length (made_at of at StepKind.Act (statement_part s)).functions) draft tt (same_ends s ∙ act_goes_on s is.fits) there
   by_cases Holds cases {at} (StepKind.Declaration end captured) (statement_part s) is draft read =
-      let goes_on = declaration_goes_on s is.fits in
-      cases.acts at (StepKind.Declaration end captured) s (length (made_at of at (StepKind.Declaration end captured) (statement_part s)).functions) draft tt goes_on (act_there is s is.flow refl is.stands (own_listed of s is.fits is) draft read)
+      let there = act_there is (as_assignment s) is.flow.act (assigned_makes s (before_at of at) is.flow.formed) (declaration_stands of is) (own_listed of s is.fits is) draft read in
+      cases.acts at (StepKind.Declaration end captured) s (length (made_at of at (StepKind.Declaration end captured) (statement_part s)).functions) draft tt (same_ends s ∙ declaration_goes_on s is.fits) there
   by_cases Holds cases {at} StepKind.Return (values_part es) is draft read =
       cases.returns at es (length (made_at of at StepKind.Return (values_part es)).functions) draft (act_there is (return_statement es) is.flow refl is.stands tt draft read)
   by_cases Holds cases {at} (StepKind.Test when target negated) (condition_part e) is draft read =

@@ -19,6 +19,7 @@ use Rattle.scheme_stands.specs.Words.{Fn}
 use Rattle.same_flow.specs.Written.{ArePartsDeep, IsPartDeep}
 use Rattle.same_flow.specs.Alike.{IsKindLike}
 use Rattle.reads_back.specs.Acted.{act_statement}
+use Rattle.reads_back.specs.Assignments.{as_assignment}
 use Rattle.reads_back.specs.ReadAs.{part_of}
 use Rattle.reads_back.specs.Written.{AreLevelled, HasNegated, IsLevelled}
 use Rattle.reads_back.proofs.Deeper.{some_depth}
@@ -131,8 +132,8 @@ module _ {f : Function} {g : Fn} {z : Maker} {lefts : ℕ → List (Option Inner
     acts = λ at kind s behind draft is goes_on act other like negated.
         let m = before_at of at in
         let t = act_statement (writing f g lefts m) (length m.constants) (lefts (length m.functions)) act.read.acted in
-        let ends = written_ends act.made of.left s act.flow.is act.flow.shallow act.own (length m.functions) behind act.read.acted (length m.constants) act.read.is ∙ goes_on in
-        subst (IsPartDeep draft.levels other) (sym (act.read.part ∙ part_stays t ends)) (deep_statement draft.levels other t (act_deep at s behind draft act));
+        let ends = written_ends act.made of.left (as_assignment s) act.flow.is act.flow.shallow act.own (length m.functions) behind act.read.acted (length m.constants) act.read.is ∙ goes_on in
+        subst (IsPartDeep draft.levels other) (sym (act.read.part ∙ part_stays t ends)) (deep_statement draft.levels other t (act_deep at (as_assignment s) behind draft act));
     returns = λ at es behind draft act other like negated.
         let m = before_at of at in
         subst (IsPartDeep draft.levels other) (sym act.read.part)
@@ -159,7 +160,7 @@ module _ {f : Function} {g : Fn} {z : Maker} {lefts : ℕ → List (Option Inner
 
   levelled_cases : Cases of Levelled
   levelled_cases = record {
-    acts = λ at kind s behind draft is goes_on act other like negated. let low = act_deep at s behind draft act in level_of_act draft.levels kind other is like (omega (arith, low));
+    acts = λ at kind s behind draft is goes_on act other like negated. let low = act_deep at (as_assignment s) behind draft act in level_of_act draft.levels kind other is like (omega (arith, low));
     returns = λ at es behind draft act other like negated. let low = act_deep at (return_statement es) behind draft act in subst (IsLevelled draft.levels) (sym like) (omega (arith, low));
     tests = λ at target negated when e behind draft test other like has.
         let m = before_at of at in

@@ -27,6 +27,7 @@ use Rattle.same_flow.specs.Alike.{IsKindLike}
 use Rattle.same_flow.specs.Performed.{part_at}
 use Rattle.same_flow.specs.Told.{AreCounted, IsActPart, IsDeclarationPart, IsLeaf, PartFits}
 use Rattle.reads_back.specs.Acted.{Acted, IsActed, act_statement, assigned, assigned_levels, assigned_statement, called, declared, declared_function, local_by}
+use Rattle.reads_back.specs.Assignments.{as_assignment}
 use Rattle.reads_back.specs.Cores.{HasCore}
 use Rattle.reads_back.specs.ReadAs.{part_of}
 use Rattle.reads_back.proofs.FlowRead.{PartRead, writing}
@@ -86,6 +87,20 @@ written_fits : (at : Place) (n : ℕ) (fs : List (Option Inner)) (g : Fn) (activ
 written_fits at n fs g active StepKind.Act s before behind acted act fits is = act_fits (act_statement at n fs acted) (acts_as at n fs g active s before behind acted fits is)
 written_fits at n fs g active (StepKind.Declaration end captured) s before behind acted act fits is = declaration_fits end captured (act_statement at n fs acted) (declares_as at n fs g active s before behind acted fits is)
 written_fits at n fs g active kind s before behind acted act fits is = absurd act
+
+-- a function statement is an act, as its assignment is
+assigned_act : (s : Statement) → IsActPart s → IsActPart (as_assignment s)
+assigned_act (function_statement path method body) fits = tt
+assigned_act s fits = fits
+
+assigned_declaration : (s : Statement) → IsDeclarationPart s → IsDeclarationPart (as_assignment s)
+assigned_declaration (function_statement path method body) fits = absurd fits
+assigned_declaration s fits = fits
+
+assigned_fits : (kind : StepKind) (s : Statement) → IsActKind kind → PartFits kind (statement_part s) → PartFits kind (statement_part (as_assignment s))
+assigned_fits StepKind.Act s is fits = assigned_act s fits
+assigned_fits (StepKind.Declaration end captured) s is fits = assigned_declaration s fits
+assigned_fits kind s is fits = absurd is
 
 -- ---- the words of a test
 
@@ -219,7 +234,7 @@ module _ {f : Function} {g : Fn} {z : Maker} {lefts : ℕ → List (Option Inner
   fit_cases = record {
     acts = λ at kind s behind draft is goes_on act fits.
         let m = before_at of at in
-        subst (PartFits kind) (sym act.read.part) (written_fits (writing f g lefts m) (length m.constants) (lefts (length m.functions)) g m.active kind s (length m.functions) behind act.read.acted is fits act.read.is);
+        subst (PartFits kind) (sym act.read.part) (written_fits (writing f g lefts m) (length m.constants) (lefts (length m.functions)) g m.active kind (as_assignment s) (length m.functions) behind act.read.acted is (assigned_fits kind s is fits) act.read.is);
     returns = λ at es behind draft act fits.
         let m = before_at of at in
         subst (PartFits StepKind.Return) (sym act.read.part)

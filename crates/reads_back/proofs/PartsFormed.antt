@@ -17,6 +17,7 @@ use Rattle.scheme.specs.declared.making.Active.{Active}
 use Rattle.scheme_stands.specs.Words.{Fn}
 use Rattle.same_flow.specs.Written.{ArePartsFormed, IsPartFormed}
 use Rattle.reads_back.specs.Acted.{Acted, IsActed, act_statement, returned}
+use Rattle.reads_back.specs.Assignments.{as_assignment}
 use Rattle.reads_back.specs.ReadAs.{part_of}
 use Rattle.reads_back.proofs.FlowRead.{PartRead, writing}
 use Rattle.reads_back.proofs.FlowThere.{IsFlowFunction, StepIs, before_at, made_at, pcs}
@@ -94,7 +95,7 @@ module _ {f : Function} {g : Fn} {z : Maker} {lefts : ℕ → List (Option Inner
 
   formed_cases : Cases of Formed
   formed_cases = record {
-    acts = λ at kind s behind draft is goes_on act. act_formed at s behind draft act goes_on;
+    acts = λ at kind s behind draft is goes_on act. act_formed at (as_assignment s) behind draft act goes_on;
     returns = return_formed;
     tests = test_formed;
     heads = head_formed;

@@ -21,9 +21,10 @@ use Rattle.scheme_stands.specs.Words.{Fn}
 use Rattle.same_flow.specs.Performed.{head_made, kind_at, kind_made, names_in, part_at, part_made, tested_made}
 use Rattle.same_flow.proofs.ListedRun.{step_there}
 use Rattle.reads_back.specs.Acted.{act_statement}
+use Rattle.reads_back.specs.Assignments.{as_assignment}
 use Rattle.reads_back.specs.ReadAs.{part_of}
 use Rattle.reads_back.proofs.FlowActs as acts
-use Rattle.reads_back.proofs.FlowActs.{act_own, own_listed, same_made}
+use Rattle.reads_back.proofs.FlowActs.{act_own, act_stands, declaration_stands, own_listed, same_made}
 use Rattle.reads_back.proofs.FlowHeads as heads
 use Rattle.reads_back.proofs.FlowHeads.{head_final, head_made_here, rewritten}
 use Rattle.reads_back.proofs.FlowRead.{ActPart, HeadPart, PartRead, TestPart, as_many, left, taken, writing}
@@ -33,6 +34,7 @@ use Rattle.reads_back.proofs.FlowThere.{IsFlowAct, IsFlowFunction, StepIs, befor
 use Rattle.reads_back.proofs.HeadsSame.{head_same}
 use Rattle.reads_back.proofs.PlacedInside.{GoesBack, laid_back}
 use Rattle.reads_back.proofs.Rewriting.{OwnListed}
+use Rattle.reads_back.proofs.SameStatements.{assigned_makes}
 use Rattle.reads_back.proofs.StraightActs.{written}
 use Rattle.reads_back.proofs.TestsMarks.{KeepsNames}
 use Rattle.reads_back.proofs.TestsSame.{CanBeTurned, test_same}
@@ -100,8 +102,10 @@ module _ {f : Function} {g : Fn} {z : Maker} {lefts : ℕ → List (Option Inner
   -- what is written of a step makes the same among steps that have as many variables in each head
   pub kind_made_same : (other : Steps) → SameHeads code other → {at : ℕ} (kind : StepKind) (part : Part) (is : StepIs of at kind part) → TestTurns at kind part →
       (draft : Drafted) → PartRead f g lefts (before_at of at) (pcs of) kind part (length (made_at of at kind part).functions) draft → kind_made code kind part (before_at of at) ≡ kind_made other kind draft.part (before_at of at)
-  kind_made_same other same {at} StepKind.Act (statement_part s) is turns draft read = sym (act_made is s is.flow refl is.stands (act_own of s is.fits is.flow.is (before_at of at).active) draft read)
-  kind_made_same other same (StepKind.Declaration end captured) (statement_part s) is turns draft read = sym (act_made is s is.flow refl is.stands (own_listed of s is.fits is) draft read)
+  kind_made_same other same {at} StepKind.Act (statement_part s) is turns draft read =
+      sym (act_made is (as_assignment s) is.flow.act (assigned_makes s (before_at of at) is.flow.formed) (act_stands of is) (act_own of s is.fits (before_at of at).active) draft read)
+  kind_made_same other same {at} (StepKind.Declaration end captured) (statement_part s) is turns draft read =
+      sym (act_made is (as_assignment s) is.flow.act (assigned_makes s (before_at of at) is.flow.formed) (declaration_stands of is) (own_listed of s is.fits is) draft read)
   kind_made_same other same StepKind.Return (values_part es) is turns draft read = sym (act_made is (return_statement es) is.flow refl is.stands tt draft read)
   kind_made_same other same (StepKind.Test when target negated) (condition_part e) is turns draft read = sym (test_made is turns.0 draft read)
   kind_made_same other same (StepKind.Jump target) part is turns draft read = refl

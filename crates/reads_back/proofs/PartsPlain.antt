@@ -13,6 +13,7 @@ use Rattle.scheme.specs.Making.{Ahead, Maker}
 use Rattle.scheme_stands.specs.Words.{Fn}
 use Rattle.same_flow.specs.SameFlow.{HasPlainParts, IsPlainPart}
 use Rattle.reads_back.specs.Acted.{act_statement}
+use Rattle.reads_back.specs.Assignments.{as_assignment}
 use Rattle.reads_back.specs.ReadAs.{part_of}
 use Rattle.reads_back.proofs.FlowRead.{PartRead, writing}
 use Rattle.reads_back.proofs.FlowThere.{IsFlowFunction, StepIs, before_at, made_at, pcs}
@@ -41,7 +42,7 @@ module _ {f : Function} {g : Fn} {z : Maker} {lefts : ℕ → List (Option Inner
 
   plain_cases : Cases of IsPlain
   plain_cases = record {
-    acts = λ at kind s behind draft is goes_on act. act_part_plain at s behind draft act;
+    acts = λ at kind s behind draft is goes_on act. act_part_plain at (as_assignment s) behind draft act;
     returns = λ at es behind draft act. act_part_plain at (return_statement es) behind draft act;
     tests = λ at target negated when e behind draft test.
         let m = before_at of at in

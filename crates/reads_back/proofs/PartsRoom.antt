@@ -4,7 +4,7 @@ use Rattle.std.proofs.lemmas.Option.{same_Some}
 use Rattle.std.specs.Prelude.{Option, Some, slice_get}
 use Rattle.lua_num.specs.Bytes.{Text}
 use Rattle.lua_tree.specs.Outline as outline
-use Rattle.lua_tree.specs.Syntax.{Expression, Expressions, Statement, Statements, assignment, return_statement}
+use Rattle.lua_tree.specs.Syntax.{Expression, Expressions, Statement, Statements, return_statement}
 use Rattle.lua_tree.specs.WellFormed.{formed_statement}
 use Rattle.core_expr.specs.Values.{Inner}
 use Rattle.recover_expr.specs.Drafts.{Drafted, Part, condition_part, head_part, nothing_part, statement_part, values_part}
@@ -20,37 +20,33 @@ use Rattle.same_flow.specs.Alike.{IsKindLike}
 use Rattle.same_flow.specs.Performed.{part_at}
 use Rattle.same_flow.specs.Space.{space_of_expressions, space_of_statement}
 use Rattle.reads_back.specs.Acted.{lean_depth}
+use Rattle.reads_back.specs.Assignments.{as_assignment}
 use Rattle.reads_back.specs.Written.{AreFew, HasNegated, IsPartFew}
 use Rattle.reads_back.proofs.FlowRead.{PartRead, as_many, writing}
-use Rattle.reads_back.proofs.FlowThere.{IsFlowFunction, StepIs, before_at, made_at, pcs}
-use Rattle.reads_back.proofs.FunctionStatements.{lean_room_less}
+use Rattle.reads_back.proofs.FlowThere.{IsFlowFunction, IsFlowPart, StepIs, before_at, made_at, pcs}
+use Rattle.reads_back.proofs.FunctionStatements.{assigned_formed, assigned_lean, assigned_roomy}
 use Rattle.reads_back.proofs.HeadsSame.{head_low}
 use Rattle.reads_back.proofs.PartsCases.{ActThere, Cases, IsLoneKind, by_cases}
 use Rattle.reads_back.proofs.PartsDeep.{test_negated}
 use Rattle.reads_back.proofs.PlacedReads.{ArePlaced, placed_read}
 use Rattle.reads_back.proofs.Rooms.{lean_room}
-use Rattle.reads_back.proofs.StraightActs.{lean_low}
 use Rattle.reads_back.proofs.TestedAs.{condition_word}
 use Rattle.reads_back.proofs.TestsLow.{NumbersStay, test_low}
 
 -- ---- parts of steps
 
-lean_room_low : (s : Statement) → lean_room s ≤ space_of_statement s
-lean_room_low (assignment targets es) = lean_room_less targets es
-lean_room_low s = omega arith
-
--- the same where a path that a function goes to does not count
+-- the same where a path that a function goes to does not count, whether a function statement has it or an assignment
 abbrev pub KindInLeanRoom : (levels : ℕ) → StepKind → Part → Type 0
-KindInLeanRoom levels kind (statement_part s) = levels ≤ suc (lean_room s)
+KindInLeanRoom levels kind (statement_part s) = levels ≤ suc (lean_room (as_assignment s))
 KindInLeanRoom levels kind part = KindInRoom levels kind part
 
 abbrev pub IsPartLeanFew : (levels : ℕ) → Part → Type 0
-IsPartLeanFew levels (statement_part s) = levels ≤ 3 * lean_depth s + 204
+IsPartLeanFew levels (statement_part s) = levels ≤ 3 * lean_depth (as_assignment s) + 204
 IsPartLeanFew levels part = IsPartFew levels part
 
-lean_few : (levels : ℕ) (part : Part) → IsPartLeanFew levels part → IsPartFew levels part
-lean_few levels (statement_part s) few = omega (arith, few, lean_low s)
-lean_few levels part few = few
+lean_few : (levels : ℕ) (part : Part) → IsFlowPart part → IsPartLeanFew levels part → IsPartFew levels part
+lean_few levels (statement_part s) flow few = omega (arith, few, assigned_lean s flow.formed)
+lean_few levels part flow few = few
 
 -- whatever the kind of its step is
 statement_room : (levels : ℕ) (kind : StepKind) (s : Statement) → levels ≤ suc (space_of_statement s) → KindInRoom levels kind (statement_part s)
@@ -65,9 +61,9 @@ head_room : (levels : ℕ) (kind : StepKind) (es : Expressions) (texts : List Te
 head_room levels (StepKind.Test when target negated) es texts low = low
 head_room levels kind es texts low = low
 
-lean_in_room : (levels : ℕ) (kind : StepKind) (part : Part) → KindInLeanRoom levels kind part → KindInRoom levels kind part
-lean_in_room levels kind (statement_part s) low = statement_room levels kind s (omega (arith, low, lean_room_low s))
-lean_in_room levels kind part low = low
+lean_in_room : (levels : ℕ) (kind : StepKind) (part : Part) → IsPartFormed part → KindInLeanRoom levels kind part → KindInRoom levels kind part
+lean_in_room levels kind (statement_part s) formed low = statement_room levels kind s (omega (arith, low, assigned_roomy s formed.0))
+lean_in_room levels kind part formed low = low
 
 -- what has nothing written of it needs one level
 lone_room : (levels : ℕ) (kind other : StepKind) (part : Part) → IsLoneKind kind → IsKindLike kind other → levels ≡ 1 → KindInRoom levels other part
@@ -123,7 +119,7 @@ module _ {f : Function} {g : Fn} {z : Maker} {lefts : ℕ → List (Option Inner
 
   few_cases : Cases of Few
   few_cases = record {
-    acts = λ at kind s behind draft is goes_on act. act_few at s behind draft act;
+    acts = λ at kind s behind draft is goes_on act. act_few at (as_assignment s) behind draft act;
     returns = λ at es behind draft act. act_few at (return_statement es) behind draft act;
     tests = λ at target negated when e behind draft test. let few = test.written.few in let levels = test.read.levels in omega (arith, few, levels);
     heads = λ at foot end variables_end captured numeric es texts behind draft head.
@@ -145,7 +141,7 @@ module _ {f : Function} {g : Fn} {z : Maker} {lefts : ℕ → List (Option Inner
       subst (IsPartLeanFew step.levels) (same_Some read.part part (sym read.is.part_there ∙ part_there)) (subst (λ levels. IsPartLeanFew levels read.part) (sym one.levels) (part_few read.kind read.part read.is one.draft read.part_read))
 
   pub parts_few : (other : Steps) → ArePlaced of other → AreFew (record code { steps = other.steps })
-  parts_few other are at step part there part_there = lean_few step.levels part (parts_lean_few other are at step part there part_there)
+  parts_few other are at step part there part_there = lean_few step.levels part (of.flow at part part_there) (parts_lean_few other are at step part there part_there)
 
   -- ---- in the forms of fewest levels
 
@@ -168,7 +164,7 @@ module _ {f : Function} {g : Fn} {z : Maker} {lefts : ℕ → List (Option Inner
 
     roomy_cases : Cases of Roomy
     roomy_cases = record {
-      acts = λ at kind s behind draft is goes_on act formed other like negated. act_low at s behind draft act formed.0;
+      acts = λ at kind s behind draft is goes_on act formed other like negated. act_low at (as_assignment s) behind draft act (assigned_formed s formed.0);
       returns = λ at es behind draft act formed other like negated. return_room draft.levels other es (act_low at (return_statement es) behind draft act formed);
       tests = λ at target negated when e behind draft test formed other like has.
           let m = before_at of at in
@@ -193,7 +189,7 @@ module _ {f : Function} {g : Fn} {z : Maker} {lefts : ℕ → List (Option Inner
 
     pub part_in_room : {at : ℕ} (kind : StepKind) (part : Part) → StepIs of at kind part → (draft : Drafted) → PartRead f g lefts (before_at of at) (pcs of) kind part (length (made_at of at kind part).functions) draft →
         IsPartFormed part → (other : StepKind) → IsKindLike kind other → HasNegated draft.kind other → KindInRoom draft.levels other part
-    part_in_room kind part is draft read formed other like negated = lean_in_room draft.levels other part (part_in_lean_room kind part is draft read formed other like negated)
+    part_in_room kind part is draft read formed other like negated = lean_in_room draft.levels other part formed (part_in_lean_room kind part is draft read formed other like negated)
 
     -- and for all steps, with the parts of the source
     pub parts_in_lean_room : ArePartsFormed code → (other : Steps) → ArePlaced of other → (at : ℕ) (step : Step) (part : Part) → slice_get other.steps at ≡ Some step → part_at code at ≡ Some part → KindInLeanRoom step.levels step.kind part
@@ -204,4 +200,4 @@ module _ {f : Function} {g : Fn} {z : Maker} {lefts : ℕ → List (Option Inner
         subst (KindInLeanRoom step.levels step.kind) (same_Some read.part part (sym read.is.part_there ∙ part_there)) (subst (λ levels. KindInLeanRoom levels step.kind read.part) (sym one.levels) low)
 
     pub parts_in_room : ArePartsFormed code → (other : Steps) → ArePlaced of other → AreInRoom (record code { steps = other.steps })
-    parts_in_room formed other are at step part there part_there = lean_in_room step.levels step.kind part (parts_in_lean_room formed other are at step part there part_there)
+    parts_in_room formed other are at step part there part_there = lean_in_room step.levels step.kind part (formed at part part_there) (parts_in_lean_room formed other are at step part there part_there)

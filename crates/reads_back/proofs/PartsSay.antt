@@ -1,11 +1,11 @@
 -- What is written of a step declares and mentions the same as its part in the source.
-use Rattle.std.proofs.Common.{◌≡◌, ℕ, Bool, false, List, length, refl, sym, ap, ◌∙◌, subst}
+use Rattle.std.proofs.Common.{◌≡◌, ℕ, Bool, true, false, List, length, refl, sym, ap, ◌∙◌, subst}
 use Rattle.std.specs.Prelude.{None, Option}
 use Rattle.lua_num.specs.Bytes.{Text}
 use Rattle.lua_tree.specs.Outline as outline
 use Rattle.lua_tree.specs.Outline.{Walk, both, come, declares, expression_part, expressions_part}
 use Rattle.lua_tree.specs.Syntax.{Expression, Expressions, Statement, Statements, assignment, call_statement, function_statement, local_function, local_statement, return_statement}
-use Rattle.lua_tree.specs.WellFormed.{ends_block}
+use Rattle.lua_tree.specs.WellFormed.{ends_block, formed_statement}
 use Rattle.core_expr.specs.Values.{Inner}
 use Rattle.recover_expr.specs.Drafts.{Drafted, Part, condition_part, head_part, statement_part, values_part}
 use Rattle.recover_expr.specs.Placing.{Steps}
@@ -17,22 +17,26 @@ use Rattle.scheme_stands.proofs.Growth.{spot}
 use Rattle.scheme_stands.specs.Relation.{StatementAt}
 use Rattle.scheme_stands.specs.Words.{Fn}
 use Rattle.same_flow.specs.Alike.{SayLike, SaysLike}
+use Rattle.same_flow.specs.SameMarks.{but_breaks}
 use Rattle.same_flow.specs.Told.{IsActPart, IsDeclarationPart}
 use Rattle.reads_back.specs.Acted.{Acted, IsActed, act_statement, returned}
+use Rattle.reads_back.specs.Assignments.{as_assignment}
 use Rattle.reads_back.specs.ReadAs.{part_of}
 use Rattle.reads_back.proofs.FlowActs as acts
-use Rattle.reads_back.proofs.FlowActs.{act_own, own_listed}
+use Rattle.reads_back.proofs.FlowActs.{act_own, act_stands, declaration_stands, own_listed}
 use Rattle.reads_back.proofs.FlowHeads as of_heads
 use Rattle.reads_back.proofs.FlowHeads.{rewritten}
 use Rattle.reads_back.proofs.FlowRead.{ActPart, HeadPart, PartRead, TestPart, as_many, left, taken, writing}
 use Rattle.reads_back.proofs.FlowTests as tests
 use Rattle.reads_back.proofs.FlowThere.{IsFlowAct, IsFlowFunction, StepIs, before_at, made_at, pcs}
+use Rattle.reads_back.proofs.FunctionStatements.{same_ends}
 use Rattle.reads_back.proofs.HeadValues.{head_wording}
 use Rattle.reads_back.proofs.HeadsMarks.{head_marks}
 use Rattle.reads_back.proofs.LocalsLeave.{listed_of}
 use Rattle.reads_back.proofs.Marks.{SamePart, both_same, exact_part, part_back, part_then, same_part}
 use Rattle.reads_back.proofs.PartsMake.{TestTurns}
 use Rattle.reads_back.proofs.Rewriting.{OwnListed}
+use Rattle.reads_back.proofs.SameStatements.{assigned_makes, statement_part_same}
 use Rattle.reads_back.proofs.StraightActs.{written_ends, written_marks}
 use Rattle.reads_back.proofs.TestsMarks.{KeepsNames, test_marks}
 use Rattle.reads_back.proofs.TestsWritten.{test_writes}
@@ -40,6 +44,13 @@ use Rattle.reads_back.proofs.TestsWritten.{test_writes}
 -- parts of an outline that are the same say the same
 pub says_like : {one other : outline.Part} → SamePart one other → SaysLike one other
 says_like same = record { marks = λ here. ap (λ (walk : Walk). walk.marks) (same.each here); next = λ here. ap (λ (walk : Walk). walk.next) (same.each here) }
+
+-- a function statement says what its assignment says
+assigned_says : (s : Statement) → formed_statement s ≡ true → {other : outline.Part} → SaysLike (outline.statement_part 1 (as_assignment s)) other → SaysLike (outline.statement_part 1 s) other
+assigned_says s formed {other} says = record {
+  marks = λ place. ap (λ (walk : Walk). but_breaks walk.marks) (sym (statement_part_same 1 s formed refl place)) ∙ says.marks place;
+  next = λ place. ap (λ (walk : Walk). walk.next) (sym (statement_part_same 1 s formed refl place)) ∙ says.next place;
+}
 
 -- a statement that ends no block is a part by itself
 goes_on_part : (s : Statement) → ends_block s ≡ false → part_of s ≡ statement_part s
@@ -119,11 +130,20 @@ module _ {f : Function} {g : Fn} {z : Maker} {lefts : ℕ → List (Option Inner
   -- what is written of a step says the same as its part
   pub say_like : {at : ℕ} (kind : StepKind) (part : Part) (is : StepIs of at kind part) → TestTurns of at kind part → (draft : Drafted) → PartRead f g lefts (before_at of at) (pcs of) kind part (length (made_at of at kind part).functions) draft → SayLike kind part draft.part
   say_like {at} StepKind.Act (statement_part s) is turns draft read =
-      let own = act_own of s is.fits is.flow.is (before_at of at).active in
-      subst (SayLike StepKind.Act (statement_part s)) (sym (act_part is s is.flow refl is.stands own draft read (act_goes_on s is.fits))) (act_says is s is.flow refl is.stands own draft read)
-  say_like (StepKind.Declaration end captured) (statement_part s) is turns draft read =
+      let m = before_at of at in
+      let formed = is.flow.formed in
+      let makes = assigned_makes s m formed in
+      let stands = act_stands of is in
+      let own = act_own of s is.fits m.active in
+      subst (SayLike StepKind.Act (statement_part s)) (sym (act_part is (as_assignment s) is.flow.act makes stands own draft read (same_ends s ∙ act_goes_on s is.fits)))
+      (assigned_says s formed (act_says is (as_assignment s) is.flow.act makes stands own draft read))
+  say_like {at} (StepKind.Declaration end captured) (statement_part s) is turns draft read =
+      let formed = is.flow.formed in
+      let makes = assigned_makes s (before_at of at) formed in
+      let stands = declaration_stands of is in
       let own = own_listed of s is.fits is in
-      subst (SayLike (StepKind.Declaration end captured) (statement_part s)) (sym (act_part is s is.flow refl is.stands own draft read (declaration_goes_on s is.fits))) (act_says is s is.flow refl is.stands own draft read)
+      subst (SayLike (StepKind.Declaration end captured) (statement_part s)) (sym (act_part is (as_assignment s) is.flow.act makes stands own draft read (same_ends s ∙ declaration_goes_on s is.fits)))
+      (assigned_says s formed (act_says is (as_assignment s) is.flow.act makes stands own draft read))
   say_like StepKind.Return (values_part es) is turns draft read = return_says is draft read
   say_like (StepKind.Test when target negated) (condition_part e) is turns draft read = test_says is turns.1 draft read
   say_like (StepKind.Jump target) part is turns draft read = tt

@@ -11,13 +11,14 @@ use Rattle.scheme.specs.Functions.{coded_function, Inner}
 use Rattle.scheme.specs.Making.{Maker}
 use Rattle.scheme.specs.Scheme.{coded, inner, statement_made, statements_made}
 use Rattle.scheme.specs.Statements.{Loop, assign_part, path_from, settle, with_method}
+use Rattle.scheme.specs.declared.making.Active.{Active}
 use Rattle.scheme_stands.proofs.Growth.{spot}
 use Rattle.scheme_stands.proofs.Makers.{StandFrom}
 use Rattle.scheme_stands.specs.Expressions.{Rel}
 use Rattle.scheme_stands.specs.Functions.{rel_function, Step}
 use Rattle.scheme_stands.specs.Relation.{FunctionOf, StatementAt, related}
 use Rattle.scheme_stands.specs.Statements.{AssignAt, LoopAt, StaysAt, rel_fields, rel_method, rel_path}
-use Rattle.scheme_stands.specs.Words.{Fn}
+use Rattle.scheme_stands.specs.Words.{Fn, Spot}
 use Rattle.reads_back.specs.Assignments.{as_assignment, fields_behind, path_target, with_method_name, with_self}
 use Rattle.reads_back.proofs.FunctionStatements.{as_assignments}
 use Rattle.reads_back.proofs.Marks.{SameWalk, both_walk, nothing_walk, same_walk, walk_then}
@@ -42,11 +43,14 @@ path_related g name names method = method_related g _ method ∙ ap (λ (on : Re
 self_related : (g : Fn) (method : Bool) (body : FunctionBody) → related g (function_expression 1 (with_self method body)) ≡ rel_function g (FunctionOf body method)
 self_related g method (function_body params vararg block first last) = refl
 
-pub statement_stands : (g : Fn) (loop : Option LoopAt) (s : Statement) → formed_statement s ≡ true → StatementAt g loop s ≡ StatementAt g loop (as_assignment s)
+statement_stands : (g : Fn) (loop : Option LoopAt) (s : Statement) → formed_statement s ≡ true → StatementAt g loop s ≡ StatementAt g loop (as_assignment s)
 statement_stands g loop (function_statement [] method body) formed = absurd (not_so formed)
 statement_stands g loop (function_statement (name ∷ names) method body) formed =
     sym (ap₂ (λ (target value : Rel). StaysAt (AssignAt g (target ∷ []) (value ∷ []))) (path_related g name names method) (self_related g (is_some method) body))
 statement_stands g loop s formed = refl
+
+pub assigned_stands : (g : Fn) (s : Statement) → formed_statement s ≡ true → (active behind : List Active) (from to : Spot) → StatementAt g None s active behind from to → StatementAt g None (as_assignment s) active behind from to
+assigned_stands g s formed active behind from to stands = subst (λ (step : Step). step active behind from to) (statement_stands g None s formed) stands
 
 -- ---- it is made
 
@@ -66,7 +70,7 @@ path_coded name names method =
 inner_self : (method : Bool) (body : FunctionBody) → inner (with_self method body) false ≡ inner body method
 inner_self method (function_body params vararg block first last) = refl
 
-pub made_same : (s : Statement) (line : ℕ) (loop : Option Loop) (m : Maker) → formed_statement s ≡ true → line ≡ 1 → statement_made (as_assignment s) line loop m ≡ statement_made s line loop m
+made_same : (s : Statement) (line : ℕ) (loop : Option Loop) (m : Maker) → formed_statement s ≡ true → line ≡ 1 → statement_made (as_assignment s) line loop m ≡ statement_made s line loop m
 made_same (function_statement [] method body) line loop m formed first = not_so formed
 made_same (function_statement (name ∷ names) method body) line loop m formed first =
     let own = with_self (is_some method) body in
@@ -76,6 +80,9 @@ made_same (function_statement (name ∷ names) method body) line loop m formed f
     ∙ assign_same path own body (inner body (is_some method)) m
     ∙ ap (λ (line : ℕ). statement_made (function_statement (name ∷ names) method body) line loop m) (sym first)
 made_same s line loop m formed first = refl
+
+pub assigned_makes : (s : Statement) (m : Maker) → formed_statement s ≡ true → statement_made s 1 None m ≡ statement_made (as_assignment s) 1 None m
+assigned_makes s m formed = sym (made_same s 1 None m formed refl)
 
 pub block_made_same : (block : Statements) (m : Maker) → formed_statements block ≡ true → AreOnLine block → statements_made (as_assignments block) None m ≡ statements_made block None m
 block_made_same no_statements m formed on = refl

@@ -1,13 +1,11 @@
 -- A straight function has no statements with blocks, so that what is straight needs no more room than it has.
-use Rattle.std.proofs.Common.{◌≡◌, ℕ, zero, suc, ◌+◌, max, Bool, false, List, [], ◌∷◌, Option, Some, None, refl, ap, ap₂, ◌∙◌}
-use Rattle.std.specs.Prelude.{◌||◌, if◌then◌else◌, is_some}
-use Rattle.lua_num.specs.Bytes.{Text}
+use Rattle.std.proofs.Common.{◌≡◌, ℕ, zero, suc, ◌+◌, max, Bool, false, refl, ap, ap₂, ◌∙◌}
+use Rattle.std.specs.Prelude.{◌||◌, if◌then◌else◌}
 use Rattle.lua_tree.specs.Syntax as syntax
 use Rattle.lua_tree.specs.Syntax.{Arguments, Expression, Expressions, Fields, FunctionBody, Statement, Statements, argument_list, assignment, binary_expression, call_expression, call_statement, constructor, false_literal, field_expression, function_body, function_expression, function_statement, index_expression, keyed, local_function, local_statement, method_call, name_expression, named, nil_literal, no_expressions, no_fields, no_statements, number_literal, parenthesized, positional, return_statement, table_argument, text_argument, text_literal, true_literal, unary_expression, vararg_expression}
 use Rattle.scheme.specs.Shapes.{room_of_arguments, room_of_body, room_of_expression, room_of_expressions, room_of_fields, room_of_statement, room_of_statements, unless_folded}
 use Rattle.same_flow.specs.Never.{nevers_of_statements}
 use Rattle.same_flow.specs.Space.{around_body, has_block, has_blocks, space_of_arguments, space_of_body, space_of_expression, space_of_expressions, space_of_fields, space_of_statement, space_of_statements}
-use Rattle.reads_back.specs.Assignments.{as_assignment, fields_behind, path_target, with_self}
 use Rattle.reads_back.specs.Straight.{AllHaveCoresBy, AreStraightBy, HasCoreBy, HaveCoresBy, HaveItemsBy, IsActBy, IsStraightBody, IsStraightStatementBy}
 use Rattle.reads_back.proofs.OneLineActs.{targets_have_cores}
 
@@ -16,17 +14,6 @@ one_more is = ap (λ (one : ℕ). 1 + one) is
 
 same_most : {one many other more : ℕ} → one ≡ many → other ≡ more → max one other ≡ max many more
 same_most is also = ap₂ (λ (one other : ℕ). max one other) is also
-
--- ---- the path of a function statement
-
-fields_same : (on : Expression) (texts : List Text) → space_of_expression on ≡ room_of_expression on → space_of_expression (fields_behind on texts) ≡ room_of_expression (fields_behind on texts)
-fields_same on [] same = same
-fields_same on (text ∷ texts) same = fields_same (field_expression 1 on text) texts (one_more same)
-
-path_same : (path : List Text) (method : Option Text) → space_of_expression (path_target path method) ≡ room_of_expression (path_target path method)
-path_same [] method = refl
-path_same (name ∷ names) None = fields_same (name_expression 1 name) names refl
-path_same (name ∷ names) (Some text) = one_more (fields_same (name_expression 1 name) names refl)
 
 -- ---- where the functions in it need no more than they have
 
@@ -82,15 +69,6 @@ module _ {P : FunctionBody → Type 0} (same : (body : FunctionBody) → P body 
   block_same no_statements are = refl
   block_same (syntax.statement line semi s rest) are = same_most (one_more (statement_same s are.0.0)) (block_same rest are.1)
 
-  -- ---- and a function statement as the assignment that it stands for
-
-  self_same : (method : Bool) (body : FunctionBody) → P body → space_of_body (with_self method body) ≡ room_of_body (with_self method body)
-  self_same method (function_body params vararg block first last) is = same (function_body params vararg block first last) is
-
-  assigned_same : (s : Statement) → IsStraightStatementBy P s → space_of_statement (as_assignment s) ≡ room_of_statement (as_assignment s)
-  assigned_same (function_statement path method body) is = same_most (same_most (path_same path method) refl) (same_most (one_more (self_same (is_some method) body is.1)) refl)
-  assigned_same s is = act_same s is
-
 -- ---- straight functions
 
 module _ (P : FunctionBody → Type 0) where
@@ -120,11 +98,8 @@ module _ (deep : ℕ) where
   pub block_space : (block : Statements) → AreStraightBy (IsStraightBody deep) block → space_of_statements block ≡ room_of_statements block
   block_space = block_same (body_space deep)
 
-  pub act_space : (s : Statement) → IsActBy (IsStraightBody deep) s → space_of_statement s ≡ room_of_statement s
-  act_space = act_same (body_space deep)
-
-  pub assigned_space : (s : Statement) → IsStraightStatementBy (IsStraightBody deep) s → space_of_statement (as_assignment s) ≡ room_of_statement (as_assignment s)
-  assigned_space = assigned_same (body_space deep)
+  pub statement_space : (s : Statement) → IsStraightStatementBy (IsStraightBody deep) s → space_of_statement s ≡ room_of_statement s
+  statement_space = statement_same (body_space deep)
 
   pub core_space : (e : Expression) → HasCoreBy (IsStraightBody deep) e → space_of_expression e ≡ room_of_expression e
   core_space = core_same (body_space deep)

@@ -1,4 +1,4 @@
--- To be believed. A function statement stands for the assignment of a function to its path (manual 2.5.9).
+-- Serves the laws. A function statement stands for the assignment of a function to its path (manual 2.5.9).
 use Rattle.std.specs.Prelude.{Bool, List, [], ◌∷◌, Option, None, Some, is_some}
 use Rattle.lua_num.specs.Bytes.{Text}
 use Rattle.lua_tree.specs.Outline.{all_params}

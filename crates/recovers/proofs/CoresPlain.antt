@@ -50,7 +50,7 @@ module _ {P : FunctionBody → Type 0} (plain : (body : FunctionBody) → P body
 
   -- ---- statements
 
-  pub act_plain : (s : Statement) → IsActBy P s → plain_statement s ≡ true
+  act_plain : (s : Statement) → IsActBy P s → plain_statement s ≡ true
   act_plain (call_statement e) is = core_plain e is.1
   act_plain (assignment targets es) is = both_hold _ _ (cores_plain targets (targets_have_cores P targets is.targets)) (cores_plain es is.values)
   act_plain (local_statement names es) is = cores_plain es is.1
@@ -58,7 +58,7 @@ module _ {P : FunctionBody → Type 0} (plain : (body : FunctionBody) → P body
   act_plain (return_statement es) is = cores_plain es is
   act_plain s is = absurd is
 
-  straight_statement_plain : (s : Statement) → IsStraightStatementBy P s → plain_statement s ≡ true
+  pub straight_statement_plain : (s : Statement) → IsStraightStatementBy P s → plain_statement s ≡ true
   straight_statement_plain (function_statement path method body) is = plain body is.1
   straight_statement_plain s is = act_plain s is
 

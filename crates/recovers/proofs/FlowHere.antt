@@ -47,9 +47,7 @@ pub record IsFlowHere (n : Names) (heading : Heading) (params : List Text) (bloc
   pub known : AreKnown n
   pub named : AreNamedBy n (whole_of params names ahead block).upvalue_names
   pub behind : Ahead
-  -- the statements that stand there, which make these
-  pub standing : Statements
-  pub at : FunctionAt (Some n) params heading.vararg (λ g. StatementsAt g None standing) ahead behind (chunk_of heading (whole_of params names ahead block))
+  pub at : FunctionAt (Some n) params heading.vararg (λ g. StatementsAt g None block) ahead behind (chunk_of heading (whole_of params names ahead block))
   pub through : BodyThrough (asking n (fn_of (whole_of params names ahead block))) (whole_of params names ahead block) None block (begun_of params names ahead)
   pub final : Final 0 (tree_of params names ahead block) (whole_of params names ahead block)
   pub same : SameButLines chunk (chunk_of heading (whole_of params names ahead block))

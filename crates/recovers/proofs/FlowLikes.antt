@@ -1,9 +1,10 @@
 -- Each body that stands in the steps which are read of a function is built as a block that is like its own.
-use Rattle.std.proofs.Common.{◌≡◌, ℕ, zero, ◌^◌, ◌<◌, ◌≤◌, suc, Bool, true, List, length, map, Option, Some, refl, sym, arith, subst}
+use Rattle.std.proofs.Common.{◌≡◌, ℕ, zero, ◌+◌, ◌^◌, ◌<◌, ◌≤◌, suc, Bool, true, List, length, map, Option, Some, refl, sym, arith, subst}
 use Rattle.std.proofs.lemmas.Option.{slice_get_within}
 use Rattle.lua_num.specs.Bytes.{Text}
 use Rattle.lua_tree.specs.Outline as outline
 use Rattle.lua_tree.specs.Syntax.{Statements}
+use Rattle.lua_tree.specs.WellFormed.{depth_of_statements}
 use Rattle.proto.specs.Chunk.{Chunk}
 use Rattle.core_expr.specs.Values.{Inner}
 use Rattle.recover_expr.specs.Drafts.{Drafted, Part}
@@ -21,8 +22,10 @@ use Rattle.scheme.specs.Making.{Ahead}
 use Rattle.scheme_stands.specs.Words.{Names}
 use Rattle.same_flow.specs.Alike.{ArePartsLike, AreStepsLike, LaidOnLikeSteps, MarksOnLikeParts, SameOnLikeParts}
 use Rattle.same_flow.specs.Listed.{pc_of_step}
+use Rattle.same_flow.specs.Never.{nevers_of_statements}
 use Rattle.same_flow.specs.Performed.{part_at}
 use Rattle.same_flow.specs.SameFlow.{AreLaid, HasPlainParts, begun_of}
+use Rattle.same_flow.specs.Space.{space_of_statements}
 use Rattle.same_flow.specs.Told.{AreTold, LaidAreTold}
 use Rattle.same_flow.specs.Written.{AreInRoom, ComparedOnOne, HaveParts}
 use Rattle.same_flow.proofs.LikeTransports.{closes_like, like_again, parts_on_like, told_alike}
@@ -48,6 +51,7 @@ use Rattle.reads_back.proofs.StraightActs.{AreLeft}
 use Rattle.recovers.specs.Joined.{IsFlowRead, IsLike}
 use Rattle.recovers.proofs.FlowHere.{IsFlowHere, closes, code, each_part, f, g, is_function, is_told, laid, parts_count, plain, steps_there}
 use Rattle.recovers.proofs.FlowStepsRead.{are_placed, drafts_read, flow, is_read, placed, steps, takes}
+use Rattle.recovers.proofs.PlainBuilt.{built_is_plain}
 
 -- the laws of the crates below
 pub record FlowLaws : Type 0 where
@@ -163,7 +167,7 @@ module _ (laws : FlowLaws) {n : Names} {heading : Heading} {params : List Text} 
   ordered : AreOrdered there.steps
   ordered = (laws.apart there.steps count_few (around_of params names ahead) block_lies.behind (at_beginning params names ahead) block_lies.flow block_lies.lies).0
 
-  each_likes : (plans : Plans) → BodyStands there.steps (whole_body there.steps) plans → body_levels there.steps plans ≤ 200 → (written : Statements) × (behind : List Part) × (built_body plans there.parts ≡ Some (written, behind)) × IsLike params names ahead block written
+  each_likes : (plans : Plans) → BodyStands there.steps (whole_body there.steps) plans → body_levels there.steps plans ≤ 200 → (written : Statements) × (behind : List Part) × (built_body plans there.parts ≡ Some (written, behind)) × IsLike params names ahead block written × (depth_of_statements written ≤ body_levels there.steps plans)
   each_likes plans stands low =
       let lies = laws.lies there.steps ordered plans stands in
       let built = laws.built there have_parts plans lies in
@@ -175,9 +179,12 @@ module _ (laws : FlowLaws) {n : Names} {heading : Heading} {params : List Text} 
         record {
           formed = laws.formed there have_parts (parts_formed (flow fewest of left) there (placed fewest of left captured)) plans (laws.standing there.steps (whole_body there.steps) plans stands) lies built.0 built.1 built.2;
           shallow = omega (arith, shallow, low);
+          plain = built_is_plain there there_plain plans built.0 built.1 built.2;
           makes = laws.makes mixed there params names ahead mixed_plain there_plain mixed_alike block built.0 mixed_laid is_laid;
           marks = λ place. (laws.says mixed there params names ahead mixed_alike block built.0 mixed_laid is_laid place).0;
+          next = λ place. let said = laws.says mixed there params names ahead mixed_alike block built.0 mixed_laid is_laid place in (said.1, said.2);
         },
+        shallow,
       )
 
   -- ---- in the forms of fewest levels one stands there
@@ -186,7 +193,7 @@ module _ (laws : FlowLaws) {n : Names} {heading : Heading} {params : List Text} 
   in_room short =
       parts_in_room (flow fewest of left) short (tests_stay (flow fewest of left) ordered_parts) (λ at part there. (each_part fewest of at part there).formed) there (placed fewest of left captured)
 
-  one_stands : fewest ≡ true → (plans : Plans) × BodyStands there.steps (whole_body there.steps) plans × (body_levels there.steps plans ≤ 200)
+  one_stands : fewest ≡ true → (plans : Plans) × BodyStands there.steps (whole_body there.steps) plans × (body_levels there.steps plans ≤ 200) × (body_levels there.steps plans ≤ suc (space_of_statements block + nevers_of_statements block))
   one_stands short =
       let room = of.joined.room in
       let levels = block_lies.levels (in_room short) in
@@ -194,7 +201,7 @@ module _ (laws : FlowLaws) {n : Names} {heading : Heading} {params : List Text} 
       laws.found there.steps count_few (λ at step there_is. levelled step.levels step.kind (are_levelled (flow fewest of left) there (placed fewest of left captured) at step there_is)) (around_of params names ahead) block_lies.behind
       (at_beginning params names ahead) block_lies.flow block_lies.lies (omega (arith, levels, room)) in
       let low = found.2 in
-      (found.0, found.1, omega (arith, low, levels, room))
+      (found.0, found.1, omega (arith, low, levels, room), omega (arith, low, levels))
 
   pub flow_is_read : IsFlowRead fewest chunk (lefts 0) params names ahead block
   flow_is_read = record { told = is_told fewest of; steps = there; read = is_read fewest of left captured; each = each_likes; stands = one_stands }

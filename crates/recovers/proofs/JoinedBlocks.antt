@@ -1,5 +1,5 @@
--- A readable block on one line, where function statements are assignments: what must be known of all its parts, where it is well formed, not too deep and has room.
-use Rattle.std.proofs.Common.{◌≡◌, ◌<◌, ◌≤◌, ◌+◌, ℕ, Bool, true, false, List, [], ◌∷◌, refl, sym, ap, ◌∙◌, arith}
+-- A readable block on one line: what must be known of all its parts, where it is well formed, not too deep and has room.
+use Rattle.std.proofs.Common.{◌≡◌, ◌<◌, ◌≤◌, ◌+◌, ℕ, Bool, true, false, List, [], ◌∷◌, refl, arith}
 use Rattle.lua_num.specs.Bytes.{Text}
 use Rattle.lua_tree.specs.Names.{are_some_names, is_name}
 use Rattle.lua_tree.specs.OneLine.{one_line_branches, one_line_expression, one_line_otherwise, one_line_statement, one_line_statements, one_line_step}
@@ -14,11 +14,9 @@ use Rattle.same_flow.specs.Never.{nevers_of_statements}
 use Rattle.same_flow.specs.Space.{space_of_branches, space_of_expression, space_of_otherwise, space_of_statement, space_of_statements, space_of_step}
 use Rattle.reads_back.specs.Straight.{AllHaveCoresBy, IsStraightBody}
 use Rattle.reads_back.proofs.Tests.{both_hold, first_of_both, second_of_both}
-use Rattle.recovers.specs.Assigned.{assigned_branches, assigned_otherwise, assigned_statement, assigned_statements}
 use Rattle.recovers.specs.FlowSources.{IsReadablePart}
 use Rattle.recovers.specs.Joined.{IsJoined, IsJoinedPart}
-use Rattle.recovers.proofs.AssignedBlocks.{block_line, block_never, block_well}
-use Rattle.recovers.proofs.JoinedParts.{act_joined, function_joined, head_joined, test_joined, values_joined}
+use Rattle.recovers.proofs.JoinedParts.{act_joined, head_joined, test_joined, values_joined}
 use Rattle.recovers.proofs.OneLineBlocks.{block_again, block_as_never, block_as_roomy, block_formed}
 
 module _ (constants : List Constant) (deep : ℕ) where
@@ -39,7 +37,7 @@ module _ (constants : List Constant) (deep : ℕ) where
 
   mutual
     pub block_joined : (looped : Bool) (block : Statements) → StatementsHold (IsReadablePart constants (IsStraightBody deep)) looped block →
-        formed_statements block ≡ true → depth_of_statements block ≤ 200 → space_of_statements (assigned_statements block) < 200 → StatementsHold (IsJoinedPart constants) looped (assigned_statements (one_line_statements block))
+        formed_statements block ≡ true → depth_of_statements block ≤ 200 → space_of_statements block < 200 → StatementsHold (IsJoinedPart constants) looped (one_line_statements block)
     block_joined looped no_statements holds formed shallow roomy = tt
     block_joined looped (syntax.statement line semi s rest) holds formed shallow roomy =
         let behind = second_of_both (may_follow s semi rest) _ (second_of_both (formed_statement s) _ formed) in (
@@ -48,7 +46,7 @@ module _ (constants : List Constant) (deep : ℕ) where
         )
 
     statement_joined : (looped : Bool) (s : Statement) → StatementHolds (IsReadablePart constants (IsStraightBody deep)) looped s →
-        formed_statement s ≡ true → depth_of_statement s ≤ 199 → space_of_statement (assigned_statement s) < 200 → StatementHolds (IsJoinedPart constants) looped (assigned_statement (one_line_statement s))
+        formed_statement s ≡ true → depth_of_statement s ≤ 199 → space_of_statement s < 200 → StatementHolds (IsJoinedPart constants) looped (one_line_statement s)
     statement_joined looped (do_block block) holds formed shallow roomy = block_joined looped block holds formed (omega (arith, shallow)) roomy
     statement_joined looped (while_loop e block) holds formed shallow roomy = (
       test_joined constants deep e holds.0 (first_of_both _ _ formed) (omega (arith, shallow)) (omega (arith, roomy)),
@@ -83,10 +81,10 @@ module _ (constants : List Constant) (deep : ℕ) where
     statement_joined looped (assignment targets es) holds formed shallow roomy = act_joined constants deep (assignment targets es) tt refl holds formed shallow roomy
     statement_joined looped (local_statement names es) holds formed shallow roomy = act_joined constants deep (local_statement names es) tt refl holds formed shallow roomy
     statement_joined looped (local_function name body) holds formed shallow roomy = act_joined constants deep (local_function name body) tt refl holds formed shallow roomy
-    statement_joined looped (function_statement path method body) holds formed shallow roomy = function_joined constants deep path method body holds formed shallow roomy
+    statement_joined looped (function_statement path method body) holds formed shallow roomy = act_joined constants deep (function_statement path method body) tt refl holds formed shallow roomy
 
     branches_joined : (looped : Bool) (branches : Branches) → BranchesHold (IsReadablePart constants (IsStraightBody deep)) looped branches →
-        formed_branches branches ≡ true → depth_of_branches branches ≤ 199 → space_of_branches (assigned_branches branches) < 200 → BranchesHold (IsJoinedPart constants) looped (assigned_branches (one_line_branches branches))
+        formed_branches branches ≡ true → depth_of_branches branches ≤ 199 → space_of_branches branches < 200 → BranchesHold (IsJoinedPart constants) looped (one_line_branches branches)
     branches_joined looped no_branches holds formed shallow roomy = tt
     branches_joined looped (branch e block rest) holds formed shallow roomy =
         let behind = second_of_both (formed_expression e) _ formed in (
@@ -96,7 +94,7 @@ module _ (constants : List Constant) (deep : ℕ) where
         )
 
     otherwise_joined : (looped : Bool) (last : Otherwise) → OtherwiseHolds (IsReadablePart constants (IsStraightBody deep)) looped last →
-        formed_otherwise last ≡ true → depth_of_otherwise last ≤ 199 → space_of_otherwise (assigned_otherwise last) < 200 → OtherwiseHolds (IsJoinedPart constants) looped (assigned_otherwise (one_line_otherwise last))
+        formed_otherwise last ≡ true → depth_of_otherwise last ≤ 199 → space_of_otherwise last < 200 → OtherwiseHolds (IsJoinedPart constants) looped (one_line_otherwise last)
     otherwise_joined looped no_otherwise holds formed shallow roomy = tt
     otherwise_joined looped (otherwise block) holds formed shallow roomy = block_joined looped block holds formed (omega (arith, shallow)) roomy
 
@@ -104,14 +102,13 @@ module _ (constants : List Constant) (deep : ℕ) where
 
 pub on_one_line_joined : (constants : List Constant) (deep : ℕ) (block : Statements) →
     formed_statements block ≡ true → depth_of_statements block ≤ 200 → StatementsHold (IsReadablePart constants (IsStraightBody deep)) false block →
-    space_of_statements (assigned_statements block) + nevers_of_statements block < 200 → IsJoined constants (assigned_statements (one_line_statements block))
+    space_of_statements block + nevers_of_statements block < 200 → IsJoined constants (one_line_statements block)
 on_one_line_joined constants deep block formed shallow holds room =
-    let line = one_line_statements block in
-    let roomy : space_of_statements (assigned_statements line) ≡ space_of_statements (assigned_statements block) = ap space_of_statements (sym (block_line block)) ∙ block_as_roomy (assigned_statements block) in
-    let nevers : nevers_of_statements (assigned_statements line) ≡ nevers_of_statements block = block_never line ∙ block_as_never block in
+    let roomy : space_of_statements (one_line_statements block) ≡ space_of_statements block = block_as_roomy block in
+    let nevers : nevers_of_statements (one_line_statements block) ≡ nevers_of_statements block = block_as_never block in
     record {
-      again = block_line line ∙ ap assigned_statements (block_again block);
-      formed = block_well line (block_formed block formed);
+      again = block_again block;
+      formed = block_formed block formed;
       parts = block_joined constants deep false block holds formed shallow (omega (arith, room));
       room = omega (arith, room, roomy, nevers);
     }

@@ -1,10 +1,11 @@
 -- A part of a readable block is on one line what must be known of it: an act, values, the head of a loop, and what is tested in a condition.
-use Rattle.std.proofs.Common.{◌≡◌, ◌<◌, ◌≤◌, ℕ, true, false, List, Option, Some, None, refl, sym, ap, ◌∙◌, arith, subst}
+use Rattle.std.proofs.Common.{◌≡◌, ◌<◌, ◌≤◌, ℕ, Bool, true, false, List, Option, Some, None, refl, sym, ap, ◌∙◌, arith, subst}
+use Rattle.std.specs.Prelude.{is_some}
 use Rattle.lua_num.specs.Bytes.{Text}
 use Rattle.lua_tree.specs.Names.{are_some_names}
-use Rattle.lua_tree.specs.OneLine.{one_line_expression, one_line_expressions, one_line_statement}
+use Rattle.lua_tree.specs.OneLine.{one_line_body, one_line_expression, one_line_expressions, one_line_statement}
 use Rattle.lua_tree.specs.Precedence.{is_right_associative, left_binds, level_of_op, right_binds}
-use Rattle.lua_tree.specs.Syntax.{Statement, function_statement, return_statement, FunctionBody, Expressions, Expression, and_expression, or_expression, binary_expression, unary_expression, parenthesized}
+use Rattle.lua_tree.specs.Syntax.{Statement, function_statement, return_statement, FunctionBody, function_body, Expressions, Expression, and_expression, or_expression, binary_expression, unary_expression, parenthesized}
 use Rattle.lua_tree.specs.WellFormed.{depth_of_expression, depth_of_expressions, depth_of_statement, ends_block, formed_expression, formed_expressions, formed_statement, has_expressions}
 use Rattle.lua_tree.specs.declared.tree.BinaryOp.{BinaryOp}
 use Rattle.lua_tree.specs.declared.tree.UnaryOp.{UnaryOp}
@@ -15,13 +16,13 @@ use Rattle.scheme.specs.Shapes.{plainness}
 use Rattle.same_flow.specs.Blocks.{AloneHolds, TestHolds, tested_as}
 use Rattle.same_flow.specs.Renaming.{IsOneStep, IsTested}
 use Rattle.same_flow.specs.Space.{space_of_expression, space_of_expressions, space_of_statement}
-use Rattle.reads_back.specs.Assignments.{as_assignment}
+use Rattle.reads_back.specs.Assignments.{as_assignment, with_self}
 use Rattle.reads_back.specs.Cores.{AllHaveCores, HasCore}
 use Rattle.reads_back.specs.Ordered.{IsOrderedAmong, NumbersStay, OperandsStay, names_stay}
 use Rattle.reads_back.specs.Straight.{AllHaveCoresBy, HasCoreBy, IsActBy, IsStraightBody, IsStraightStatementBy, StatementIndexesNoTable}
-use Rattle.reads_back.proofs.FlowThere.{IsFlowAct}
-use Rattle.reads_back.proofs.FunctionStatements.{assigned_formed, assigned_shallow, indexes_still, statement_is_act}
-use Rattle.reads_back.proofs.OneLineActs.{act_on_line, core_on_line, cores_on_line}
+use Rattle.reads_back.proofs.FlowThere.{IsFlowAct, IsFlowStatement}
+use Rattle.reads_back.proofs.FunctionStatements.{assigned_formed, assigned_shallow, indexes_still, path_on_line, statement_is_act}
+use Rattle.reads_back.proofs.OneLineActs.{act_on_line, core_on_line, cores_on_line, straight_statement_on_line}
 use Rattle.reads_back.proofs.PlainBodies.{plain_act, plain_core, plain_cores}
 use Rattle.reads_back.proofs.PlainStraight.{bodies_stay, same_some, statement_indexes_none}
 use Rattle.reads_back.proofs.Rooms.{inside_room}
@@ -30,9 +31,17 @@ use Rattle.reads_back.proofs.Tests.{both_hold, first_of_both, second_of_both}
 use Rattle.reads_back.proofs.WordsSame.{same_literal, same_name}
 use Rattle.recovers.specs.FlowSources.{IsLeafBy, IsReadablePart}
 use Rattle.recovers.specs.Joined.{IsJoinedPart}
-use Rattle.recovers.proofs.AssignedBlocks.{assignment_line}
-use Rattle.recovers.proofs.CoresPlain.{act_plain, core_plain, cores_plain, straight_plain}
+use Rattle.recovers.proofs.CoresPlain.{core_plain, cores_plain, straight_plain, straight_statement_plain}
 use Rattle.recovers.proofs.OneLineBlocks.{expression_again, expression_as_deep, expression_as_roomy, expression_formed, expressions_again, expressions_as_deep, expressions_as_roomy, expressions_formed, statement_again, statement_as_deep, statement_as_roomy, statement_formed}
+
+-- ---- the assignment that a function statement stands for
+
+self_line : (method : Bool) (body : FunctionBody) → one_line_body (with_self method body) ≡ with_self method (one_line_body body)
+self_line method (function_body params vararg block first last) = refl
+
+assignment_line : (s : Statement) → one_line_statement (as_assignment s) ≡ as_assignment (one_line_statement s)
+assignment_line (function_statement path method body) = cc (path_on_line path method, self_line (is_some method) body)
+assignment_line s = refl
 
 -- ---- what a leaf is tested as
 
@@ -119,23 +128,22 @@ module _ (constants : List Constant) (deep : ℕ) where
     on_line = statement_again s;
   }
 
-  pub act_joined : (s : Statement) → IsOneStep (one_line_statement s) → ends_block (one_line_statement s) ≡ false → IsActBy (IsStraightBody deep) s × StatementIndexesNoTable s →
+  -- a function statement stands for an assignment
+  flow_statement : (s : Statement) → IsStraightStatementBy (IsStraightBody deep) s → StatementIndexesNoTable s → formed_statement s ≡ true → depth_of_statement s ≤ 199 → IsFlowStatement (one_line_statement s)
+  flow_statement s is begins formed shallow = record {
+    formed = statement_formed s formed;
+    act = subst IsFlowAct (assignment_line s) (flow_act (as_assignment s) (statement_is_act deep s is formed) (indexes_still s begins formed) (assigned_formed s formed) (assigned_shallow deep s is shallow));
+  }
+
+  pub act_joined : (s : Statement) → IsOneStep (one_line_statement s) → ends_block (one_line_statement s) ≡ false → IsStraightStatementBy (IsStraightBody deep) s × StatementIndexesNoTable s →
       formed_statement s ≡ true → depth_of_statement s ≤ 199 → space_of_statement s < 200 → IsJoinedPart constants (statement_part (one_line_statement s))
   act_joined s one goes_on is formed shallow roomy = record {
-    plain = (one, act_plain (straight_plain deep) (one_line_statement s) (act_on_line (bodies_stay deep) s is.0));
-    flow = flow_act s is.0 is.1 formed shallow;
+    plain = (one, straight_statement_plain (straight_plain deep) (one_line_statement s) (straight_statement_on_line (bodies_stay deep) s is.0));
+    flow = flow_statement s is.0 is.1 formed shallow;
     formed = (statement_formed s formed, goes_on);
     ordered = tt;
     roomy = subst (λ (room : ℕ). room < 200) (sym (statement_as_roomy s)) roomy;
   }
-
-  -- a function statement as the assignment that it stands for
-  pub function_joined : (path : List Text) (method : Option Text) (body : FunctionBody) → let s = function_statement path method body in IsStraightStatementBy (IsStraightBody deep) s × StatementIndexesNoTable s →
-      formed_statement s ≡ true → depth_of_statement s ≤ 199 → space_of_statement (as_assignment s) < 200 → IsJoinedPart constants (statement_part (as_assignment (one_line_statement s)))
-  function_joined path method body is formed shallow roomy =
-      let s = function_statement path method body in
-      subst (λ (s : Statement). IsJoinedPart constants (statement_part s)) (assignment_line s)
-      (act_joined (as_assignment s) tt refl (statement_is_act deep s is.0 formed, indexes_still s is.1 formed) (assigned_formed s formed) (assigned_shallow deep s is.0 shallow) roomy)
 
   pub values_joined : (es : Expressions) → AllHaveCoresBy (IsStraightBody deep) es →
       formed_expressions es ≡ true → depth_of_expressions es ≤ 199 → space_of_expressions es < 200 → IsJoinedPart constants (values_part (one_line_expressions es))

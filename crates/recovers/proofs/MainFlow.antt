@@ -1,28 +1,20 @@
 -- The main function of a source with blocks stands among its words, and the functions in it are left to it.
-use Rattle.std.proofs.Common.{◌≡◌, ◌∙◌, Bool, true, false, [], None, Some, refl, sym, ap, subst, subst₂, arith}
-use Rattle.lua_tree.specs.OneLine.{on_one_line, one_line_statements}
-use Rattle.lua_tree.specs.Outline.{Place, Walk, statements_part}
+use Rattle.std.proofs.Common.{◌≡◌, ◌∙◌, Bool, true, false, [], Some, refl, sym, ap, arith}
+use Rattle.lua_tree.specs.OneLine.{on_one_line}
 use Rattle.lua_tree.specs.Resolved.{resolved}
 use Rattle.lua_tree.specs.Scoping.{Scoped}
-use Rattle.lua_tree.specs.Syntax.{Source, Statements}
+use Rattle.lua_tree.specs.Syntax.{Source}
 use Rattle.lua_tree.specs.WellFormed.{WellFormed, depth_of_statements}
-use Rattle.proto.specs.Chunk.{Own, Functions, each, function, no_lines}
+use Rattle.proto.specs.Chunk.{Own, Functions, function}
 use Rattle.proto.specs.Short.{IsShort}
-use Rattle.scheme.specs.Functions.{Heading, chunk_of, empty_maker, finished, whole_function}
-use Rattle.scheme.specs.Making.{Ahead, Maker}
+use Rattle.scheme.specs.Functions.{Heading, chunk_of}
+use Rattle.scheme.specs.Making.{Ahead}
 use Rattle.scheme.specs.Scheme.{Fits, ahead_of}
 use Rattle.scheme_lines.proofs.Again.{bare_again}
 use Rattle.scheme_lines.specs.Alike.{AreAlike, SemicolonsDoNotMatter}
-use Rattle.scheme_stands.proofs.Growth.{Final, fn_of}
-use Rattle.scheme_stands.proofs.Makers.{begun, block_final, main_maker, no_names}
-use Rattle.scheme_stands.specs.Functions.{FunctionAt}
-use Rattle.scheme_stands.specs.Relation.{StatementsAt}
-use Rattle.scheme_stands.specs.Words.{asking}
-use Rattle.same_flow.specs.SameMarks.{but_breaks}
-use Rattle.reads_back.specs.Through.{BodyThrough}
+use Rattle.scheme_stands.proofs.Makers.{block_final, no_names}
 use Rattle.reads_back.proofs.FlowLefts.{FunctionsLeft, functions_left}
 use Rattle.reads_back.proofs.FlowPlaced.{AreCapturedLike}
-use Rattle.reads_back.proofs.FlowWhole.{tree_of, whole_of}
 use Rattle.reads_back.proofs.FunctionsRead.{each_read}
 use Rattle.reads_back.proofs.InnerNames.{none_known}
 use Rattle.reads_back.proofs.MainCaptured.{main_captured}
@@ -30,16 +22,13 @@ use Rattle.reads_back.proofs.PlainValues.{plain_left}
 use Rattle.reads_back.proofs.StraightFunctions.{inner_same}
 use Rattle.reads_back.proofs.StraightSources.{NamesStand}
 use Rattle.reads_back.proofs.ThroughFunctions.{main_through}
-use Rattle.recovers.specs.Assigned.{assigned_statements}
 use Rattle.recovers.specs.FlowSources.{IsFlowChunk}
-use Rattle.recovers.specs.Joined.{IsFlowRead, IsJoined, IsLike}
-use Rattle.recovers.proofs.AssignedSame.{block_makes, block_says}
-use Rattle.recovers.proofs.AssignedThrough.{block_through}
+use Rattle.recovers.specs.Joined.{IsFlowRead, IsJoined}
 use Rattle.recovers.proofs.FlowHere.{IsFlowHere, f, g, is_made, same_own, z}
 use Rattle.recovers.proofs.FlowLikes.{FlowLaws, flow_is_read}
 use Rattle.recovers.proofs.FlowStepsRead.{each_is_made, flow, takes}
 use Rattle.recovers.proofs.JoinedBlocks.{on_one_line_joined}
-use Rattle.recovers.proofs.OneLineBlocks.{block_again, block_as_deep, block_formed}
+use Rattle.recovers.proofs.OneLineBlocks.{block_as_deep, block_formed}
 use Rattle.recovers.proofs.ReadableSpace.{readable_space}
 
 module _ (stand : NamesStand) (semicolons : SemicolonsDoNotMatter) (mine : Own) (functions : Functions)
@@ -70,27 +59,10 @@ module _ (stand : NamesStand) (semicolons : SemicolonsDoNotMatter) (mine : Own) 
   abbrev heading : Heading
   heading = record { source = Some of.name; first_line = 0; last_line = 0; params = 0; vararg = true }
 
-  -- ---- its block, whose function statements are assignments
-
-  abbrev block : Statements
-  block = assigned_statements plain_source.body
-
-  still : one_line_statements plain_source.body ≡ plain_source.body
-  still = block_again of.source.body
-
-  joined_block : IsJoined mine.constants block
+  joined_block : IsJoined mine.constants plain_source.body
   joined_block = on_one_line_joined mine.constants of.deep of.source.body of.formed.formed of.formed.shallow of.blocks (omega (arith, of.room, readable_space mine.constants of.deep false of.source.body of.blocks))
 
-  same_made : tree_of [] [] begins_with block ≡ tree_of [] [] begins_with plain_source.body
-  same_made = block_makes plain_source.body formed_plain.formed still None (begun plain_source)
-
-  same_maker : whole_of [] [] begins_with block ≡ whole_of [] [] begins_with plain_source.body
-  same_maker = ap (λ (m : Maker). whole_function 1 [] (λ n. m) (empty_maker begins_with [])) same_made
-
-  same_said : (place : Place) → statements_part block place ≡ statements_part plain_source.body place
-  same_said = block_says plain_source.body formed_plain.formed still
-
-  pub main_here : IsFlowHere no_names heading [] block [] begins_with (function mine functions)
+  pub main_here : IsFlowHere no_names heading [] plain_source.body [] begins_with (function mine functions)
   main_here =
       let main = stand plain_source of.name formed_plain scoped_plain fits_plain in
       record {
@@ -99,12 +71,10 @@ module _ (stand : NamesStand) (semicolons : SemicolonsDoNotMatter) (mine : Own) 
         known = none_known;
         named = λ text slot is. cc;
         behind = main.0;
-        standing = plain_source.body;
-        at = subst (λ (z : Maker). FunctionAt (Some no_names) [] true (λ g. StatementsAt g None plain_source.body) begins_with main.0 (chunk_of heading z)) (sym same_maker) main.1;
-        through = subst (λ (z : Maker). BodyThrough (asking no_names (fn_of z)) z None block (begun plain_source)) (sym same_maker)
-            (block_through (asking no_names (fn_of (main_maker plain_source))) (main_maker plain_source) plain_source.body formed_plain.formed still None (begun plain_source) (main_through plain_source formed_plain scoped_plain fits_plain));
-        final = subst₂ (Final 0) (sym same_made) (sym same_maker) (block_final plain_source fits_plain);
-        same = of.same ∙ alike.same of.name ∙ ap (λ (z : Maker). each no_lines (chunk_of heading z)) (sym same_maker);
+        at = main.1;
+        through = main_through plain_source formed_plain scoped_plain fits_plain;
+        final = block_final plain_source fits_plain;
+        same = of.same ∙ alike.same of.name;
         short = short.0.code;
       }
 
@@ -117,28 +87,8 @@ module _ (stand : NamesStand) (semicolons : SemicolonsDoNotMatter) (mine : Own) 
 
   -- in the end the reader's list has those locals captured that the source captures
   captured_there : (fewest : Bool) → AreCapturedLike (flow fewest main_here (functions_there fewest).left) (takes fewest main_here)
-  captured_there fewest = main_captured plain_source (flow fewest main_here (functions_there fewest).left) (takes fewest main_here) joined_block.formed same_said
+  captured_there fewest = main_captured plain_source (flow fewest main_here (functions_there fewest).left) (takes fewest main_here) joined_block.formed (λ place. refl)
 
   module _ (laws : FlowLaws) where
-    -- what is like the block is like that of the source
-    like_plain : (written : Statements) → IsLike [] [] begins_with block written → IsLike [] [] begins_with plain_source.body written
-    like_plain written like = record {
-      formed = like.formed;
-      shallow = like.shallow;
-      makes = λ heading. ap (λ (z : Maker). finished heading z) (sym same_maker) ∙ like.makes heading;
-      marks = λ place. ap (λ (walk : Walk). but_breaks walk.marks) (sym (same_said place)) ∙ like.marks place;
-    }
-
-    block_read : (fewest : Bool) → IsFlowRead fewest (function mine functions) ((functions_there fewest).lefts 0) [] [] begins_with block
-    block_read fewest = let there = functions_there fewest in flow_is_read laws fewest main_here there.left (plain_left there.lefts there.left.fine) (captured_there fewest)
-
     pub main_read : (fewest : Bool) → IsFlowRead fewest (function mine functions) ((functions_there fewest).lefts 0) [] [] begins_with plain_source.body
-    main_read fewest =
-        let read = block_read fewest in
-        record {
-          told = read.told;
-          steps = read.steps;
-          read = read.read;
-          each = λ plans stands low. let one = read.each plans stands low in (one.0, one.1, one.2, like_plain one.0 one.3);
-          stands = read.stands;
-        }
+    main_read fewest = let there = functions_there fewest in flow_is_read laws fewest main_here there.left (plain_left there.lefts there.left.fine) (captured_there fewest)

@@ -11,8 +11,7 @@ use Rattle.same_flow.specs.Blocks.{AloneHolds, BranchesHold, OtherwiseHolds, Sta
 use Rattle.same_flow.specs.Laid.{head_values}
 use Rattle.same_flow.specs.Space.{space_of_branches, space_of_expression, space_of_otherwise, space_of_statement, space_of_statements, space_of_step}
 use Rattle.reads_back.specs.Straight.{AllHaveCoresBy, IsStraightBody}
-use Rattle.reads_back.proofs.StraightSpace.{assigned_space, core_space, cores_space}
-use Rattle.recovers.specs.Assigned.{assigned_branches, assigned_otherwise, assigned_statement, assigned_statements}
+use Rattle.reads_back.proofs.StraightSpace.{core_space, cores_space, statement_space as straight_space}
 use Rattle.recovers.specs.FlowSources.{IsLeafBy, IsReadablePart}
 use Rattle.recovers.proofs.JoinedParts.{IsLeaf, operands_have}
 use Rattle.recovers.proofs.OneLineBlocks.{counted_most, one_more, same_most}
@@ -70,16 +69,16 @@ module _ (constants : List Constant) (deep : ℕ) where
   values_space first last no_step have = record { first_same = core_space deep first have.0; last_same = core_space deep last have.1.0; by_same = refl }
   values_space first last (by_step e) have = record { first_same = core_space deep first have.0; last_same = core_space deep last have.1.0; by_same = core_space deep e have.1.1.0 }
 
-  -- ---- statements, where function statements are assignments
+  -- ---- statements
 
   mutual
     pub readable_space : (looped : Bool) (block : Statements) → StatementsHold (IsReadablePart constants (IsStraightBody deep)) looped block →
-        space_of_statements (assigned_statements block) ≡ room_of_statements (assigned_statements block)
+        space_of_statements block ≡ room_of_statements block
     readable_space looped no_statements holds = refl
     readable_space looped (syntax.statement line semi s rest) holds = same_most (one_more (statement_space looped s holds.0)) (readable_space looped rest holds.1)
 
     statement_space : (looped : Bool) (s : Statement) → StatementHolds (IsReadablePart constants (IsStraightBody deep)) looped s →
-        space_of_statement (assigned_statement s) ≡ room_of_statement (assigned_statement s)
+        space_of_statement s ≡ room_of_statement s
     statement_space looped (do_block block) holds = readable_space looped block holds
     statement_space looped (while_loop e block) holds = counted_most refl (test_space e holds.0) (readable_space true block holds.1)
     statement_space looped (repeat_loop block e) holds = counted_most refl (readable_space true block holds.0) (test_space e holds.1)
@@ -90,18 +89,18 @@ module _ (constants : List Constant) (deep : ℕ) where
     statement_space looped (generic_for names es block) holds = same_most (cores_space deep es holds.0) (readable_space true block holds.1)
     statement_space looped (return_statement es) holds = cores_space deep es holds
     statement_space looped break_statement holds = refl
-    statement_space looped (call_statement e) holds = assigned_space deep (call_statement e) holds.0
-    statement_space looped (assignment targets es) holds = assigned_space deep (assignment targets es) holds.0
-    statement_space looped (local_statement names es) holds = assigned_space deep (local_statement names es) holds.0
-    statement_space looped (local_function name body) holds = assigned_space deep (local_function name body) holds.0
-    statement_space looped (function_statement path method body) holds = assigned_space deep (function_statement path method body) holds.0
+    statement_space looped (call_statement e) holds = straight_space deep (call_statement e) holds.0
+    statement_space looped (assignment targets es) holds = straight_space deep (assignment targets es) holds.0
+    statement_space looped (local_statement names es) holds = straight_space deep (local_statement names es) holds.0
+    statement_space looped (local_function name body) holds = straight_space deep (local_function name body) holds.0
+    statement_space looped (function_statement path method body) holds = straight_space deep (function_statement path method body) holds.0
 
     branches_space : (looped : Bool) (branches : Branches) → BranchesHold (IsReadablePart constants (IsStraightBody deep)) looped branches →
-        space_of_branches (assigned_branches branches) ≡ room_of_branches (assigned_branches branches)
+        space_of_branches branches ≡ room_of_branches branches
     branches_space looped no_branches holds = refl
     branches_space looped (branch e block rest) holds = same_most (same_most (test_space e holds.0) (readable_space looped block holds.1)) (branches_space looped rest holds.2)
 
     otherwise_space : (looped : Bool) (last : Otherwise) → OtherwiseHolds (IsReadablePart constants (IsStraightBody deep)) looped last →
-        space_of_otherwise (assigned_otherwise last) ≡ room_of_otherwise (assigned_otherwise last)
+        space_of_otherwise last ≡ room_of_otherwise last
     otherwise_space looped no_otherwise holds = refl
     otherwise_space looped (otherwise block) holds = readable_space looped block holds

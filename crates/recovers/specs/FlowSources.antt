@@ -13,7 +13,6 @@ use Rattle.same_flow.specs.Blocks.{StatementsHold}
 use Rattle.same_flow.specs.Never.{nevers_of_statements}
 use Rattle.reads_back.specs.Ordered.{IsOrderedAmong}
 use Rattle.reads_back.specs.Straight.{AllHaveCoresBy, HasCoreBy, IsStraightBody, IsStraightStatementBy, StatementIndexesNoTable}
-use Rattle.recovers.specs.Assigned.{assigned_statements}
 
 -- what is tested: two values that are compared, or one value
 abbrev pub IsLeafBy : (FunctionBody → Type 0) → Expression → Type 0
@@ -28,7 +27,7 @@ IsReadablePart constants P (values_part es) = AllHaveCoresBy P es
 IsReadablePart constants P (condition_part e) = IsLeafBy P e × IsOrderedAmong constants e
 IsReadablePart constants P (head_part es names) = AllHaveCoresBy P es
 
--- the chunk of such a source that keeps every rule, under some name, but for the numbers of lines; there is room for one level more, and for one more for each further arm of an `if` whose condition never fails, where a function statement counts as the assignment that it stands for
+-- the chunk of such a source that keeps every rule, under some name, but for the numbers of lines; there is room for one level more, and for one more for each further arm of an `if` whose condition never fails
 pub record IsFlowChunk (chunk : Chunk) : Type 0 where
   pub source : Source
   pub name : Text
@@ -37,5 +36,5 @@ pub record IsFlowChunk (chunk : Chunk) : Type 0 where
   pub fits : Fits source
   pub deep : ℕ
   pub blocks : StatementsHold (IsReadablePart (own chunk).constants (IsStraightBody deep)) false source.body
-  pub room : room_of_statements (assigned_statements source.body) + nevers_of_statements source.body < 200
+  pub room : room_of_statements source.body + nevers_of_statements source.body < 200
   pub same : SameButLines chunk (scheme source name)

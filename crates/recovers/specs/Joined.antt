@@ -1,10 +1,10 @@
 -- Serves the law. What is known of the parts of a block on one line whose chunk is read.
-use Rattle.std.specs.Prelude.{◌≡◌, ◌<◌, ◌≤◌, ◌+◌, Bool, true, false, List, Option, None, Some}
+use Rattle.std.specs.Prelude.{◌≡◌, ◌<◌, ◌≤◌, ◌+◌, ◌*◌, suc, Bool, true, false, List, Option, None, Some}
 use Rattle.lua_num.specs.Bytes.{Text}
 use Rattle.lua_tree.specs.OneLine.{one_line_statements}
-use Rattle.lua_tree.specs.Outline.{Place, statements_part}
-use Rattle.lua_tree.specs.Syntax.{Statements}
-use Rattle.lua_tree.specs.WellFormed.{depth_of_statements, formed_statements}
+use Rattle.lua_tree.specs.Outline.{Place, body_part, statements_part}
+use Rattle.lua_tree.specs.Syntax.{FunctionBody, Statements, function_body}
+use Rattle.lua_tree.specs.WellFormed.{depth_of_body, depth_of_statements, formed_statements}
 use Rattle.core_expr.specs.Values.{Inner}
 use Rattle.proto.specs.Chunk.{Chunk, own}
 use Rattle.proto.specs.declared.parts.Constant.{Constant}
@@ -17,7 +17,8 @@ use Rattle.recover_flow.specs.Searching.{whole_body}
 use Rattle.recover_flow.specs.Standing.{BodyStands}
 use Rattle.scheme.specs.Functions.{Heading, function_from}
 use Rattle.scheme.specs.Making.{Ahead}
-use Rattle.scheme.specs.Scheme.{statements_made}
+use Rattle.scheme.specs.Scheme.{inner, statements_made}
+use Rattle.scheme.specs.Shapes.{plain_statements}
 use Rattle.same_flow.specs.Written.{IsPartFormed}
 use Rattle.same_flow.specs.Blocks.{StatementsHold}
 use Rattle.same_flow.specs.Never.{nevers_of_statements}
@@ -27,6 +28,8 @@ use Rattle.same_flow.specs.Space.{space_of_expression, space_of_expressions, spa
 use Rattle.reads_back.specs.ReadAs.{IsTold}
 use Rattle.reads_back.specs.Ordered.{IsOrderedPart}
 use Rattle.reads_back.proofs.FlowThere.{IsFlowPart}
+use Rattle.reads_back.proofs.Marks.{SamePart}
+use Rattle.reads_back.proofs.WrittenFormed.{IsFineFunction}
 
 -- it takes no more room than a tree has
 abbrev pub IsRoomyPart : Part → Type 0
@@ -51,18 +54,33 @@ pub record IsJoined (constants : List Constant) (block : Statements) : Type 0 wh
 
 -- ---- what is read of a function
 
--- another block is like one: it keeps the rules of form, makes the same function, and declares and mentions the same but for breaks
+abbrev pub block_of : FunctionBody → Statements
+block_of (function_body params vararg block first last) = block
+
+-- another block is like one: it keeps the rules of form and is plain, makes the same function, and declares and mentions the same but for breaks
 pub record IsLike (params names : List Text) (ahead : Ahead) (block written : Statements) : Type 0 where
   pub formed : formed_statements written ≡ true
   pub shallow : depth_of_statements written ≤ 200
+  pub plain : plain_statements written ≡ true
   pub makes : (heading : Heading) → function_from heading 1 params (statements_made block None) names ahead ≡ function_from heading 1 params (statements_made written None) names ahead
   pub marks : (place : Place) → but_breaks (statements_part block place).marks ≡ but_breaks (statements_part written place).marks
+  pub next : (place : Place)
+      → ((statements_part block place).next.declarations ≡ (statements_part written place).next.declarations) × ((statements_part block place).next.functions ≡ (statements_part written place).next.functions)
 
--- its words are read as steps, each body that stands in them is built as a block like this, and in the forms of fewest levels one stands there
+-- its words are read as steps, each body that stands in them is built as a block like this, no deeper than the body, and in the forms of fewest levels one stands there that needs no more than the room of the block
 pub record IsFlowRead (short : Bool) (chunk : Chunk) (left : List (Option Inner)) (params names : List Text) (ahead : Ahead) (block : Statements) : Type 0 where
   pub told : IsTold (own chunk)
   pub steps : Steps
   pub read : read_steps chunk left short ≡ Some steps
   pub each : (plans : Plans) → BodyStands steps.steps (whole_body steps.steps) plans → body_levels steps.steps plans ≤ 200
-      → (written : Statements) × (behind : List Part) × (built_body plans steps.parts ≡ Some (written, behind)) × IsLike params names ahead block written
-  pub stands : short ≡ true → (plans : Plans) × BodyStands steps.steps (whole_body steps.steps) plans × (body_levels steps.steps plans ≤ 200)
+      → (written : Statements) × (behind : List Part) × (built_body plans steps.parts ≡ Some (written, behind)) × IsLike params names ahead block written × (depth_of_statements written ≤ body_levels steps.steps plans)
+  pub stands : short ≡ true → (plans : Plans) × BodyStands steps.steps (whole_body steps.steps) plans × (body_levels steps.steps plans ≤ 200) × (body_levels steps.steps plans ≤ suc (space_of_statements block + nevers_of_statements block))
+
+-- what is found of a function stands for this body: it is formed, plain and no deeper than its levels, makes the same function, and declares and mentions the same but for breaks
+pub record IsFoundAs (short : Bool) (body : FunctionBody) (method : Bool) (names : List Text) (before : Ahead) (found : Inner) : Type 0 where
+  pub fine : IsFineFunction found
+  pub same : inner found.body false names before ≡ inner body method names before
+  pub few : found.levels ≤ 3 * depth_of_body body + 204
+  -- in the forms of fewest levels they are no more than its block has room for
+  pub low : short ≡ true → found.levels ≤ suc (space_of_statements (block_of body) + nevers_of_statements (block_of body))
+  pub part : SamePart (body_part false found.body) (body_part method body)

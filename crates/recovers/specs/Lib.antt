@@ -1,4 +1,3 @@
-pub mod Assigned
 pub mod FlowSources
 pub mod Found
 pub mod Joined
