@@ -36,7 +36,7 @@ use Rattle.reads_back.proofs.StepsKnown.{part_said, says_part, state_before}
 
 -- ---- what a step captures is in scope
 
-part_leads : (base : Place) (kind : StepKind) (part : Part) → PartFits kind part → Leads base (part_said kind part)
+pub part_leads : (base : Place) (kind : StepKind) (part : Part) → PartFits kind part → Leads base (part_said kind part)
 part_leads base StepKind.Act (statement_part s) fits = statement_leads base 1 s
 part_leads base (StepKind.Declaration end captured) (statement_part s) fits = statement_leads base 1 s
 part_leads base StepKind.Return (values_part es) fits = expressions_lead base es

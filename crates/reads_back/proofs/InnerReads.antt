@@ -74,18 +74,18 @@ count_same no_functions (and_function c rest) same = cc
 count_same (and_function c rest) no_functions same = cc
 count_same (and_function c rest) (and_function d others) same = ap suc (count_same rest others cc)
 
-within_count : (functions : Functions) (number : ℕ) (c : Chunk) → function_at functions number ≡ Some c → number < function_count functions
+pub within_count : (functions : Functions) (number : ℕ) (c : Chunk) → function_at functions number ≡ Some c → number < function_count functions
 within_count no_functions number c is = cc
 within_count (and_function first rest) zero c is = omega arith
 within_count (and_function first rest) (suc number) c is = omega (arith, within_count rest number c is)
 
 -- where one of them stands the other stands too
-record StandsToo (functions : Functions) (number : ℕ) (d : Chunk) : Type 0 where
-  c : Chunk
-  is : function_at functions number ≡ Some c
-  same : SameButLines c d
+pub record StandsToo (functions : Functions) (number : ℕ) (d : Chunk) : Type 0 where
+  pub c : Chunk
+  pub is : function_at functions number ≡ Some c
+  pub same : SameButLines c d
 
-stands_too : (functions others : Functions) (number : ℕ) (d : Chunk) → each_of no_lines functions ≡ each_of no_lines others → function_at others number ≡ Some d → StandsToo functions number d
+pub stands_too : (functions others : Functions) (number : ℕ) (d : Chunk) → each_of no_lines functions ≡ each_of no_lines others → function_at others number ≡ Some d → StandsToo functions number d
 stands_too _ no_functions number d same is = cc
 stands_too no_functions (and_function first rest) number d same is = cc
 stands_too (and_function c others) (and_function first rest) zero d same is =
@@ -111,7 +111,7 @@ enough_levels count (statement line semi s rest) (step ∷ steps) are = omega (a
 -- ---- the functions in one
 
 -- the part of the source that a function is that was found
-abbrev part_found : Option Inner → Part
+abbrev pub part_found : Option Inner → Part
 part_found None = nothing
 part_found (Some found) = body_part false found.body
 

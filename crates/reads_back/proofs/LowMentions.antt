@@ -85,7 +85,7 @@ hidden_mention : (n line k count : ℕ) → Mentions (Under n) (reaching (hidden
 hidden_mention n line k zero = tt
 hidden_mention n line k (suc count) = hidden_mention n line (suc k) count
 
-low_declares : (line hidden : ℕ) (names : List Text) (place : Place) → LowAt place → StaysLow place (declares line hidden names place)
+pub low_declares : (line hidden : ℕ) (names : List Text) (place : Place) → LowAt place → StaysLow place (declares line hidden names place)
 low_declares line hidden names place low =
     let n = place.declarations + length names in
     record {
@@ -97,7 +97,7 @@ low_declares line hidden names place low =
 low_locals : (hidden : ℕ) (names : List Text) (number : ℕ) (place : Place) → number + length names ≤ place.declarations → LowAt place → LowAt (with_locals hidden names number place)
 low_locals hidden names number place below low = names_low names number (innermost place.around) place.declarations place.scope below low
 
-low_come : (hidden : ℕ) (names : List Text) (number : ℕ) (place : Place) → number + length names ≤ place.declarations → LowAt place → StaysLow place (come hidden names number place)
+pub low_come : (hidden : ℕ) (names : List Text) (number : ℕ) (place : Place) → number + length names ≤ place.declarations → LowAt place → StaysLow place (come hidden names number place)
 low_come hidden names number place below low = record { mentions = tt; low = low_locals hidden names number place below low; grows = omega arith }
 
 low_mentions : (line : ℕ) (name : Text) (place : Place) → LowAt place → StaysLow place (mentions line name place)

@@ -49,7 +49,7 @@ low_ended at place (entry ∷ entries) low are = by (nat_lt at entry.end) (low_e
 
 -- ---- a step
 
-part_low : (kind : StepKind) (part : Part) (place : Place) → PartFits kind part → LowAt place → StaysLow place (part_said kind part place)
+pub part_low : (kind : StepKind) (part : Part) (place : Place) → PartFits kind part → LowAt place → StaysLow place (part_said kind part place)
 part_low StepKind.Act (statement_part s) place fits low = low_statement 1 s place low
 part_low (StepKind.Declaration end captured) (statement_part s) place fits low = low_statement 1 s place low
 part_low StepKind.Return (values_part es) place fits low = low_expressions es place low

@@ -135,11 +135,11 @@ module _ {f : Function} {g : Fn} {z : Maker} {lefts : ℕ → List (Option Inner
   abbrev first : State
   first = state_of place []
 
-  abbrev place_at : ℕ → Place
+  abbrev pub place_at : ℕ → Place
   place_at at = (state_before code first at).place
 
   -- the marks of the source before a step
-  abbrev marks_before : ℕ → List Mark
+  abbrev pub marks_before : ℕ → List Mark
   marks_before at = but_breaks between.reached.before ++ marks_to code first at
 
   own_home : is_one_of (innermost place.around) place.around ≡ true
@@ -154,25 +154,25 @@ module _ {f : Function} {g : Fn} {z : Maker} {lefts : ℕ → List (Option Inner
     abbrev said : Said
     said = said_at code at (state_before code first at)
 
-    said_is : said ≡ says kind part (state_before code first at)
+    pub said_is : said ≡ says kind part (state_before code first at)
     said_is = ap₂ (λ kind part. says_at kind part (state_before code first at)) is.there is.part_there
 
-    said_marks : said.marks ≡ but_breaks walk.marks
+    pub said_marks : said.marks ≡ but_breaks walk.marks
     said_marks = ap (λ (it : Said). it.marks) said_is ∙ (says_part kind part (state_before code first at) is.fits).0
 
-    said_next : said.after.place ≡ walk.next
+    pub said_next : said.after.place ≡ walk.next
     said_next = ap (λ (it : Said). it.after.place) said_is ∙ (says_part kind part (state_before code first at) is.fits).1
 
     functions_next : (place_at (suc at)).functions ≡ walk.next.functions
     functions_next = functions_stay (suc at) said.after.place said.after.entries ∙ ap (λ (place : Place). place.functions) said_next
 
-    declarations_next : (place_at (suc at)).declarations ≡ walk.next.declarations
+    pub declarations_next : (place_at (suc at)).declarations ≡ walk.next.declarations
     declarations_next = declarations_stay (suc at) said.after.place said.after.entries ∙ ap (λ (place : Place). place.declarations) said_next
 
     around_next : (place_at (suc at)).around ≡ walk.next.around
     around_next = around_ended (suc at) said.after.place said.after.entries ∙ ap (λ (place : Place). place.around) said_next
 
-    marks_next : marks_before (suc at) ≡ marks_before at ++ but_breaks walk.marks
+    pub marks_next : marks_before (suc at) ≡ marks_before at ++ but_breaks walk.marks
     marks_next = sym (append_assoc (but_breaks between.reached.before) (marks_to code first at) said.marks) ∙ ap (λ (marks : List Mark). marks_before at ++ marks) said_marks
 
     passes : AllOf (λ g. g < (place_at at).functions) (place_at at).around → Passes (part_said kind part) (place_at at)
@@ -249,7 +249,7 @@ module _ {f : Function} {g : Fn} {z : Maker} {lefts : ℕ → List (Option Inner
       ∙ sym (ap (λ (state : State). state.place.functions) (run_place code first (length code.steps) 0))
       ∙ ap (λ n. (run code 0 n first).after.place.functions) (sym same) ∙ ap (λ (it : Said). it.after.place.functions) walked.says
 
-  abbrev marks_from : (at count : ℕ) → List Mark
+  abbrev pub marks_from : (at count : ℕ) → List Mark
   marks_from at count = (run code at count (state_to code first at)).marks
 
   behind_from : (count at : ℕ) → at + count ≡ length code.steps → Mentions (Behind (place_at at)) (marks_from at count ++ after)

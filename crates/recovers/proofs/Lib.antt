@@ -5,6 +5,9 @@ pub mod FlowLikes
 pub mod FlowSources
 pub mod FlowStepsRead
 pub mod FoundBody
+pub mod FoundLefts
+pub mod InnerCaptured
+pub mod InnerFlow
 pub mod JoinedBlocks
 pub mod JoinedParts
 pub mod MainFlow
@@ -13,5 +16,8 @@ pub mod PlainBuilt
 pub mod ReadableSpace
 pub mod SmallSource
 pub mod SourceRecovered
+pub mod StandsApart
+pub mod StepsApart
+pub mod StraightEverFound
 pub mod StraightFound
 pub mod StraightRecovered

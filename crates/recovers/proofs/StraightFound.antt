@@ -82,7 +82,7 @@ is_last count (return_statement es) kind is = inr is
 is_last count s kind is = inl (inl is)
 
 -- only the last step can be a return, since a return ends its block
-all_plain : (count : ℕ) (block : Statements) (steps : List Step) → formed_statements block ≡ true → AreStepsOf count block steps → acts.ArePlain count steps
+pub all_plain : (count : ℕ) (block : Statements) (steps : List Step) → formed_statements block ≡ true → AreStepsOf count block steps → acts.ArePlain count steps
 all_plain count no_statements steps formed are = subst (acts.ArePlain count) (sym are) tt
 all_plain count (syntax.statement line semi s rest) [] formed are = absurd are
 all_plain count (syntax.statement line semi s no_statements) (step ∷ []) formed are = is_last count s step.kind are.0.kind
@@ -162,7 +162,7 @@ module _ (laws : ActLaws) where
         ap₂ (λ body (s : Steps). built_body body s.parts) one same ∙ is_read.built
 
     -- what is found of the function is what is read
-    found_is : (other : Inner) → IsFunctionFound chunk left short other → other ≡ found
+    pub found_is : (other : Inner) → IsFunctionFound chunk left short other → other ≡ found
     found_is other is =
         let same : is.steps ≡ is_read.steps = same_Some is.steps is_read.steps (sym is.read ∙ is_read.read) in
         let one = is_read.only is.plans (subst (λ (s : Steps). BodyStands s.steps (whole_body s.steps) is.plans) same is.stands) in

@@ -1,3 +1,4 @@
+pub mod EverFound
 pub mod FlowSources
 pub mod Found
 pub mod Joined
