@@ -42,11 +42,11 @@ use Rattle.reads_back.proofs.Tests.{first_of_both, not_so, or_first, or_second, 
 
 -- ---- tests
 
-of_either : {A : Type 0} (a b : Bool) → (a || b) ≡ true → (a ≡ true → A) → (b ≡ true → A) → A
+pub of_either : {A : Type 0} (a b : Bool) → (a || b) ≡ true → (a ≡ true → A) → (b ≡ true → A) → A
 of_either true b is first second = first refl
 of_either false b is first second = second is
 
-is_not : (a : Bool) → not a ≡ true → a ≡ false
+pub is_not : (a : Bool) → not a ≡ true → a ≡ false
 is_not true is = not_so is
 is_not false is = refl
 
@@ -89,7 +89,7 @@ block_free text (syntax.statement line semi s rest) formed =
 
 -- ---- active locals of which none has the name
 
-among_behind : (text : Text) (names others : List Text) → is_among text others ≡ true → is_among text (names ++ others) ≡ true
+pub among_behind : (text : Text) (names others : List Text) → is_among text others ≡ true → is_among text (names ++ others) ≡ true
 among_behind text [] others is = is
 among_behind text (name ∷ names) others is = or_second (bytes_eq text name) _ (among_behind text names others is)
 
@@ -102,7 +102,7 @@ onto_end : {A : Type 0} (xs : List A) (y : A) (zs : List A) → onto (xs ++ y �
 onto_end [] y zs = refl
 onto_end (x ∷ xs) y zs = onto_end xs y (x ∷ zs)
 
-none_then : (text : Text) (active : List Active) (x : Active) → is_named text x ≡ false → own_register text active ≡ None → own_register text (active ++ x ∷ []) ≡ None
+pub none_then : (text : Text) (active : List Active) (x : Active) → is_named text x ≡ false → own_register text active ≡ None → own_register text (active ++ x ∷ []) ≡ None
 none_then text active x apart none =
     ap (register_in text) (onto_end active x []) ∙ ap (λ is. if is then Some (length (onto active [])) else own_register text active) apart ∙ none
 
@@ -127,7 +127,7 @@ captured_upvalue n active text (in_register r) captured none = let is = captured
 captured_upvalue n active text (in_upvalue slot) captured none = among_at text n.upvalues slot captured.1
 captured_upvalue n active text in_globals captured none = absurd captured
 
-captured_among : (n : Names) (active : List Active) (text : Text) (names : List Text) (uses : List Use) → CapturedBy n active names uses → is_among text names ≡ true → own_register text active ≡ None → is_among text n.upvalues ≡ true
+pub captured_among : (n : Names) (active : List Active) (text : Text) (names : List Text) (uses : List Use) → CapturedBy n active names uses → is_among text names ≡ true → own_register text active ≡ None → is_among text n.upvalues ≡ true
 captured_among n active text [] uses captured is none = not_so is
 captured_among n active text (name ∷ names) [] captured is none = absurd captured
 captured_among n active text (name ∷ names) (one ∷ uses) captured is none =
@@ -136,7 +136,7 @@ captured_among n active text (name ∷ names) (one ∷ uses) captured is none =
     (λ is. captured_among n active text names uses captured.1 is none)
 
 -- a name that means no local and no global
-meant_upvalue : (n : Names) (active : List Active) (text : Text) (w : Where) → MeansBy n active text w → is_among text n.around ≡ true → own_register text active ≡ None → is_among text n.upvalues ≡ true
+pub meant_upvalue : (n : Names) (active : List Active) (text : Text) (w : Where) → MeansBy n active text w → is_among text n.around ≡ true → own_register text active ≡ None → is_among text n.upvalues ≡ true
 meant_upvalue n active text (in_register r) means around none = cc
 meant_upvalue n active text (in_upvalue slot) means around none = among_at text n.upvalues slot means.1
 meant_upvalue n active text in_globals means around none = let is = means.1 in cc

@@ -85,7 +85,11 @@ pub mod ForsStand
 pub mod Framed
 pub mod FramedParts
 pub mod FreeCaptured
+pub mod FreeCapturedFlow
+pub mod FreeFound
+pub mod FreeInBlocks
 pub mod FreeNames
+pub mod FreeStatements
 pub mod FunctionLocals
 pub mod FunctionStatements
 pub mod FunctionSteps
@@ -222,6 +226,7 @@ pub mod StoresRead
 pub mod StoresRefused
 pub mod StraightActs
 pub mod StraightBlocks
+pub mod StraightFlow
 pub mod StraightFunctions
 pub mod StraightScopes
 pub mod StraightSources

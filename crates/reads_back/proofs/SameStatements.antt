@@ -36,11 +36,11 @@ method_related : (g : Fn) (on : Expression) (method : Option Text) → related g
 method_related g on None = refl
 method_related g on (Some text) = refl
 
-path_related : (g : Fn) (name : Text) (names : List Text) (method : Option Text) → related g (path_target (name ∷ names) method) ≡ rel_method g (rel_path g (name ∷ names)) method
+pub path_related : (g : Fn) (name : Text) (names : List Text) (method : Option Text) → related g (path_target (name ∷ names) method) ≡ rel_method g (rel_path g (name ∷ names)) method
 path_related g name names method = method_related g _ method ∙ ap (λ (on : Rel). rel_method g on method) (fields_related g (name_expression 1 name) names)
 
 -- `self` is among the parameters
-self_related : (g : Fn) (method : Bool) (body : FunctionBody) → related g (function_expression 1 (with_self method body)) ≡ rel_function g (FunctionOf body method)
+pub self_related : (g : Fn) (method : Bool) (body : FunctionBody) → related g (function_expression 1 (with_self method body)) ≡ rel_function g (FunctionOf body method)
 self_related g method (function_body params vararg block first last) = refl
 
 statement_stands : (g : Fn) (loop : Option LoopAt) (s : Statement) → formed_statement s ≡ true → StatementAt g loop s ≡ StatementAt g loop (as_assignment s)

@@ -2,6 +2,7 @@ pub mod Ordered
 pub mod Placed
 pub mod Stepped
 pub mod Straight
+pub mod Flows
 pub mod Coming
 pub mod Cores
 pub mod Acted
