@@ -68,11 +68,11 @@ mirrored op = op
 abbrev pub is_constant_field : ℕ → Bool
 is_constant_field field = nat_le 256 field
 
--- a constant that is taken next has no number above the count of those taken; a constant stands on the right where that makes the same words; of two values that were made here the lower register has the first
+-- a constant that is taken next has no number above the count of those taken, and one behind it no lower one; a constant stands on the right where that makes the same words, but one that takes the last number that a field has is written first, since what is behind it may take a number that shows in no word; of two values that were made here the lower register has the first
 abbrev pub swapped_fields : (base taken b c : ℕ) → (left right : OperandValue) → (b_constant c_constant : Bool) → Bool
-swapped_fields base n b c left right true true = nat_lt n (b - 256)
-swapped_fields base n b c left right true false = nat_lt c base || (not (b - 256 == n) || taken_behind_operand right n == n)
-swapped_fields base n b c left right false true = (c - 256 == n) && (not (nat_lt b base) && nat_lt n (taken_behind_operand left n))
+swapped_fields base n b c left right true true = nat_lt n (b - 256) || ((c - 256 == n) && nat_lt (b - 256) n)
+swapped_fields base n b c left right true false = not (b - 256 == n) || (not (n == 255) && taken_behind_operand right n == n)
+swapped_fields base n b c left right false true = (c - 256 == n) && ((n == 255) || nat_lt n (taken_behind_operand left n))
 swapped_fields base n b c left right false false = not (nat_lt b base) && (not (nat_lt c base) && nat_lt c b)
 
 -- whether it was written as `>` or `>=`, with its operands the other way round

@@ -9,6 +9,8 @@ use lua_tree::BinaryOp;
 
 // A field of a word is a register below this number, else a constant.
 const FIRST_CONSTANT: u32 = 256;
+// No field has a constant of a higher number.
+const LAST_SMALL_CONSTANT: u32 = 255;
 
 /// Whether a comparison was written as `>` or `>=`, with its operands the other way round. The registers below `base` are those of locals, and so many constants are taken before it.
 pub fn is_swapped(comparison: &Comparison, base: usize, taken: u32) -> bool
@@ -20,14 +22,16 @@ pub fn is_swapped(comparison: &Comparison, base: usize, taken: u32) -> bool
         return false;
     }
     match (constant_of(b), constant_of(c)) {
-        // A constant that is taken next has no number above the count of those taken.
-        (Some(first), Some(_)) => first > taken,
-        // A constant stands on the right where that makes the same words.
+        // A constant that is taken next has no number above the count of those taken, and one behind it no lower one.
+        (Some(first), Some(second)) => first > taken || (second == taken && first < taken),
+        // A constant stands on the right where that makes the same words. The one that takes the last number that a field has is written first, since what is behind it may take a number that shows in no word.
         (Some(first), None) => {
-            is_local(c, base) || first != taken || taken_behind(&comparison.right, taken) == taken
+            first != taken
+                || (taken != LAST_SMALL_CONSTANT && taken_behind(&comparison.right, taken) == taken)
         }
         (None, Some(second)) => {
-            second == taken && !is_local(b, base) && taken_behind(&comparison.left, taken) > taken
+            second == taken
+                && (taken == LAST_SMALL_CONSTANT || taken_behind(&comparison.left, taken) > taken)
         }
         // Of two values that were made here the lower register has the first.
         (None, None) => !is_local(b, base) && !is_local(c, base) && b > c,

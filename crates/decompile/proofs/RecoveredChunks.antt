@@ -11,9 +11,8 @@ use Rattle.proto.specs.Chunk.{Chunk, function, own, each, no_lines, SameButLines
 use Rattle.recover_flow.specs.Debug.{LacksDebug}
 use Rattle.recover_flow.specs.Recovering.{IsLostOnlyWhere, IsSourceFound, IsSourceless}
 use Rattle.recover_flow.specs.declared.lost.Lost.{Lost}
-use Rattle.reads_back.specs.ReadAs.{FlatSourcesAreStraight, IsStraightChunk}
 use Rattle.recovers.specs.FlowSources.{IsFlowChunk}
-use Rattle.recovers.specs.Found.{FlowSourcesAreRecovered, IsSourceRecovered, StraightSourcesAreRecovered}
+use Rattle.recovers.specs.Found.{FlatSourcesAreFlow, FlowSourcesAreRecovered, IsSourceRecovered}
 use Rattle.scheme.specs.Scheme.{scheme, Fits}
 use Rattle.decompile.specs.Recoverable.{IsFlatChunk, IsGiven, IsRecoverable}
 use Rattle.decompile.specs.Given.{IsTreeFor}
@@ -68,30 +67,22 @@ module _ {chunk : Chunk} (known : IsKnown chunk) where
 
 -- those that a recoverable chunk needs
 pub record RecoveryLaws : Type 0 where
-  pub straight : StraightSourcesAreRecovered
-  pub flat : FlatSourcesAreStraight
+  pub flat : FlatSourcesAreFlow
   pub flow : FlowSourcesAreRecovered
 
 module _ (laws : RecoveryLaws) (chunk : Chunk) (short : IsShort chunk) where
-  straight_known : IsStraightChunk chunk → IsKnown chunk
-  straight_known of = record { source = of.source; name = of.name; scoped = of.scoped; fits = of.fits; same = of.same; recovered = laws.straight chunk of short }
+  -- a flat source is one whose functions may have blocks
+  flat_as_flow : IsFlatChunk chunk → IsFlowChunk chunk
+  flat_as_flow flat =
+      let such = laws.flat flat.source flat.formed flat.flat in
+      record { source = flat.source; name = flat.name; formed = flat.formed; scoped = flat.scoped; fits = flat.fits; deep = 0; blocks = such.0; room = such.1; same = flat.same }
 
-  -- the chunk of a flat source is that of a straight one
-  flat_as_straight : IsFlatChunk chunk → IsStraightChunk chunk
-  flat_as_straight flat = record {
-    source = flat.source;
-    name = flat.name;
-    formed = flat.formed;
-    scoped = flat.scoped;
-    fits = flat.fits;
-    straight = laws.flat flat.source flat.formed flat.flat;
-    same = flat.same;
-  }
+  flow_known : IsFlowChunk chunk → IsKnown chunk
+  flow_known of = record { source = of.source; name = of.name; scoped = of.scoped; fits = of.fits; same = of.same; recovered = laws.flow chunk of short }
 
   is_known : IsRecoverable chunk → IsKnown chunk
-  is_known (inl straight) = straight_known straight
-  is_known (inr (inl flat)) = straight_known (flat_as_straight flat)
-  is_known (inr (inr of)) = record { source = of.source; name = of.name; scoped = of.scoped; fits = of.fits; same = of.same; recovered = laws.flow chunk of short }
+  is_known (inl flat) = flow_known (flat_as_flow flat)
+  is_known (inr of) = flow_known of
 
   -- what is recovered of it is a tree of it
   pub recovered_given : IsRecoverable chunk → (tree : Source) → WellFormed tree → IsSourceFound chunk tree → IsTreeFor chunk tree

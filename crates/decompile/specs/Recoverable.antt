@@ -8,7 +8,6 @@ use Rattle.lua_tree.specs.WellFormed.{WellFormed}
 use Rattle.proto.specs.Chunk.{Chunk, SameButLines}
 use Rattle.scheme.specs.Scheme.{scheme, Fits}
 use Rattle.scheme.specs.Shapes.{Flat}
-use Rattle.reads_back.specs.ReadAs.{IsStraightChunk}
 use Rattle.recovers.specs.FlowSources.{IsFlowChunk}
 use Rattle.decompile.specs.declared.refused.Refused.{Refused}
 
@@ -22,9 +21,9 @@ pub record IsFlatChunk (chunk : Chunk) : Type 0 where
   pub flat : Flat source
   pub same : SameButLines chunk (scheme source name)
 
--- the chunk of a straight source; or of a flat one, which is straight; or of one whose statements have blocks
+-- the chunk of a flat source, or of one whose functions may have blocks
 abbrev pub IsRecoverable : Chunk → Type 0
-IsRecoverable chunk = IsStraightChunk chunk ⊎ (IsFlatChunk chunk ⊎ IsFlowChunk chunk)
+IsRecoverable chunk = IsFlatChunk chunk ⊎ IsFlowChunk chunk
 
 -- a text, or want of memory
 abbrev pub IsGiven : Result ByteText Refused → Type 0

@@ -22,17 +22,15 @@ use recover_flow::recover;
 use std::alloc::Global;
 
 /// The text of a source of a chunk: an accepted source whose chunk, under the chunk's own source name, is this one but for the numbers of lines. It is recovered and printed, and then
-/// compiled again and compared, so what it gives is a source of the chunk whatever the chunk is. Its refusals say why none was found; a chunk that no source has is always refused. The chunk of a straight source, whose
-/// statements are calls, assignments, function statements, local functions, declarations of locals and maybe a return at the end, and so in each function in it, is always given one, where memory does not run out; so are those of flat sources, which are
-/// straight, and those of sources whose main function has loops, `if`, `do` and `break` too, with what `IsFlowChunk` asks of them. The time is about linear in a chunk of ordinary code.
+/// compiled again and compared, so what it gives is a source of the chunk whatever the chunk is. Its refusals say why none was found; a chunk that no source has is always refused. The chunk of a source is always given one, where
+/// memory does not run out, if the source has what `IsFlowChunk` asks: its functions may have statements of every kind at any depth, `and`, `or` and comparisons stand in conditions alone, and there is some room. So are those of flat sources. The time is about linear in a chunk of ordinary code.
 pub fn decompile(alloc: Global, proto: &Proto) -> Result<ByteText, Refused>
     requires short { IsShort (view_proto proto.now) }
     ensures text { IfOk result (IsSourceOf (view_proto proto.now)) }
     ensures refused { IfErr result (IsRefusedBy (view_proto proto.now)) }
     ensures recoverable { IsRecoverable (view_proto proto.now) → IsGiven result }
 {
-    reads_back::straight_sources_are_read();
-    recovers::straight_sources_are_recovered();
+    recovers::flat_sources_are_flow();
     recovers::flow_sources_are_recovered();
     let tree = recover(alloc, proto)?;
     printed(alloc, proto, &tree)

@@ -17,17 +17,17 @@ use Rattle.recover_expr.specs.declared.steps.StepKind.{StepKind}
 use Rattle.scheme.specs.Making.{Ahead, Maker}
 use Rattle.scheme.specs.declared.making.Active.{Active}
 use Rattle.scheme_stands.proofs.Counting.{expression_closed, expressions_closed, statement_counted}
-use Rattle.scheme_stands.specs.Places.{ahead_at, ahead_by}
+use Rattle.scheme_stands.specs.Places.{LowAt, ahead_at, ahead_by}
 use Rattle.scheme_stands.specs.Words.{Fn}
+use Rattle.scheme_stands.proofs.KnownMarks.{Leads, both_lead, come_leads, declares_leads, expression_leads, expressions_lead, nothing_leads, statement_leads}
 use Rattle.same_flow.specs.SameFlow.{begun_of}
 use Rattle.same_flow.specs.Told.{PartFits}
 use Rattle.same_flow.proofs.Walks.{Entry, Said, State, back_to, ended_in, said_at, says, says_at, state_of}
 use Rattle.reads_back.proofs.CapturedInEnd.{CapturesActive}
-use Rattle.reads_back.proofs.CapturedMarks.{InScope, Leads, OnlyOwn, both_lead, captured_in_scope, come_leads, declares_leads, expression_leads, expressions_lead, nothing_leads, statement_leads}
+use Rattle.reads_back.proofs.CapturedMarks.{InScope, OnlyOwn, captured_in_scope}
 use Rattle.reads_back.proofs.FlowThere.{IsFlowFunction, before_at, step_is}
 use Rattle.reads_back.proofs.FunctionLocals.{locals_to, sound_to, stand_before, stand_to}
 use Rattle.reads_back.proofs.LocalsBrought.{names_by}
-use Rattle.reads_back.proofs.LowMentions.{LowAt}
 use Rattle.reads_back.proofs.MarksCaptured.{captured_unbroken}
 use Rattle.reads_back.proofs.NamesCome.{Comes, Stays, names_mean, step_scoped}
 use Rattle.reads_back.proofs.PlacedLocals.{Rising, rises_before}

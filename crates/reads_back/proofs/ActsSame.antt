@@ -1,5 +1,5 @@
--- What is written of a call makes the same code as the statement; and what names a statement passes that declares nothing.
-use Rattle.std.proofs.Common.{inr, ◌≡◌, ℕ, true, List, Option, Some, None, ap, ◌∙◌, arith, length}
+-- What is written of a call makes the same code as the statement; and a statement that declares nothing keeps what is made.
+use Rattle.std.proofs.Common.{inr, ◌≡◌, ℕ, true, List, Option, Some, None, ap, arith, length}
 use Rattle.std.specs.Prelude.{◌||◌}
 use Rattle.lua_tree.specs.OneLine.{one_line_expression, one_line_expressions, one_line_statement}
 use Rattle.lua_tree.specs.Syntax.{Expression, Statement, assignment, call_statement, local_statement, return_statement, local_function}
@@ -7,9 +7,9 @@ use Rattle.lua_tree.specs.WellFormed.{is_call}
 use Rattle.opcode.specs.declared.op.Op.{Op}
 use Rattle.core_expr.specs.Values.{Value, Inner}
 use Rattle.recover_expr.specs.Situation.{Function}
-use Rattle.scheme.specs.Expressions.{is_multiple, is_vararg}
+use Rattle.scheme.specs.Expressions.{is_vararg}
 use Rattle.scheme.specs.Making.{Maker}
-use Rattle.scheme.specs.Scheme.{all_coded, coded, statement_made}
+use Rattle.scheme.specs.Scheme.{all_coded, statement_made}
 use Rattle.scheme.specs.declared.making.Active.{Active}
 use Rattle.scheme_stands.proofs.Growth.{Grown, calm}
 use Rattle.scheme_stands.proofs.Lines.{grows_return}
@@ -18,16 +18,11 @@ use Rattle.scheme_stands.proofs.Stores.{grows_assign}
 use Rattle.scheme_stands.specs.Words.{Fn}
 use Rattle.reads_back.specs.Acted.{called, IsAct}
 use Rattle.reads_back.specs.Cores.{HasCore}
-use Rattle.reads_back.proofs.AssignedMentions.{assignment_passes}
-use Rattle.reads_back.proofs.Mentions.{Passed}
-use Rattle.reads_back.proofs.PassedMentions.{mentions_passed}
 use Rattle.core_expr.specs.Places.{place}
 use Rattle.core_expr.specs.Writing.{is_bare}
 use Rattle.reads_back.proofs.InRoom.{levels_in}
 use Rattle.reads_back.proofs.Tests.{second_of_both}
-use Rattle.reads_back.proofs.ReturnsSame.{return_passes}
-use Rattle.reads_back.proofs.Rewriting.{Rewritten, RewrittenAct, mentions_of_statement, wording}
-use Rattle.reads_back.proofs.WordsSame.{coded_is, same_multiple}
+use Rattle.reads_back.proofs.Rewriting.{Rewritten, RewrittenAct, wording}
 
 -- ---- what declares nothing
 
@@ -45,19 +40,6 @@ act_grows (return_statement es) is nothing m = grows_return 1 (all_coded (one_li
 act_grows (local_statement names es) is nothing m = absurd nothing
 act_grows (local_function text body) is nothing m = absurd nothing
 act_grows s is nothing m = absurd is
-
--- ---- the names that it passes
-
-call_multiple : (e : Expression) → is_call e ≡ true → is_multiple (coded (one_line_expression e)).e ≡ true
-call_multiple e is = ap is_multiple (coded_is (one_line_expression e)) ∙ same_multiple e ∙ ap (λ call. call || is_vararg e) is
-
-pub act_passes : (s : Statement) → IsAct s → DeclaresNothing s → (m : Maker) → Passed (mentions_of_statement s) m (statement_made (one_line_statement s) 1 None m)
-act_passes (call_statement e) is nothing m = (mentions_passed e is.1).multi (call_multiple e is.0) Op.Call (Some 0) m
-act_passes (assignment targets es) is nothing m = assignment_passes targets es is m
-act_passes (return_statement es) is nothing m = return_passes es is m
-act_passes (local_statement names es) is nothing m = absurd nothing
-act_passes (local_function text body) is nothing m = absurd nothing
-act_passes s is nothing m = absurd is
 
 -- ---- calls
 

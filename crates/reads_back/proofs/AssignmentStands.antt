@@ -50,7 +50,7 @@ use Rattle.reads_back.proofs.SeveralValues.{wanted_come}
 use Rattle.reads_back.proofs.StoredTargets.{AreThere, Destination, IsThere, StoreWordAt, StoreWordsAt, first_stored, parts_used, seen_with, seen_with_all, store_piece, target_to, targets_to, used_by_all}
 use Rattle.reads_back.proofs.StoresRead.{IsInStep}
 use Rattle.reads_back.proofs.Taking.{operand_taken_later, values_taken_later}
-use Rattle.reads_back.proofs.TargetsCome.{AreNoItems, AreSaid, Fits, ReadsTarget, ReadsTargets, TargetsCome, targets_come, targets_forward}
+use Rattle.reads_back.proofs.TargetsCome.{AreNoItems, AreSaid, Fits, ReadsTarget, ReadsTargets, TargetsCome, targets_come}
 use Rattle.reads_back.proofs.TargetsStand.{copies_stand, targets_count}
 use Rattle.reads_back.proofs.TargetsStored.{IsNoItem, count_words, register_turn, store_keeps, targets_end, there_last, words_keep}
 use Rattle.reads_back.proofs.Tests.{and_not, both_hold, not_so, or_first, or_second}
@@ -584,10 +584,6 @@ module _ {f : Function} {g : Fn} {active : List Active} {listed : List ℕ} (is_
             adjusted_acts is_function all targets es assigns few can at.places s locals empty at.free2 low p at.last q left_is quiet targets_there stores.mid words
             (subst (λ (count : ℕ). AdjustAt g (all_related g es) count active at.free2 at.last stores.mid) count stores.first_at)
             (λ same. not_so (sym other ∙ eq-eqb _ _ (same ∙ sym count ∙ counts)))
-
-  pub assignment_forward : (p q : Spot) → AssignAt g (all_related g targets) (all_related g es) active p q → p.pc ≤ q.pc
-  assignment_forward p q at =
-      omega (arith, targets_forward is_function all targets assigns.targets reads at.parts at.places at.free1 at.free2 p at.mid at.last at.targets_at at.copies_at, on p q at)
 
   pub assignment_read : {lefts : ℕ → List (Option Inner)} → CanAct f g active listed lefts (assignment targets es) → (p q : Spot) (s : Situation) → HasLocals active listed s → s.left ≡ lefts p.functions → s.entries ≡ [] → s.taken ≡ s.seen → IsQuiet f s.scope p.pc q.pc →
       AssignAt g (all_related g targets) (all_related g es) active p q → ActRead f g active (assignment targets es) p.functions q.functions s p.pc q.pc

@@ -1,5 +1,5 @@
 -- The words of a step capture what its marks do.
-use Rattle.std.proofs.Common.{◌≡◌, ℕ, zero, suc, Bool, true, false, is_some, List, [], ◌∷◌, ◌++◌, length, Some, None, refl, sym, ap, ap₂, ◌∙◌, subst}
+use Rattle.std.proofs.Common.{◌≡◌, ℕ, zero, suc, Bool, true, false, is_some, List, [], ◌∷◌, ◌++◌, length, Some, None, refl, sym, ap, ap₂, ◌∙◌, subst, arith}
 use Rattle.std.proofs.lemmas.Option.{slice_get_within}
 use Rattle.std.specs.Prelude.{◌||◌, ◌+◌, ◌-◌, Option, slice_get}
 use Rattle.lua_num.specs.Bytes.{Text}
@@ -26,7 +26,7 @@ use Rattle.scheme_stands.specs.Words.{Fn, Spot}
 use Rattle.scheme_stands.proofs.Counting.{declares_closed}
 use Rattle.scheme_stands.proofs.Entering.{behind_name}
 use Rattle.scheme_stands.proofs.Growth.{spot}
-use Rattle.scheme_stands.proofs.Here.{tame_both, tame_come, tame_declares}
+use Rattle.scheme_stands.proofs.Here.{tame_come, tame_declares}
 use Rattle.scheme_stands.proofs.Lines.{declare_items, declared}
 use Rattle.scheme_stands.proofs.Scopes.{called}
 use Rattle.scheme_stands.proofs.Walks.{and_left, and_right, declared_moves}
@@ -35,7 +35,7 @@ use Rattle.reads_back.specs.Stepped.{CountedAt, KindAt, begun_by}
 use Rattle.reads_back.proofs.CapturedExpressions.{RelCatches, field_all, name_all, operand_caught}
 use Rattle.reads_back.proofs.CapturedLeaves.{function_caught}
 use Rattle.reads_back.proofs.CapturedLists.{AllCaught, ExpressionCaught, adjust_caught, alone_caught, assign_caught, assign_one, open_caught}
-use Rattle.reads_back.proofs.CapturedStretches.{Catches, Catching, Fine, Onward, abc_still, abx_still, captured_both, caught_none, caught_on, caught_then, fine_first, fine_here, fine_second, jump_still, like_both, like_none, Shown, shown_both, shown_none, same_spans, still_then}
+use Rattle.reads_back.proofs.CapturedStretches.{Catches, Catching, Fine, Onward, abc_still, abx_still, captured_both, caught_none, caught_on, caught_then, fine_here, fine_second, jump_still, like_both, like_none, Shown, shown_both, shown_none, same_spans, still_then, fine_first_by}
 use Rattle.reads_back.proofs.CapturedTrees.{all_caught, expression_caught}
 use Rattle.reads_back.proofs.CapturedWords.{Spans, captured_between, spans_between, spans_none, spans_then}
 use Rattle.reads_back.proofs.CapturesLike.{CapturesLike}
@@ -88,6 +88,7 @@ module _ {f : Function} {all : Onward} {place : Place} {active : List Active} wh
   -- names are declared, values are made, and the names come into scope
   declared_values : (line hidden : ℕ) (names : List Text) (locals : List Local) (es : Expressions) (p mid q : Spot) → mid.pc ≡ p.pc → Declared names p.ahead locals mid.ahead → Catches f all place active (expressions_part es) mid q →
       StepCatches f all place active (λ place. both (declares line hidden names) (both (expressions_part es) (come hidden names place.declarations)) place) p q
+  unfolding declares_caught
   declared_values line hidden names locals es p mid q same declared values =
       let a = declares line hidden names in
       let c = come hidden names place.declarations in
@@ -103,8 +104,8 @@ module _ {f : Function} {all : Onward} {place : Place} {active : List Active} wh
             let whole : Fine all place (both a b) p place rest = fine_here (all.other (λ place. both (declares line hidden names) (both (expressions_part es) (come hidden names place.declarations)) place) (both a b) place rest p refl here) in
             let tame_c = tame_come hidden names place.declarations in
             let second = fine_second a b place rest first.tame (first.closed place) first.moves whole in
-            like_both active x.marks (y.marks ++ z.marks) first.registers (values.registers ++ []) (first.like place ((b x.next).marks ++ rest) (fine_first a b place rest first.tame (tame_both (expressions_part es) c values.tame tame_c) whole))
-            (like_both active y.marks z.marks values.registers [] (values.like x.next (z.marks ++ rest) (fine_first (expressions_part es) c x.next rest values.tame tame_c second)) (like_none active));
+            like_both active x.marks (y.marks ++ z.marks) first.registers (values.registers ++ []) (λ register declaration one there is. sym (declares_silent declaration line hidden names place))
+            (like_both active y.marks z.marks values.registers [] (values.like x.next (z.marks ++ rest) (fine_first_by (expressions_part es) c x.next rest (omega arith) values.tame tame_c second)) (like_none active));
         shown = shown_both active first.registers (values.registers ++ []) first.shown (shown_both active values.registers [] values.shown (shown_none active));
       }
 

@@ -24,7 +24,7 @@ use Rattle.scheme_stands.specs.Relation.{FunctionOf}
 use Rattle.scheme_stands.specs.Words.{Fn, IsRead, Same, Spot, WordAt, instr_by}
 use Rattle.scheme_stands.proofs.Counting.{closed_row, closed_still}
 use Rattle.scheme_stands.proofs.Entering.{behind_name}
-use Rattle.scheme_stands.proofs.Here.{Tame, here_as, here_at, here_behind, here_first, here_local_function, tame_both, tame_nothing}
+use Rattle.scheme_stands.proofs.Here.{Tame, here_as, here_at, here_behind, here_local_function, tame_both, tame_nothing, TameBy, here_first_by}
 use Rattle.scheme_stands.proofs.Moving.{ahead_of, behind, chain, still_as}
 use Rattle.scheme_stands.proofs.Walks.{declared_moves}
 use Rattle.reads_back.proofs.CapturedWords.{captured_between, spans_between, Spans, skips_as, spans_none, spans_on, spans_then, word_spans}
@@ -135,7 +135,7 @@ Distinct active = (i j : ℕ) (x y : Active) (declaration : ℕ) → slice_get a
 pub record Onward : Type 1 where
   pub marks : List Mark
   pub Comes : outline.Part → Place → List Mark → Spot → Type 0
-  pub first : (a b : outline.Part) (place : Place) (rest : List Mark) (p : Spot) → Tame a → Tame b → Comes (both a b) place rest p → Comes a place ((b (a place).next).marks ++ rest) p
+  pub first : (bound : ℕ) (a b : outline.Part) (place : Place) (rest : List Mark) (p : Spot) → bound ≤ place.declarations → Tame a → TameBy bound b → Comes (both a b) place rest p → Comes a place ((b (a place).next).marks ++ rest) p
   pub second : (a b : outline.Part) (place : Place) (rest : List Mark) (p m : Spot) → Tame a → Closed a place → Moves marks a p m → Comes (both a b) place rest p → Comes b (a place).next rest m
   -- at another spot with the same ahead
   pub again : (part : outline.Part) (place : Place) (rest : List Mark) (p q : Spot) → q.ahead ≡ p.ahead → Comes part place rest p → Comes part place rest q
@@ -149,7 +149,7 @@ abbrev pub by_place : List Mark → Onward
 by_place marks = record {
   marks = marks;
   Comes = Here marks;
-  first = λ a b place rest p. here_first marks a b place rest p;
+  first = λ bound a b place rest p. here_first_by marks a b place rest p;
   second = λ a b place rest p m. here_behind marks a b place rest p m;
   again = λ part place rest p q. here_at marks part place rest p q;
   other = λ part same place rest p. here_as marks part same place rest p;
@@ -161,7 +161,7 @@ abbrev pub by_ahead : List Mark → Onward
 by_ahead marks = record {
   marks = marks;
   Comes = λ part place rest p. p.ahead ≡ ahead_at marks place ((part place).marks ++ rest);
-  first = λ a b place rest p tame_a tame_b is. is ∙ ap (ahead_at marks place) (append_assoc (a place).marks (b (a place).next).marks rest);
+  first = λ bound a b place rest p below tame_a tame_b is. is ∙ ap (ahead_at marks place) (append_assoc (a place).marks (b (a place).next).marks rest);
   second = λ a b place rest p m tame_a closed moves is. let x = a place in let y = b x.next in moves place (y.marks ++ rest) (is ∙ ap (ahead_at marks place) (append_assoc x.marks y.marks rest));
   again = λ part place rest p q same is. same ∙ is;
   other = λ part same place rest p written is. is ∙ ap (λ (walk : outline.Walk). ahead_at marks place (walk.marks ++ rest)) written;
@@ -217,8 +217,11 @@ pub record Catches (f : Function) (all : Onward) (base : Place) (active : List A
   pub shown : Shown active registers
 
 -- of two parts the first comes next, and behind its words the second
+pub fine_first_by : {all : Onward} {base : Place} {p : Spot} {bound : ℕ} (a b : outline.Part) (place : Place) (rest : List Mark) → bound ≤ place.declarations → Tame a → TameBy bound b → Fine all base (both a b) p place rest → Fine all base a p place ((b (a place).next).marks ++ rest)
+fine_first_by {all} {p = p} {bound} a b place rest below tame_a tame_b fine = record { scope = fine.scope; around = fine.around; active = fine.active; later = fine.later; here = all.first bound a b place rest p below tame_a tame_b fine.here }
+
 pub fine_first : {all : Onward} {base : Place} {p : Spot} (a b : outline.Part) (place : Place) (rest : List Mark) → Tame a → Tame b → Fine all base (both a b) p place rest → Fine all base a p place ((b (a place).next).marks ++ rest)
-fine_first {all} {p = p} a b place rest tame_a tame_b fine = record { scope = fine.scope; around = fine.around; active = fine.active; later = fine.later; here = all.first a b place rest p tame_a tame_b fine.here }
+fine_first a b place rest tame_a tame_b fine = fine_first_by a b place rest (omega arith) tame_a tame_b fine
 
 pub fine_second : {all : Onward} {base : Place} {p m : Spot} (a b : outline.Part) (place : Place) (rest : List Mark) → Tame a → Closed a place → Moves all.marks a p m → Fine all base (both a b) p place rest → Fine all base b m (a place).next rest
 fine_second {all} {p = p} {m} a b place rest tame_a closed moves fine =

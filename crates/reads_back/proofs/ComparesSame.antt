@@ -1,4 +1,4 @@
--- What is written of a comparison in the order of its operands makes the same words; so it does with its operands the other way round, where one of them is a constant that is taken already, or the first that the other takes, or the other takes none.
+-- What is written of a comparison in the order of its operands makes the same words; so it does with its operands the other way round, where the first one is a constant that is taken already, or the second one is the constant that is taken next, whatever the first one takes, or the first one is a constant and the second one takes none.
 use Rattle.std.proofs.Common.{◌≡◌, ℕ, zero, suc, ◌+◌, ◌<◌, ◌≤◌, inl, inr, max, Bool, true, false, cond, List, [], ◌∷◌, ◌++◌, length, Option, Some, None, refl, sym, ap, ap₂, ◌∙◌, subst, arith, true≢false}
 use Rattle.std.proofs.lemmas.Option.{same_Some, slice_get_within}
 use Rattle.std.specs.List.{list_any}
@@ -78,12 +78,6 @@ any_there k (x ∷ xs) (suc i) there = ap (λ more. same_constant k x || more) (
 
 any_kept : (k : Constant) (xs ys : List Constant) → Kept xs ys → list_any (same_constant k) xs ≡ true → list_any (same_constant k) ys ≡ true
 any_kept k xs ys kept is = any_there k ys (constant_number k xs) (kept (constant_number k xs) k (number_stands k xs (stands_within k xs is)))
-
--- what stands at a place
-place_there : (xs : List Constant) (n : ℕ) → n < length xs → (c : Constant) × (slice_get xs n ≡ Some c)
-place_there [] n within = absurd (omega (arith, within))
-place_there (x ∷ xs) zero within = (x, refl)
-place_there (x ∷ xs) (suc n) within = place_there xs n (omega (arith, within))
 
 -- an operand that is a constant
 pub record IsConstantOperand (g : Fn) (e : Expression) (before behind number : ℕ) : Type 0 where
@@ -181,8 +175,8 @@ module _ {f : Function} {g : Fn} {active : List Active} {listed : List ℕ} {z :
         (number_next made one.constant number m one.has none after).1
 
     -- a constant that the first one is has no number above the count
-    pub number_bound : (number : ℕ) → o1 ≡ constant_operand number → IsConstantOperand g l before mid number → (number ≤ length m.constants) × (number < 262144)
-    number_bound number same one = (by (list_any (same_constant one.constant) m.constants) refl, number_within made one.constant number one.has)
+    pub number_bound : (number : ℕ) → o1 ≡ constant_operand number → IsConstantOperand g l before mid number → number ≤ length m.constants
+    number_bound number same one = by (list_any (same_constant one.constant) m.constants) refl
       where
         final_m : Final (length m.labels) m z
         final_m = before_part (grows_rk {v = calm} (code l) (grows calm (one_line_expression l)) m) front
@@ -351,83 +345,100 @@ module _ {f : Function} {g : Fn} {active : List Active} {listed : List ℕ} {z :
         by (same_value value (another_first c there unlike next)) = absurd (no_other c next)
         by (other_value c there unlike next) = absurd (no_other c next)
 
-    -- the second one is the first constant that the first one takes
-    pub first_turns : (number : ℕ) (same : o2 ≡ constant_operand number) (two : IsConstantOperand g r mid behind number) → number ≡ length m.constants → length m.constants < taken_behind_operand o1 (length m.constants) → Turns
-    first_turns number same two is_next more = by (got_outcome ((rk_framed (code l) (framed k n l has_l)).gots m (plus k m) (not_taken refl none)))
-      where
-        k : Constant
-        k = two.constant
+    -- the second one is the constant that is taken next
+    module _ (number : ℕ) (same : o2 ≡ constant_operand number) (two : IsConstantOperand g r mid behind number) (is_next : number ≡ length m.constants) where
+      abbrev next_constant : Constant
+      next_constant = two.constant
 
-        n : ℕ
-        n = length m.constants
+      -- it is new
+      next_new : list_any (same_constant next_constant) m.constants ≡ false
+      next_new = by (list_any (same_constant next_constant) m.constants) refl
+        where
+          by : (among : Bool) → list_any (same_constant next_constant) m.constants ≡ among → list_any (same_constant next_constant) m.constants ≡ false
+          by true there =
+              let final_m = before_part (grows_rk {v = calm} (code l) (grows calm (one_line_expression l)) m) front in
+              let value = ap (λ (x : Got ℕ). x.value) (number_known made next_constant number m two.has there final_m) in
+              absurd (omega (arith, value, stands_within next_constant m.constants there, is_next))
+          by false there = there
 
-        second' : RewrittenOperand f g active listed z lefts mid behind r (constant_operand number)
-        second' = subst (RewrittenOperand f g active listed z lefts mid behind r) same second
+      -- no other constant has its place
+      only_next : (c : Constant) → slice_get x_got.after.constants (length m.constants) ≡ Some c → same_constant next_constant c ≡ false → ⊥
+      only_next c there unlike =
+          let in_end = front.constants (length m.constants) c there in
+          let known = ap (λ constants. slice_get constants number) (sym made.constants) ∙ two.has.is in
+          let is : next_constant ≡ c = same_Some next_constant c (sym known ∙ ap (slice_get z.constants) is_next ∙ in_end) in
+          true≢false (sym ((same_constant-Decides next_constant c).1 is) ∙ unlike)
 
-        final_m : Final (length m.labels) m z
-        final_m = before_part (grows_rk {v = calm} (code l) (grows calm (one_line_expression l)) m) front
+      -- what is made of it behind the first one
+      behind_first : y_got ≡ small_constant next_constant x_got.after
+      behind_first = rk_small (one_line_expression r) next_constant x_got.after (same_literal r ∙ two.is) (small_there made next_constant number x_got.after two.has two.small front)
 
-        none : list_any (same_constant k) m.constants ≡ false
-        none = fresh (list_any (same_constant k) m.constants) refl
-          where
-            fresh : (among : Bool) → list_any (same_constant k) m.constants ≡ among → list_any (same_constant k) m.constants ≡ false
-            fresh true there =
-                let value = ap (λ (x : Got ℕ). x.value) (number_known made k number m two.has there final_m) in
-                absurd (omega (arith, value, stands_within k m.constants there, is_next))
-            fresh false there = there
+      -- with its number, and the first one behind it, they come to the same
+      turns_to : y_got.value ≡ number + 256 → rk (code l) (plus next_constant m) ≡ record { value = x_got.value; after = y_got.after } → Turns
+      turns_to value both = record {
+        between = plus next_constant m;
+        second_same =
+            ap (λ o. rk (coded (word_operand (place f.of listed f.short) n (lefts before) o).words) m) same
+            ∙ rk_small (constant_word (slice_get f.of.constants number)).words next_constant m (word_literal r second' two) (small_there made next_constant number m two.has two.small final_m)
+            ∙ (number_next made next_constant number m two.has next_new final_plus).0
+            ∙ ap (λ (value : ℕ). record { value = value; after = plus next_constant m }) (sym value);
+        first_same =
+            ap (λ o. rk (coded (word_operand (place f.of listed f.short) (taken_behind_operand o n) (left_by_operand o (lefts before)) o1).words) (plus next_constant m)) same
+            ∙ ap (λ n. rk (coded (word_operand (place f.of listed f.short) n (lefts before) o1).words) (plus next_constant m)) counts
+            ∙ first.as_rk (plus next_constant m) ahead_plus final_first
+            ∙ both;
+        second_low = constant_second_low number same;
+        first_low = λ short formed.
+            subst (λ o. IsOperandInRoom l (word_operand (place f.of listed f.short) (taken_behind_operand o n) (left_by_operand o (lefts before)) o1)) (sym same)
+            (subst (λ n. IsOperandInRoom l (word_operand (place f.of listed f.short) n (lefts before) o1)) (sym counts) (first.low short formed (plus next_constant m) ahead_plus final_first));
+      }
+        where
+          n : ℕ
+          n = length m.constants
 
-        counted : length x_got.after.constants ≡ taken_behind_operand o1 n
-        counted = first.taken m ahead_left front
+          second' : RewrittenOperand f g active listed z lefts mid behind r (constant_operand number)
+          second' = subst (RewrittenOperand f g active listed z lefts mid behind r) same second
 
-        -- it stands where the first one begins to take
-        slot : slice_get x_got.after.constants n ≡ Some k
-        slot =
-            let one = place_there x_got.after.constants n (omega (arith, counted, more)) in
-            let in_end = front.constants n one.0 one.1 in
-            let known = ap (λ constants. slice_get constants number) (sym made.constants) ∙ two.has.is in
-            one.1 ∙ sym (sym known ∙ ap (slice_get z.constants) is_next ∙ in_end)
+          final_first : Final (length m.labels) (rk (code l) (plus next_constant m)).after z
+          final_first = subst (λ (x : Got ℕ). Final (length m.labels) x.after z) (sym both) final
 
-        final_b : rk (code l) (plus k m) ≡ x_got → Final (length m.labels) (rk (code l) (plus k m)).after z
-        final_b same = subst (λ (x : Got ℕ). Final (length m.labels) x.after z) (sym same) front
+          final_plus : Final (length m.labels) (plus next_constant m) z
+          final_plus = before_part (grows_rk {v = calm} (code l) (grows calm (one_line_expression l)) (plus next_constant m)) final_first
 
-        ahead_plus : IsAhead g active before (mentions_in l) (plus k m)
-        ahead_plus = record { active_are = ahead_left.active_are; upvalues_are = ahead_left.upvalues_are; made_are = ahead_left.made_are; meant = ahead_left.meant }
+          final_m : Final (length m.labels) m z
+          final_m = before_part (grows_rk {v = calm} (code l) (grows calm (one_line_expression l)) m) front
 
-        y_is : y_got ≡ record { value = number + 256; after = x_got.after }
-        y_is =
-            rk_small (one_line_expression r) k x_got.after (same_literal r ∙ two.is) (small_there made k number x_got.after two.has two.small front)
-            ∙ number_known made k number x_got.after two.has (any_there k x_got.after.constants n slot) front
+          ahead_plus : IsAhead g active before (mentions_in l) (plus next_constant m)
+          ahead_plus = record { active_are = ahead_left.active_are; upvalues_are = ahead_left.upvalues_are; made_are = ahead_left.made_are; meant = ahead_left.meant }
 
-        took : rk (code l) (plus k m) ≡ x_got → Turns
-        took both =
-            let final_plus = before_part (grows_rk {v = calm} (code l) (grows calm (one_line_expression l)) (plus k m)) (final_b both) in
-            let next = number_next made k number m two.has none final_plus in
-            let few = number_within made k number two.has in
-            let counts : taken_behind_operand (constant_operand number) n ≡ length (plus k m).constants = omega (arith, few, is_next, length_end m.constants k) in
-            record {
-              between = plus k m;
-              second_same =
-                  ap (λ o. rk (coded (word_operand (place f.of listed f.short) n (lefts before) o).words) m) same
-                  ∙ rk_small (constant_word (slice_get f.of.constants number)).words k m (word_literal r second' two) (small_there made k number m two.has two.small final_m)
-                  ∙ next.0
-                  ∙ ap (λ (y : Got ℕ). record { value = y.value; after = plus k m }) (sym y_is);
-              first_same =
-                  ap (λ o. rk (coded (word_operand (place f.of listed f.short) (taken_behind_operand o n) (left_by_operand o (lefts before)) o1).words) (plus k m)) same
-                  ∙ ap (λ n. rk (coded (word_operand (place f.of listed f.short) n (lefts before) o1).words) (plus k m)) counts
-                  ∙ first.as_rk (plus k m) ahead_plus (final_b both)
-                  ∙ both
-                  ∙ ap (λ (y : Got ℕ). record { value = x_got.value; after = y.after }) (sym y_is);
-              second_low = constant_second_low number same;
-              first_low = λ short formed.
-                  subst (λ o. IsOperandInRoom l (word_operand (place f.of listed f.short) (taken_behind_operand o n) (left_by_operand o (lefts before)) o1)) (sym same)
-                  (subst (λ n. IsOperandInRoom l (word_operand (place f.of listed f.short) n (lefts before) o1)) (sym counts) (first.low short formed (plus k m) ahead_plus (final_b both)));
-            }
+          counts : taken_behind_operand (constant_operand number) n ≡ length (plus next_constant m).constants
+          counts = omega (arith, number_within made next_constant number two.has, is_next, length_end m.constants next_constant)
 
-        unlike_itself : (c : Constant) → slice_get x_got.after.constants n ≡ Some c → same_constant k c ≡ false → ⊥
-        unlike_itself c there unlike = true≢false (sym ((same_constant-Decides k c).1 (same_Some k c (sym slot ∙ there))) ∙ unlike)
+      -- the first one has taken it too
+      first_took : slice_get x_got.after.constants (length m.constants) ≡ Some next_constant → rk (code l) (plus next_constant m) ≡ x_got → Turns
+      first_took there both = turns_to (ap (λ (y : Got ℕ). y.value) y_is) (both ∙ ap (λ (y : Got ℕ). record { value = x_got.value; after = y.after }) (sym y_is))
+        where
+          y_is : y_got ≡ record { value = number + 256; after = x_got.after }
+          y_is = behind_first ∙ number_known made next_constant number x_got.after two.has (any_there next_constant x_got.after.constants (length m.constants) there) front
 
-        by : GotOutcome k n (rk (code l) m) (rk (code l) (plus k m)) → Turns
-        by (same_value value (untouched after counts fresh)) = absurd (omega (arith, counts, counted, more))
-        by (same_value value (both_took after there)) = took (ap₂ (λ (value : ℕ) (after : Maker). record { value = value; after = after }) value after)
-        by (same_value value (another_first c there unlike next)) = absurd (unlike_itself c there unlike)
-        by (other_value c there unlike next) = absurd (unlike_itself c there unlike)
+      -- the first one takes none
+      first_took_none : list_any (same_constant next_constant) x_got.after.constants ≡ false → (rk (code l) (plus next_constant m)).value ≡ x_got.value → (rk (code l) (plus next_constant m)).after ≡ plus next_constant x_got.after → Turns
+      first_took_none fresh value after =
+          turns_to (ap (λ (y : Got ℕ). y.value) y_is) (ap₂ (λ (value : ℕ) (after : Maker). record { value = value; after = after }) value (after ∙ ap (λ (y : Got ℕ). y.after) (sym y_is)))
+        where
+          final_plus : Final (length m.labels) (plus next_constant x_got.after) z
+          final_plus =
+              subst (λ (xs : List Constant). Final (length m.labels) (record x_got.after { constants = xs }) z) (taken_behind_none next_constant next_constant x_got.after.constants fresh)
+              (subst (λ (y : Got ℕ). Final (length m.labels) y.after z) behind_first final)
+
+          y_is : y_got ≡ record { value = number + 256; after = plus next_constant x_got.after }
+          y_is = behind_first ∙ (number_next made next_constant number x_got.after two.has fresh final_plus).0
+
+      pub first_turns : Turns
+      first_turns = by (got_outcome ((rk_framed (code l) (framed next_constant (length m.constants) l has_l)).gots m (plus next_constant m) (not_taken refl next_new)))
+        where
+          by : GotOutcome next_constant (length m.constants) (rk (code l) m) (rk (code l) (plus next_constant m)) → Turns
+          by (same_value value (untouched after counts fresh)) = first_took_none fresh value after
+          by (same_value value (both_took after there)) = first_took there (ap₂ (λ (value : ℕ) (after : Maker). record { value = value; after = after }) value after)
+          by (same_value value (another_first c there unlike next)) = absurd (only_next c there unlike)
+          by (other_value c there unlike next) = absurd (only_next c there unlike)

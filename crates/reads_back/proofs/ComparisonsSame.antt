@@ -187,14 +187,9 @@ module _ {g : Fn} {active : List Active} {l r : Expression} {before behind : ℕ
 
 -- ---- what is made of it
 
--- Where its operands are written the other way round, names keep their order: both are in registers only where one of them is a number or a string; and no literal may get another number: the first one is not the constant that gets the last small number.
+-- Where its operands are written the other way round, names keep their order: both are in registers only where one of them is a number or a string. The numbers of constants do not matter.
 pub record CanTurn {g : Fn} {active : List Active} {l r : Expression} {before behind : ℕ} (both : BothTested g active l r before behind) : Type 0 where
   pub names : HasLocal (length active) both.x both.y both.first both.second → OneConstant l r
-  pub numbers : (number : ℕ) → both.first ≡ constant_operand number → number ≡ 255 → ⊥
-
--- the latter alone
-abbrev pub NumberStays : {g : Fn} {active : List Active} {l r : Expression} {before behind : ℕ} → BothTested g active l r before behind → Type 0
-NumberStays both = (number : ℕ) → both.first ≡ constant_operand number → number ≡ 255 → ⊥
 
 -- a local in a field of a word
 field_local : (count free field free1 : ℕ) (o : OperandValue) (v : Value) → o ≡ value_operand v → field < count → count ≤ free → IsField count free field free1 o → v ≡ local_value field
@@ -250,24 +245,26 @@ module _ (lefts : ℕ → List (Option Inner)) {f : Function} {g : Fn} {active :
   next_number (value_operand v) same = tt
 
   -- they come to the same, unless both are in registers
-  turns_by : NumberStays both → MayTurn (length active) (length m.constants) both.x both.y both.first both.second →
+  turns_by : MayTurn (length active) (length m.constants) both.x both.y both.first both.second →
       Turns made l r has_l has_r first_rewritten second_rewritten m ahead final_operands ⊎ HasLocal (length active) both.x both.y both.first both.second
-  turns_by stays (late_first (number, same, why)) = inl (by (list_any (same_constant one.constant) m.constants) refl why)
+  turns_by (late_first (number, same, why)) = inl (by (list_any (same_constant one.constant) m.constants) refl why)
     where
       one : IsConstantOperand g l before both.mid number
       one = constant_of g active l before both.mid number (subst (IsOperand g active l before both.mid) same both.is_first)
 
-      by : (among : Bool) → list_any (same_constant one.constant) m.constants ≡ among → (number < length m.constants) ⊎ (taken_behind_operand both.second (length m.constants) ≡ length m.constants) →
+      by : (among : Bool) → list_any (same_constant one.constant) m.constants ≡ among → (number < length m.constants) ⊎ ((taken_behind_operand both.second (length m.constants) ≡ length m.constants) × (length m.constants ≡ 255 → ⊥)) →
           Turns made l r has_l has_r first_rewritten second_rewritten m ahead final_operands
       by true there why = known_turns made l r has_l has_r first_rewritten second_rewritten m ahead final_operands number same one there
       by false none (inl low) = let next = fresh_number made l r has_l has_r first_rewritten second_rewritten m ahead final_operands number same one none in absurd (omega (arith, low, next))
-      by false none (inr no_more) = new_turns made l r has_l has_r first_rewritten second_rewritten m ahead final_operands number same one none no_more (stays number same)
-  turns_by stays (early_second (number, same, next, more)) =
-      inl (first_turns made l r has_l has_r first_rewritten second_rewritten m ahead final_operands number same (constant_of g active r both.mid behind number (subst (IsOperand g active r both.mid behind) same both.is_second)) next more)
-  turns_by stays (has_local locals) = inr locals
+      by false none (inr (no_more, no_corner)) =
+          let next = fresh_number made l r has_l has_r first_rewritten second_rewritten m ahead final_operands number same one none in
+          new_turns made l r has_l has_r first_rewritten second_rewritten m ahead final_operands number same one none no_more (λ last. no_corner (sym next ∙ last))
+  turns_by (early_second (number, same, next)) =
+      inl (first_turns made l r has_l has_r first_rewritten second_rewritten m ahead final_operands number same (constant_of g active r both.mid behind number (subst (IsOperand g active r both.mid behind) same both.is_second)) next)
+  turns_by (has_local locals) = inr locals
 
   turns_named : CanTurn both → MayTurn (length active) (length m.constants) both.x both.y both.first both.second → Turns made l r has_l has_r first_rewritten second_rewritten m ahead final_operands
-  turns_named can may = by (turns_by can.numbers may)
+  turns_named can may = by (turns_by may)
     where
       by : Turns made l r has_l has_r first_rewritten second_rewritten m ahead final_operands ⊎ HasLocal (length active) both.x both.y both.first both.second → Turns made l r has_l has_r first_rewritten second_rewritten m ahead final_operands
       by (inl turns) = turns
@@ -330,17 +327,17 @@ module _ (lefts : ℕ → List (Option Inner)) {f : Function} {g : Fn} {active :
             subst (λ o. IsOperandInRoom l (word_operand at (taken_behind_operand o n) (left_by_operand o (lefts before)) both.first)) (sym same) low_both.0,
           )
 
-  turned_low : NumberStays both → f.short ≡ true → formed_expression l ≡ true → formed_expression r ≡ true → MayTurn (length active) (length m.constants) both.x both.y both.first both.second → TurnedLow
-  turned_low stays short formed_l formed_r may = by (turns_by stays may)
+  turned_low : f.short ≡ true → formed_expression l ≡ true → formed_expression r ≡ true → MayTurn (length active) (length m.constants) both.x both.y both.first both.second → TurnedLow
+  turned_low short formed_l formed_r may = by (turns_by may)
     where
       by : Turns made l r has_l has_r first_rewritten second_rewritten m ahead final_operands ⊎ HasLocal (length active) both.x both.y both.first both.second → TurnedLow
       by (inl turns) = (turns.second_low short formed_r, turns.first_low short formed_l)
       by (inr locals) = locals_low short formed_l formed_r locals
 
   -- in the forms of fewest levels it needs no more than there is room for
-  pub comparison_low : (is_swapped (length active) (length m.constants) (comparison_of op both.x both.y both.first both.second) ≡ not (is_turned op) → NumberStays both) → f.short ≡ true → formed_expression l ≡ true → formed_expression r ≡ true →
+  pub comparison_low : f.short ≡ true → formed_expression l ≡ true → formed_expression r ≡ true →
       (word_comparison (place f.of listed f.short) (length m.constants) (lefts before) (comparison_of op both.x both.y both.first both.second)).levels ≤ suc (max (space_of_expression l) (space_of_expression r))
-  comparison_low can short formed_l formed_r = by (order_of both n made.all.few (next_number both.first refl) op is)
+  comparison_low short formed_l formed_r = by (order_of both n made.all.few (next_number both.first refl) op is)
     where
       n : ℕ
       n = length m.constants
@@ -358,7 +355,7 @@ module _ (lefts : ℕ → List (Option Inner)) {f : Function} {g : Fn} {active :
           let same = ap (λ (w : Wording). w.levels) (ordered_word at n (lefts before) both.x both.y both.first both.second op is (ap (λ count. is_swapped count n (comparison_of op both.x both.y both.first both.second)) sized ∙ swapped)) in
           omega (arith, one, other, same, few_more (max (on_left (tested_op op) w).levels (on_right (tested_op op) u).levels))
       by (turned mirror swapped may) =
-          let low = turned_low (can swapped) short formed_l formed_r may in
+          let low = turned_low short formed_l formed_r may in
           let w = word_operand at n (lefts before) both.second in
           let u = word_operand at (taken_behind_operand both.second n) (left_by_operand both.second (lefts before)) both.first in
           let one = low.0.left (other_op op) (compared_left (other_op op) (other_compares op mirror) r has_r) in

@@ -193,12 +193,6 @@ module _ {f : Function} {g : Fn} {active : List Active} {listed : List ℕ} {lef
 -- ---- `local` statements
 
 module _ {f : Function} {g : Fn} {active : List Active} {listed : List ℕ} (is_function : IsFunction f g) (all : AreListed f g active listed) where
-  pub local_forward : (names : List Text) (es : Expressions) → AllHaveCores es → depth_of_expressions es ≤ 199 → (after : List Active) (p q : Spot) →
-      LocalPartAt g names (all_related g es) active after p q → p.pc ≤ q.pc
-  local_forward names es has few after p q at =
-      let on = declared_on is_function all es has (omega (arith, few)) (length names) at.mid q at.values_at in
-      omega (arith, on.0, at.same)
-
   pub local_read : {lefts : ℕ → List (Option Inner)} (names : List Text) (es : Expressions) → AllHaveCores es → depth_of_expressions es ≤ 199 → CanAct f g active listed lefts (local_statement names es) →
       (after : List Active) (p q : Spot) (s : Situation) → HasLocals active listed s → s.left ≡ lefts p.functions → s.entries ≡ [] → s.taken ≡ s.seen → IsQuiet f s.scope p.pc q.pc →
       StartHere f s.scope names q.pc → LocalPartAt g names (all_related g es) active after p q → ActRead f g active (local_statement names es) p.functions q.functions s p.pc q.pc

@@ -1,27 +1,23 @@
--- Each function of a function is made where it comes next: it is one that stands in its statements.
-use Rattle.std.proofs.Common.{◌≡◌, ℕ, max, ◌≤◌, ◌<◌, ◌⊎◌, inl, inr, Bool, List, [], ◌∷◌, ◌++◌, length, ap, ◌∙◌, arith, true, if◌then◌else◌, suc, false, refl, ◌+◌}
+-- Each function that a statement mentions is made where it comes next.
+use Rattle.std.proofs.Common.{◌≡◌, ℕ, max, ◌≤◌, ◌<◌, ◌⊎◌, inl, inr, Bool, List, [], ◌∷◌, ◌++◌, arith, true, if◌then◌else◌, suc, false, refl, ◌+◌}
 use Rattle.std.proofs.lemmas.Bool.{cases_lt}
 use Rattle.lua_num.specs.Bytes.{Text}
 use Rattle.lua_tree.specs.Syntax as syntax
-use Rattle.lua_tree.specs.Syntax.{Arguments, Expression, Expressions, FunctionBody, Statement, Statements, argument_list, assignment, binary_expression, call_expression, call_statement, constructor, Fields, no_fields, positional, named, keyed, table_argument, field_expression, function_expression, index_expression, local_statement, method_call, name_expression, no_expressions, no_statements, parenthesized, return_statement, text_argument, unary_expression, nil_literal, true_literal, false_literal, vararg_expression, number_literal, text_literal, local_function}
+use Rattle.lua_tree.specs.Syntax.{Arguments, Expression, Expressions, FunctionBody, Statement, argument_list, assignment, binary_expression, call_expression, call_statement, constructor, Fields, no_fields, positional, named, keyed, table_argument, field_expression, function_expression, index_expression, local_statement, method_call, name_expression, no_expressions, parenthesized, return_statement, text_argument, unary_expression, nil_literal, true_literal, false_literal, vararg_expression, number_literal, text_literal, local_function}
 use Rattle.lua_tree.specs.WellFormed.{depth_of_arguments, depth_of_body, depth_of_expression, depth_of_expressions, depth_of_fields}
 use Rattle.recover_expr.specs.Situation.{Function}
-use Rattle.scheme.specs.Making.{Maker}
-use Rattle.scheme.specs.Statements.{settle}
 use Rattle.scheme.specs.declared.making.Active.{Active}
 use Rattle.scheme_stands.specs.Words.{Fn}
 use Rattle.same_flow.specs.Space.{space_of_arguments, space_of_body, space_of_expression, space_of_expressions, space_of_fields}
-use Rattle.reads_back.specs.Acted.{IsAct, is_path, lean_assignment, lean_depth, lean_depth_of}
+use Rattle.reads_back.specs.Acted.{IsAct, is_path, lean_assignment, lean_depth}
 use Rattle.reads_back.specs.Coming.{Coming, IsMadeNext, IsOwnNext, inside_local}
 use Rattle.reads_back.specs.Cores.{AllHaveCores, HasCore, HaveCores, HaveItems, IsPlainBody}
-use Rattle.reads_back.proofs.BlockMakers.{all_made, made_by, statement_moves}
-use Rattle.reads_back.proofs.Mentions.{AreMeant, IsAhead, Mention, behind_mention, coming, coming_behind, function_mention, locals_mention, mentions_given, mentions_in, mentions_in_all, mentions_of_fields, name_mention, own_mention}
+use Rattle.reads_back.proofs.Mentions.{AreMeant, Mention, behind_mention, coming_behind, function_mention, locals_mention, mentions_given, mentions_in, mentions_in_all, mentions_of_fields, name_mention, own_mention}
 use Rattle.reads_back.proofs.NameReads.{AreListed}
 use Rattle.reads_back.proofs.OneLineActs.{targets_have_cores}
 use Rattle.reads_back.proofs.Rewriting.{mentions_of_statement, OwnListed}
-use Rattle.reads_back.proofs.Rooms.{inside_room, lean_room, lean_room_assignment, lean_room_of, left_room, of_room}
+use Rattle.reads_back.proofs.Rooms.{inside_room, lean_room, lean_room_assignment, left_room, of_room}
 use Rattle.reads_back.proofs.Tests.{first_of_both}
-use Rattle.reads_back.proofs.StraightBlocks.{ComesNext, IsMadeWhole, comes_behind, made_there, names_next, own_listed}
 
 -- ---- the levels of what is mentioned
 
@@ -172,22 +168,3 @@ statement_made_at g active all (assignment targets es) is own c meant number fro
 statement_made_at g active all (local_statement names es) is own c meant number from below = mentioned_made g active all _ _ (mentions_of_statement (local_statement names es)) c meant (mentions_low (local_statement names es) is tt) number from below
 statement_made_at g active all (return_statement es) is own c meant number from below = mentioned_made g active all _ _ (mentions_of_statement (return_statement es)) c meant (mentions_low (return_statement es) is tt) number from below
 statement_made_at g active all s is own c meant number from below = absurd is
-
--- each function that a block makes is one that stands in its statements
-pub each_made : {f : Function} {g : Fn} {z : Maker} (whole : IsMadeWhole f g z) (block : Statements) (m : Maker) → ComesNext f g z block m → (number : ℕ) → length m.functions ≤ number → number < length (all_made block m).functions → IsMadeAt f g (lean_depth_of block) (lean_room_of block) number
-each_made whole no_statements m next number from below = absurd (omega (arith, from, below))
-each_made {f} {g} whole (syntax.statement line semi s rest) m next number from below =
-    by (cases_lt number (length (made_by s m).functions)) (λ later. each_made whole rest (settle (made_by s m)) (comes_behind whole next) number later below)
-  where
-    ahead : IsAhead g m.active (length m.functions) (mentions_of_statement s) m
-    ahead = names_next whole next
-
-    behind : coming (made_by s m) ≡ coming_behind m.active g.upvalue_names (mentions_of_statement s) (coming m)
-    behind = (statement_moves s next.straight.0.0 m).behind ∙ ap (λ names. coming_behind m.active names (mentions_of_statement s) (coming m)) ahead.upvalues_are
-
-    by : (number < length (made_by s m).functions) ⊎ (length (made_by s m).functions ≤ number) → (length (made_by s m).functions ≤ number → IsMadeAt f g (lean_depth_of rest) (lean_room_of rest) number) → IsMadeAt f g (lean_depth_of (syntax.statement line semi s rest)) (lean_room_of (syntax.statement line semi s rest)) number
-    by (inl here) others =
-        let high = lean_depth s in
-        let one = statement_made_at g m.active (made_there whole next).all s next.straight.0.0 (own_listed whole next) (coming m) ahead.meant number from (omega (arith, here, ap (λ (c : Coming). c.functions) behind)) in
-        made_lower high _ (lean_room s) _ number (omega arith) (omega arith) one
-    by (inr later) others = made_lower (lean_depth_of rest) _ (lean_room_of rest) _ number (omega arith) (omega arith) (others later)

@@ -93,7 +93,7 @@ module _ (all : List Mark) (rules : RulesKept all) where
           around = n;
           active = active;
           ahead = p.ahead;
-          here = record { between = h.between; scope = h.scope; ahead = h.ahead };
+          here = record { between = h.between; scope = h.scope; ahead = h.ahead; apart = h.apart };
           active_at = s.active_at;
           named = s.named;
           captures = c;

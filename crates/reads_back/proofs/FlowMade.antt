@@ -43,12 +43,12 @@ use Rattle.reads_back.proofs.TestsMeant.{test_meant}
 
 -- ---- parts with room
 
-abbrev pub HasRoomyPart : Part → Type 0
-HasRoomyPart nothing_part = Unit {0}
-HasRoomyPart (statement_part s) = space_of_statement s < 200
-HasRoomyPart (values_part es) = space_of_expressions es < 200
-HasRoomyPart (condition_part e) = space_of_expression e < 200
-HasRoomyPart (head_part es names) = space_of_expressions es < 200
+abbrev pub HasRoomyPart : (roomy : ℕ) → Part → Type 0
+HasRoomyPart roomy nothing_part = Unit {0}
+HasRoomyPart roomy (statement_part s) = space_of_statement s < roomy
+HasRoomyPart roomy (values_part es) = space_of_expressions es < roomy
+HasRoomyPart roomy (condition_part e) = space_of_expression e < roomy
+HasRoomyPart roomy (head_part es names) = space_of_expressions es < roomy
 
 -- ---- the levels of what a test and a head mention
 
@@ -70,7 +70,7 @@ counted_low (syntax.expression first (syntax.expression last no_expressions)) co
 counted_low (syntax.expression first (syntax.expression last (syntax.expression by no_expressions))) counted has = low_in_all (syntax.expression first (syntax.expression last (syntax.expression by no_expressions))) has
 counted_low es counted has = absurd counted
 
-module _ {Left : Type 0} {f : Function} {g : Fn} {z : Maker} {code : Steps} {params names : List Text} {ahead : Ahead} {block : Statements} (of : IsFlowBy Left f g z code params names ahead block) where
+module _ (limit : ℕ) {Left : Type 0} {f : Function} {g : Fn} {z : Maker} {code : Steps} {params names : List Text} {ahead : Ahead} {block : Statements} (of : IsFlowBy Left f g z code params names ahead block) where
   -- ---- in one step
 
   module _ {at : ℕ} {kind : StepKind} {part : Part} (is : StepIs of at kind part) where
@@ -81,22 +81,22 @@ module _ {Left : Type 0} {f : Function} {g : Fn} {z : Maker} {code : Steps} {par
     made = made_at of at kind part
 
     -- of what is mentioned
-    mentions_made : (high roomy : ℕ) (mentions : List Mention) → IsMeant g m.active mentions (spot m) (spot made) → AreLowMentions high roomy mentions → high ≤ 200 → roomy ≤ 200 →
-        (number : ℕ) → length m.functions ≤ number → number < length made.functions → IsMadeAt f g 200 200 number
+    mentions_made : (high roomy : ℕ) (mentions : List Mention) → IsMeant g m.active mentions (spot m) (spot made) → AreLowMentions high roomy mentions → high ≤ 200 → roomy ≤ limit →
+        (number : ℕ) → length m.functions ≤ number → number < length made.functions → IsMadeAt f g 200 limit number
     mentions_made high roomy mentions meant low shallow room number from below =
         let less = is.within in
         let all = (made_before of at (omega (arith, less))).all in
-        made_lower high 200 roomy 200 number shallow room (mentioned_made g m.active all high roomy mentions (coming m) meant.meant low number from (omega (arith, below, ap (λ (c : Coming). c.functions) meant.behind)))
+        made_lower high 200 roomy limit number shallow room (mentioned_made g m.active all high roomy mentions (coming m) meant.meant low number from (omega (arith, below, ap (λ (c : Coming). c.functions) meant.behind)))
 
     -- of an act
-    act_made : (s : Statement) → IsFlowAct s → OwnListed f g m.active s → StatementAt g None s m.active made.active (spot m) (spot made) → lean_room s < 200 →
-        (number : ℕ) → length m.functions ≤ number → number < length made.functions → IsMadeAt f g 200 200 number
+    act_made : (s : Statement) → IsFlowAct s → OwnListed f g m.active s → StatementAt g None s m.active made.active (spot m) (spot made) → lean_room s < limit →
+        (number : ℕ) → length m.functions ≤ number → number < length made.functions → IsMadeAt f g 200 limit number
     act_made s flow own stands room number from below =
         let less = is.within in
         let all = (made_before of at (omega (arith, less))).all in
         let meant = statement_meant g s flow.is m.active made.active (spot m) (spot made) stands in
         let one = statement_made_at g m.active all s flow.is own (coming m) meant.meant number from (omega (arith, below, ap (λ (c : Coming). c.functions) meant.behind)) in
-        made_lower (lean_depth s) 200 (lean_room s) 200 number (omega (arith, flow.shallow, lean_low s)) (omega (arith, room)) one
+        made_lower (lean_depth s) 200 (lean_room s) limit number (omega (arith, flow.shallow, lean_low s)) (omega (arith, room)) one
 
   -- of the head of a loop, whose variables are declared before its values are made
   module _ {at foot end variables_end : ℕ} {captured : Bool} {es : Expressions} {texts : List Text} where
@@ -113,8 +113,8 @@ module _ {Left : Type 0} {f : Function} {g : Fn} {z : Maker} {code : Steps} {par
     head_low true is = counted_low es (counted_of es is.fits.0) is.flow.has
     head_low false is = low_in_all es is.flow.has
 
-    head_made : (numeric : Bool) → StepIs of at (StepKind.Head numeric foot end variables_end captured) (head_part es texts) → space_of_expressions es < 200 →
-        (number : ℕ) → length (before_at of at).functions ≤ number → number < length (made_at of at (StepKind.Head numeric foot end variables_end captured) (head_part es texts)).functions → IsMadeAt f g 200 200 number
+    head_made : (numeric : Bool) → StepIs of at (StepKind.Head numeric foot end variables_end captured) (head_part es texts) → space_of_expressions es < limit →
+        (number : ℕ) → length (before_at of at).functions ≤ number → number < length (made_at of at (StepKind.Head numeric foot end variables_end captured) (head_part es texts)).functions → IsMadeAt f g 200 limit number
     head_made numeric is room number from below =
         let less = is.within in
         let m = before_at of at in
@@ -125,10 +125,10 @@ module _ {Left : Type 0} {f : Function} {g : Fn} {z : Maker} {code : Steps} {par
         let all = (made_before of at (omega (arith, less))).all in
         let meant = head_meant numeric is in
         let same = ap (λ (functions : List Chunk). length functions) (declare_functions texts m) in
-        made_lower high 200 little 200 number is.flow.shallow (omega (arith, room))
+        made_lower high 200 little limit number is.flow.shallow (omega (arith, room))
         (mentioned_made g m.active all high little mentions (coming declared) meant.meant (head_low numeric is) number (omega (arith, from, same)) (omega (arith, below, ap (λ (c : Coming). c.functions) meant.behind)))
 
-  step_made : {at : ℕ} (kind : StepKind) (part : Part) → StepIs of at kind part → HasRoomyPart part → (number : ℕ) → length (before_at of at).functions ≤ number → number < length (made_at of at kind part).functions → IsMadeAt f g 200 200 number
+  step_made : {at : ℕ} (kind : StepKind) (part : Part) → StepIs of at kind part → HasRoomyPart limit part → (number : ℕ) → length (before_at of at).functions ≤ number → number < length (made_at of at kind part).functions → IsMadeAt f g 200 limit number
   step_made {at} StepKind.Act (statement_part s) is room =
       act_made is (as_assignment s) is.flow.act (act_own of s is.fits (before_at of at).active) (act_stands of is) (omega (arith, room, assigned_roomy s is.flow.formed))
   step_made (StepKind.Declaration end captured) (statement_part s) is room =
@@ -148,8 +148,8 @@ module _ {Left : Type 0} {f : Function} {g : Fn} {z : Maker} {code : Steps} {par
 
   -- ---- in all steps
 
-  module _ (roomy : (at : ℕ) (part : Part) → part_at code at ≡ Some part → HasRoomyPart part) where
-    made_to : (at : ℕ) → at ≤ length code.steps → (number : ℕ) → number < length (now_at of at).maker.functions → IsMadeAt f g 200 200 number
+  module _ (roomy : (at : ℕ) (part : Part) → part_at code at ≡ Some part → HasRoomyPart limit part) where
+    made_to : (at : ℕ) → at ≤ length code.steps → (number : ℕ) → number < length (now_at of at).maker.functions → IsMadeAt f g 200 limit number
     made_to zero most number below = absurd (omega (arith, below, ap (λ (functions : List Chunk). length functions) (begins_with params names ahead).functions))
     made_to (suc at) most number below =
         let step = step_is of at (omega (arith, most)) in
@@ -158,9 +158,9 @@ module _ {Left : Type 0} {f : Function} {g : Fn} {z : Maker} {code : Steps} {par
         by (cases_lt number (length (before_at of at).functions)) (λ before. made_to at (omega (arith, most)) number before)
         (λ from. step_made step.0 step.1 is (roomy at step.1 is.part_there) number from (omega (arith, below, count)))
       where
-        by : (number < length (before_at of at).functions) ⊎ (length (before_at of at).functions ≤ number) → (number < length (before_at of at).functions → IsMadeAt f g 200 200 number) → (length (before_at of at).functions ≤ number → IsMadeAt f g 200 200 number) → IsMadeAt f g 200 200 number
+        by : (number < length (before_at of at).functions) ⊎ (length (before_at of at).functions ≤ number) → (number < length (before_at of at).functions → IsMadeAt f g 200 limit number) → (length (before_at of at).functions ≤ number → IsMadeAt f g 200 limit number) → IsMadeAt f g 200 limit number
         by (inl before) earlier here = earlier before
         by (inr from) earlier here = here from
 
-  pub flow_made : ((at : ℕ) (part : Part) → part_at code at ≡ Some part → HasRoomyPart part) → (number : ℕ) → number < length (performed_to code (at_beginning code params names ahead) (length code.steps)).maker.functions → IsMadeAt f g 200 200 number
+  pub flow_made : ((at : ℕ) (part : Part) → part_at code at ≡ Some part → HasRoomyPart limit part) → (number : ℕ) → number < length (performed_to code (at_beginning code params names ahead) (length code.steps)).maker.functions → IsMadeAt f g 200 limit number
   flow_made roomy number below = made_to roomy (length code.steps) (omega arith) number below

@@ -1,295 +1,187 @@
--- A name that is free in a function, and means no global there, is that of one of its upvalues.
-use Rattle.std.proofs.Common.{◌≡◌, ◌⊎◌, inl, inr, ℕ, zero, suc, Bool, true, false, not, ◌&&◌, ◌||◌, List, [], ◌∷◌, ◌++◌, append-nil, append_assoc, drop, length, Option, Some, None, refl, sym, ap, ap₂, ◌∙◌, subst, if◌then◌else◌}
-use Rattle.std.proofs.lemmas.Bool.{or_parts}
-use Rattle.std.proofs.lemmas.Slice.Eq.{bytes_eq-Decides}
-use Rattle.std.specs.Prelude.{is_some, slice_get}
+-- A name that is free in a function whose statements may have blocks, and is in scope around it, is among the names of its upvalues.
+use Rattle.std.proofs.Common.{◌≡◌, ℕ, Bool, true, false, List, [], ◌∷◌, length, Option, Some, None, refl}
+use Rattle.std.specs.Prelude.{◌||◌, ◌+◌, not, is_some, drop}
 use Rattle.std.specs.Str.{bytes_eq}
 use Rattle.lua_num.specs.Bytes.{Text}
-use Rattle.lua_tree.specs.Names.{are_names}
 use Rattle.lua_tree.specs.Outline.{all_params}
-use Rattle.lua_tree.specs.Scoping.{Use}
 use Rattle.lua_tree.specs.Syntax as syntax
-use Rattle.lua_tree.specs.Syntax.{Arguments, argument_list, text_argument, table_argument, Expression, Expressions, no_expressions, Fields, no_fields, positional, named, keyed, FunctionBody, function_body, Statement, Statements, no_statements, assignment, call_statement, function_statement, local_function, local_statement, return_statement, nil_literal, true_literal, false_literal, vararg_expression, number_literal, text_literal, name_expression, function_expression, index_expression, field_expression, call_expression, method_call, binary_expression, unary_expression, constructor, parenthesized}
-use Rattle.lua_tree.specs.WellFormed.{formed_statement, formed_statements, may_follow}
-use Rattle.proto.specs.Chunk.{Chunk, own}
-use Rattle.scheme.specs.Functions.{without_sources}
-use Rattle.scheme.specs.Making.{Ahead, Maker, Where, in_globals, in_register, in_upvalue, head_or, where_is}
-use Rattle.scheme.specs.Statements.{settle}
+use Rattle.lua_tree.specs.Syntax.{Arguments, argument_list, text_argument, table_argument, Branches, no_branches, branch, Otherwise, no_otherwise, otherwise, ForStep, no_step, by_step, Expression, Expressions, no_expressions, Fields, no_fields, positional, named, keyed, FunctionBody, function_body, Statement, Statements, no_statements, assignment, call_statement, do_block, while_loop, repeat_loop, if_statement, numeric_for, generic_for, function_statement, local_function, local_statement, return_statement, break_statement, nil_literal, true_literal, false_literal, vararg_expression, number_literal, text_literal, name_expression, function_expression, index_expression, field_expression, call_expression, method_call, and_expression, or_expression, binary_expression, unary_expression, constructor, parenthesized}
+use Rattle.opcode.specs.declared.op.Op.{Op}
+use Rattle.proto.specs.Chunk.{Chunk}
+use Rattle.scheme.specs.Making.{Ahead, any_captured}
+use Rattle.scheme.specs.Scheme.{has_otherwise}
+use Rattle.scheme.specs.Statements.{generic_names, numeric_names}
 use Rattle.scheme.specs.declared.making.Active.{Active}
 use Rattle.scheme.specs.declared.making.Local.{Local}
-use Rattle.scheme_stands.proofs.Growth.{fn_of, spot}
-use Rattle.scheme_stands.proofs.Makers.{body_begun, body_maker, body_stands}
-use Rattle.scheme_stands.specs.Relation.{FunctionOf}
-use Rattle.scheme_stands.specs.Words.{CapturedBy, Fn, IsCaptured, MeansBy, Names, asking, is_among, is_named, names_in, onto, own_register, register_in}
-use Rattle.reads_back.specs.Assignments.{as_assignment, fields_behind, path_target, with_method_name, with_self}
-use Rattle.reads_back.specs.Acted.{AreActs, AreActsBy, IsAct}
-use Rattle.reads_back.specs.Coming.{Coming, IsMadeNext, inside_local}
-use Rattle.reads_back.specs.Cores.{AllHaveCores, HasCore, HaveCores, HaveItems, IsPlainBody}
-use Rattle.reads_back.specs.Straight.{AllHaveCoresBy, HasCoreBy, HaveCoresBy, HaveItemsBy, IsActBy, IsStraightBody}
-use Rattle.reads_back.proofs.BlockMakers.{AllStand, actives_by, all_stand, made_by, statement_moves}
-use Rattle.reads_back.proofs.DeclaredLocals.{actives_of}
-use Rattle.reads_back.proofs.FreeNames.{brings, free_in, free_in_all, free_in_block, free_in_body, free_in_fields, free_in_given, free_in_statement}
-use Rattle.reads_back.proofs.FunctionStatements.{acts_are, acts_formed, acts_on_line, as_assignments}
-use Rattle.reads_back.proofs.Mentions.{AreMeant, IsMentionMeant, Mention, behind_mention, function_mention, locals_mention, mentions_given, mentions_in, mentions_in_all, mentions_of_fields, name_mention, own_mention}
-use Rattle.reads_back.proofs.OneLineActs.{targets_have_cores}
-use Rattle.reads_back.proofs.ParametersRead as parameters
-use Rattle.reads_back.proofs.PlainBodies.{plain_block}
-use Rattle.reads_back.proofs.PlainStraight.{AreOnLine, each_on_line}
-use Rattle.reads_back.proofs.Rewriting.{mentions_of_statement}
-use Rattle.reads_back.proofs.SameStatements.{block_stands}
-use Rattle.reads_back.proofs.StatementsMeant.{statement_meant}
-use Rattle.reads_back.proofs.Tests.{first_of_both, not_so, or_first, or_second, second_of_both}
+use Rattle.scheme_stands.specs.Expressions.{Rel, form_of}
+use Rattle.scheme_stands.specs.Functions.{Activated, Declared}
+use Rattle.scheme_stands.specs.Relation.{BranchesAt, FunctionOf, OtherwiseAt, StatementAt, StatementsAt, StepAt, given_rel, related}
+use Rattle.scheme_stands.specs.Statements.{LoopAt, UntilBy}
+use Rattle.scheme_stands.specs.Words.{Fn, Names, asking, fn, is_among, own_register}
+use Rattle.reads_back.proofs.FreeFound.{EachFinds, Finds, IsCapturedInside, IsOutside, ItemsFind, UsesFind, adjust_finds, binary_finds, call_finds, closed_uses, constructor_finds, field_finds, function_finds, function_uses, index_finds, is_not, logic_finds, method_finds, name_finds, of_either, open_finds, parenthesized_finds, table_finds, unary_finds}
+use Rattle.reads_back.proofs.FreeNames.{brings, brings_in_block, free_in, free_in_all, free_in_block, free_in_body, free_in_branches, free_in_given, free_in_statement, free_in_step, free_otherwise}
+use Rattle.reads_back.proofs.FreeStatements.{AreApart, assignment_finds, block_keeps_none, declared_apart, function_statement_finds, none_activated, return_finds, statement_keeps_none}
+use Rattle.reads_back.proofs.Tests.{first_of_both, not_so, second_of_both}
 
--- ---- tests
+-- ---- where the name is none of the locals that become active
 
-pub of_either : {A : Type 0} (a b : Bool) → (a || b) ≡ true → (a ≡ true → A) → (b ≡ true → A) → A
-of_either true b is first second = first refl
-of_either false b is first second = second is
+outside_of : (text : Text) (n : Names) (active after : List Active) → IsOutside text n active → own_register text after ≡ None → IsOutside text n after
+outside_of text n active after outside none = record { around = outside.around; none = none }
 
-pub is_not : (a : Bool) → not a ≡ true → a ≡ false
-is_not true is = not_so is
-is_not false is = refl
+-- the hidden locals of a loop and its variables, none of which has it
+turn_outside : (text : Text) (n : Names) (active around inner : List Active) (hidden variables : List Local) (names : List Text) (before behind : Ahead) → AreApart text hidden →
+    Activated hidden active around →
+    Declared names before variables behind → is_among text names ≡ false → Activated variables around inner → IsOutside text n active → IsOutside text n inner
+turn_outside text n active around inner hidden variables names before behind apart activated declared apart_names activated_names outside =
+    outside_of text n active inner outside
+    (none_activated text variables around inner (declared_apart text names before variables behind declared apart_names) activated_names (none_activated text hidden active around apart activated outside.none))
 
-or_not : (a : Bool) → (a || false) ≡ a
-or_not true = refl
-or_not false = refl
+or_false : (a : Bool) → a ≡ false → (a || false) ≡ false
+or_false a is = cc
 
--- ---- a function statement has the free names of its assignment
+-- the condition of a `repeat`
+until_found : (text : Text) (n : Names) (g : Fn) (free captured : Bool) (test : Rel) (inner : List Active) (count exit first : ℕ) → UsesFind text n free inner test →
+    Finds text n free (UntilBy captured g test inner count exit first)
+until_found text n g free true test inner count exit first finds p q at = finds.jump_if (length inner) false at.again.pc p at.closing at.test_at
+until_found text n g free false test inner count exit first finds p q at = finds.jump_if (length inner) false first p q at
 
-fields_free : (text : Text) (on : Expression) (names : List Text) → free_in text (fields_behind on names) ≡ free_in text on
-fields_free text on [] = refl
-fields_free text on (name ∷ names) = fields_free text (field_expression 1 on name) names
+-- ---- the recursion
 
-method_free : (text : Text) (on : Expression) (method : Option Text) → free_in text (with_method_name on method) ≡ free_in text on
-method_free text on None = refl
-method_free text on (Some name) = refl
-
-path_free : (text name : Text) (names : List Text) (method : Option Text) → free_in text (path_target (name ∷ names) method) ≡ bytes_eq text name
-path_free text name names method = method_free text (fields_behind (name_expression 1 name) names) method ∙ fields_free text (name_expression 1 name) names
-
-self_free : (text : Text) (method : Bool) (body : FunctionBody) → free_in_body text false (with_self method body) ≡ free_in_body text method body
-self_free text method (function_body params vararg block first last) = refl
-
-statement_free : (text : Text) (s : Statement) → formed_statement s ≡ true → free_in_statement text (as_assignment s) ≡ free_in_statement text s
-statement_free text (function_statement [] method body) formed = not_so formed
-statement_free text (function_statement (name ∷ names) method body) formed =
-    ap₂ (λ (first second : Bool). first || second) (or_not _ ∙ path_free text name names method) (or_not _ ∙ self_free text (is_some method) body)
-statement_free text s formed = refl
-
-brings_same : (text : Text) (s : Statement) → brings text (as_assignment s) ≡ brings text s
-brings_same text (function_statement path method body) = refl
-brings_same text s = refl
-
-block_free : (text : Text) (block : Statements) → formed_statements block ≡ true → free_in_block text (as_assignments block) ≡ free_in_block text block
-block_free text no_statements formed = refl
-block_free text (syntax.statement line semi s rest) formed =
-    let behind = second_of_both (may_follow s semi rest) _ (second_of_both (formed_statement s) _ formed) in
-    ap₂ (λ (first second : Bool). first || second) (statement_free text s (first_of_both _ _ formed))
-    (ap₂ (λ (brought free : Bool). not brought && free) (brings_same text s) (block_free text rest behind))
-
--- ---- active locals of which none has the name
-
-pub among_behind : (text : Text) (names others : List Text) → is_among text others ≡ true → is_among text (names ++ others) ≡ true
-among_behind text [] others is = is
-among_behind text (name ∷ names) others is = or_second (bytes_eq text name) _ (among_behind text names others is)
-
-among_at : (text : Text) (names : List Text) (slot : ℕ) → slice_get names slot ≡ Some text → is_among text names ≡ true
-among_at text [] slot there = cc
-among_at text (name ∷ names) zero there = let same : text ≡ name = cc in or_first (bytes_eq text name) _ ((bytes_eq-Decides text name).1 same)
-among_at text (name ∷ names) (suc slot) there = or_second (bytes_eq text name) _ (among_at text names slot there)
-
-onto_end : {A : Type 0} (xs : List A) (y : A) (zs : List A) → onto (xs ++ y ∷ []) zs ≡ y ∷ onto xs zs
-onto_end [] y zs = refl
-onto_end (x ∷ xs) y zs = onto_end xs y (x ∷ zs)
-
-pub none_then : (text : Text) (active : List Active) (x : Active) → is_named text x ≡ false → own_register text active ≡ None → own_register text (active ++ x ∷ []) ≡ None
-none_then text active x apart none =
-    ap (register_in text) (onto_end active x []) ∙ ap (λ is. if is then Some (length (onto active [])) else own_register text active) apart ∙ none
-
-none_behind : (text : Text) (active : List Active) (names : List Text) (captures : List Bool) (declaration listed : ℕ) → is_among text names ≡ false → own_register text active ≡ None → own_register text (active ++ actives_of names captures declaration listed) ≡ None
-none_behind text active [] captures declaration listed apart none = ap (own_register text) (append-nil active) ∙ none
-none_behind text active (name ∷ names) captures declaration listed apart none =
-    let parts = or_parts (bytes_eq text name) (is_among text names) apart in
-    let x : Active = record { local = record { name = name; declaration = Some declaration; captured = head_or false captures }; listed = listed } in
-    ap (own_register text) (sym (append_assoc active (x ∷ []) (actives_of names (drop 1 captures) (suc declaration) (suc listed))))
-    ∙ none_behind text (active ++ x ∷ []) names (drop 1 captures) (suc declaration) (suc listed) parts.1 (none_then text active x parts.0 none)
-
--- behind a statement that does not bring it
-statement_none : (text : Text) (s : Statement) (m : Maker) → brings text s ≡ false → own_register text m.active ≡ None → own_register text (m.active ++ actives_by s m) ≡ None
-statement_none text (local_statement names es) m apart none = none_behind text m.active names m.ahead.captures m.ahead.declarations (length m.locals) apart none
-statement_none text (local_function name body) m apart none = none_behind text m.active (name ∷ []) m.ahead.captures m.ahead.declarations (length m.locals) (or_not (bytes_eq text name) ∙ apart) none
-statement_none text s m apart none = ap (own_register text) (append-nil m.active) ∙ none
-
--- ---- what is captured
-
-captured_upvalue : (n : Names) (active : List Active) (text : Text) (w : Where) → IsCaptured n active text w → own_register text active ≡ None → is_among text n.upvalues ≡ true
-captured_upvalue n active text (in_register r) captured none = let is = captured.0 in cc
-captured_upvalue n active text (in_upvalue slot) captured none = among_at text n.upvalues slot captured.1
-captured_upvalue n active text in_globals captured none = absurd captured
-
-pub captured_among : (n : Names) (active : List Active) (text : Text) (names : List Text) (uses : List Use) → CapturedBy n active names uses → is_among text names ≡ true → own_register text active ≡ None → is_among text n.upvalues ≡ true
-captured_among n active text [] uses captured is none = not_so is
-captured_among n active text (name ∷ names) [] captured is none = absurd captured
-captured_among n active text (name ∷ names) (one ∷ uses) captured is none =
-    of_either (bytes_eq text name) (is_among text names) is
-    (λ same. captured_upvalue n active text (where_is one active) (subst (λ name. IsCaptured n active name (where_is one active)) (sym ((bytes_eq-Decides text name).0 same)) captured.0) none)
-    (λ is. captured_among n active text names uses captured.1 is none)
-
--- a name that means no local and no global
-pub meant_upvalue : (n : Names) (active : List Active) (text : Text) (w : Where) → MeansBy n active text w → is_among text n.around ≡ true → own_register text active ≡ None → is_among text n.upvalues ≡ true
-meant_upvalue n active text (in_register r) means around none = cc
-meant_upvalue n active text (in_upvalue slot) means around none = among_at text n.upvalues slot means.1
-meant_upvalue n active text in_globals means around none = let is = means.1 in cc
-
-module _ (text : Text) (deep : ℕ) where
-  -- ---- what is free is mentioned
-
-  -- a function in which it is free, where no more than so many stand in one another
-  record IsFreeInside (method : Bool) (body : FunctionBody) : Type 0 where
-    free : free_in_body text method body ≡ true
-    plain : IsPlainBody body
-    straight : IsStraightBody deep body
-
-  abbrev IsFreeMention : Mention → Type 0
-  IsFreeMention (name_mention name) = bytes_eq text name ≡ true
-  IsFreeMention (function_mention body method) = IsFreeInside method body
-  IsFreeMention (locals_mention names) = ⊥
-  IsFreeMention (own_mention name body) = (bytes_eq text name ≡ false) × IsFreeInside false body
-
-  abbrev IsMentioned : List Mention → Type 0
-  IsMentioned [] = ⊥
-  IsMentioned (mention ∷ mentions) = IsFreeMention mention ⊎ IsMentioned mentions
-
-  in_front : (mentions others : List Mention) → IsMentioned mentions → IsMentioned (mentions ++ others)
-  in_front [] others is = absurd is
-  in_front (mention ∷ mentions) others (inl is) = inl is
-  in_front (mention ∷ mentions) others (inr is) = inr (in_front mentions others is)
-
-  in_rest : (mentions others : List Mention) → IsMentioned others → IsMentioned (mentions ++ others)
-  in_rest [] others is = is
-  in_rest (mention ∷ mentions) others is = inr (in_rest mentions others is)
-
-  -- in one of two parts
-  in_both : (a b : Bool) (mentions others : List Mention) → (a || b) ≡ true → (a ≡ true → IsMentioned mentions) → (b ≡ true → IsMentioned others) → IsMentioned (mentions ++ others)
-  in_both a b mentions others is first second = of_either a b is (λ is. in_front mentions others (first is)) (λ is. in_rest mentions others (second is))
-
+module _ (text : Text) where
   mutual
-    mentioned : (e : Expression) → HasCore e → HasCoreBy (IsStraightBody deep) e → free_in text e ≡ true → IsMentioned (mentions_in e)
-    mentioned (nil_literal line) has straight is = not_so is
-    mentioned (true_literal line) has straight is = not_so is
-    mentioned (false_literal line) has straight is = not_so is
-    mentioned (vararg_expression line) has straight is = not_so is
-    mentioned (number_literal line n) has straight is = not_so is
-    mentioned (text_literal line it) has straight is = not_so is
-    mentioned (name_expression line name) has straight is = inl is
-    mentioned (function_expression line body) has straight is = inl (record { free = is; plain = has; straight = straight })
-    mentioned (index_expression line on key) has straight is = in_both (free_in text on) _ (mentions_in on) (mentions_in key) is (mentioned on has.0 straight.0) (mentioned key has.1 straight.1)
-    mentioned (field_expression line on name) has straight is = mentioned on has straight is
-    mentioned (call_expression line on args on_line) has straight is = in_both (free_in text on) _ (mentions_in on) (mentions_given args) is (mentioned on has.0 straight.0) (given_mentioned args has.1 straight.1)
-    mentioned (method_call line on name args on_line) has straight is = in_both (free_in text on) _ (mentions_in on) (mentions_given args) is (mentioned on has.1 straight.1) (given_mentioned args has.2 straight.2)
-    mentioned (binary_expression line op left right) has straight is = in_both (free_in text left) _ (mentions_in left) (mentions_in right) is (mentioned left has.1 straight.1) (mentioned right has.2 straight.2)
-    mentioned (unary_expression line op e) has straight is = mentioned e has straight is
-    mentioned (constructor line fields) has straight is = fields_mentioned fields has straight is
-    mentioned (parenthesized line e) has straight is = mentioned e has straight is
-    mentioned e has straight is = absurd has
+    expression_found : (e : Expression) (n : Names) (f : Fn) (active : List Active) → IsOutside text n active → UsesFind text n (free_in text e) active (related (asking n f) e)
+    expression_found (nil_literal line) n f active outside = closed_uses text n f active (related (asking n f) (nil_literal line))
+    expression_found (true_literal line) n f active outside = closed_uses text n f active (related (asking n f) (true_literal line))
+    expression_found (false_literal line) n f active outside = closed_uses text n f active (related (asking n f) (false_literal line))
+    expression_found (vararg_expression line) n f active outside = closed_uses text n f active (related (asking n f) (vararg_expression line))
+    expression_found (number_literal line x) n f active outside = closed_uses text n f active (related (asking n f) (number_literal line x))
+    expression_found (text_literal line it) n f active outside = closed_uses text n f active (related (asking n f) (text_literal line it))
+    expression_found (name_expression line name) n f active outside = name_finds text n f active outside name
+    expression_found (function_expression line body) n f active outside = function_uses text n f active outside line body (body_found body false)
+    expression_found (index_expression line on key) n f active outside = index_finds text n f active line on key (expression_found on n f active outside) (expression_found key n f active outside)
+    expression_found (field_expression line on name) n f active outside = field_finds text n f active line on name (expression_found on n f active outside)
+    expression_found (call_expression line on args on_line) n f active outside =
+        call_finds text n f active (free_in text on) (free_in_given text args) (form_of (call_expression line on args on_line)) (related (asking n f) on) (given_rel (asking n f) args) refl (λ k is. absurd cc)
+        (expression_found on n f active outside) (given_found args n f active outside)
+    expression_found (method_call line on name args on_line) n f active outside =
+        method_finds text n f active (free_in text on) (free_in_given text args) (form_of (method_call line on name args on_line)) (related (asking n f) on) name (given_rel (asking n f) args) refl (λ k is. absurd cc)
+        (expression_found on n f active outside) (given_found args n f active outside)
+    expression_found (and_expression line left right) n f active outside =
+        logic_finds text n f active (free_in text left) (free_in text right) (related (asking n f) left) (related (asking n f) right) (expression_found left n f active outside) (expression_found right n f active outside)
+        false (form_of (and_expression line left right)) refl (λ k is. absurd cc)
+    expression_found (or_expression line left right) n f active outside =
+        logic_finds text n f active (free_in text left) (free_in text right) (related (asking n f) left) (related (asking n f) right) (expression_found left n f active outside) (expression_found right n f active outside)
+        true (form_of (or_expression line left right)) refl (λ k is. absurd cc)
+    expression_found (binary_expression line op left right) n f active outside = binary_finds text n f active line op left right (expression_found left n f active outside) (expression_found right n f active outside)
+    expression_found (unary_expression line op e) n f active outside = unary_finds text n f active line op e (expression_found e n f active outside)
+    expression_found (constructor line fields) n f active outside = constructor_finds text n f active line fields (fields_found fields n f active outside)
+    expression_found (parenthesized line e) n f active outside = parenthesized_finds text n f active line e (expression_found e n f active outside)
 
-    given_mentioned : (args : Arguments) → HaveCores args → HaveCoresBy (IsStraightBody deep) args → free_in_given text args ≡ true → IsMentioned (mentions_given args)
-    given_mentioned (argument_list es) have straight is = all_mentioned es have straight is
-    given_mentioned (text_argument it) have straight is = not_so is
-    given_mentioned (table_argument fields) have straight is = fields_mentioned fields have straight is
+    each_found : (es : Expressions) (n : Names) (f : Fn) (active : List Active) → IsOutside text n active → EachFinds text n f active es
+    each_found no_expressions n f active outside = tt
+    each_found (syntax.expression e es) n f active outside = (expression_found e n f active outside, each_found es n f active outside)
 
-    fields_mentioned : (fields : Fields) → HaveItems fields → HaveItemsBy (IsStraightBody deep) fields → free_in_fields text fields ≡ true → IsMentioned (mentions_of_fields fields)
-    fields_mentioned no_fields have straight is = not_so is
-    fields_mentioned (positional e separator rest) have straight is = in_both (free_in text e) _ (mentions_in e) (mentions_of_fields rest) is (mentioned e have.0 straight.0) (fields_mentioned rest have.1 straight.1)
-    fields_mentioned (named name e separator rest) have straight is = in_both (free_in text e) _ (mentions_in e) (mentions_of_fields rest) is (mentioned e have.0 straight.0) (fields_mentioned rest have.1 straight.1)
-    fields_mentioned (keyed key e separator rest) have straight is =
-        in_both (free_in text key || free_in text e) _ (mentions_in key ++ mentions_in e) (mentions_of_fields rest) is
-        (λ is. in_both (free_in text key) (free_in text e) (mentions_in key) (mentions_in e) is (mentioned key have.0 straight.0) (mentioned e have.1 straight.1))
-        (fields_mentioned rest have.2 straight.2)
+    fields_found : (fields : Fields) (n : Names) (f : Fn) (active : List Active) → IsOutside text n active → ItemsFind text n f active fields
+    fields_found no_fields n f active outside = tt
+    fields_found (positional e separator rest) n f active outside = (expression_found e n f active outside, fields_found rest n f active outside)
+    fields_found (named name e separator rest) n f active outside = (expression_found e n f active outside, fields_found rest n f active outside)
+    fields_found (keyed key e separator rest) n f active outside = (expression_found key n f active outside, expression_found e n f active outside, fields_found rest n f active outside)
 
-    all_mentioned : (es : Expressions) → AllHaveCores es → AllHaveCoresBy (IsStraightBody deep) es → free_in_all text es ≡ true → IsMentioned (mentions_in_all es)
-    all_mentioned no_expressions have straight is = not_so is
-    all_mentioned (syntax.expression e es) have straight is = in_both (free_in text e) _ (mentions_in e) (mentions_in_all es) is (mentioned e have.0 straight.0) (all_mentioned es have.1 straight.1)
+    given_found : (args : Arguments) (n : Names) (f : Fn) (active : List Active) → IsOutside text n active → (from : ℕ) →
+        Finds text n (free_in_given text args) ((given_rel (asking n f) args).part active from)
+    given_found (argument_list es) n f active outside from = open_finds text n f active es (each_found es n f active outside) from
+    given_found (text_argument it) n f active outside from = λ p q at. not_so
+    given_found (table_argument fields) n f active outside from = table_finds text n f active fields (fields_found fields n f active outside) from
 
-  statement_mentioned : (s : Statement) → IsAct s → IsActBy (IsStraightBody deep) s → free_in_statement text s ≡ true → IsMentioned (mentions_of_statement s)
-  statement_mentioned (call_statement e) act straight is = mentioned e act.1 straight.1 is
-  statement_mentioned (assignment targets es) act straight is =
-      in_both (free_in_all text targets) _ (mentions_in_all targets) (mentions_in_all es) is
-      (all_mentioned targets (targets_have_cores IsPlainBody targets act.targets) (targets_have_cores (IsStraightBody deep) targets straight.targets))
-      (all_mentioned es act.values straight.values)
-  statement_mentioned (local_statement names es) act straight is = inr (all_mentioned es act.1 straight.1 is)
-  statement_mentioned (local_function name body) act straight is =
-      inl (is_not (bytes_eq text name) (first_of_both _ _ is), record { free = second_of_both (not (bytes_eq text name)) _ is; plain = act.1; straight = straight.1 })
-  statement_mentioned (return_statement es) act straight is = all_mentioned es act straight is
-  statement_mentioned s act straight is = absurd act
+    for_step_found : (by : ForStep) (n : Names) (f : Fn) (active : List Active) → IsOutside text n active → (from : ℕ) → Finds text n (free_in_step text by) (StepAt (asking n f) by active from)
+    for_step_found no_step n f active outside from = λ p q at. not_so
+    for_step_found (by_step e) n f active outside from = (expression_found e n f active outside).to_reg from from
 
-  -- ---- what is mentioned is captured
-
-  -- where each function with no more in one another has the name as an upvalue
-  abbrev AreCaptured : Type 0
-  AreCaptured = (body : FunctionBody) (method : Bool) → IsFreeInside method body → (n : Names) (before behind : Ahead) (chunk : Chunk) → FunctionOf body method (Some n) before behind chunk → is_among text n.around ≡ true → is_among text n.upvalues ≡ true
-
-  module _ (inside : AreCaptured) (n : Names) (around : is_among text n.around ≡ true) (f : Fn) where
-    abbrev g : Fn
-    g = asking n f
-
-    made_captured : (active : List Active) (body : FunctionBody) (method : Bool) (c : Coming) → IsMadeNext g active body method c → own_register text active ≡ None → IsFreeInside method body → is_among text n.upvalues ≡ true
-    made_captured active body method c made none free =
-        let names = names_in (onto active []) in
-        captured_among n active text made.names (head_or [] c.ahead.sources) made.captured
-        (inside body method free (record { around = names ++ n.around; upvalues = made.names }) (without_sources c.ahead) made.behind made.chunk made.made_at (among_behind text names n.around around)) none
-
-    mention_captured : (active : List Active) (mention : Mention) (c : Coming) → IsMentionMeant g active mention c → own_register text active ≡ None → IsFreeMention mention → is_among text n.upvalues ≡ true
-    mention_captured active (name_mention name) c meant none is =
-        let w = where_is (head_or _ c.ahead.names) active in
-        meant_upvalue n active text w (subst (λ name. MeansBy n active name w) (sym ((bytes_eq-Decides text name).0 is)) meant) around none
-    mention_captured active (function_mention body method) c meant none is = made_captured active body method c meant none is
-    mention_captured active (locals_mention names) c meant none is = absurd is
-    mention_captured active (own_mention name body) c meant none is =
-        let local = meant.local in
-        let apart : is_named text local ≡ false = ap (λ (local : Local). is_some local.declaration && bytes_eq text local.name) meant.is_local ∙ is.0 in
-        let all = active ++ local ∷ [] in
-        let none_there = none_then text active local apart none in
-        made_captured all body false (inside_local name c) meant.next none_there is.1
-
-    mentions_captured : (active : List Active) (mentions : List Mention) (c : Coming) → AreMeant g active mentions c → own_register text active ≡ None → IsMentioned mentions → is_among text n.upvalues ≡ true
-    mentions_captured active [] c meant none is = absurd is
-    mentions_captured active (mention ∷ mentions) c meant none (inl is) = mention_captured active mention c meant.0 none is
-    mentions_captured active (mention ∷ mentions) c meant none (inr is) = mentions_captured active mentions (behind_mention active g.upvalue_names mention c) meant.1 none is
-
-    block_captured : (block : Statements) → AreActs block → AreActsBy (IsStraightBody deep) block → (m : Maker) → AllStand g block m → own_register text m.active ≡ None → free_in_block text block ≡ true → is_among text n.upvalues ≡ true
-    block_captured no_statements acts straight m stand none is = not_so is
-    block_captured (syntax.statement line semi s rest) acts straight m stand none is =
-        let o = made_by s m in
-        of_either (free_in_statement text s) _ is
-        (λ is. mentions_captured m.active (mentions_of_statement s) _ (statement_meant g s acts.0.0 m.active o.active (spot m) (spot o) stand.0).meant none (statement_mentioned s acts.0.0 straight.0.0 is))
+    block_found : (block : Statements) (n : Names) (f : Fn) (loop : Option LoopAt) (active after : List Active) → IsOutside text n active →
+        Finds text n (free_in_block text block) (StatementsAt (asking n f) loop block active after)
+    block_found no_statements n f loop active after outside p q at = not_so
+    block_found (syntax.statement line semi s rest) n f loop active after outside p q at = λ is.
+        of_either (free_in_statement text s) _ is (statement_found s n f loop active at.between outside p at.mid at.first_at)
         (λ is.
         let apart = is_not (brings text s) (first_of_both _ _ is) in
-        let none_behind : own_register text o.active ≡ None = ap (own_register text) (statement_moves s acts.0.0 m).active ∙ statement_none text s m apart none in
-        block_captured rest acts.1 straight.1 (settle o) stand.1 none_behind (second_of_both (not (brings text s)) _ is))
+        let behind = outside_of text n active at.between outside (statement_keeps_none text (asking n f) loop s active at.between p at.mid at.first_at apart outside.none) in
+        block_found rest n f loop at.between after behind at.mid q at.rest_at (second_of_both (not (brings text s)) _ is))
+
+    statement_found : (s : Statement) (n : Names) (f : Fn) (loop : Option LoopAt) (active after : List Active) → IsOutside text n active →
+        Finds text n (free_in_statement text s) (StatementAt (asking n f) loop s active after)
+    statement_found (call_statement e) n f loop active after outside p q at = (expression_found e n f active outside).multi (length active) Op.Call (Some 0) p q at.part_at
+    statement_found (assignment targets es) n f loop active after outside p q at =
+        assignment_finds text n f active targets es (each_found targets n f active outside) (each_found es n f active outside) p q at.part_at
+    statement_found (local_statement names es) n f loop active after outside p q at = adjust_finds text n f active es (length names) (each_found es n f active outside) (length active) at.mid q at.values_at
+    statement_found (return_statement es) n f loop active after outside p q at = return_finds text n f active es (each_found es n f active outside) p q at.part_at
+    statement_found (function_statement path method body) n f loop active after outside p q at =
+        function_statement_finds text n f active outside path method body (body_found body (is_some method)) p q at.part_at
+    statement_found (local_function name body) n f loop active after outside p q at = λ is.
+        let apart = or_false (bytes_eq text name) (is_not (bytes_eq text name) (first_of_both _ _ is)) in
+        let none = none_activated text at.locals active after (declared_apart text (name ∷ []) p.ahead at.locals at.mid.ahead at.declared apart) at.activated outside.none in
+        function_finds text n f after (outside_of text n active after outside none) body false (body_found body false) (length active + 1) (length active) at.mid q at.closure_at (second_of_both (not (bytes_eq text name)) _ is)
+    statement_found (do_block block) n f loop active after outside p q at = block_found block n f loop active at.part_at.inner outside p at.part_at.mid at.part_at.body_at
+    statement_found (while_loop e block) n f loop active after outside p q at = λ is.
+        let part = at.part_at in
+        of_either (free_in text e) _ is ((expression_found e n f active outside).jump_if (length active) false q.pc p part.mid part.test_at)
+        (block_found block n f (Some (record { exit = q.pc; before = length active })) active part.body_at.inner outside part.mid part.body_at.mid part.body_at.body_at)
+    statement_found (repeat_loop block e) n f loop active after outside p q at = λ is.
+        let part = at.part_at in
+        let inside : Option LoopAt = Some (record { exit = q.pc; before = length active }) in
+        of_either (free_in_block text block) _ is (block_found block n f inside active part.inner outside p part.mid part.body_at)
+        (λ is.
+        let apart = is_not (brings_in_block text block) (first_of_both _ _ is) in
+        let inner = outside_of text n active part.inner outside (block_keeps_none text (asking n f) inside block active part.inner p part.mid part.body_at apart outside.none) in
+        until_found text n (asking n f) (free_in text e) (any_captured (drop (length active) part.inner)) (related (asking n f) e) part.inner (length active) q.pc p.pc (expression_found e n f part.inner inner) part.mid q part.until (second_of_both (not (brings_in_block text block)) _ is))
+    statement_found (if_statement branches last) n f loop active after outside p q at = λ is.
+        of_either (free_in_branches text branches) _ is (branches_found branches n f loop q.pc (has_otherwise last) active outside p at.part_at.mid at.part_at.first_at)
+        (otherwise_found last n f loop active outside at.part_at.mid q at.part_at.second_at)
+    statement_found (numeric_for name first last by block) n f loop active after outside p q at = λ is.
+        let part = at.part_at in
+        let turn = part.turn_at in
+        of_either (free_in text first) _ is ((expression_found first n f active outside).to_reg (length active) (length active) part.declared_by part.with_first part.first_at)
+        (λ is. of_either (free_in text last) _ is ((expression_found last n f active outside).to_reg (length active + 1) (length active + 1) part.with_first part.with_last part.last_at)
+        (λ is. of_either (free_in_step text by) _ is (for_step_found by n f active outside (length active + 2) part.with_last part.with_step part.step_at)
+        (λ is.
+        let apart = or_false (bytes_eq text name) (is_not (bytes_eq text name) (first_of_both _ _ is)) in
+        let inner = turn_outside text n active part.around turn.inner numeric_names part.variables (name ∷ []) p.ahead part.declared_by.ahead (refl, (refl, (refl, tt))) part.hidden part.declared apart turn.activated outside in
+        block_found block n f (Some (record { exit = q.pc; before = length active })) turn.inner turn.block_at.inner inner part.begin turn.block_at.mid turn.block_at.body_at (second_of_both (not (bytes_eq text name)) _ is))))
+    statement_found (generic_for names es block) n f loop active after outside p q at = λ is.
+        let part = at.part_at in
+        let turn = part.turn_at in
+        of_either (free_in_all text es) _ is (adjust_finds text n f active es 3 (each_found es n f active outside) (length active) part.declared_by part.valued part.values_at)
+        (λ is.
+        let apart = is_not (is_among text names) (first_of_both _ _ is) in
+        let inner = turn_outside text n active part.around turn.inner generic_names part.variables names p.ahead part.declared_by.ahead (refl, (refl, (refl, tt))) part.hidden part.declared apart turn.activated outside in
+        block_found block n f (Some (record { exit = q.pc; before = length active })) turn.inner turn.block_at.inner inner part.begin turn.block_at.mid turn.block_at.body_at (second_of_both (not (is_among text names)) _ is))
+    statement_found break_statement n f loop active after outside p q at = not_so
+
+    branches_found : (branches : Branches) (n : Names) (f : Fn) (loop : Option LoopAt) (end : ℕ) (more : Bool) (active : List Active) → IsOutside text n active →
+        Finds text n (free_in_branches text branches) (BranchesAt (asking n f) loop end more branches active)
+    branches_found no_branches n f loop end more active outside p q at = not_so
+    branches_found (branch e block rest) n f loop end more active outside p q at = λ is.
+        let arm = at.first_at in
+        of_either (free_in text e || free_in_block text block) _ is
+        (λ is. of_either (free_in text e) _ is ((expression_found e n f active outside).jump_if (length active) false at.mid.pc p arm.mid arm.test_at)
+        (block_found block n f loop active arm.body_at.inner outside arm.mid arm.body_at.mid arm.body_at.body_at))
+        (branches_found rest n f loop end more active outside at.mid q at.second_at)
+
+    otherwise_found : (last : Otherwise) (n : Names) (f : Fn) (loop : Option LoopAt) (active : List Active) → IsOutside text n active →
+        Finds text n (free_otherwise text last) (OtherwiseAt (asking n f) loop last active)
+    otherwise_found no_otherwise n f loop active outside p q at = not_so
+    otherwise_found (otherwise block) n f loop active outside p q at = block_found block n f loop active at.inner outside p at.mid at.body_at
+
+    body_found : (body : FunctionBody) (method : Bool) → IsCapturedInside text body method
+    body_found (function_body params vararg block first last) method n before behind chunk at around is =
+        let all = all_params method params in
+        let function = at.at in
+        let apart = is_not (is_among text all) (first_of_both _ _ is) in
+        let none = none_activated text function.locals [] function.active (declared_apart text all before function.locals function.first.ahead function.declared apart) function.activated refl in
+        block_found block n (fn None chunk) None function.active function.inner (record { around = around; none = none }) function.first function.mid function.body_at (second_of_both (not (is_among text all)) _ is)
 
 -- ---- functions
 
-captured_inside : (text : Text) (deep : ℕ) → AreCaptured text deep
-captured_inside text zero body method free n before behind chunk at around = absurd free.straight
-captured_inside text (suc deep) (function_body params vararg block first last) method free n before behind chunk at around =
-    let body = function_body params vararg block first last in
-    let plain = free.plain in
-    let straight = free.straight in
-    let formed : formed_statements block ≡ true = second_of_both (are_names params) _ plain.formed in
-    let on_line : AreOnLine block = let same = plain.on_line in each_on_line block cc in
-    let acts = acts_are deep block straight formed in
-    let acts_line = acts_on_line block on_line in
-    let plain_acts = plain_block deep (as_assignments block) acts (acts_formed deep block straight formed) acts_line in
-    let names = (own chunk).upvalue_names in
-    let f = fn_of (body_maker body method names before) in
-    let m = body_begun body method names before in
-    let stand = all_stand (asking n f) (as_assignments block) acts_line m (block_stands (asking n f) block m formed on_line (body_stands body method formed n before behind chunk at)) in
-    let all = all_params method params in
-    let apart = is_not (is_among text all) (first_of_both _ _ free.free) in
-    let none : own_register text m.active ≡ None = ap (own_register text) (parameters.begins_with all names before).active ∙ none_behind text [] all before.captures before.declarations 0 apart refl in
-    block_captured text deep (captured_inside text deep) n around f (as_assignments block) plain_acts acts m stand none (block_free text block formed ∙ second_of_both (not (is_among text all)) _ free.free)
-
--- where it is in scope around the function
-pub captured_if_free : (body : FunctionBody) (method : Bool) → IsPlainBody body → (text : Text) (n : Names) (before behind : Ahead) (chunk : Chunk) → FunctionOf body method (Some n) before behind chunk → is_among text n.around ≡ true → free_in_body text method body ≡ true → is_among text n.upvalues ≡ true
-captured_if_free body method plain text n before behind chunk at around free = captured_inside text plain.deep body method (record { free = free; plain = plain; straight = plain.straight }) n before behind chunk at around
+-- whatever its statements are
+pub captured_wherever_free : (body : FunctionBody) (method : Bool) (text : Text) (n : Names) (before behind : Ahead) (chunk : Chunk) → FunctionOf body method (Some n) before behind chunk →
+    is_among text n.around ≡ true → free_in_body text method body ≡ true → is_among text n.upvalues ≡ true
+captured_wherever_free body method text = body_found text body method

@@ -1,10 +1,11 @@
 -- The uses of an expression whose words stand with their law: where a name is free in it, and means no local, it is that of an upvalue; by its parts and the functions in it.
-use Rattle.std.proofs.Common.{◌≡◌, ℕ, suc, inl, inr, Bool, true, false, not, cond, List, [], ◌++◌, length, Option, Some, None, refl, sym, ap, ap₂, ◌∙◌, subst}
+use Rattle.std.proofs.Common.{◌≡◌, ℕ, zero, suc, inl, inr, Bool, true, false, not, cond, if◌then◌else◌, List, [], ◌∷◌, ◌++◌, length, Option, Some, None, refl, sym, ap, ap₂, ◌∙◌, subst}
 use Rattle.std.proofs.lemmas.Slice.Eq.{bytes_eq-Decides}
 use Rattle.std.specs.Bool.{beq}
-use Rattle.std.specs.Prelude.{◌&&◌, ◌||◌, ◌+◌, ◌-◌, nat_lt, ℤ}
+use Rattle.std.specs.Prelude.{◌&&◌, ◌||◌, ◌+◌, ◌-◌, nat_lt, slice_get, ℤ}
 use Rattle.std.specs.Str.{bytes_eq}
 use Rattle.lua_num.specs.Bytes.{Text}
+use Rattle.lua_tree.specs.Scoping.{Use}
 use Rattle.lua_tree.specs.Syntax as syntax
 use Rattle.lua_tree.specs.Syntax.{Expressions, no_expressions, Expression, nil_literal, true_literal, false_literal, number_literal, text_literal, name_expression, binary_expression, unary_expression, parenthesized, Fields, no_fields, positional, named, keyed, FunctionBody}
 use Rattle.lua_tree.specs.declared.tree.BinaryOp.{BinaryOp}
@@ -15,23 +16,80 @@ use Rattle.proto.specs.declared.parts.Constant.{Constant}
 use Rattle.scheme.specs.Expressions.{Target, Want, arith_op, fold, is_comparison, literal, number_or, plain_literal, register_of}
 use Rattle.scheme.specs.Functions.{without_sources}
 use Rattle.scheme.specs.Lists.{pending_after}
-use Rattle.scheme.specs.Making.{Ahead, Where, head_or}
+use Rattle.scheme.specs.Making.{Ahead, Where, in_globals, in_register, in_upvalue, head_or, where_is}
 use Rattle.scheme.specs.declared.making.Active.{Active}
 use Rattle.scheme_stands.proofs.Forms.{form_is}
 use Rattle.scheme_stands.specs.Expressions.{Form, Rel, form_of, several, OperandAt, OperandBy, RkAt, RkBy, RkTextAt, TwoAt, TestAt, TestBy, CompareAt, rel_single, rel_alone, rel_name, BareAt, NameAt, IndexAt, ArithmeticAt, SpineAt, BinaryAt, LoadOr, BinaryJump, BinarySpine, UnaryAt, UnaryJump, DecideBy, HereAt, LogicAt, LogicJump, rel_logic, PartTargetAt}
 use Rattle.scheme_stands.specs.Functions.{ClosureAt}
 use Rattle.scheme_stands.specs.Lists.{FirstAt, AllNextAt, AllMultiAt, rels_open, OpenBy, OpenListAt, FilledAt, AdjustBy, AdjustAt, GivenRel, CallAt, MethodAt, MovedFrom, rel_call, ItemBy, is_last_item, TableAt}
 use Rattle.scheme_stands.specs.Relation.{FunctionOf, ItemsAt, all_related, related}
-use Rattle.scheme_stands.specs.Words.{Fn, MeansBy, Names, Spot, Stretch, asking, is_among, meaning, names_in, onto, own_register}
-use Rattle.reads_back.proofs.FreeCaptured.{among_behind, captured_among, meant_upvalue, of_either}
-use Rattle.reads_back.proofs.FreeInBlocks.{flow_free, flow_free_in_all, flow_free_in_body, flow_free_in_fields}
+use Rattle.scheme_stands.specs.Words.{CapturedBy, Fn, IsCaptured, MeansBy, Names, Spot, Stretch, asking, is_among, is_named, meaning, names_in, onto, own_register, register_in}
+use Rattle.reads_back.proofs.FreeNames.{free_in, free_in_all, free_in_body, free_in_fields}
 use Rattle.reads_back.proofs.Rooms.{folded_both, folded_one}
-use Rattle.reads_back.proofs.Tests.{not_so}
+use Rattle.reads_back.proofs.Tests.{not_so, or_first, or_second}
+
+-- ---- tests
+
+-- what follows from each of two tests follows where one of them holds
+pub of_either : {A : Type 0} (a b : Bool) → (a || b) ≡ true → (a ≡ true → A) → (b ≡ true → A) → A
+of_either true b is first second = first refl
+of_either false b is first second = second is
+
+-- a test that is denied fails
+pub is_not : (a : Bool) → not a ≡ true → a ≡ false
+is_not true is = not_so is
+is_not false is = refl
+
+-- ---- active locals of which none has the name
+
+-- a name among the later names is among all
+among_behind : (text : Text) (names others : List Text) → is_among text others ≡ true → is_among text (names ++ others) ≡ true
+among_behind text [] others is = is
+among_behind text (name ∷ names) others is = or_second (bytes_eq text name) _ (among_behind text names others is)
+
+-- a name that stands at a place is among the names
+among_at : (text : Text) (names : List Text) (slot : ℕ) → slice_get names slot ≡ Some text → is_among text names ≡ true
+among_at text [] slot there = cc
+among_at text (name ∷ names) zero there = let same : text ≡ name = cc in or_first (bytes_eq text name) _ ((bytes_eq-Decides text name).1 same)
+among_at text (name ∷ names) (suc slot) there = or_second (bytes_eq text name) _ (among_at text names slot there)
+
+-- the last one stands first where they are turned about
+onto_end : {A : Type 0} (xs : List A) (y : A) (zs : List A) → onto (xs ++ y ∷ []) zs ≡ y ∷ onto xs zs
+onto_end [] y zs = refl
+onto_end (x ∷ xs) y zs = onto_end xs y (x ∷ zs)
+
+-- and so with one more that has another name
+pub none_then : (text : Text) (active : List Active) (x : Active) → is_named text x ≡ false → own_register text active ≡ None → own_register text (active ++ x ∷ []) ≡ None
+none_then text active x apart none =
+    ap (register_in text) (onto_end active x []) ∙ ap (λ is. if is then Some (length (onto active [])) else own_register text active) apart ∙ none
+
+-- ---- what is captured
+
+-- where a captured name is no local's, it is an upvalue's
+captured_upvalue : (n : Names) (active : List Active) (text : Text) (w : Where) → IsCaptured n active text w → own_register text active ≡ None → is_among text n.upvalues ≡ true
+captured_upvalue n active text (in_register r) captured none = let is = captured.0 in cc
+captured_upvalue n active text (in_upvalue slot) captured none = among_at text n.upvalues slot captured.1
+captured_upvalue n active text in_globals captured none = absurd captured
+
+-- and so for each name that is captured
+captured_among : (n : Names) (active : List Active) (text : Text) (names : List Text) (uses : List Use) → CapturedBy n active names uses → is_among text names ≡ true → own_register text active ≡ None → is_among text n.upvalues ≡ true
+captured_among n active text [] uses captured is none = not_so is
+captured_among n active text (name ∷ names) [] captured is none = absurd captured
+captured_among n active text (name ∷ names) (one ∷ uses) captured is none =
+    of_either (bytes_eq text name) (is_among text names) is
+    (λ same. captured_upvalue n active text (where_is one active) (subst (λ name. IsCaptured n active name (where_is one active)) (sym ((bytes_eq-Decides text name).0 same)) captured.0) none)
+    (λ is. captured_among n active text names uses captured.1 is none)
+
+-- a name that means no local and no global
+meant_upvalue : (n : Names) (active : List Active) (text : Text) (w : Where) → MeansBy n active text w → is_among text n.around ≡ true → own_register text active ≡ None → is_among text n.upvalues ≡ true
+meant_upvalue n active text (in_register r) means around none = cc
+meant_upvalue n active text (in_upvalue slot) means around none = among_at text n.upvalues slot means.1
+meant_upvalue n active text in_globals means around none = let is = means.1 in cc
 
 -- ---- literals have no free names
 
 -- only numbers are folded
-folded_closed : (text : Text) (e : Expression) (k : ℤ) → fold e ≡ Some k → flow_free text e ≡ false
+folded_closed : (text : Text) (e : Expression) (k : ℤ) → fold e ≡ Some k → free_in text e ≡ false
 folded_closed text (number_literal line x) k is = refl
 folded_closed text (parenthesized line e) k is = folded_closed text e k is
 folded_closed text (unary_expression line op e) k is = let inside = folded_one op (fold e) k is in folded_closed text e inside.0 inside.1
@@ -40,21 +98,21 @@ folded_closed text (binary_expression line op left right) k is =
     ap₂ (λ (one other : Bool). one || other) (folded_closed text left sides.0.0 sides.0.1) (folded_closed text right sides.1.0 sides.1.1)
 folded_closed text e k is = cc
 
-plain_closed : (text : Text) (e : Expression) (k : Constant) → plain_literal e ≡ Some k → flow_free text e ≡ false
+plain_closed : (text : Text) (e : Expression) (k : Constant) → plain_literal e ≡ Some k → free_in text e ≡ false
 plain_closed text (nil_literal line) k is = refl
 plain_closed text (true_literal line) k is = refl
 plain_closed text (false_literal line) k is = refl
 plain_closed text (text_literal line it) k is = refl
 plain_closed text e k is = cc
 
-literal_closed_by : (text : Text) (folded : Option ℤ) (e : Expression) (k : Constant) → fold e ≡ folded → number_or folded (plain_literal e) ≡ Some k → flow_free text e ≡ false
+literal_closed_by : (text : Text) (folded : Option ℤ) (e : Expression) (k : Constant) → fold e ≡ folded → number_or folded (plain_literal e) ≡ Some k → free_in text e ≡ false
 literal_closed_by text (Some x) e k folded is = folded_closed text e x folded
 literal_closed_by text None e k folded is = plain_closed text e k is
 
-pub literal_closed : (text : Text) (e : Expression) (k : Constant) → literal e ≡ Some k → flow_free text e ≡ false
+pub literal_closed : (text : Text) (e : Expression) (k : Constant) → literal e ≡ Some k → free_in text e ≡ false
 literal_closed text e k is = literal_closed_by text (fold e) e k refl is
 
-closed_last : (text : Text) (fields : Fields) → is_last_item fields ≡ true → flow_free_in_fields text fields ≡ false
+closed_last : (text : Text) (fields : Fields) → is_last_item fields ≡ true → free_in_fields text fields ≡ false
 closed_last text no_fields is = refl
 closed_last text items is = cc
 
@@ -67,7 +125,7 @@ pub record IsOutside (text : Text) (n : Names) (active : List Active) : Type 0 w
 
 -- in each function that this one opens the name is captured where it is free
 abbrev pub IsCapturedInside : Text → FunctionBody → (method : Bool) → Type 0
-IsCapturedInside text body method = (n : Names) (before behind : Ahead) (chunk : Chunk) → FunctionOf body method (Some n) before behind chunk → is_among text n.around ≡ true → flow_free_in_body text method body ≡ true → is_among text n.upvalues ≡ true
+IsCapturedInside text body method = (n : Names) (before behind : Ahead) (chunk : Chunk) → FunctionOf body method (Some n) before behind chunk → is_among text n.around ≡ true → free_in_body text method body ≡ true → is_among text n.upvalues ≡ true
 
 module _ (text : Text) (n : Names) where
   -- where it is free in a part that stands
@@ -93,13 +151,13 @@ module _ (text : Text) (n : Names) where
 
     abbrev pub EachFinds : Expressions → Type 0
     EachFinds no_expressions = Unit {0}
-    EachFinds (syntax.expression e es) = UsesFind (flow_free text e) active (related g e) × EachFinds es
+    EachFinds (syntax.expression e es) = UsesFind (free_in text e) active (related g e) × EachFinds es
 
     abbrev pub ItemsFind : Fields → Type 0
     ItemsFind no_fields = Unit {0}
-    ItemsFind (positional e separator rest) = UsesFind (flow_free text e) active (related g e) × ItemsFind rest
-    ItemsFind (named name e separator rest) = UsesFind (flow_free text e) active (related g e) × ItemsFind rest
-    ItemsFind (keyed key e separator rest) = UsesFind (flow_free text key) active (related g key) × UsesFind (flow_free text e) active (related g e) × ItemsFind rest
+    ItemsFind (positional e separator rest) = UsesFind (free_in text e) active (related g e) × ItemsFind rest
+    ItemsFind (named name e separator rest) = UsesFind (free_in text e) active (related g e) × ItemsFind rest
+    ItemsFind (keyed key e separator rest) = UsesFind (free_in text key) active (related g key) × UsesFind (free_in text e) active (related g e) × ItemsFind rest
 
     -- ---- operands
 
@@ -189,14 +247,14 @@ module _ (text : Text) (n : Names) where
 
       -- a closure captures what is free in its function
       pub function_finds : (body : FunctionBody) (method : Bool) → IsCapturedInside text body method → (from r : ℕ) →
-          Finds (flow_free_in_body text method body) (ClosureAt g (FunctionOf body method) active from r)
+          Finds (free_in_body text method body) (ClosureAt g (FunctionOf body method) active from r)
       function_finds body method inside from r p q at is =
           let names = names_in (onto active []) in
           captured_among n active text at.names (head_or [] p.ahead.sources) at.captured
           (inside (record { around = names ++ n.around; upvalues = at.names }) (without_sources p.ahead) at.mid.ahead at.chunk at.made_at (among_behind text names n.around outside.around) is) outside.none
 
-      pub function_uses : (line : ℕ) (body : FunctionBody) → IsCapturedInside text body false → UsesFind (flow_free_in_body text false body) active (related g (syntax.function_expression line body))
-      function_uses line body inside = single_finds (flow_free_in_body text false body) (form_of (syntax.function_expression 0 (syntax.function_body [] false syntax.no_statements 0 0))) (ClosureAt g (FunctionOf body false)) refl (λ k is. absurd cc) (function_finds body false inside)
+      pub function_uses : (line : ℕ) (body : FunctionBody) → IsCapturedInside text body false → UsesFind (free_in_body text false body) active (related g (syntax.function_expression line body))
+      function_uses line body inside = single_finds (free_in_body text false body) (form_of (syntax.function_expression 0 (syntax.function_body [] false syntax.no_statements 0 0))) (ClosureAt g (FunctionOf body false)) refl (λ k is. absurd cc) (function_finds body false inside)
 
     moved_finds : (free : Bool) (part : Stretch) (from r : ℕ) → Finds free part → Finds free (MovedFrom g part from r)
     moved_finds free part from r finds p q (inl at) is = finds p q at.1 is
@@ -214,34 +272,34 @@ module _ (text : Text) (n : Names) where
     target_finds free other on key is_local first second from target behind p q at is =
         of_either free other is (λ is. operand_finds free on first from at.t at.free1 p at.mid at.on_at is) (λ is. second at.free1 at.k behind at.mid q at.key_at is)
 
-    pub index_finds : (line : ℕ) (on key : Expression) → UsesFind (flow_free text on) active (related g on) → UsesFind (flow_free text key) active (related g key) →
-        UsesFind (flow_free text on || flow_free text key) active (related g (syntax.index_expression line on key))
+    pub index_finds : (line : ℕ) (on key : Expression) → UsesFind (free_in text on) active (related g on) → UsesFind (free_in text key) active (related g key) →
+        UsesFind (free_in text on || free_in text key) active (related g (syntax.index_expression line on key))
     index_finds line on key first second =
-        let at_key = rk_finds (flow_free text key) (related g key) second in
-        let value = single_finds (flow_free text on || flow_free text key) (form_of (syntax.index_expression line on key)) (IndexAt g (related g on) (λ active. RkAt g active (related g key))) refl (λ k is. absurd cc)
-        (indexed_finds (flow_free text on) (flow_free text key) (related g on) (λ active. RkAt g active (related g key)) first at_key) in
+        let at_key = rk_finds (free_in text key) (related g key) second in
+        let value = single_finds (free_in text on || free_in text key) (form_of (syntax.index_expression line on key)) (IndexAt g (related g on) (λ active. RkAt g active (related g key))) refl (λ k is. absurd cc)
+        (indexed_finds (free_in text on) (free_in text key) (related g on) (λ active. RkAt g active (related g key)) first at_key) in
         record {
           to_reg = value.to_reg;
           jump_if = value.jump_if;
           spine = value.spine;
           multi = λ from op want p q at. absurd at;
-          target = target_finds (flow_free text on) (flow_free text key) (related g on) (λ active. RkAt g active (related g key)) _ first at_key;
+          target = target_finds (free_in text on) (free_in text key) (related g on) (λ active. RkAt g active (related g key)) _ first at_key;
           bare = λ is. absurd cc;
           closed = λ k is. absurd cc;
         }
 
     -- the name of a field is not free
-    pub field_finds : (line : ℕ) (on : Expression) (name : Text) → UsesFind (flow_free text on) active (related g on) →
-        UsesFind (flow_free text on) active (related g (syntax.field_expression line on name))
+    pub field_finds : (line : ℕ) (on : Expression) (name : Text) → UsesFind (free_in text on) active (related g on) →
+        UsesFind (free_in text on) active (related g (syntax.field_expression line on name))
     field_finds line on name finds =
-        let value = single_finds (flow_free text on) (form_of (syntax.field_expression 0 (nil_literal 0) name)) (IndexAt g (related g on) (λ active. RkTextAt g name)) refl (λ k is. absurd cc)
-        (λ from r p q at. operand_finds (flow_free text on) (related g on) finds from at.x at.free1 p at.mid at.left_at) in
+        let value = single_finds (free_in text on) (form_of (syntax.field_expression 0 (nil_literal 0) name)) (IndexAt g (related g on) (λ active. RkTextAt g name)) refl (λ k is. absurd cc)
+        (λ from r p q at. operand_finds (free_in text on) (related g on) finds from at.x at.free1 p at.mid at.left_at) in
         record {
           to_reg = value.to_reg;
           jump_if = value.jump_if;
           spine = value.spine;
           multi = λ from op want p q at. absurd at;
-          target = λ from target behind p q at. operand_finds (flow_free text on) (related g on) finds from at.t at.free1 p at.mid at.on_at;
+          target = λ from target behind p q at. operand_finds (free_in text on) (related g on) finds from at.t at.free1 p at.mid at.on_at;
           bare = λ is. absurd cc;
           closed = λ k is. absurd cc;
         }
@@ -312,17 +370,17 @@ module _ (text : Text) (n : Names) where
         closed = closed;
       }
 
-    pub binary_finds : (line : ℕ) (op : BinaryOp) (l r : Expression) → UsesFind (flow_free text l) active (related g l) → UsesFind (flow_free text r) active (related g r) →
-        UsesFind (flow_free text l || flow_free text r) active (related g (binary_expression line op l r))
+    pub binary_finds : (line : ℕ) (op : BinaryOp) (l r : Expression) → UsesFind (free_in text l) active (related g l) → UsesFind (free_in text r) active (related g r) →
+        UsesFind (free_in text l || free_in text r) active (related g (binary_expression line op l r))
     binary_finds line op l r first second =
         let e = binary_expression line op l r in
         let to = λ (active : List Active). LoadOr (fold e) g (BinaryAt g op (related g l) (related g r)) active in
-        let value = single_finds (flow_free text e) (form_of e) to refl (literal_closed text e)
-        (load_or_finds (flow_free text e) (fold e) (BinaryAt g op (related g l) (related g r)) (folded_closed text e) (binary_value_finds (flow_free text l) (flow_free text r) (related g l) (related g r) first second op)) in
+        let value = single_finds (free_in text e) (form_of e) to refl (literal_closed text e)
+        (load_or_finds (free_in text e) (fold e) (BinaryAt g op (related g l) (related g r)) (folded_closed text e) (binary_value_finds (free_in text l) (free_in text r) (related g l) (related g r) first second op)) in
         record {
           to_reg = value.to_reg;
-          jump_if = binary_jump_finds (flow_free text l) (flow_free text r) (related g l) (related g r) first second (is_comparison op) op (rel_single g (form_of e) to) value;
-          spine = binary_spine_finds (flow_free text l) (flow_free text r) (related g l) (related g r) first second op (rel_single g (form_of e) to) value;
+          jump_if = binary_jump_finds (free_in text l) (free_in text r) (related g l) (related g r) first second (is_comparison op) op (rel_single g (form_of e) to) value;
+          spine = binary_spine_finds (free_in text l) (free_in text r) (related g l) (related g r) first second op (rel_single g (form_of e) to) value;
           multi = λ from op want p q at. absurd at;
           target = λ from target behind p q at. absurd at;
           bare = λ is. absurd cc;
@@ -334,15 +392,15 @@ module _ (text : Text) (n : Names) where
     unary_jump_finds free UnaryOp.Not c value finds value_finds from truth label p q at = finds.jump_if from (not truth) label p q at
     unary_jump_finds free op c value finds value_finds from truth label p q at = value_finds.jump_if from truth label p q at
 
-    pub unary_finds : (line : ℕ) (op : UnaryOp) (e : Expression) → UsesFind (flow_free text e) active (related g e) → UsesFind (flow_free text e) active (related g (unary_expression line op e))
+    pub unary_finds : (line : ℕ) (op : UnaryOp) (e : Expression) → UsesFind (free_in text e) active (related g e) → UsesFind (free_in text e) active (related g (unary_expression line op e))
     unary_finds line op e finds =
         let whole = unary_expression line op e in
         let to = λ (active : List Active). LoadOr (fold whole) g (UnaryAt g op (related g e)) active in
-        let value = single_finds (flow_free text e) (form_of whole) to refl (literal_closed text whole)
-        (load_or_finds (flow_free text e) (fold whole) (UnaryAt g op (related g e)) (folded_closed text whole) (λ from r p q at. operand_finds (flow_free text e) (related g e) finds from at.x at.free1 p at.mid at.operand_at)) in
+        let value = single_finds (free_in text e) (form_of whole) to refl (literal_closed text whole)
+        (load_or_finds (free_in text e) (fold whole) (UnaryAt g op (related g e)) (folded_closed text whole) (λ from r p q at. operand_finds (free_in text e) (related g e) finds from at.x at.free1 p at.mid at.operand_at)) in
         record {
           to_reg = value.to_reg;
-          jump_if = unary_jump_finds (flow_free text e) op (related g e) (rel_single g (form_of whole) to) finds value;
+          jump_if = unary_jump_finds (free_in text e) op (related g e) (rel_single g (form_of whole) to) finds value;
           spine = value.spine;
           multi = λ from op want p q at. absurd at;
           target = λ from target behind p q at. absurd at;
@@ -351,7 +409,7 @@ module _ (text : Text) (n : Names) where
         }
 
     -- a name in parentheses is a name
-    pub parenthesized_finds : (line : ℕ) (e : Expression) → UsesFind (flow_free text e) active (related g e) → UsesFind (flow_free text e) active (related g (parenthesized line e))
+    pub parenthesized_finds : (line : ℕ) (e : Expression) → UsesFind (free_in text e) active (related g e) → UsesFind (free_in text e) active (related g (parenthesized line e))
     parenthesized_finds line e finds = record {
       to_reg = finds.to_reg;
       jump_if = finds.jump_if;
@@ -367,33 +425,33 @@ module _ (text : Text) (n : Names) where
     pub next_finds : (free other : Bool) (c : Rel) (from : ℕ) (rest : Stretch) → UsesFind free active c → Finds other rest → Finds (free || other) (FirstAt g c active from rest)
     next_finds free other c from rest first second p q at is = of_either free other is (λ is. first.to_reg from from p at.mid at.first is) (λ is. second at.mid q at.others is)
 
-    next_each_finds : (es : Expressions) → EachFinds es → (from : ℕ) → Finds (flow_free_in_all text es) (AllNextAt g (all_related g es) active from)
+    next_each_finds : (es : Expressions) → EachFinds es → (from : ℕ) → Finds (free_in_all text es) (AllNextAt g (all_related g es) active from)
     next_each_finds no_expressions each from p q at = not_so
-    next_each_finds (syntax.expression e es) each from p q at = next_finds (flow_free text e) (flow_free_in_all text es) (related g e) from _ each.0 (next_each_finds es each.1 (from + 1)) p q at
+    next_each_finds (syntax.expression e es) each from p q at = next_finds (free_in text e) (free_in_all text es) (related g e) from _ each.0 (next_each_finds es each.1 (from + 1)) p q at
 
     -- the last one gives several values
-    multi_each_finds : (op : Op) (want : Want) (es : Expressions) → EachFinds es → (from : ℕ) → Finds (flow_free_in_all text es) (AllMultiAt g op want (all_related g es) active from)
+    multi_each_finds : (op : Op) (want : Want) (es : Expressions) → EachFinds es → (from : ℕ) → Finds (free_in_all text es) (AllMultiAt g op want (all_related g es) active from)
     multi_each_finds op want no_expressions each from p q at = not_so
-    multi_each_finds op want (syntax.expression e no_expressions) each from p q at = λ is. of_either (flow_free text e) false is (each.0.multi from op want p q at) not_so
+    multi_each_finds op want (syntax.expression e no_expressions) each from p q at = λ is. of_either (free_in text e) false is (each.0.multi from op want p q at) not_so
     multi_each_finds op want (syntax.expression e (syntax.expression d es)) each from p q at =
-        next_finds (flow_free text e) (flow_free_in_all text (syntax.expression d es)) (related g e) from _ each.0 (multi_each_finds op want (syntax.expression d es) each.1 (from + 1)) p q at
+        next_finds (free_in text e) (free_in_all text (syntax.expression d es)) (related g e) from _ each.0 (multi_each_finds op want (syntax.expression d es) each.1 (from + 1)) p q at
 
-    open_by_finds : (are : Bool) (es : Expressions) → EachFinds es → (from : ℕ) → Finds (flow_free_in_all text es) (OpenBy are g (all_related g es) active from)
+    open_by_finds : (are : Bool) (es : Expressions) → EachFinds es → (from : ℕ) → Finds (free_in_all text es) (OpenBy are g (all_related g es) active from)
     open_by_finds true es each from p q at = multi_each_finds Op.Call None es each from p q at
     open_by_finds false es each from p q at = next_each_finds es each from p q at
 
-    pub open_finds : (es : Expressions) → EachFinds es → (from : ℕ) → Finds (flow_free_in_all text es) (OpenListAt g (all_related g es) active from)
+    pub open_finds : (es : Expressions) → EachFinds es → (from : ℕ) → Finds (free_in_all text es) (OpenListAt g (all_related g es) active from)
     open_finds es each = open_by_finds (rels_open (all_related g es)) es each
 
-    filled_finds : (are : Bool) (es : Expressions) (missing : ℕ) → EachFinds es → (from : ℕ) → Finds (flow_free_in_all text es) (FilledAt are g (all_related g es) missing active from)
+    filled_finds : (are : Bool) (es : Expressions) (missing : ℕ) → EachFinds es → (from : ℕ) → Finds (free_in_all text es) (FilledAt are g (all_related g es) missing active from)
     filled_finds true es missing each from p q at = multi_each_finds Op.Call (Some (missing + 1)) es each from p q at
     filled_finds false es missing each from p q at = next_each_finds es each from p at.mid at.first_at
 
-    adjust_by_finds : (fewer : Bool) (es : Expressions) (count : ℕ) → EachFinds es → (from : ℕ) → Finds (flow_free_in_all text es) (AdjustBy fewer g (all_related g es) count active from)
+    adjust_by_finds : (fewer : Bool) (es : Expressions) (count : ℕ) → EachFinds es → (from : ℕ) → Finds (free_in_all text es) (AdjustBy fewer g (all_related g es) count active from)
     adjust_by_finds true es count each from p q at = filled_finds (rels_open (all_related g es)) es (count - length (all_related g es)) each from p q at
     adjust_by_finds false es count each from p q at = next_each_finds es each from p q at
 
-    pub adjust_finds : (es : Expressions) (count : ℕ) → EachFinds es → (from : ℕ) → Finds (flow_free_in_all text es) (AdjustAt g (all_related g es) count active from)
+    pub adjust_finds : (es : Expressions) (count : ℕ) → EachFinds es → (from : ℕ) → Finds (free_in_all text es) (AdjustAt g (all_related g es) count active from)
     adjust_finds es count = adjust_by_finds (nat_lt (length (all_related g es)) count) es count
 
     called_finds : (free : Bool) (form : Form) (part : List Active → (from : ℕ) → Op → Want → Stretch) → form.name ≡ false → ((k : Constant) → form.literal ≡ Some k → free ≡ false) →
@@ -427,32 +485,32 @@ module _ (text : Text) (n : Names) where
 
     -- ---- constructors
 
-    item_by_finds : (last several_values : Bool) (e : Expression) (rest : Fields) → UsesFind (flow_free text e) active (related g e) → is_last_item rest ≡ last →
-        (t done pending : ℕ) (others : Stretch) → Finds (flow_free_in_fields text rest) others →
-        Finds (flow_free text e || flow_free_in_fields text rest) (ItemBy (last && several_values) g (related g e) active t done pending others)
+    item_by_finds : (last several_values : Bool) (e : Expression) (rest : Fields) → UsesFind (free_in text e) active (related g e) → is_last_item rest ≡ last →
+        (t done pending : ℕ) (others : Stretch) → Finds (free_in_fields text rest) others →
+        Finds (free_in text e || free_in_fields text rest) (ItemBy (last && several_values) g (related g e) active t done pending others)
     item_by_finds true true e rest finds last t done pending others second p q at is =
-        of_either (flow_free text e) _ is (λ is. finds.multi (t + suc pending) Op.Call None p at.mid at.first_at is) (closed_found (flow_free_in_fields text rest) (closed_last text rest last))
+        of_either (free_in text e) _ is (λ is. finds.multi (t + suc pending) Op.Call None p at.mid at.first_at is) (closed_found (free_in_fields text rest) (closed_last text rest last))
     item_by_finds true false e rest finds last t done pending others second p q at is =
-        of_either (flow_free text e) _ is (λ is. finds.to_reg (t + suc pending) (t + suc pending) p at.mid at.first is) (λ is. second at.others.mid q at.others.second_at is)
+        of_either (free_in text e) _ is (λ is. finds.to_reg (t + suc pending) (t + suc pending) p at.mid at.first is) (λ is. second at.others.mid q at.others.second_at is)
     item_by_finds false several_values e rest finds last t done pending others second p q at is =
-        of_either (flow_free text e) _ is (λ is. finds.to_reg (t + suc pending) (t + suc pending) p at.mid at.first is) (λ is. second at.others.mid q at.others.second_at is)
+        of_either (free_in text e) _ is (λ is. finds.to_reg (t + suc pending) (t + suc pending) p at.mid at.first is) (λ is. second at.others.mid q at.others.second_at is)
 
-    items_find : (fields : Fields) → ItemsFind fields → (t done pending : ℕ) → Finds (flow_free_in_fields text fields) (ItemsAt g fields active t done pending)
+    items_find : (fields : Fields) → ItemsFind fields → (t done pending : ℕ) → Finds (free_in_fields text fields) (ItemsAt g fields active t done pending)
     items_find no_fields find t done pending p q at = not_so
     items_find (positional e separator rest) find t done pending p q at =
         item_by_finds (is_last_item rest) (several (form_of e)) e rest find.0 refl t done pending _ (items_find rest find.1 t (suc done) (pending_after (suc pending))) p q at
     items_find (named name e separator rest) find t done pending p q at = λ is.
-        of_either (flow_free text e) _ is (λ is. rk_finds (flow_free text e) (related g e) find.0 at.first_at.free1 at.first_at.y at.first_at.free2 at.first_at.mid at.first_at.last at.first_at.right_at is)
+        of_either (free_in text e) _ is (λ is. rk_finds (free_in text e) (related g e) find.0 at.first_at.free1 at.first_at.y at.first_at.free2 at.first_at.mid at.first_at.last at.first_at.right_at is)
         (λ is. items_find rest find.1 t done pending at.mid q at.second_at is)
     items_find (keyed key e separator rest) find t done pending p q at = λ is.
-        of_either (flow_free text key || flow_free text e) _ is
-        (λ is. two_finds (flow_free text key) (flow_free text e) (RkAt g active (related g key)) (RkAt g active (related g e)) _ (rk_finds _ (related g key) find.0) (rk_finds _ (related g e) find.1) (t + suc pending) p at.mid at.first_at is)
+        of_either (free_in text key || free_in text e) _ is
+        (λ is. two_finds (free_in text key) (free_in text e) (RkAt g active (related g key)) (RkAt g active (related g e)) _ (rk_finds _ (related g key) find.0) (rk_finds _ (related g e) find.1) (t + suc pending) p at.mid at.first_at is)
         (λ is. items_find rest find.2 t done pending at.mid q at.second_at is)
 
-    pub table_finds : (fields : Fields) → ItemsFind fields → (from : ℕ) → Finds (flow_free_in_fields text fields) (TableAt g (λ t. ItemsAt g fields active t 0 0) from)
+    pub table_finds : (fields : Fields) → ItemsFind fields → (from : ℕ) → Finds (free_in_fields text fields) (TableAt g (λ t. ItemsAt g fields active t 0 0) from)
     table_finds fields find from p q at = items_find fields find from 0 0 at.mid q at.items_at
 
-    pub constructor_finds : (line : ℕ) (fields : Fields) → ItemsFind fields → UsesFind (flow_free_in_fields text fields) active (related g (syntax.constructor line fields))
+    pub constructor_finds : (line : ℕ) (fields : Fields) → ItemsFind fields → UsesFind (free_in_fields text fields) active (related g (syntax.constructor line fields))
     constructor_finds line fields find =
-        single_finds (flow_free_in_fields text fields) (form_of (syntax.constructor line fields)) (λ active from r. MovedFrom g (TableAt g (λ t. ItemsAt g fields active t 0 0) from) from r) refl (λ k is. absurd cc)
-        (λ from r. moved_finds (flow_free_in_fields text fields) (TableAt g (λ t. ItemsAt g fields active t 0 0) from) from r (table_finds fields find from))
+        single_finds (free_in_fields text fields) (form_of (syntax.constructor line fields)) (λ active from r. MovedFrom g (TableAt g (λ t. ItemsAt g fields active t 0 0) from) from r) refl (λ k is. absurd cc)
+        (λ from r. moved_finds (free_in_fields text fields) (TableAt g (λ t. ItemsAt g fields active t 0 0) from) from r (table_finds fields find from))

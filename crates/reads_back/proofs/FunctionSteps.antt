@@ -46,15 +46,6 @@ function_goes fs number = function_alone (λ vs last. left_by_last last (left_by
 as_function : (P : Statement → Type 0) (path : List Text) (body : FunctionBody) → ((path : List Text) (method : Option Text) (body : FunctionBody) → P (function_statement path method body)) → P (function_as path body)
 as_function P path body holds = function_as_holds P path body (holds path None body) (λ long takes. holds (names_before_last path) (last_name path) (without_self body))
 
--- and so of an assignment, whichever statement says it, if it holds of assignments too
-pub as_assigned : (P : Statement → Type 0) (fs : List (Option Inner)) (named : Option (List Text × ℕ)) (otherwise : Statement) → ((path : List Text) (method : Option Text) (body : FunctionBody) → P (function_statement path method body)) → P otherwise → P (named_or fs named otherwise)
-as_assigned P fs None otherwise functions holds = holds
-as_assigned P fs (Some named) otherwise functions holds = by (function_left fs named.1)
-  where
-    by : (found : Option Inner) → P (said_by found named.0 otherwise)
-    by None = holds
-    by (Some found) = as_function P named.0 found.body functions
-
 -- ---- the names of an assignment, as they are read
 
 module _ (f : Function) (s : Situation) where

@@ -217,7 +217,7 @@ module _ (f : Function) (g : Fn) (active : List Active) (listed : List ℕ) (dee
       let one = comes_next reads.0.one free p at.mid s locals is (quiet_before at.mid.pc back quiet) wanted at.first in
       more_open (IsCore g active e) (AreCores g active (syntax.expression d es)) one (open_comes (syntax.expression d es) ends reads.1 (free + 1) at.mid q (behind_one one) (locals_then one.same locals) (next_behind free one is) (quiet_same one.same (quiet_from at.mid.pc on quiet)) at.others)
 
-  pub list_forward : (es : Expressions) (all : Bool) → all ≡ ends_open es → AllRead f g active listed deep es → (free : ℕ) (p q : Spot) → OpenBy all g (all_related g es) active free p q → p.pc ≤ q.pc
+  list_forward : (es : Expressions) (all : Bool) → all ≡ ends_open es → AllRead f g active listed deep es → (free : ℕ) (p q : Spot) → OpenBy all g (all_related g es) active free p q → p.pc ≤ q.pc
   list_forward es true ends reads free p q at = open_forward es ends reads free p q at
   list_forward es false ends reads free p q at = all_forward es reads free p q at
 

@@ -21,7 +21,7 @@ use Rattle.scheme_stands.specs.Relation.{FunctionOf}
 use Rattle.scheme_stands.specs.Words.{Fn, Law, Names, is_among, law_inside, names_in, onto}
 use Rattle.reads_back.specs.Coming.{Coming, IsOwnNext, inside_local}
 use Rattle.reads_back.specs.Cores.{IsPlainBody}
-use Rattle.reads_back.proofs.FreeCaptured.{captured_if_free}
+use Rattle.reads_back.proofs.FreeCaptured.{captured_wherever_free}
 use Rattle.reads_back.proofs.FreeNames.{free_in_body}
 use Rattle.reads_back.proofs.InnerNames.{among_both, among_names, first_or, second_or}
 use Rattle.reads_back.proofs.Marks.{SamePart, both_same, exact_part, part_back, part_then, same_part}
@@ -65,7 +65,7 @@ module _ {f : Function} {g : Fn} {active : List Active} (is_function : IsFunctio
         among_both text (names_in (onto (active ++ x ∷ []) [])) n.around
         ∙ first_or _ _ (among_names text (onto (active ++ x ∷ []) []) ∙ ap is_some (own_found text c.ahead x next.is_local active)) in
         let made = subst (λ (law : Law). FunctionOf body false (law_inside law (active ++ x ∷ []) next.next.names) (without_sources (inside_local text c).ahead) next.next.behind next.next.chunk) is_function.law next.next.made_at in
-        let upvalue = captured_if_free body false plain text inside (without_sources (inside_local text c).ahead) next.next.behind next.next.chunk made among free in
+        let upvalue = captured_wherever_free body false text inside (without_sources (inside_local text c).ahead) next.next.behind next.next.chunk made among free in
         let slot = among_slot text next.next.names upvalue in
         let all = listed x c.ahead next.is_local in
         slot_among text (own next.next.chunk).upvalue_names slot.0

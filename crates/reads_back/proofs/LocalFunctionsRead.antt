@@ -1,5 +1,5 @@
 -- The words of a `local function` statement are read as one step, which declares its name with the function: one that captures itself is told apart.
-use Rattle.std.proofs.Common.{◌≡◌, ℕ, suc, ◌<◌, ◌≤◌, Bool, true, false, ◌&&◌, List, [], ◌∷◌, ◌++◌, length, map, Option, Some, None, is_some, refl, sym, ap, ◌∙◌, subst, arith, eq-eqb, if◌then◌else◌, subst₂}
+use Rattle.std.proofs.Common.{◌≡◌, ℕ, suc, ◌<◌, Bool, true, false, ◌&&◌, List, [], ◌∷◌, ◌++◌, length, map, Option, Some, None, is_some, refl, sym, ap, ◌∙◌, subst, arith, eq-eqb, if◌then◌else◌, subst₂}
 use Rattle.std.proofs.lemmas.Option.{slice_get_past}
 use Rattle.std.specs.Prelude.{◌==◌, option_and_then, option_map, slice_get}
 use Rattle.std.specs.Str.{bytes_eq}
@@ -235,9 +235,6 @@ module _ {f : Function} {g : Fn} {active : List Active} {listed : List ℕ} {lef
 -- ---- `local function` statements
 
 module _ {f : Function} {g : Fn} {active : List Active} {listed : List ℕ} (is_function : IsFunction f g) (all : AreListed f g active listed) where
-  pub local_function_forward : (text : Text) (body : FunctionBody) (after : List Active) (p q : Spot) → StatementAt g None (local_function text body) active after p q → p.pc ≤ q.pc
-  local_function_forward text body after p q at = omega (arith, closure_later at.mid q at.closure_at, at.same)
-
   -- each active local is listed, and the upvalues have the names by which the words were laid down
   pub local_function_read : {lefts : ℕ → List (Option Inner)} → length listed ≡ length active → f.of.upvalue_names ≡ g.upvalue_names → (text : Text) (body : FunctionBody) → CanAct f g active listed lefts (local_function text body) → (after : List Active) (p q : Spot) →
       StatementAt g None (local_function text body) active after p q → (now : Situation) → HasLocals active listed now → now.left ≡ lefts p.functions → now.entries ≡ [] → now.taken ≡ now.seen → IsQuiet f now.scope p.pc q.pc → StartHere f now.scope (text ∷ []) q.pc →

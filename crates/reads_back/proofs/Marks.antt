@@ -3,7 +3,7 @@ use Rattle.std.proofs.Common.{◌≡◌, ℕ, Bool, true, false, ◌&&◌, List,
 use Rattle.std.proofs.lemmas.Option.{same_Some}
 use Rattle.std.specs.Prelude.{ℤ, pos, negsuc, ◌==◌, ◌-◌, ◌^◌, suc, not, if◌then◌else◌}
 use Rattle.lua_num.specs.Bytes.{Text}
-use Rattle.lua_tree.specs.Outline.{Mark, Part, Place as Where, Walk, both, dots, expression_part, expressions_part, arguments_part, body_part, fields_part, marked, mentions, nothing, within}
+use Rattle.lua_tree.specs.Outline.{Mark, Part, Place as Where, Walk, both, dots, expression_part, expressions_part, arguments_part, body_part, fields_part, marked, mentions, nothing}
 use Rattle.lua_tree.specs.declared.tree.BinaryOp.{BinaryOp}
 use Rattle.lua_tree.specs.declared.tree.Separator.{Separator}
 use Rattle.lua_tree.specs.declared.tree.UnaryOp.{UnaryOp}
@@ -30,9 +30,6 @@ joined one other = record { marks = one.marks ++ other.marks; next = other.next 
 -- just the same stands in two parts, wherever they begin
 abbrev pub SameWalk : Part → Part → Type 0
 SameWalk a b = (place : Where) → a place ≡ b place
-
-pub same_walk : (a : Part) → SameWalk a a
-same_walk a place = refl
 
 pub walk_then : {a b c : Part} → SameWalk a b → SameWalk b c → SameWalk a c
 walk_then one other place = one place ∙ other place
@@ -75,11 +72,6 @@ both_assoc a b c = exact_part (λ place. ap (λ (marks : List Mark). record { ma
 
 pub nothing_behind : (a : Part) → SamePart (both a nothing) a
 nothing_behind a = exact_part (nothing_walk a)
-
-pub within_same : (enter : Where → Where) {a b : Part} → SamePart a b → SamePart (within enter a) (within enter b)
-within_same enter same = record {
-  each = λ place. ap (λ (inside : Walk). record { marks = inside.marks; next = record place { declarations = inside.next.declarations; functions = inside.next.functions } }) (same.each (enter place));
-}
 
 -- each function that is left is the part of the source that has its number
 abbrev pub IsPartLeft : (of : ℕ → Part) → ℕ → Inner → Type 0

@@ -15,13 +15,13 @@ use Rattle.recover_expr.specs.declared.steps.StepKind.{StepKind}
 use Rattle.scheme.specs.Making.{Ahead, Maker}
 use Rattle.scheme_stands.proofs.Counting.{declared_both, statements_counted}
 use Rattle.scheme_stands.proofs.Environment.{Low}
-use Rattle.scheme_stands.specs.Places.{Reached}
+use Rattle.scheme_stands.specs.Places.{LowAt, Reached}
 use Rattle.scheme_stands.specs.Words.{Fn}
+use Rattle.scheme_stands.proofs.LowMentions.{StaysLow, low_captures, low_expression, low_expressions, low_heads, low_more, low_statement}
 use Rattle.same_flow.specs.Told.{PartFits}
 use Rattle.same_flow.proofs.Walks.{Entry, Said, State, back_to, ended_in, said_at, says, says_at, state_of}
 use Rattle.reads_back.proofs.CapturedInEnd.{CapturesNoLater}
 use Rattle.reads_back.proofs.FlowThere.{IsFlowFunction, step_is}
-use Rattle.reads_back.proofs.LowMentions.{LowAt, StaysLow, low_captures, low_expression, low_expressions, low_heads, low_more, low_statement}
 use Rattle.reads_back.proofs.MarksCaptured.{captured_unbroken, declarations_stay}
 use Rattle.reads_back.proofs.StepsKnown.{part_said, says_part, state_before}
 

@@ -1,24 +1,17 @@
--- A condition that keeps the order of its operands can be tested with these written the other way round, where they are, and no names change places then.
-use Rattle.std.proofs.Common.{◌≡◌, ℕ, ◌<◌, ◌≤◌, ◌⊎◌, inl, inr, ◌&&◌, ◌||◌, nat_lt, Bool, true, false, not, is_some, List, length, Option, refl, sym, ap, ◌∙◌, subst, arith, true≢false}
+-- A condition whose names keep their places can be tested with its operands written the other way round, where they are; the numbers of its constants do not matter.
+use Rattle.std.proofs.Common.{◌≡◌, ℕ, ◌<◌, ◌≤◌, ◌⊎◌, inl, inr, ◌&&◌, ◌||◌, nat_lt, Bool, true, false, not, List, length, refl, sym, ◌∙◌, subst, arith, true≢false}
 use Rattle.std.proofs.lemmas.Bool.Decides.{nat_tests}
-use Rattle.std.proofs.lemmas.Option.{slice_get_within}
-use Rattle.std.specs.Prelude.{slice_get}
 use Rattle.lua_tree.specs.Syntax.{Expression, binary_expression}
 use Rattle.lua_tree.specs.declared.tree.BinaryOp.{BinaryOp}
-use Rattle.proto.specs.declared.parts.Constant.{Constant}
 use Rattle.core_expr.specs.Targets.{is_constant_field, is_swapped, swapped_fields}
-use Rattle.core_expr.specs.Values.{constant_operand}
-use Rattle.scheme.specs.Expressions.{is_comparison, is_name, literal}
+use Rattle.scheme.specs.Expressions.{is_comparison, is_name}
 use Rattle.scheme.specs.declared.making.Active.{Active}
 use Rattle.scheme_stands.specs.Words.{Fn}
-use Rattle.reads_back.specs.Cores.{IsOperand}
-use Rattle.reads_back.specs.Ordered.{IsOrdered, IsOrderedAmong, NumbersStay, OperandsStay, keeps_names, keeps_numbers, names_stay}
-use Rattle.reads_back.proofs.ComparesSame.{constant_of}
+use Rattle.reads_back.specs.Ordered.{keeps_names, names_stay}
 use Rattle.reads_back.proofs.ComparisonOrder.{HasLocal, fields_are, register_field}
 use Rattle.reads_back.proofs.ComparisonsSame.{CanTurn}
 use Rattle.reads_back.proofs.LocalOperands.{LocalOperand, OneConstant, some_local}
 use Rattle.reads_back.proofs.TestedAs.{BothTested, IsField, comparison_of, is_turned}
-use Rattle.reads_back.proofs.Tests.{first_of_both, second_of_both}
 use Rattle.reads_back.proofs.TestsMarks.{KeepsNames}
 use Rattle.reads_back.proofs.TestsSame.{CanBeTurned}
 
@@ -44,11 +37,6 @@ module _ {g : Fn} {active : List Active} (few_locals : length active ≤ 250) {l
       no_name none (inl local) = true≢false (sym local.named ∙ (both_false (is_name l) (is_name r) none).0)
       no_name none (inr local) = true≢false (sym local.named ∙ (both_false (is_name l) (is_name r) none).1)
 
-  numbers_kept : NumbersStay g.constants l → (number : ℕ) → both.first ≡ constant_operand number → number ≡ 255 → ⊥
-  numbers_kept keeps number first last =
-      let one = constant_of g active l before both.mid number (subst (IsOperand g active l before both.mid) first both.is_first) in
-      keeps one.constant one.is (ap (slice_get g.constants) (sym last) ∙ one.has.is)
-
   -- in the word of `<` and `<=` a local and another register keep their order
   plain_stays : (n : ℕ) → HasLocal count both.x both.y both.first both.second → swapped_fields count n both.x both.y both.first both.second (is_constant_field both.x) (is_constant_field both.y) ≡ true → ⊥
   plain_stays n (v, w, first, second, below) swapped =
@@ -61,52 +49,18 @@ module _ {g : Fn} {active : List Active} (few_locals : length active ≤ 250) {l
       by x y (inl low) is = grind (arith, nat_tests)
       by x y (inr low) is = grind (arith, nat_tests)
 
--- what keeps the order of its operands can be written the other way round where it is
+-- a condition whose names keep their places can be written the other way round where it is
 module _ (g : Fn) (active : List Active) (few_locals : length active ≤ 250) (n : ℕ) where
-  operands_turn : (op : BinaryOp) (l r : Expression) {before behind : ℕ} → OperandsStay g.constants op l r → is_comparison op ≡ true → (both : BothTested g active l r before behind) →
+  operands_turn : (line : ℕ) (op : BinaryOp) (l r : Expression) {before behind : ℕ} → keeps_names (binary_expression line op l r) ≡ true → is_comparison op ≡ true → (both : BothTested g active l r before behind) →
       is_swapped (length active) n (comparison_of op both.x both.y both.first both.second) ≡ not (is_turned op) → CanTurn both
-  operands_turn BinaryOp.Eq l r stay is both swapped = cc
-  operands_turn BinaryOp.Ne l r stay is both swapped = cc
-  operands_turn BinaryOp.Lt l r stay is both swapped = record { names = λ locals. absurd (plain_stays few_locals both n locals swapped); numbers = numbers_kept few_locals both stay }
-  operands_turn BinaryOp.Le l r stay is both swapped = record { names = λ locals. absurd (plain_stays few_locals both n locals swapped); numbers = numbers_kept few_locals both stay }
-  operands_turn BinaryOp.Gt l r stay is both swapped = record { names = names_kept few_locals both stay.0; numbers = numbers_kept few_locals both stay.1 }
-  operands_turn BinaryOp.Ge l r stay is both swapped = record { names = names_kept few_locals both stay.0; numbers = numbers_kept few_locals both stay.1 }
-  operands_turn op l r stay is both swapped = cc
+  operands_turn line BinaryOp.Eq l r keeps is both swapped = cc
+  operands_turn line BinaryOp.Ne l r keeps is both swapped = cc
+  operands_turn line BinaryOp.Lt l r keeps is both swapped = record { names = λ locals. absurd (plain_stays few_locals both n locals swapped) }
+  operands_turn line BinaryOp.Le l r keeps is both swapped = record { names = λ locals. absurd (plain_stays few_locals both n locals swapped) }
+  operands_turn line BinaryOp.Gt l r keeps is both swapped = record { names = names_kept few_locals both keeps }
+  operands_turn line BinaryOp.Ge l r keeps is both swapped = record { names = names_kept few_locals both keeps }
+  operands_turn line op l r keeps is both swapped = cc
 
-  pub ordered_turns : (before behind : ℕ) (e : Expression) → IsOrderedAmong g.constants e → CanBeTurned g active n before behind e × KeepsNames g active n before behind e
-  ordered_turns before behind (binary_expression line op l r) ordered = (operands_turn op l r ordered, λ is both swapped. (operands_turn op l r ordered is both swapped).names)
-  ordered_turns before behind e ordered = (tt, tt)
-
--- ---- by the expression alone
-
--- where an order is tested
-order_stays : (constants : List Constant) (e : Expression) → keeps_names e ≡ true → ((left : Expression) → not (is_some (literal left)) ≡ true → NumbersStay constants left) → keeps_numbers e ≡ true → IsOrderedAmong constants e
-order_stays constants (binary_expression line op left right) names stay numbers = by op names numbers
-  where
-    by : (op : BinaryOp) → keeps_names (binary_expression line op left right) ≡ true → keeps_numbers (binary_expression line op left right) ≡ true → OperandsStay constants op left right
-    by BinaryOp.Lt names numbers = stay left numbers
-    by BinaryOp.Le names numbers = stay left numbers
-    by BinaryOp.Gt names numbers = (names, stay left numbers)
-    by BinaryOp.Ge names numbers = (names, stay left numbers)
-    by op names numbers = tt
-order_stays constants e names stay numbers = tt
-
--- among any constants
-pub ordered_anywhere : (constants : List Constant) (e : Expression) → IsOrdered e → IsOrderedAmong constants e
-ordered_anywhere constants e ordered =
-    order_stays constants e (first_of_both (keeps_names e) (keeps_numbers e) ordered) (λ left none k is there. true≢false (sym none ∙ ap (λ (k : Option Constant). not (is_some k)) is)) (second_of_both (keeps_names e) (keeps_numbers e) ordered)
-
--- among few constants, where no names change places
-pub ordered_among_few : (constants : List Constant) → length constants ≤ 255 → (e : Expression) → keeps_names e ≡ true → IsOrderedAmong constants e
-ordered_among_few constants few (binary_expression line op left right) names = by op names
-  where
-    stay : NumbersStay constants left
-    stay k is there = let within = slice_get_within constants 255 k there in omega (arith, few, within)
-
-    by : (op : BinaryOp) → keeps_names (binary_expression line op left right) ≡ true → OperandsStay constants op left right
-    by BinaryOp.Lt names = stay
-    by BinaryOp.Le names = stay
-    by BinaryOp.Gt names = (names, stay)
-    by BinaryOp.Ge names = (names, stay)
-    by op names = tt
-ordered_among_few constants few e names = tt
+  pub ordered_turns : (before behind : ℕ) (e : Expression) → keeps_names e ≡ true → CanBeTurned g active n before behind e × KeepsNames g active n before behind e
+  ordered_turns before behind (binary_expression line op l r) keeps = (operands_turn line op l r keeps, λ is both swapped. (operands_turn line op l r keeps is both swapped).names)
+  ordered_turns before behind e keeps = (tt, tt)

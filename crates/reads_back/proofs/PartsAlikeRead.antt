@@ -90,16 +90,16 @@ module _ {f : Function} {g : Fn} {z : Maker} {lefts : ℕ → List (Option Inner
         subst (SayLike kind one) found.part (say_like of kind one found.is (turns at kind one found.is) found.draft found.part_read);
   }
 
-  -- so where the conditions keep the order of their operands, among the constants of the function
-  ordered_turn : ((at : ℕ) (part : Part) → part_at code at ≡ Some part → IsOrderedPart g.constants part) → (at : ℕ) (kind : StepKind) (part : Part) → StepIs of at kind part → TestTurns of at kind part
+  -- so where no names change places in the conditions
+  ordered_turn : ((at : ℕ) (part : Part) → part_at code at ≡ Some part → IsOrderedPart part) → (at : ℕ) (kind : StepKind) (part : Part) → StepIs of at kind part → TestTurns of at kind part
   ordered_turn ordered at kind part is = by part (ordered at part is.part_there)
     where
-      by : (part : Part) → IsOrderedPart g.constants part → TestTurns of at kind part
+      by : (part : Part) → IsOrderedPart part → TestTurns of at kind part
       by (condition_part e) ordered = let less = is.within in ordered_turns g (before_at of at).active (few_before of at (omega (arith, less))) (length (before_at of at).constants) (length (before_at of at).functions) (length (made_at of at kind (condition_part e)).functions) e ordered
       by nothing_part ordered = tt
       by (statement_part s) ordered = tt
       by (values_part es) ordered = tt
       by (head_part es texts) ordered = tt
 
-  pub ordered_alike : length code.parts ≡ length code.steps → ((at : ℕ) (part : Part) → part_at code at ≡ Some part → IsOrderedPart g.constants part) → ArePartsLike code steps_read params names ahead
+  pub ordered_alike : length code.parts ≡ length code.steps → ((at : ℕ) (part : Part) → part_at code at ≡ Some part → IsOrderedPart part) → ArePartsLike code steps_read params names ahead
   ordered_alike count ordered = parts_alike count (ordered_turn ordered)

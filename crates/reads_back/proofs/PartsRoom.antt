@@ -1,10 +1,10 @@
 -- The step of what is written needs no more levels than the source has room for, in the forms of fewest levels; and few in natural forms.
-use Rattle.std.proofs.Common.{◌≡◌, ◌≤◌, ◌+◌, ◌*◌, ℕ, suc, Bool, true, List, length, sym, ap, ◌∙◌, subst, arith}
+use Rattle.std.proofs.Common.{◌≡◌, ◌≤◌, ◌+◌, ◌*◌, ℕ, suc, true, List, length, sym, ap, ◌∙◌, subst, arith}
 use Rattle.std.proofs.lemmas.Option.{same_Some}
 use Rattle.std.specs.Prelude.{Option, Some, slice_get}
 use Rattle.lua_num.specs.Bytes.{Text}
 use Rattle.lua_tree.specs.Outline as outline
-use Rattle.lua_tree.specs.Syntax.{Expression, Expressions, Statement, Statements, return_statement}
+use Rattle.lua_tree.specs.Syntax.{Expressions, Statement, Statements, return_statement}
 use Rattle.lua_tree.specs.WellFormed.{formed_statement}
 use Rattle.core_expr.specs.Values.{Inner}
 use Rattle.recover_expr.specs.Drafts.{Drafted, Part, condition_part, head_part, nothing_part, statement_part, values_part}
@@ -31,7 +31,7 @@ use Rattle.reads_back.proofs.PartsDeep.{test_negated}
 use Rattle.reads_back.proofs.PlacedReads.{ArePlaced, placed_read}
 use Rattle.reads_back.proofs.Rooms.{lean_room}
 use Rattle.reads_back.proofs.TestedAs.{condition_word}
-use Rattle.reads_back.proofs.TestsLow.{NumbersStay, test_low}
+use Rattle.reads_back.proofs.TestsLow.{test_low}
 
 -- ---- parts of steps
 
@@ -145,13 +145,7 @@ module _ {f : Function} {g : Fn} {z : Maker} {lefts : ℕ → List (Option Inner
 
   -- ---- in the forms of fewest levels
 
-  -- where the operands of a test are written the other way round, its numbers stay
-  abbrev pub TestsStay : Type 0
-  TestsStay =
-      (at target negated : ℕ) (when : Bool) (e : Expression) → StepIs of at (StepKind.Test when target negated) (condition_part e) →
-      NumbersStay g (before_at of at).active (length (before_at of at).constants) (length (before_at of at).functions) (length (made_at of at (StepKind.Test when target negated) (condition_part e)).functions) e
-
-  module _ (short : f.short ≡ true) (stay : TestsStay) where
+  module _ (short : f.short ≡ true) where
     abbrev Roomy : StepKind → Part → Drafted → Type 0
     Roomy kind part draft = IsPartFormed part → (other : StepKind) → IsKindLike kind other → HasNegated draft.kind other → KindInLeanRoom draft.levels other part
 
@@ -168,8 +162,7 @@ module _ {f : Function} {g : Fn} {z : Maker} {lefts : ℕ → List (Option Inner
       returns = λ at es behind draft act formed other like negated. return_room draft.levels other es (act_low at (return_statement es) behind draft act formed);
       tests = λ at target negated when e behind draft test formed other like has.
           let m = before_at of at in
-          let stays = subst (λ behind. NumbersStay g m.active (length m.constants) (length m.functions) behind e) (sym test.behind_is) (stay at target negated when e test.is) in
-          let room = test_low lefts test.made of.left.again (as_many of at) (length m.functions) behind when target m short e test.read.tested test.flow.has test.flow.shallow test.read.is stays formed test.comes test.final in
+          let room = test_low lefts test.made of.left.again (as_many of at) (length m.functions) behind when target m short e test.read.tested test.flow.has test.flow.shallow test.read.is formed test.comes test.final in
           let low = room.low in
           let levels = test.read.levels in
           let word = condition_word (writing f g lefts m) (length m.constants) (lefts (length m.functions)) test.read.tested in

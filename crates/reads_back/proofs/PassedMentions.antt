@@ -278,7 +278,7 @@ sources_named m (local_use declaration ∷ uses) = ap (λ names. name_of declara
 sources_named m (upvalue_use slot ∷ uses) = ap (λ names. get_or m.upvalue_names slot [] ∷ names) (sources_named m uses)
 sources_named m (global_use ∷ uses) = ap (λ names. [] ∷ names) (sources_named m uses)
 
-pub closure_passes : (body : FunctionBody) (method : Bool) (r : ℕ) → Passes (function_mention body method ∷ []) (closure 1 (inner body method) r)
+closure_passes : (body : FunctionBody) (method : Bool) (r : ℕ) → Passes (function_mention body method ∷ []) (closure 1 (inner body method) r)
 closure_passes body method r m =
     let made = inner body method (source_names m (next_sources m)) (without_sources m.ahead) in
     let named = sources_named m (next_sources m) in
@@ -382,7 +382,7 @@ mutual
   mentions_passed (parenthesized line e) has = parenthesized_passes (mentions_in e) (one_line_expression e) (mentions_passed e has)
   mentions_passed e has = absurd has
 
-  pub given_passed : (args : Arguments) → HaveCores args → Passes (mentions_given args) (given (one_line_arguments args) 1).part
+  given_passed : (args : Arguments) → HaveCores args → Passes (mentions_given args) (given (one_line_arguments args) 1).part
   given_passed (argument_list es) have = open_passes es (each_passed es have)
   given_passed (text_argument text) have = λ m. record { around = refl; behind = refl }
   given_passed (table_argument fields) have = table_passes fields (items_passed fields have)
@@ -396,9 +396,3 @@ mutual
   each_passed : (es : Expressions) → AllHaveCores es → EachPasses es
   each_passed no_expressions have = tt
   each_passed (syntax.expression e es) have = (mentions_passed e have.0, each_passed es have.1)
-
-pub all_next_passed : (es : Expressions) → AllHaveCores es → Passes (mentions_in_all es) (all_next (all_coded (one_line_expressions es)))
-all_next_passed es have = next_each_passes es (each_passed es have)
-
-pub all_multi_passed : (es : Expressions) → AllHaveCores es → (op : Op) (want : Want) → ends_open (all_coded (one_line_expressions es)) ≡ true → Passes (mentions_in_all es) (all_multi op want (all_coded (one_line_expressions es)))
-all_multi_passed es have op want is = multi_each_passes op want es (each_passed es have) is

@@ -31,9 +31,8 @@ use Rattle.reads_back.specs.ReadAs.{part_of}
 use Rattle.reads_back.proofs.ActsRead.{ActRead, CanAct, act_draft, after_act, same_declares, can_now}
 use Rattle.reads_back.proofs.BehindWords.{HasLocals, SameLocals, behind_words, quiet_same, same_locals}
 use Rattle.reads_back.proofs.Comes.{Comes, ReadsCall, ReadsCore, comes_next}
-use Rattle.reads_back.proofs.GivenLists.{AllRead, list_comes, list_forward, opens_by_last}
+use Rattle.reads_back.proofs.GivenLists.{AllRead, list_comes, opens_by_last}
 use Rattle.reads_back.proofs.NameReads.{AreListed, IsLocal, local_operand}
-use Rattle.reads_back.proofs.OperandReads.{operand_reads}
 use Rattle.reads_back.proofs.Reaches.{Reaches, here, reaches_on, step_ends}
 use Rattle.reads_back.proofs.StoresRead.{IsInStep, local_there, no_place}
 use Rattle.reads_back.proofs.Tests.{both_hold}
@@ -241,11 +240,6 @@ module _ {f : Function} {g : Fn} {active : List Active} {listed : List ℕ} {lef
 -- ---- the values of a return
 
 module _ {f : Function} {g : Fn} {active : List Active} {listed : List ℕ} (is_function : IsFunction f g) (all : AreListed f g active listed) where
-  list_moves_on : (es : Expressions) → AllHaveCores es → depth_of_expressions es ≤ 199 → (p q : Spot) → ListReturnAt g (all_related g es) active p q → p.pc ≤ q.pc
-  list_moves_on es has few p q at =
-      let word = at.second_at in
-      omega (arith, list_forward f g active listed 199 es (rels_open (all_related g es)) (opens_by_last g es) (each_read is_function all es has (omega arith) few) (length active) p at.mid at.first_at, word.next)
-
   module _ (e : Expression) (has : HasCore e) (few : depth_of_expressions (only e) ≤ 199) where
     -- what the words ask of its form is so
     is_several : (call dots : Bool) → (related g e).form.call ≡ call → (related g e).form.dots ≡ dots → (call || dots) ≡ is_multiple e
@@ -253,15 +247,6 @@ module _ {f : Function} {g : Fn} {active : List Active} {listed : List ℕ} (is_
 
     is_a_call : (related g e).form.call ≡ true → is_call e ≡ true
     is_a_call calls = sym (ap (λ (form : Form). form.call) (form_is g e)) ∙ calls
-
-    one_moves_on : (call dots : Bool) → (related g e).form.call ≡ call → (related g e).form.dots ≡ dots → (p q : Spot) → ReturnBy call dots g (related g e) active p q → p.pc ≤ q.pc
-    one_moves_on true dots calls is_dots p q at =
-        let word = at.second_at in
-        omega (arith, (call_read is_function all e (is_a_call calls) has (omega (arith, few))).1.forward (length active) Op.TailCall None p at.mid at.first_at, word.next)
-    one_moves_on false true calls is_dots p q at = list_moves_on (only e) (has, tt) few p q at
-    one_moves_on false false calls is_dots p q at =
-        let word = at.words_at in
-        omega (arith, (operand_reads is_function all e (reads_all is_function all e has (omega (arith, few))).one).forward (length active) at.x at.free1 p at.mid at.operand_at, word.next)
 
     one_returned : {lefts : ℕ → List (Option Inner)} → CanAct f g active listed lefts (return_statement (only e)) → (call dots : Bool) → (related g e).form.call ≡ call → (related g e).form.dots ≡ dots → (p q : Spot) (s : Situation) → HasLocals active listed (emptied s) → s.left ≡ lefts p.functions →
         IsQuiet f s.scope p.pc q.pc → ReturnBy call dots g (related g e) active p q → ActRead f g active (return_statement (only e)) p.functions q.functions (emptied s) p.pc q.pc
@@ -274,11 +259,6 @@ module _ {f : Function} {g : Fn} {active : List Active} {listed : List ℕ} (is_
     one_returned can false false calls is_dots p q s locals left_is quiet at =
         let reads = (reads_all is_function all e has (omega (arith, few))).one in
         operand_returned is_function all e can (local_at (related g e).form active p) at.x at.free1 p at.mid q s reads locals left_is quiet (is_several false false calls is_dots) refl at.operand_at at.words_at
-
-  pub return_forward : (es : Expressions) → AllHaveCores es → depth_of_expressions es ≤ 199 → (p q : Spot) → ReturnAt g (all_related g es) active p q → p.pc ≤ q.pc
-  return_forward no_expressions has few p q at = omega (arith, at.next)
-  return_forward (expression e no_expressions) has few p q at = one_moves_on e has.0 few (related g e).form.call (related g e).form.dots refl refl p q at
-  return_forward (expression e (expression d es)) has few p q at = list_moves_on (expression e (expression d es)) has few p q at
 
   begun_return : {lefts : ℕ → List (Option Inner)} (es : Expressions) → AllHaveCores es → depth_of_expressions es ≤ 199 → CanAct f g active listed lefts (return_statement es) → (p q : Spot) (s : Situation) → HasLocals active listed (emptied s) → s.left ≡ lefts p.functions → IsQuiet f s.scope p.pc q.pc →
       ReturnAt g (all_related g es) active p q → ActRead f g active (return_statement es) p.functions q.functions (emptied s) p.pc q.pc

@@ -1,7 +1,7 @@
--- What is written of a return makes the same code as the statement; and what names a return passes.
+-- What is written of a return makes the same code as the statement.
 use Rattle.std.proofs.Common.{inr, ◌≡◌, ℕ, ◌+◌, ◌*◌, ◌≤◌, Bool, true, false, List, [], ◌∷◌, length, Option, None, refl, sym, ap, ◌∙◌, subst, arith}
 use Rattle.std.specs.Prelude.{◌&&◌, ◌||◌, not, if◌then◌else◌}
-use Rattle.lua_tree.specs.OneLine.{one_line_expression, one_line_expressions, one_line_statement}
+use Rattle.lua_tree.specs.OneLine.{one_line_expression, one_line_expressions}
 use Rattle.lua_tree.specs.Syntax as syntax
 use Rattle.lua_tree.specs.Syntax.{Expressions, no_expressions, Expression, argument_list, call_expression, method_call, vararg_expression, return_statement}
 use Rattle.lua_tree.specs.WellFormed.{depth_of_expressions, is_call}
@@ -13,19 +13,18 @@ use Rattle.recover_expr.specs.Situation.{Function}
 use Rattle.scheme.specs.Expressions.{Coded, count_field, is_multiple, is_vararg, operand}
 use Rattle.scheme.specs.Lists.{list_count, open_list}
 use Rattle.scheme.specs.Making.{Got, Maker, put}
-use Rattle.scheme.specs.Scheme.{all_coded, coded, statement_made}
+use Rattle.scheme.specs.Scheme.{all_coded, coded}
 use Rattle.scheme.specs.Statements.{return_call, return_list, return_one, return_operand, return_part}
 use Rattle.scheme.specs.declared.making.Active.{Active}
 use Rattle.scheme.specs.declared.making.Piece.{Piece}
 use Rattle.scheme_stands.proofs.Growth.{Final, before_put}
 use Rattle.scheme_stands.specs.Words.{Fn}
 use Rattle.reads_back.specs.Acted.{returned}
-use Rattle.reads_back.specs.Cores.{AllHaveCores, AreCores, HasCore, IsCore, ends_open}
+use Rattle.reads_back.specs.Cores.{AllHaveCores, AreCores, IsCore, ends_open}
 use Rattle.reads_back.proofs.ActsFormed.{called_is}
 use Rattle.reads_back.proofs.GivenSame.{AllRewritten, ListLow, closed_unless, list_low, list_rewritten}
 use Rattle.reads_back.proofs.ListsSame.{cores_few}
-use Rattle.reads_back.proofs.Mentions.{Passed, ahead_front, mentions_in, mentions_in_all, passed_none, passed_then, made_both}
-use Rattle.reads_back.proofs.PassedMentions.{given_passed, mentions_passed, operand_passes}
+use Rattle.reads_back.proofs.Mentions.{ahead_front, mentions_in, made_both}
 use Rattle.reads_back.proofs.Rewriting.{IsMadeBy, Rewritten, RewrittenAct, RewrittenGiven, code, wording}
 use Rattle.reads_back.proofs.Tests.{both_hold, first_of_both}
 use Rattle.reads_back.proofs.InRoom.{closed_in, levels_in}
@@ -58,32 +57,6 @@ single_code e is = ap is_multiple (coded_is (one_line_expression e)) ∙ same_mu
 
 operand_returned : (e : Expression) (m : Maker) → is_multiple e ≡ false → return_part 1 (code e ∷ []) m ≡ return_operand 1 (code e) m
 operand_returned e m is = as_operand (code e) m (single_code e is)
-
--- ---- the names that it passes
-
-call_passes : (e : Expression) → HasCore e → is_call e ≡ true → (m : Maker) → Passed (mentions_in e) m (return_part 1 (code e ∷ []) m)
-call_passes e has is m =
-    let several : is_multiple (code e).e ≡ true = ap is_multiple (coded_is (one_line_expression e)) ∙ same_multiple e ∙ ap (λ call. call || is_vararg e) is in
-    let passed = (mentions_passed e has).multi several Op.TailCall None m in
-    subst (λ (n : Maker). Passed (mentions_in e) m n) (sym (call_returned e m is)) (record { around = passed.around; behind = passed.behind })
-
-single_passes : (e : Expression) → HasCore e → is_multiple e ≡ false → (m : Maker) → Passed (mentions_in e) m (return_part 1 (code e ∷ []) m)
-single_passes e has is m =
-    let passed = operand_passes (mentions_in e) (code e) (mentions_passed e has) m in
-    subst (λ (n : Maker). Passed (mentions_in e) m n) (sym (operand_returned e m is)) (record { around = passed.around; behind = passed.behind })
-
-one_passes : (e : Expression) → HasCore e → (m : Maker) → Passed (mentions_in e) m (return_part 1 (code e ∷ []) m)
-one_passes (call_expression line on args on_line) has m = call_passes (call_expression line on args on_line) has refl m
-one_passes (method_call line on name args on_line) has m = call_passes (method_call line on name args on_line) has refl m
-one_passes (vararg_expression line) has m = record { around = refl; behind = refl }
-one_passes e has m = single_passes e has refl m
-
-pub return_passes : (es : Expressions) → AllHaveCores es → (m : Maker) → Passed (mentions_in_all es) m (statement_made (one_line_statement (return_statement es)) 1 None m)
-return_passes no_expressions has m = record { around = refl; behind = refl }
-return_passes (syntax.expression e no_expressions) has m = passed_then (mentions_in e) [] (one_passes e has.0 m) passed_none
-return_passes (syntax.expression e (syntax.expression d es)) has m =
-    let passed = given_passed (argument_list (syntax.expression e (syntax.expression d es))) has m in
-    record { around = passed.around; behind = passed.behind }
 
 -- ---- what is written
 

@@ -1,16 +1,16 @@
--- How much room the parts of a straight source have: what is folded counts four levels, and a path that a function goes to does not count.
+-- How much room the parts of a source have: what is folded counts four levels, and a path that a function goes to does not count.
 use Rattle.std.proofs.Common.{◌≡◌, ℕ, ◌+◌, suc, max, ◌≤◌, Bool, true, false, List, if◌then◌else◌, Option, Some, None, arith, is_some, refl, ap}
 use Rattle.std.specs.Prelude.{ℤ}
 use Rattle.lua_num.specs.Bytes.{Text}
 use Rattle.lua_tree.specs.Syntax as syntax
-use Rattle.lua_tree.specs.Syntax.{Expression, Expressions, FunctionBody, Statement, Statements, assignment, binary_expression, function_body, function_expression, nil_literal, no_expressions, no_statements, number_literal, parenthesized, unary_expression}
+use Rattle.lua_tree.specs.Syntax.{Expression, Expressions, FunctionBody, Statement, Statements, assignment, binary_expression, function_body, function_expression, nil_literal, no_expressions, number_literal, parenthesized, unary_expression}
 use Rattle.lua_tree.specs.declared.tree.BinaryOp.{BinaryOp}
 use Rattle.lua_tree.specs.declared.tree.UnaryOp.{UnaryOp}
 use Rattle.lua_num.specs.declared.arith.ArithOp.{ArithOp}
 use Rattle.scheme.specs.Expressions.{arith_op, fold, fold_binary, fold_unary}
 use Rattle.scheme.specs.Shapes.{unless_folded}
 use Rattle.same_flow.specs.Never.{nevers_of_statements}
-use Rattle.same_flow.specs.Space.{has_blocks, space_of_statements, space_of_body, space_of_expression, space_of_expressions, space_of_statement}
+use Rattle.same_flow.specs.Space.{has_blocks, space_of_body, space_of_expression, space_of_expressions, space_of_statement, space_of_statements}
 use Rattle.reads_back.specs.Acted.{is_path}
 
 -- ---- expressions
@@ -78,16 +78,6 @@ inside_room line e = by (fold e) refl
     by (Some n) is = omega (arith, folded_room e n is)
     by None is = omega arith
 
--- ---- functions
-
--- a function has room for its statements
-pub body_room : (params : List Text) (vararg : Bool) (block : Statements) (first last : ℕ) → space_of_statements block ≤ space_of_body (function_body params vararg block first last)
-body_room params vararg block first last = by (has_blocks block)
-  where
-    by : (has : Bool) → space_of_statements block ≤ (if has then suc (space_of_statements block + nevers_of_statements block) else space_of_statements block)
-    by true = omega arith
-    by false = omega arith
-
 -- ---- statements
 
 abbrev pub lean_room_assignment : (targets es : Expressions) → ℕ
@@ -98,6 +88,10 @@ abbrev pub lean_room : Statement → ℕ
 lean_room (assignment targets es) = lean_room_assignment targets es
 lean_room s = space_of_statement s
 
-abbrev pub lean_room_of : Statements → ℕ
-lean_room_of no_statements = 0
-lean_room_of (syntax.statement line semi s rest) = max (suc (lean_room s)) (lean_room_of rest)
+-- a function has room for its statements
+pub body_room : (params : List Text) (vararg : Bool) (block : Statements) (first last : ℕ) → space_of_statements block ≤ space_of_body (function_body params vararg block first last)
+body_room params vararg block first last = by (has_blocks block)
+  where
+    by : (has : Bool) → space_of_statements block ≤ (if has then suc (space_of_statements block + nevers_of_statements block) else space_of_statements block)
+    by true = omega arith
+    by false = omega arith

@@ -2,29 +2,24 @@
 use Rattle.std.proofs.Common.{◌≡◌, ℕ, Bool, true, false, List, [], ◌∷◌, Option, Some, None, refl, sym, ap, ap₂, ◌∙◌, subst}
 use Rattle.std.specs.Prelude.{is_some}
 use Rattle.lua_num.specs.Bytes.{Text}
-use Rattle.lua_tree.specs.Outline.{Part, both, body_part, expression_part, nothing, path_part, statement_part, statements_part}
-use Rattle.lua_tree.specs.Syntax as syntax
-use Rattle.lua_tree.specs.Syntax.{Expression, FunctionBody, Statement, Statements, assignment, field_expression, function_body, function_expression, function_statement, name_expression, no_statements}
-use Rattle.lua_tree.specs.WellFormed.{formed_statement, formed_statements, may_follow}
+use Rattle.lua_tree.specs.Outline.{Part, both, body_part, expression_part, path_part, statement_part}
+use Rattle.lua_tree.specs.Syntax.{Expression, FunctionBody, Statement, field_expression, function_body, function_expression, function_statement, name_expression}
+use Rattle.lua_tree.specs.WellFormed.{formed_statement}
 use Rattle.scheme.specs.Expressions.{Coded, coded_field}
 use Rattle.scheme.specs.Functions.{coded_function, Inner}
 use Rattle.scheme.specs.Making.{Maker}
-use Rattle.scheme.specs.Scheme.{coded, inner, statement_made, statements_made}
-use Rattle.scheme.specs.Statements.{Loop, assign_part, path_from, settle, with_method}
+use Rattle.scheme.specs.Scheme.{coded, inner, statement_made}
+use Rattle.scheme.specs.Statements.{Loop, assign_part, path_from, with_method}
 use Rattle.scheme.specs.declared.making.Active.{Active}
-use Rattle.scheme_stands.proofs.Growth.{spot}
-use Rattle.scheme_stands.proofs.Makers.{StandFrom}
 use Rattle.scheme_stands.specs.Expressions.{Rel}
 use Rattle.scheme_stands.specs.Functions.{rel_function, Step}
 use Rattle.scheme_stands.specs.Relation.{FunctionOf, StatementAt, related}
 use Rattle.scheme_stands.specs.Statements.{AssignAt, LoopAt, StaysAt, rel_fields, rel_method, rel_path}
 use Rattle.scheme_stands.specs.Words.{Fn, Spot}
 use Rattle.reads_back.specs.Assignments.{as_assignment, fields_behind, path_target, with_method_name, with_self}
-use Rattle.reads_back.proofs.FunctionStatements.{as_assignments}
-use Rattle.reads_back.proofs.Marks.{SameWalk, both_walk, nothing_walk, same_walk, walk_then}
+use Rattle.reads_back.proofs.Marks.{SameWalk, both_walk, nothing_walk, walk_then}
 use Rattle.reads_back.proofs.Paths.{assign_same, coded_fields}
-use Rattle.reads_back.proofs.PlainStraight.{AreOnLine}
-use Rattle.reads_back.proofs.Tests.{first_of_both, not_so, second_of_both}
+use Rattle.reads_back.proofs.Tests.{not_so}
 
 -- ---- it stands
 
@@ -84,24 +79,6 @@ made_same s line loop m formed first = refl
 pub assigned_makes : (s : Statement) (m : Maker) → formed_statement s ≡ true → statement_made s 1 None m ≡ statement_made (as_assignment s) 1 None m
 assigned_makes s m formed = sym (made_same s 1 None m formed refl)
 
-pub block_made_same : (block : Statements) (m : Maker) → formed_statements block ≡ true → AreOnLine block → statements_made (as_assignments block) None m ≡ statements_made block None m
-block_made_same no_statements m formed on = refl
-block_made_same (syntax.statement line semi s rest) m formed on =
-    let behind = second_of_both (may_follow s semi rest) _ (second_of_both (formed_statement s) _ formed) in
-    ap (λ (n : Maker). statements_made (as_assignments rest) None (settle n)) (made_same s line None m (first_of_both _ _ formed) on.0)
-    ∙ block_made_same rest (settle (statement_made s line None m)) behind on.2
-
--- ---- a block stands
-
-pub block_stands : (g : Fn) (block : Statements) (m : Maker) → formed_statements block ≡ true → AreOnLine block → StandFrom g block m → StandFrom g (as_assignments block) m
-block_stands g no_statements m formed on stand = tt
-block_stands g (syntax.statement line semi s rest) m formed on stand =
-    let first = first_of_both (formed_statement s) _ formed in
-    let behind = second_of_both (may_follow s semi rest) _ (second_of_both (formed_statement s) _ formed) in
-    let n = statement_made s line None m in
-    subst (λ (n : Maker). StatementAt g None (as_assignment s) m.active n.active (spot m) (spot n) × StandFrom g (as_assignments rest) (settle n)) (sym (made_same s line None m first on.0))
-    (subst (λ (step : Step). step m.active n.active (spot m) (spot n)) (statement_stands g None s first) stand.0, block_stands g rest (settle n) behind on.2 stand.1)
-
 -- ---- it mentions the same
 
 fields_part_same : (on : Expression) (texts : List Text) → expression_part (fields_behind on texts) ≡ expression_part on
@@ -124,9 +101,3 @@ statement_part_same line (function_statement (name ∷ names) method body) forme
     both_walk (walk_then (nothing_walk _) (path_mentioned name names method)) (walk_then (nothing_walk _) (self_part (is_some method) body)) place
     ∙ ap (λ (line : ℕ). both (path_part line (name ∷ names)) (body_part (is_some method) body) place) (sym first)
 statement_part_same line s formed first place = refl
-
-pub block_part_same : (block : Statements) → formed_statements block ≡ true → AreOnLine block → SameWalk (statements_part (as_assignments block)) (statements_part block)
-block_part_same no_statements formed on = same_walk nothing
-block_part_same (syntax.statement line semi s rest) formed on =
-    let behind = second_of_both (may_follow s semi rest) _ (second_of_both (formed_statement s) _ formed) in
-    both_walk (statement_part_same line s (first_of_both _ _ formed) on.0) (block_part_same rest behind on.2)

@@ -21,7 +21,7 @@ use Rattle.scheme.specs.declared.making.Active.{Active}
 use Rattle.scheme.specs.declared.making.Local.{Local}
 use Rattle.scheme_stands.proofs.Growth.{kept_end}
 use Rattle.scheme_stands.proofs.Lines.{declare_length}
-use Rattle.scheme_stands.specs.Places.{ahead_at, ahead_by}
+use Rattle.scheme_stands.specs.Places.{LowAt, ahead_at, ahead_by}
 use Rattle.scheme_stands.specs.Words.{Fn}
 use Rattle.same_flow.specs.Listed.{before_place}
 use Rattle.same_flow.specs.Performed.{Performance, ends_of, still_active}
@@ -36,7 +36,6 @@ use Rattle.reads_back.proofs.FlowThere.{IsFlowFunction, StepIs, before_at, made_
 use Rattle.reads_back.proofs.FunctionLocals.{active_next, adds, count_by, first_number, new_are, number_at}
 use Rattle.reads_back.proofs.LocalsBrought.{activated, declared_place, either_part, hidden_by, locals_of, names_by}
 use Rattle.reads_back.proofs.LocalsLeave.{gone_there}
-use Rattle.reads_back.proofs.LowMentions.{LowAt}
 use Rattle.reads_back.proofs.NamesCome.{Comes, IsBringing, Named, Stays, ends_new, names_end, names_inside, names_mean, names_some, repeated, step_scoped}
 use Rattle.reads_back.proofs.PlacedCaptures.{element_right, element_there}
 use Rattle.reads_back.proofs.StepsKnown.{state_before, state_to}

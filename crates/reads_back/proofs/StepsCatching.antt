@@ -19,7 +19,7 @@ use Rattle.recover_expr.specs.declared.steps.StepKind.{StepKind}
 use Rattle.scheme.specs.Making.{Ahead, Maker, head_or}
 use Rattle.scheme.specs.declared.making.Active.{Active}
 use Rattle.scheme.specs.declared.making.Local.{Local}
-use Rattle.scheme_stands.specs.Places.{Between, ScopeAt, ahead_at, ahead_by}
+use Rattle.scheme_stands.specs.Places.{Between, ScopeAt, ahead_at, ahead_by, StandsApart, Mentions}
 use Rattle.scheme_stands.specs.Words.{Fn}
 use Rattle.scheme_stands.proofs.Entering.{behind_name}
 use Rattle.same_flow.specs.SameFlow.{begun_of}
@@ -38,6 +38,7 @@ use Rattle.reads_back.proofs.StatementsMeant.{own_active}
 use Rattle.reads_back.proofs.StepsHere.{all_at, rest_at, scope_before, step_here}
 use Rattle.reads_back.proofs.StepsKnown.{state_before}
 use Rattle.reads_back.proofs.WordsRead.{IsFunction}
+use Rattle.reads_back.proofs.StepsApart.{IsOutside, steps_apart}
 
 -- ---- at a place
 
@@ -126,7 +127,7 @@ module _ {f : Function} {g : Fn} {z : Maker} {lefts : ℕ → List (Option Inner
     (all : List Mark) (place : Place) (rest : List Mark) (between : Between all (statements_part block) place rest) (scope : ScopeAt place) (formed : formed_statements block ≡ true)
     (begun : (begun_of params names ahead).ahead ≡ ahead_at all place ((statements_part block place).marks ++ rest))
     (declarations functions : ℕ) (marks : List Mark) (ahead_is : ahead ≡ ahead_by all declarations functions marks) (counted : (statements_part block place).next.declarations ≤ declarations_in all)
-    (start : AllHome declarations (innermost place.around) place.scope) where
+    (start : AllHome declarations (innermost place.around) place.scope) (apart : StandsApart all (statements_part block) place rest) (outside : Mentions (IsOutside place.declarations (statements_part block place).next.declarations) rest) where
   abbrev place_at : ℕ → Place
   place_at at = (state_before code (state_of place []) at).place
 
@@ -175,6 +176,6 @@ module _ {f : Function} {g : Fn} {z : Maker} {lefts : ℕ → List (Option Inner
       record {
         all = by_place every;
         rest = rest_at of all place rest between scope at;
-        here = step_here of all place rest between scope formed begun is;
+        here = step_here of all place rest between scope formed begun is (steps_apart of all place rest between scope apart outside is);
         catching = kind_catching every kind part is;
       }

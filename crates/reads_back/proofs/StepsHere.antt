@@ -15,12 +15,15 @@ use Rattle.recover_expr.specs.Placing.{Steps}
 use Rattle.recover_expr.specs.Situation.{Function}
 use Rattle.recover_expr.specs.declared.steps.StepKind.{StepKind}
 use Rattle.scheme.specs.Making.{Ahead, Maker}
-use Rattle.scheme_stands.specs.Places.{AllOf, Behind, Below, Between, Here, Mentions, ScopeAt, ahead_at}
+use Rattle.scheme_stands.specs.Places.{AllOf, Behind, Below, Between, Here, Mentions, ScopeAt, ahead_at, StandsApart}
 use Rattle.scheme_stands.specs.Words.{Fn}
 use Rattle.scheme_stands.proofs.Counting.{declared_both, opened_both, statements_counted}
 use Rattle.scheme_stands.proofs.Growth.{spot}
-use Rattle.scheme_stands.proofs.Here.{Tame, tame_both, tame_come, tame_declares, tame_expression, tame_expressions, tame_nothing, tame_statement, walks}
+use Rattle.scheme_stands.proofs.Here.{Tame, tame_both, tame_come, tame_declares, tame_expression, tame_expressions, tame_nothing, tame_statement, walks, TameBy, tame_more}
 use Rattle.scheme_stands.proofs.Origins.{Passes, all_more, below_more, mentions_both, mentions_more}
+use Rattle.scheme_stands.proofs.Apart.{keeps_own}
+use Rattle.scheme_stands.proofs.KnownMarks.{Led, both_lead, come_leads, declares_leads, expressions_lead, same_place}
+use Rattle.scheme_stands.proofs.LowMentions.{low_heads}
 use Rattle.same_flow.specs.Alike.{heads}
 use Rattle.same_flow.specs.SameFlow.{begun_of}
 use Rattle.same_flow.specs.SameMarks.{but_breaks}
@@ -45,10 +48,16 @@ heads_tame es names = record {
   walked = λ base place none start.
       let w = (tame place.declarations).walked base place none start in
       record { from = w.from; upto = w.upto; derived = w.derived; around = w.around; grown = w.grown; more = w.more };
+  keeps = keeps_own (λ place low. let w = low_heads names es place low in record { mentions = w.mentions; low = w.low; grows = w.grows }) led;
 }
   where
-    tame : (number : ℕ) → Tame (both (declares 1 3 names) (both (expressions_part es) (come 3 names number)))
-    tame number = tame_both (declares 1 3 names) (both (expressions_part es) (come 3 names number)) (tame_declares 1 3 names) (tame_both (expressions_part es) (come 3 names number) (tame_expressions es) (tame_come 3 names number))
+    led : (place : Place) → Led place (heads names es) place
+    led place =
+        let l = both_lead place (declares_leads place 1 3 names) (both_lead place (expressions_lead place es) (come_leads place 3 names place.declarations (omega arith))) place (same_place place) in
+        record { from = l.from; next = l.next }
+
+    tame : (number : ℕ) → TameBy (number + length names) (both (declares 1 3 names) (both (expressions_part es) (come 3 names number)))
+    tame number = tame_both (declares 1 3 names) (both (expressions_part es) (come 3 names number)) (tame_more (tame_declares 1 3 names)) (tame_both (expressions_part es) (come 3 names number) (tame_more (tame_expressions es)) (tame_come 3 names number))
 
 pub part_tame : (kind : StepKind) (part : Part) → PartFits kind part → Tame (part_said kind part)
 part_tame StepKind.Act (statement_part s) fits = tame_statement 1 s
@@ -340,9 +349,9 @@ module _ {f : Function} {g : Fn} {z : Maker} {lefts : ℕ → List (Option Inner
     bare_begun : (begun_of params names ahead).ahead ≡ ahead_at bare place ((statements_part block place).marks ++ after)
     bare_begun = begun ∙ part_ahead all place (statements_part block place).marks rest
 
-    -- Before a step its marks come next.
-    pub step_here : {at : ℕ} {kind : StepKind} {part : Part} → StepIs of at kind part → Here (all_at at kind part) (part_said kind part) (place_at at) (rest_at at) (spot (before_at of at))
-    step_here {at} {kind} {part} is =
+    -- Before a step its marks come next, where its part stands apart.
+    pub step_here : {at : ℕ} {kind : StepKind} {part : Part} → StepIs of at kind part → StandsApart (all_at at kind part) (part_said kind part) (place_at at) (rest_at at) → Here (all_at at kind part) (part_said kind part) (place_at at) (rest_at at) (spot (before_at of at))
+    step_here {at} {kind} {part} is apart =
         let less = is.within in
         let left = length code.steps - suc at in
         let others = marks_from (suc at) left in
@@ -356,4 +365,5 @@ module _ {f : Function} {g : Fn} {z : Maker} {lefts : ℕ → List (Option Inner
               ∙ ap (λ (own : List Mark). ahead_at bare (place_at at) (own ++ (others ++ after))) (said_marks is)
               ∙ ap (λ (all : List Mark). ahead_at all (place_at at) (but_breaks (walk is).marks ++ rest_at at)) (all_is is)
               ∙ ahead_between (marks_before at) (walk is).marks (rest_at at) (place_at at);
+          apart = apart;
         }

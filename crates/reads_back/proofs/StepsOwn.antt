@@ -19,6 +19,7 @@ use Rattle.scheme.specs.Making.{Ahead, Maker}
 use Rattle.scheme.specs.declared.making.Active.{Active}
 use Rattle.scheme.specs.declared.making.Local.{Local}
 use Rattle.scheme_stands.specs.Words.{Fn}
+use Rattle.scheme_stands.specs.Places.{LowAt}
 use Rattle.same_flow.proofs.Walks.{state_of}
 use Rattle.reads_back.specs.Acted.{Acted, IsActed, act_statement, declared}
 use Rattle.reads_back.specs.ReadAs.{part_of}
@@ -30,7 +31,6 @@ use Rattle.reads_back.proofs.FlowRead.{Begins, PartRead, as_many, within_last}
 use Rattle.reads_back.proofs.FlowSteps.{kind_step_read, later_at}
 use Rattle.reads_back.proofs.FlowThere.{IsFlowFunction, StepIs, before_at, made_at, pcs, step_is}
 use Rattle.reads_back.proofs.LocalsBrought.{names_by}
-use Rattle.reads_back.proofs.LowMentions.{LowAt}
 use Rattle.reads_back.proofs.NoLaterCaptured.{low_before}
 use Rattle.reads_back.proofs.PlacedCaptures.{element_right}
 use Rattle.reads_back.proofs.ScopesRead.{has_register, is_local_function}

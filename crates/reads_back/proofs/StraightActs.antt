@@ -19,14 +19,14 @@ use Rattle.reads_back.proofs.ActsMarks.{act_marks}
 use Rattle.reads_back.proofs.ActsRead.{ActRead, CanAct, call_statement_read}
 use Rattle.reads_back.proofs.ActsRewritten.{AllWritten, act_rewritten}
 use Rattle.reads_back.proofs.BehindWords.{HasLocals}
-use Rattle.reads_back.proofs.DeclarationsRead.{StartHere, local_forward, local_read}
+use Rattle.reads_back.proofs.DeclarationsRead.{StartHere, local_read}
 use Rattle.reads_back.proofs.FunctionStatements.{lean_is_less}
 use Rattle.reads_back.proofs.Marks.{SamePart, ArePartsLeft}
 use Rattle.reads_back.proofs.MarksSame.{ArePartsMade}
-use Rattle.reads_back.proofs.AssignmentStands.{assignment_forward, assignment_read}
+use Rattle.reads_back.proofs.AssignmentStands.{assignment_read}
 use Rattle.reads_back.proofs.NoTables.{no_table}
-use Rattle.reads_back.proofs.ReturnsRead.{return_forward, return_read}
-use Rattle.reads_back.proofs.LocalFunctionsRead.{local_function_forward, local_function_read}
+use Rattle.reads_back.proofs.ReturnsRead.{return_read}
+use Rattle.reads_back.proofs.LocalFunctionsRead.{local_function_read}
 use Rattle.reads_back.proofs.MarksSame.{OwnPartsMade}
 use Rattle.reads_back.proofs.NameReads.{AreListed}
 use Rattle.reads_back.proofs.Rewriting.{IsMadeBy, RewrittenAct, AreAgain, OwnListed}
@@ -80,7 +80,7 @@ module _ {f : Function} {g : Fn} {active : List Active} {listed : List ℕ} {z :
     can : CanAct f g active listed lefts s
     can = record { can = λ before behind acted acts. (written before behind acted acts).can }
 
-    pub few_levels : (before behind : ℕ) (acted : Acted) (n : ℕ) → IsActed g active s before behind acted → act_levels at n (lefts before) acted ≤ 3 * lean_depth s + 204
+    few_levels : (before behind : ℕ) (acted : Acted) (n : ℕ) → IsActed g active s before behind acted → act_levels at n (lefts before) acted ≤ 3 * lean_depth s + 204
     few_levels before behind acted n acts = (written before behind acted acts).few n
 
     pub written_formed : (before behind : ℕ) (acted : Acted) (n : ℕ) → IsActed g active s before behind acted → formed_statement (act_statement at n (lefts before) acted) ≡ true
@@ -109,15 +109,6 @@ module _ {f : Function} {g : Fn} {active : List Active} {listed : List ℕ} {z :
   targets_read : (targets : Expressions) → AreActTargets targets → AllIndexNoTables targets → depth_of_expressions targets ≤ 200 → ReadsTargets f g active listed targets
   targets_read no_expressions are begins few = tt
   targets_read (syntax.expression target targets) are begins few = (target_reads target are.0 begins.0 (omega (arith, few)), targets_read targets are.1 begins.1 (omega (arith, few)))
-
-  pub act_forward : (s : Statement) → IsAct s → StatementIndexesNoTable s → depth_of_statement s ≤ 199 → (after : List Active) (p q : Spot) → StatementAt g None s active after p q → p.pc ≤ q.pc
-  act_forward (call_statement e) is begins few after p q stands = (call_read made.is_function made.all e is.0 is.1 (omega (arith, few))).1.forward (length active) _ _ p q stands.part_at
-  act_forward (assignment targets es) is begins few after p q stands =
-      assignment_forward made.is_function made.all targets es is (targets_read targets is.targets begins (omega (arith, few))) (omega (arith, few)) p q stands.part_at
-  act_forward (local_statement names es) is begins few after p q stands = local_forward made.is_function made.all names es is.1 (omega (arith, few)) after p q stands
-  act_forward (return_statement es) is begins few after p q stands = return_forward made.is_function made.all es is (omega (arith, few)) p q stands.part_at
-  act_forward (local_function text body) is begins few after p q stands = local_function_forward made.is_function made.all text body after p q stands
-  act_forward s is begins few after p q stands = absurd is
 
   pub act_read : (s : Statement) → IsAct s → StatementIndexesNoTable s → depth_of_statement s ≤ 199 → OwnListed f g active s → length listed ≡ length active → (after : List Active) (p q : Spot) → StatementAt g None s active after p q → (now : Situation) → HasLocals active listed now → now.left ≡ lefts p.functions → now.entries ≡ [] → now.taken ≡ now.seen →
       IsQuiet f now.scope p.pc q.pc → StartsWith f s now q.pc → ActRead f g active s p.functions q.functions now p.pc q.pc

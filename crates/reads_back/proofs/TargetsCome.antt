@@ -1,5 +1,5 @@
 -- The parts of targets come to the registers of the step, and behind them copies of locals that are targets too: so each target stands as its store says it.
-use Rattle.std.proofs.Common.{Some, ◌≡◌, ℕ, ◌+◌, ◌<◌, ◌≤◌, max, true, false, List, [], ◌∷◌, ◌++◌, length, is_some, refl, sym, ap, ◌∙◌, subst, subst₂, arith, inl, inr, ⊎_elim}
+use Rattle.std.proofs.Common.{Some, ◌≡◌, ℕ, ◌+◌, ◌<◌, max, true, false, List, [], ◌∷◌, ◌++◌, length, is_some, refl, sym, ap, ◌∙◌, subst, subst₂, arith, inl, inr, ⊎_elim}
 use Rattle.std.proofs.Math.Nat.{max-zero}
 use Rattle.std.specs.Prelude.{replicate}
 use Rattle.lua_tree.specs.Syntax as syntax
@@ -288,9 +288,3 @@ module _ {f : Function} {g : Fn} {active : List Active} {listed : List ℕ} (is_
         taken = come.taken;
         named = come.named;
       }
-
-  pub targets_forward : (to places : List Target) (free1 free2 : ℕ) (p mid last : Spot) → TargetsAt (all_related g targets) active to (length active) free1 p mid → CopiesAt g (length active) to places free1 free2 mid last → p.pc ≤ last.pc
-  targets_forward to places free1 free2 p mid last targets_at copies_at =
-      let to_mid = targets_lead is_function all targets are reads to (length active) free1 p mid targets_at in
-      let on = copies_lead is_function (length active) to places free1 free2 mid last copies_at in
-      omega (arith, to_mid.forward, on.forward)

@@ -9,11 +9,11 @@ use Rattle.lua_tree.specs.WellFormed.{WellFormed, formed_statements}
 use Rattle.proto.specs.Chunk.{Chunk, own}
 use Rattle.scheme.specs.Functions.{Finished, Heading, function_from, misfits_of, register_count, without_sources}
 use Rattle.scheme.specs.Making.{Ahead, head_or}
-use Rattle.scheme.specs.Scheme.{Fits, inner, statements_made}
+use Rattle.scheme.specs.Scheme.{Fits, inner, scheme, statements_made}
 use Rattle.scheme.specs.declared.making.Active.{Active}
 use Rattle.scheme_stands.specs.Placed.{IsPlaced, NamedAt, RulesKept, names_of_seen}
 use Rattle.scheme_stands.specs.Places.{ActiveAt, CapturesAre, Here}
-use Rattle.scheme_stands.specs.Relation.{FunctionOf, StatementsAt}
+use Rattle.scheme_stands.specs.Relation.{FunctionOf, MainAt, StatementsAt}
 use Rattle.scheme_stands.specs.Words.{Names, Spot, asking, names_in, onto}
 use Rattle.scheme_stands.proofs.Entering.{entered_by}
 use Rattle.scheme_stands.proofs.Environment.{named_first}
@@ -33,6 +33,10 @@ use Rattle.reads_back.proofs.ThroughStatements.{body_through}
 use Rattle.reads_back.specs.Through.{BodyThrough}
 
 -- ---- the main function
+
+-- what the words of the chunk of a source stand with
+abbrev pub NamesStand : Type 0
+NamesStand = (source : Source) (name : Text) → WellFormed source → Scoped source → Fits source → MainAt (Some no_names) source (scheme source name)
 
 pub main_through : (source : Source) → WellFormed source → Scoped source → Fits source → BodyThrough (asking no_names (fn_of (main_maker source))) (main_maker source) None source.body (begun source)
 main_through source formed scoped fits =

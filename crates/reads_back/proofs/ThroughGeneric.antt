@@ -24,7 +24,7 @@ use Rattle.scheme_stands.proofs.Fors.{turn_grows}
 use Rattle.scheme_stands.proofs.Growth.{Final, Grown, before, before_put, before_used, calm, fn_of, later, length_set, loose, on_new, on_part, on_place, on_put, on_used, put_at, spot, start, unplaced, unplaced_below}
 use Rattle.scheme_stands.proofs.Here.{here_as, tame_expressions, tame_statements, tame_turn, turn_in}
 use Rattle.scheme_stands.proofs.Lifting.{adjust_lifts}
-use Rattle.scheme_stands.proofs.Lifts.{Stands, stands_first}
+use Rattle.scheme_stands.proofs.Lifts.{Stands, stands_first_by}
 use Rattle.scheme_stands.proofs.Lines.{activate_free, activate_length, activate_spot, activated, adjust_at, adjust_free, declare_active, declare_free, declare_items, declare_length, declared, grows_activate, grows_adjust, grows_declare}
 use Rattle.scheme_stands.proofs.Parts.{grow_all}
 use Rattle.scheme_stands.proofs.Scopes.{all_move}
@@ -175,7 +175,7 @@ module _ (all : List Mark) (rules : RulesKept all) (n : Names) (z : Maker) (sett
           plain = stands.plain;
         } in
         let behind_names = values_stand all n f line names values block at rest tame closed active (spot m) (spot m1) vs (declared names m) whole (subst (Plain f) (sym (ap length (declare_items names m))) stands.plain) in
-        let first = stands_made all rules n z setting values p1 _ active m1.active (spot m1) (declare_active names m) (stands_first all n f values turned_part p1 rest active (spot m1) tame (tame_turn names at.declarations (statements_part block) (tame_statements block)) behind_names) in
+        let first = stands_made all rules n z setting values p1 _ active m1.active (spot m1) (declare_active names m) (stands_first_by all n f values turned_part p1 rest active (spot m1) (omega arith) tame (tame_turn names at.declarations (statements_part block) (tame_statements block)) behind_names) in
         let declared_grown = grows_declare calm names m in
         let moved = all_move all f es fe in
         let words = adjust_at z line (all_coded es) (all_related f es) (links_all z es) 3 m1 (later declared_grown.more three_final) in

@@ -33,7 +33,7 @@ use Rattle.scheme_stands.specs.Functions.{Activated}
 use Rattle.scheme_stands.proofs.Counting.{values_closed}
 use Rattle.scheme_stands.proofs.Here.{here_as, numbers_part, tame_both, tame_expression, tame_numbers, tame_statements, tame_step, tame_turn, turn_in}
 use Rattle.scheme_stands.proofs.Lifting.{calm_expression}
-use Rattle.scheme_stands.proofs.Lifts.{Stands, stands_behind, stands_first}
+use Rattle.scheme_stands.proofs.Lifts.{Stands, stands_behind, stands_first, stands_first_by}
 use Rattle.scheme_stands.proofs.Links.{next_at}
 use Rattle.scheme_stands.proofs.Moving.{chain}
 use Rattle.scheme_stands.proofs.Scopes.{expression_moves, step_moves}
@@ -201,7 +201,7 @@ module _ (all : List Mark) (rules : RulesKept all) (n : Names) (z : Maker) (sett
           room = stands.room;
           plain = stands.plain;
         } in
-        let numbers = stands_first all n f values turned_part p1 rest active (spot m1) tame (tame_turn names at.declarations (statements_part block) (tame_statements block)) (values_stand all n f line names values block at rest tame closed active (spot m) (spot m1) vs (declared names m) whole stands.plain) in
+        let numbers = stands_first_by all n f values turned_part p1 rest active (spot m1) (omega arith) tame (tame_turn names at.declarations (statements_part block) (tame_statements block)) (values_stand all n f line names values block at rest tame closed active (spot m) (spot m1) vs (declared names m) whole stands.plain) in
         let grown1 = first_grown line name first last by block m in
         let grown2 = last_grown line name first last by block m in
         let grown = numbers_grown line name first last by block m in

@@ -1,5 +1,5 @@
 -- The turn of a `for`: its block stands where its variables are active behind the hidden locals, and with it the ends of both.
-use Rattle.std.proofs.Common.{◌≡◌, ◌≤◌, ℕ, true, List, length, sym, ap, ◌∙◌, subst, arith}
+use Rattle.std.proofs.Common.{◌≡◌, ◌≤◌, ℕ, true, List, length, sym, ap, ◌∙◌, subst, arith, append_assoc, ◌+◌}
 use Rattle.std.specs.Prelude.{Option, is_some}
 use Rattle.lua_num.specs.Bytes.{Text}
 use Rattle.lua_tree.specs.Outline as outline
@@ -13,14 +13,14 @@ use Rattle.scheme.specs.declared.making.Active.{Active}
 use Rattle.scheme.specs.declared.making.Local.{Local}
 use Rattle.scheme_stands.specs.Functions.{Activated, Declared}
 use Rattle.scheme_stands.specs.Placed.{NamedAt, RulesKept}
-use Rattle.scheme_stands.specs.Places.{ActiveAt, Closed, Moves, locals_from}
+use Rattle.scheme_stands.specs.Places.{ActiveAt, Closed, Moves, locals_from, ahead_at}
 use Rattle.scheme_stands.specs.Words.{Fn, Names, Plain, Spot, asking}
 use Rattle.scheme_stands.proofs.Blocks.{Settled, block_grows}
 use Rattle.scheme_stands.proofs.Counting.{declares_closed}
 use Rattle.scheme_stands.proofs.Entering.{looped}
 use Rattle.scheme_stands.proofs.Environment.{named_hidden, named_locals, named_still}
 use Rattle.scheme_stands.proofs.Growth.{Final, Grown, before, fn_of, later, loose, on_take, spot}
-use Rattle.scheme_stands.proofs.Here.{Tame, here_behind, here_first, here_turn, tame_both, tame_declares, tame_statements, tame_turn, turn_in}
+use Rattle.scheme_stands.proofs.Here.{Tame, here_behind, here_turn, tame_both, tame_declares, tame_statements, tame_turn, turn_in, TameBy, tame_more, walks}
 use Rattle.scheme_stands.proofs.Lifts.{Stands}
 use Rattle.scheme_stands.proofs.Lines.{activate_free, activate_length, grows_activate}
 use Rattle.scheme_stands.proofs.Locals.{AllHidden, closed_active, locals_active}
@@ -29,6 +29,7 @@ use Rattle.scheme_stands.proofs.Small.{Setting}
 use Rattle.scheme_stands.proofs.Statements.{grow_statements}
 use Rattle.scheme_stands.proofs.Walks.{declared_moves}
 use Rattle.scheme_stands.proofs.Words.{Lifted}
+use Rattle.scheme_stands.proofs.Origins.{between_first}
 use Rattle.reads_back.proofs.ThroughParts.{IsThrough, before_ends, block_lifted, ends_lifted}
 use Rattle.reads_back.specs.Through.{BodyThrough, EndsThrough, turn_made}
 
@@ -45,7 +46,7 @@ module _ (all : List Mark) (n : Names) (f : Fn) (line : ℕ) (names : List Text)
   abbrev turn : outline.Part
   turn = within (turn_in names at.declarations) (statements_part block)
 
-  tame_turned : Tame turn
+  tame_turned : TameBy (at.declarations + length names) turn
   tame_turned = tame_turn names at.declarations (statements_part block) (tame_statements block)
 
   -- its values, behind the names
@@ -60,9 +61,10 @@ module _ (all : List Mark) (n : Names) (f : Fn) (line : ℕ) (names : List Text)
 
   variables_are : variables ≡ locals_from all at.declarations names
   variables_are =
-      let first = here_first all (declares line 3 names) (both values turn) at rest p (tame_declares line 3 names) (tame_both values turn tame tame_turned) stands.here in
-      let between = first.between in
-      declared_are all line 3 names variables at _ p.ahead q.ahead between.reached first.ahead declared
+      let x = declares line 3 names at in
+      let here = stands.here in
+      let between = between_first all (declares line 3 names) (both values turn) at rest (walks (declares line 3 names) at (tame_declares line 3 names)) (walks (both values turn) x.next (tame_both values turn (tame_more tame) tame_turned)) here.between in
+      declared_are all line 3 names variables at _ p.ahead q.ahead between.reached (here.ahead ∙ ap (ahead_at all at) (append_assoc x.marks (both values turn x.next).marks rest)) declared
 
   -- its block, behind the values
   module _ (hiddens : List Local) (three : length hiddens ≡ 3) (hidden : AllHidden hiddens) (around inner : List Active) (behind_hidden : Activated hiddens active around) (behind_variables : Activated variables around inner) where

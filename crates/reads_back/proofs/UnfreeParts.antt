@@ -2,14 +2,15 @@
 use Rattle.std.proofs.Common.{◌≡◌, ℕ, suc, ◌+◌, Bool, true, false, not, ◌&&◌, ◌||◌, List, [], ◌∷◌, ◌++◌, append-nil, length, Option, Some, is_some, refl, sym, ap, ap₂, ◌∙◌, subst}
 use Rattle.std.specs.Prelude.{if◌then◌else◌}
 use Rattle.std.specs.Str.{bytes_eq}
+use Rattle.std.proofs.Math.Bool.{or-false}
 use Rattle.std.proofs.lemmas.Bool.{or_parts}
 use Rattle.std.proofs.lemmas.Slice.Eq.{bytes_eq-Decides}
 use Rattle.lua_num.specs.Bytes.{Text}
-use Rattle.lua_tree.specs.Outline.{Binding, Mark, Part, Place, Scope, Walk, all_params, arguments_part, body_part, both, come, declares, dots, expression_part, expressions_part, fields_part, in_function, innermost, marked, mention, mentions, nothing, opened, path_part, statement_part, statements_part, with_locals, with_name, with_names, within}
+use Rattle.lua_tree.specs.Outline.{Binding, Mark, Part, Place, Scope, Walk, all_params, arguments_part, body_part, both, branches_part, come, declares, dots, expression_part, expressions_part, fields_part, in_function, in_loop, innermost, leave, marked, mention, mentions, nothing, opened, otherwise_part, path_part, statement_part, statements_part, stay, step_part, with_locals, with_name, with_names, within}
 use Rattle.lua_tree.specs.Syntax as syntax
-use Rattle.lua_tree.specs.Syntax.{Arguments, argument_list, text_argument, table_argument, Expression, Expressions, no_expressions, Fields, no_fields, positional, named, keyed, FunctionBody, function_body, Statement, Statements, no_statements, assignment, call_statement, function_statement, local_function, local_statement, return_statement, nil_literal, true_literal, false_literal, vararg_expression, number_literal, text_literal, name_expression, function_expression, index_expression, field_expression, call_expression, method_call, and_expression, or_expression, binary_expression, unary_expression, constructor, parenthesized}
+use Rattle.lua_tree.specs.Syntax.{Arguments, argument_list, text_argument, table_argument, Branches, no_branches, branch, Otherwise, no_otherwise, otherwise, ForStep, no_step, by_step, Expression, Expressions, no_expressions, Fields, no_fields, positional, named, keyed, FunctionBody, function_body, Statement, Statements, no_statements, assignment, call_statement, do_block, while_loop, repeat_loop, if_statement, numeric_for, generic_for, function_statement, local_function, local_statement, return_statement, break_statement, nil_literal, true_literal, false_literal, vararg_expression, number_literal, text_literal, name_expression, function_expression, index_expression, field_expression, call_expression, method_call, and_expression, or_expression, binary_expression, unary_expression, constructor, parenthesized}
 use Rattle.scheme_stands.specs.Words.{is_among}
-use Rattle.reads_back.proofs.FreeNames.{begins_with, brings, free_in, free_in_all, free_in_block, free_in_body, free_in_fields, free_in_given, free_in_statement}
+use Rattle.reads_back.proofs.FreeNames.{begins_with, brings, brings_in_block, free_in, free_in_all, free_in_block, free_in_body, free_in_branches, free_in_fields, free_in_given, free_in_statement, free_in_step, free_otherwise}
 
 -- ---- scopes that say the same of any other name
 
@@ -84,9 +85,6 @@ module _ (text : Text) where
   nothing_unmoved : Unmoved nothing
   nothing_unmoved P Q alike = record { marks = refl; next = alike }
 
-  nothing_ends : Ends nothing
-  nothing_ends P Q alike = record { marks = refl; declarations = ap (λ (place : Place). place.declarations) alike.others; functions = ap (λ (place : Place). place.functions) alike.others }
-
   both_lead : {brought : Bool} {one other : Part} → Unmoved one → Leads brought other → Leads brought (both one other)
   both_lead {brought} {one} {other} first second P Q alike =
       let before = first P Q alike in
@@ -99,18 +97,19 @@ module _ (text : Text) where
       let before = first P Q alike in
       record { marks = ap₂ (λ (marks more : List Mark). marks ++ more) before.marks (ap (λ (place : Place). (other place).marks) before.next); next = ap (λ (place : Place). (other place).next) before.next }
 
-  led_end : (brought free : Bool) {one other : Part} → (not brought && free) ≡ false → Leads brought one → (free ≡ false → Ends other) → Ends (both one other)
-  led_end true free {one} {other} none first second P Q alike =
-      let before = first P Q alike in
-      record {
-        marks = ap₂ (λ (marks more : List Mark). marks ++ more) before.marks (ap (λ (place : Place). (other place).marks) before.next);
-        declarations = ap (λ (place : Place). (other place).next.declarations) before.next;
-        functions = ap (λ (place : Place). (other place).next.functions) before.next;
-      }
-  led_end false free {one} {other} none first second P Q alike =
-      let before = first P Q alike in
-      let behind = second none (one P).next (one Q).next before.next in
-      record { marks = ap₂ (λ (marks more : List Mark). marks ++ more) before.marks behind.marks; declarations = behind.declarations; functions = behind.functions }
+  -- one part, and another that mentions the name only where the first declares it
+  led : (brought free more : Bool) {one other : Part} → (not brought && free) ≡ false → Leads brought one → (free ≡ false → Leads more other) → Leads (brought || more) (both one other)
+  led true free more {one} {other} none first second = led_same other first
+  led false free more none first second = both_lead first (second none)
+
+  -- so where its scope ends, whether it declares the name or not
+  leads_end : (brought : Bool) {part : Part} → Leads brought part → Ends part
+  leads_end true leads P Q alike =
+      let walk = leads P Q alike in
+      record { marks = walk.marks; declarations = ap (λ (place : Place). place.declarations) walk.next; functions = ap (λ (place : Place). place.functions) walk.next }
+  leads_end false leads P Q alike =
+      let walk = leads P Q alike in
+      record { marks = walk.marks; declarations = ap (λ (place : Place). place.declarations) walk.next.others; functions = ap (λ (place : Place). place.functions) walk.next.others }
 
   marked_unmoved : (mark : Place → Mark) → ((P : Place) (scope : Scope) → mark P ≡ mark (record P { scope = scope })) → Unmoved (marked mark)
   marked_unmoved mark same P Q alike = record { marks = ap (λ (mark : Mark). mark ∷ []) (same P Q.scope ∙ ap mark alike.others); next = alike }
@@ -141,26 +140,61 @@ module _ (text : Text) where
   placed : (R : Walk → Walk → Type 0) (part : ℕ → Part) → ((number : ℕ) (P Q : Place) → Alike P Q → R (part number P) (part number Q)) → (P Q : Place) → Alike P Q → R (part P.declarations P) (part Q.declarations Q)
   placed R part each P Q alike = subst (λ (number : ℕ). R (part P.declarations P) (part number Q)) (ap (λ (place : Place). place.declarations) alike.others) (each P.declarations P Q alike)
 
-  within_unmoved : {enter : Place → Place} {part : Part} → ((P Q : Place) → Alike P Q → Alike (enter P) (enter Q)) → Ends part → Unmoved (within enter part)
-  within_unmoved {enter} {part} enters ends P Q alike =
-      let inside = ends (enter P) (enter Q) (enters P Q alike) in
+  -- ---- scopes that end
+
+  -- no marks, and another place
+  abbrev entering : (Place → Place) → Part
+  entering enter place = nothing (enter place)
+
+  -- a part whose scope ends, with the place that it begins at
+  within_unmoved : (enter : Place → Place) (part : Part) → Ends (both (entering enter) part) → Unmoved (within enter part)
+  within_unmoved enter part ends P Q alike =
+      let inside = ends P Q alike in
       record { marks = inside.marks; next = record { scopes = alike.scopes; others = λ i. record (alike.others i) { declarations = inside.declarations i; functions = inside.functions i } } }
+
+  -- inside a loop
+  in_loop_leads : Unmoved (entering in_loop)
+  in_loop_leads P Q alike = record { marks = refl; next = record { scopes = alike.scopes; others = ap in_loop alike.others } }
+
+  -- inside a function
+  in_function_leads : (vararg : Bool) → Unmoved (entering (in_function vararg))
+  in_function_leads vararg P Q alike = record { marks = refl; next = record { scopes = alike.scopes; others = ap (in_function vararg) alike.others } }
+
+  -- inside a loop with variables, of which the name may be one
+  variables_lead : (names : List Text) (number : ℕ) (brought : Bool) → is_among text names ≡ brought → Leads brought (entering (λ inside. in_loop (with_locals 3 names number inside)))
+  variables_lead names number true among = led_same (entering in_loop) (come_leads 3 names number true among)
+  variables_lead names number false among = both_lead (come_leads 3 names number false among) in_loop_leads
+
+  -- where the name is not free in a block, the block leads on with what it declares
+  abbrev BlockLeads : Statements → Type 0
+  BlockLeads block = free_in_block text block ≡ false → Leads (brings_in_block text block) (statements_part block)
+
+  -- a block at whose beginning the name may be declared anew
+  block_unmoved : (enter : Place → Place) (brought : Bool) (block : Statements) → (not brought && free_in_block text block) ≡ false → Leads brought (entering enter) → BlockLeads block →
+      Unmoved (within enter (statements_part block))
+  block_unmoved enter brought block none enters leads =
+      let more = brings_in_block text block in
+      within_unmoved enter (statements_part block) (leads_end (brought || more) (led brought (free_in_block text block) more none enters leads))
 
   -- ---- functions
 
   abbrev inside_part : (method : Bool) → (params : List Text) → Statements → (first : ℕ) → Part
   inside_part method params block first place = both (declares first 0 (all_params method params)) (both (come 0 (all_params method params) place.declarations) (statements_part block)) place
 
-  inside_ends : (method : Bool) (params : List Text) (block : Statements) (first : ℕ) → (not (is_among text (all_params method params)) && free_in_block text block) ≡ false → (free_in_block text block ≡ false → Ends (statements_part block)) → Ends (inside_part method params block first)
-  inside_ends method params block first none ends =
+  -- one of its parameters may have the name
+  inside_ends : (method : Bool) (params : List Text) (block : Statements) (first : ℕ) → (not (is_among text (all_params method params)) && free_in_block text block) ≡ false → BlockLeads block →
+      Ends (inside_part method params block first)
+  inside_ends method params block first none leads =
       let names = all_params method params in
+      let brought = is_among text names in
+      let more = brings_in_block text block in
       placed EndsAlike (λ (number : ℕ). both (declares first 0 names) (both (come 0 names number) (statements_part block)))
-      (λ number. led_end false false refl (declares_unmoved first 0 names) (λ is. led_end (is_among text names) (free_in_block text block) none (come_leads 0 names number (is_among text names) refl) ends))
+      (λ number. leads_end (brought || more) (both_lead (declares_unmoved first 0 names) (led brought (free_in_block text block) more none (come_leads 0 names number brought refl) leads)))
 
   function_unmoved : (method : Bool) (params : List Text) (vararg : Bool) (block : Statements) (first last : ℕ) → Ends (inside_part method params block first) → Unmoved (body_part method (function_body params vararg block first last))
   function_unmoved method params vararg block first last ends =
       both_lead (marked_unmoved (λ place. opened (innermost place.around)) (λ P scope. refl))
-      (within_unmoved (λ P Q alike. record { scopes = alike.scopes; others = ap (in_function vararg) alike.others }) ends)
+      (within_unmoved (in_function vararg) (inside_part method params block first) (λ P Q alike. ends (in_function vararg P) (in_function vararg Q) (in_function_leads vararg P Q alike).next))
 
   -- ---- statements
 
@@ -180,6 +214,33 @@ module _ (text : Text) where
   local_leads line names es unmoved =
       placed (WalksAlike (is_among text names)) (λ (number : ℕ). both (declares line 0 names) (both (expressions_part es) (come 0 names number)))
       (λ number. both_lead (declares_unmoved line 0 names) (both_lead unmoved (come_leads 0 names number (is_among text names) refl)))
+
+  -- the condition of a `repeat` sees the locals of its block
+  repeat_unmoved : (line : ℕ) (block : Statements) (e : Expression) → free_in_block text block ≡ false → (not (brings_in_block text block) && free_in text e) ≡ false → BlockLeads block →
+      (free_in text e ≡ false → Unmoved (expression_part e)) → Unmoved (statement_part line (repeat_loop block e))
+  repeat_unmoved line block e inside none leads unmoved =
+      let brought = brings_in_block text block in
+      within_unmoved in_loop (both (statements_part block) (expression_part e))
+      (leads_end (brought || false) (both_lead in_loop_leads (led brought (free_in text e) false none (leads inside) unmoved)))
+
+  -- the values of a `for` and its block
+  abbrev for_part : (line : ℕ) → List Text → (values : Part) → Statements → Part
+  for_part line names values block place =
+      both (declares line 3 names) (both values (within (λ inside. in_loop (with_locals 3 names place.declarations inside)) (statements_part block))) place
+
+  -- one of its variables may have the name
+  for_unmoved : (line : ℕ) (names : List Text) (values : Part) (block : Statements) → (not (is_among text names) && free_in_block text block) ≡ false → Unmoved values → BlockLeads block →
+      Unmoved (for_part line names values block)
+  for_unmoved line names values block none unmoved leads =
+      let enter : ℕ → Place → Place = λ number inside. in_loop (with_locals 3 names number inside) in
+      placed (WalksAlike false) (λ (number : ℕ). both (declares line 3 names) (both values (within (enter number) (statements_part block))))
+      (λ number.
+      let block_there = block_unmoved (enter number) (is_among text names) block none (variables_lead names number (is_among text names) refl) leads in
+      both_lead (declares_unmoved line 3 names) (both_lead unmoved block_there))
+
+  -- with one variable
+  only_one : (name : Text) (free : Bool) → (not (bytes_eq text name) && free) ≡ false → (not (is_among text (name ∷ [])) && free) ≡ false
+  only_one name free = subst (λ (brought : Bool). (not brought && free) ≡ false) (sym (or-false (bytes_eq text name)))
 
   mutual
     expression_unmoved : (e : Expression) → free_in text e ≡ false → Unmoved (expression_part e)
@@ -221,13 +282,14 @@ module _ (text : Text) where
     expressions_unmoved (syntax.expression e es) none = let parts = or_parts (free_in text e) _ none in both_lead (expression_unmoved e parts.0) (expressions_unmoved es parts.1)
 
     body_unmoved : (method : Bool) (body : FunctionBody) → free_in_body text method body ≡ false → Unmoved (body_part method body)
-    body_unmoved method (function_body params vararg block first last) none = function_unmoved method params vararg block first last (inside_ends method params block first none (λ none. block_ends block none))
+    body_unmoved method (function_body params vararg block first last) none =
+        function_unmoved method params vararg block first last (inside_ends method params block first none (λ none. block_leads block none))
 
-    block_ends : (block : Statements) → free_in_block text block ≡ false → Ends (statements_part block)
-    block_ends no_statements none = nothing_ends
-    block_ends (syntax.statement line semi s rest) none =
+    block_leads : (block : Statements) → BlockLeads block
+    block_leads no_statements none = nothing_unmoved
+    block_leads (syntax.statement line semi s rest) none =
         let parts = or_parts (free_in_statement text s) _ none in
-        led_end (brings text s) (free_in_block text rest) parts.1 (statement_leads line s parts.0) (λ none. block_ends rest none)
+        led (brings text s) (free_in_block text rest) (brings_in_block text rest) parts.1 (statement_leads line s parts.0) (λ none. block_leads rest none)
 
     statement_leads : (line : ℕ) (s : Statement) → free_in_statement text s ≡ false → Leads (brings text s) (statement_part line s)
     statement_leads line (call_statement e) none = expression_unmoved e none
@@ -236,13 +298,43 @@ module _ (text : Text) where
     statement_leads line (return_statement es) none = expressions_unmoved es none
     statement_leads line (function_statement path method body) none = let parts = or_parts (begins_with text path) _ none in both_lead (path_unmoved line path parts.0) (body_unmoved (is_some method) body parts.1)
     statement_leads line (local_function name body) none = local_function_leads line name body (bytes_eq text name) refl none (λ none. body_unmoved false body none)
-    statement_leads line s none = absurd cc
+    statement_leads line (do_block block) none = block_unmoved stay false block none nothing_unmoved (λ none. block_leads block none)
+    statement_leads line (while_loop e block) none =
+        let parts = or_parts (free_in text e) _ none in both_lead (expression_unmoved e parts.0) (block_unmoved in_loop false block parts.1 in_loop_leads (λ none. block_leads block none))
+    statement_leads line (repeat_loop block e) none =
+        let parts = or_parts (free_in_block text block) _ none in repeat_unmoved line block e parts.0 parts.1 (λ none. block_leads block none) (λ none. expression_unmoved e none)
+    statement_leads line (if_statement branches last) none =
+        let parts = or_parts (free_in_branches text branches) _ none in both_lead (branches_unmoved branches parts.0) (otherwise_unmoved last parts.1)
+    statement_leads line (numeric_for name first last by block) none =
+        let parts = or_parts (free_in text first) _ none in
+        let more = or_parts (free_in text last) _ parts.1 in
+        let others = or_parts (free_in_step text by) _ more.1 in
+        for_unmoved line (name ∷ []) (both (expression_part first) (both (expression_part last) (step_part by))) block (only_one name (free_in_block text block) others.1)
+        (both_lead (expression_unmoved first parts.0) (both_lead (expression_unmoved last more.0) (for_step_unmoved by others.0))) (λ none. block_leads block none)
+    statement_leads line (generic_for names es block) none =
+        let parts = or_parts (free_in_all text es) _ none in for_unmoved line names (expressions_part es) block parts.1 (expressions_unmoved es parts.0) (λ none. block_leads block none)
+    statement_leads line break_statement none = marked_unmoved (λ place. leave line place.looped) (λ P scope. refl)
+
+    branches_unmoved : (branches : Branches) → free_in_branches text branches ≡ false → Unmoved (branches_part branches)
+    branches_unmoved no_branches none = nothing_unmoved
+    branches_unmoved (branch e block rest) none =
+        let parts = or_parts (free_in text e || free_in_block text block) _ none in
+        let arm = or_parts (free_in text e) _ parts.0 in
+        both_lead (expression_unmoved e arm.0) (both_lead (block_unmoved stay false block arm.1 nothing_unmoved (λ none. block_leads block none)) (branches_unmoved rest parts.1))
+
+    otherwise_unmoved : (last : Otherwise) → free_otherwise text last ≡ false → Unmoved (otherwise_part last)
+    otherwise_unmoved no_otherwise none = nothing_unmoved
+    otherwise_unmoved (otherwise block) none = block_unmoved stay false block none nothing_unmoved (λ none. block_leads block none)
+
+    for_step_unmoved : (by : ForStep) → free_in_step text by ≡ false → Unmoved (step_part by)
+    for_step_unmoved no_step none = nothing_unmoved
+    for_step_unmoved (by_step e) none = expression_unmoved e none
 
 -- the name comes into scope before the function, or behind it
 pub unfree_part : (text : Text) (body : FunctionBody) → free_in_body text false body ≡ false → (d : ℕ) (here : Place) → both (come 0 (text ∷ []) d) (body_part false body) here ≡ both (body_part false body) (come 0 (text ∷ []) d) here
 unfree_part text (function_body params vararg block first last) none d here =
     let later = with_locals 0 (text ∷ []) d here in
-    let ends = inside_ends text false params block first none (block_ends text block) (in_function vararg here) (in_function vararg later) (record { scopes = agree; others = refl }) in
+    let ends = inside_ends text false params block first none (block_leads text block) (in_function vararg here) (in_function vararg later) (record { scopes = agree; others = refl }) in
     let inside = inside_part text false params block first in
     let mark = opened (innermost here.around) in
     λ i. record {

@@ -3,7 +3,7 @@ use Rattle.std.specs.Prelude.{◌≡◌, ◌⊎◌, ◌&&◌, ◌==◌, nat_lt, 
 use Rattle.lua_num.specs.Bytes.{Text}
 use Rattle.lua_tree.specs.Names.{is_name}
 use Rattle.lua_tree.specs.Syntax as syntax
-use Rattle.lua_tree.specs.Syntax.{FunctionBody, Statements, no_statements, Expressions, no_expressions, Expression, function_expression, parenthesized, name_expression, index_expression, field_expression, Statement, assignment, call_statement, local_statement, return_statement, Statements, local_function}
+use Rattle.lua_tree.specs.Syntax.{FunctionBody, Expressions, no_expressions, Expression, function_expression, parenthesized, name_expression, index_expression, field_expression, Statement, assignment, call_statement, local_statement, return_statement, local_function}
 use Rattle.lua_tree.specs.WellFormed.{depth_of_body, depth_of_expression, depth_of_expressions, depth_of_statement}
 use Rattle.proto.specs.declared.parts.Constant.{Constant}
 use Rattle.core_expr.specs.Counting.{one_more, taken_behind, taken_behind_operand, taken_behind_values, left_by, left_by_operand, left_by_values, with_constant}
@@ -21,7 +21,7 @@ use Rattle.scheme_stands.specs.Words.{Fn, Means, is_among}
 use Rattle.proto.specs.Chunk.{own}
 use Rattle.reads_back.specs.Coming.{Coming, IsOwnNext}
 use Rattle.reads_back.specs.Cores.{Counted, HasNumber, core, IsCore, first_and, AreCores, IsOperand, IsKey, ends_open, IsPlainBody}
-use Rattle.reads_back.specs.Straight.{IsActTargetBy, AreActTargetsBy, AssignsBy, IsActBy, StatementIndexesNoTable}
+use Rattle.reads_back.specs.Straight.{IsActTargetBy, AreActTargetsBy, AssignsBy, IsActBy}
 
 -- a call as a statement; values that go to targets, locals that are declared with values, or a return of values, where the last one gives all its values or one; behind the values that go to targets an operand may stand that goes to the last target, a part of a table
 pub data Acted : Type 0 where
@@ -273,14 +273,6 @@ Assigns to from = AssignsBy IsPlainBody to from
 abbrev pub IsAct : Statement → Type 0
 IsAct s = IsActBy IsPlainBody s
 
--- statements that are acts, with no function statements
-abbrev pub AreActsBy : (FunctionBody → Type 0) → Statements → Type 0
-AreActsBy P no_statements = Unit {0}
-AreActsBy P (syntax.statement line semi s rest) = (IsActBy P s × StatementIndexesNoTable s) × AreActsBy P rest
-
-abbrev pub AreActs : Statements → Type 0
-AreActs block = AreActsBy IsPlainBody block
-
 -- ---- how deep they are
 
 -- a name with fields behind it, that are named
@@ -297,7 +289,3 @@ lean_assignment targets es = max (depth_of_expressions targets) (depth_of_expres
 abbrev pub lean_depth : Statement → ℕ
 lean_depth (assignment targets es) = lean_assignment targets es
 lean_depth s = depth_of_statement s
-
-abbrev pub lean_depth_of : Statements → ℕ
-lean_depth_of no_statements = 0
-lean_depth_of (syntax.statement line semi s rest) = max (suc (lean_depth s)) (lean_depth_of rest)

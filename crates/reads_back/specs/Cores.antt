@@ -18,7 +18,9 @@ use Rattle.scheme_stands.specs.Expressions.{IsLarge}
 use Rattle.scheme_stands.specs.Lists.{is_last_item}
 use Rattle.scheme_stands.specs.Words.{Fn, Means}
 use Rattle.reads_back.specs.Coming.{Coming, IsMadeNext}
-use Rattle.reads_back.specs.Straight.{AllHaveCoresBy, HasCoreBy, HaveCoresBy, HaveItemsBy, IsStraightBody}
+use Rattle.same_flow.specs.Space.{space_of_body}
+use Rattle.reads_back.specs.Flows.{IsFlowBody}
+use Rattle.reads_back.specs.Straight.{AllHaveCoresBy, HasCoreBy, HaveCoresBy, HaveItemsBy}
 
 -- ---- functions that are made
 
@@ -265,12 +267,13 @@ IsOperand g active e = IsOperandBy (literal e) g (IsCore g active e)
 
 -- ---- expressions that have one
 
--- a function as it is read: straight, well formed and on one line
+-- a function as it is read: its statements may have blocks, and it is well formed, on one line and has room
 pub record IsPlainBody (body : FunctionBody) : Type 0 where
   pub deep : ℕ
-  pub straight : IsStraightBody deep body
+  pub flow : IsFlowBody deep body
   pub formed : formed_body body ≡ true
   pub on_line : one_line_body body ≡ body
+  pub room : space_of_body body ≤ 200
 
 abbrev pub HasCore : Expression → Type 0
 HasCore e = HasCoreBy IsPlainBody e

@@ -96,7 +96,7 @@ StatementIndexesNoTable statement = Unit {0}
 
 -- or it gives a function to a path of at most so many names
 abbrev pub IsStraightStatementBy : (FunctionBody → Type 0) → Statement → Type 0
-IsStraightStatementBy P (function_statement path method body) = (length path ≤ 64) × P body
+IsStraightStatementBy P (function_statement path method body) = (length path ≤ 198) × P body
 IsStraightStatementBy P s = IsActBy P s
 
 -- each is such, and none stores to an element of a constructor, where the functions in them are such

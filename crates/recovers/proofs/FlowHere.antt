@@ -24,6 +24,7 @@ use Rattle.scheme_stands.specs.Words.{Fn, Names, asking}
 use Rattle.same_flow.specs.Alike.{AreStepsLoose}
 use Rattle.same_flow.specs.Declaring.{ClosesTell}
 use Rattle.same_flow.specs.Performed.{part_at}
+use Rattle.same_flow.specs.Space.{space_of_statements}
 use Rattle.same_flow.specs.SameFlow.{AreLaid, HasPlainParts, begun_of}
 use Rattle.same_flow.proofs.BlocksLaid.{blocks_are_laid}
 use Rattle.same_flow.proofs.ClosesTold.{closes_may_tell}
@@ -42,7 +43,7 @@ use Rattle.recovers.specs.Joined.{IsJoined, IsJoinedPart}
 
 -- a function with these parameters and this block, on one line, whose upvalues have these names; its chunk is what is made but for the numbers of lines
 pub record IsFlowHere (n : Names) (heading : Heading) (params : List Text) (block : Statements) (names : List Text) (ahead : Ahead) (chunk : Chunk) : Type 0 where
-  pub joined : IsJoined (own chunk).constants block
+  pub joined : IsJoined block
   pub good : are_names params ≡ true
   pub known : AreKnown n
   pub named : AreNamedBy n (whole_of params names ahead block).upvalue_names
@@ -116,7 +117,7 @@ module _ {n : Names} {heading : Heading} {params : List Text} {block : Statement
   -- ---- its steps
 
   abbrev pub Joined : Part → Type 0
-  Joined part = IsJoinedPart (own chunk).constants part
+  Joined part = IsJoinedPart (space_of_statements block) part
 
   abbrev pub steps_there : (code : Steps) × (code.params ≡ params) × AreLaid code params names ahead block × ((at : ℕ) (part : Part) → part_at code at ≡ Some part → Joined part) × (length code.parts ≡ length code.steps)
   steps_there = blocks_are_laid Joined (record { plain = tt; flow = tt; formed = tt; ordered = tt; roomy = tt }) params names ahead block of.joined.again of.joined.parts

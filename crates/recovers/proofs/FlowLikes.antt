@@ -1,5 +1,5 @@
 -- Each body that stands in the steps which are read of a function is built as a block that is like its own.
-use Rattle.std.proofs.Common.{◌≡◌, ℕ, zero, ◌+◌, ◌^◌, ◌<◌, ◌≤◌, suc, Bool, true, List, length, map, Option, Some, refl, sym, arith, subst}
+use Rattle.std.proofs.Common.{◌≡◌, ℕ, zero, ◌+◌, ◌^◌, ◌<◌, ◌≤◌, suc, Bool, true, false, List, length, map, Option, Some, refl, sym, ap, arith, subst, if◌then◌else◌}
 use Rattle.std.proofs.lemmas.Option.{slice_get_within}
 use Rattle.lua_num.specs.Bytes.{Text}
 use Rattle.lua_tree.specs.Outline as outline
@@ -10,6 +10,7 @@ use Rattle.core_expr.specs.Values.{Inner}
 use Rattle.recover_expr.specs.Drafts.{Drafted, Part}
 use Rattle.recover_expr.specs.Placing.{Steps}
 use Rattle.recover_expr.specs.declared.steps.StepKind.{StepKind}
+use Rattle.recover_flow.specs.Acts.{ActsAreFound}
 use Rattle.recover_flow.specs.Built.{built_body}
 use Rattle.recover_flow.specs.Flow.{AtBeginning, FlowComesApart, FlowIsFound}
 use Rattle.recover_flow.specs.Logic as logic
@@ -25,7 +26,7 @@ use Rattle.same_flow.specs.Listed.{pc_of_step}
 use Rattle.same_flow.specs.Never.{nevers_of_statements}
 use Rattle.same_flow.specs.Performed.{part_at}
 use Rattle.same_flow.specs.SameFlow.{AreLaid, HasPlainParts, begun_of}
-use Rattle.same_flow.specs.Space.{space_of_statements}
+use Rattle.same_flow.specs.Space.{around_body, has_blocks, space_of_statements}
 use Rattle.same_flow.specs.Told.{AreTold, LaidAreTold}
 use Rattle.same_flow.specs.Written.{AreInRoom, ComparedOnOne, HaveParts}
 use Rattle.same_flow.proofs.LikeTransports.{closes_like, like_again, parts_on_like, told_alike}
@@ -38,7 +39,6 @@ use Rattle.reads_back.specs.Written as written
 use Rattle.reads_back.proofs.FlowPlaced.{AreCapturedLike}
 use Rattle.reads_back.proofs.FlowSteps.{have_words}
 use Rattle.reads_back.proofs.FlowThere.{few_before}
-use Rattle.reads_back.proofs.OrderedStay.{tests_stay}
 use Rattle.reads_back.proofs.PartsAlikeRead.{ordered_alike}
 use Rattle.reads_back.proofs.PartsDeep.{are_levelled, parts_deep}
 use Rattle.reads_back.proofs.PartsFit.{parts_fit}
@@ -49,7 +49,8 @@ use Rattle.reads_back.proofs.PlainValues.{ArePlainLeft}
 use Rattle.reads_back.proofs.PartsRoom.{parts_in_room}
 use Rattle.reads_back.proofs.StraightActs.{AreLeft}
 use Rattle.recovers.specs.Joined.{IsFlowRead, IsLike}
-use Rattle.recovers.proofs.FlowHere.{IsFlowHere, closes, code, each_part, f, g, is_function, is_told, laid, parts_count, plain, steps_there}
+use Rattle.recovers.proofs.Blockless.{blockless_stand}
+use Rattle.recovers.proofs.FlowHere.{IsFlowHere, closes, code, each_part, f, g, is_told, laid, parts_count, plain, steps_there}
 use Rattle.recovers.proofs.FlowStepsRead.{are_placed, drafts_read, flow, is_read, placed, steps, takes}
 use Rattle.recovers.proofs.PlainBuilt.{built_is_plain}
 
@@ -68,6 +69,7 @@ pub record FlowLaws : Type 0 where
   pub steps : LaidOnLikeSteps
   pub makes : SameOnLikeParts
   pub says : MarksOnLikeParts
+  pub acts : ActsAreFound
 
 -- ---- small ones
 
@@ -116,8 +118,8 @@ module _ (laws : FlowLaws) {n : Names} {heading : Heading} {params : List Text} 
   mixed_told : AreTold mixed params names ahead
   mixed_told = laws.told mixed mixed_plain params names ahead block mixed_laid
 
-  ordered_parts : (at : ℕ) (part : Part) → part_at mine at ≡ Some part → IsOrderedPart (g fewest of).constants part
-  ordered_parts at part is = subst (λ constants. IsOrderedPart constants part) (is_function fewest of).constants (each_part fewest of at part is).ordered
+  ordered_parts : (at : ℕ) (part : Part) → part_at mine at ≡ Some part → IsOrderedPart part
+  ordered_parts at part is = (each_part fewest of at part is).ordered
 
   -- ---- the parts that are read make and say the same
 
@@ -191,17 +193,37 @@ module _ (laws : FlowLaws) {n : Names} {heading : Heading} {params : List Text} 
 
   in_room : fewest ≡ true → AreInRoom mixed
   in_room short =
-      parts_in_room (flow fewest of left) short (tests_stay (flow fewest of left) ordered_parts) (λ at part there. (each_part fewest of at part there).formed) there (placed fewest of left captured)
+      parts_in_room (flow fewest of left) short (λ at part there. (each_part fewest of at part there).formed) there (placed fewest of left captured)
 
-  one_stands : fewest ≡ true → (plans : Plans) × BodyStands there.steps (whole_body there.steps) plans × (body_levels there.steps plans ≤ 200) × (body_levels there.steps plans ≤ suc (space_of_statements block + nevers_of_statements block))
-  one_stands short =
-      let room = of.joined.room in
-      let levels = block_lies.levels (in_room short) in
-      let found =
-      laws.found there.steps count_few (λ at step there_is. levelled step.levels step.kind (are_levelled (flow fewest of left) there (placed fewest of left captured) at step there_is)) (around_of params names ahead) block_lies.behind
-      (at_beginning params names ahead) block_lies.flow block_lies.lies (omega (arith, levels, room)) in
-      let low = found.2 in
-      (found.0, found.1, omega (arith, low, levels, room), omega (arith, low, levels))
+  one_stands : fewest ≡ true → (plans : Plans) × BodyStands there.steps (whole_body there.steps) plans × (body_levels there.steps plans ≤ 200) × (body_levels there.steps plans ≤ around_body block (space_of_statements block))
+  one_stands short = by (has_blocks block) refl
+    where
+      levels : ℕ
+      levels = space_of_statements block
+
+      OneStands : (high : ℕ) → Type 0
+      OneStands high = (plans : Plans) × BodyStands there.steps (whole_body there.steps) plans × (body_levels there.steps plans ≤ 200) × (body_levels there.steps plans ≤ high)
+
+      by : (has : Bool) → has_blocks block ≡ has → OneStands (around_body block levels)
+      by true has =
+          let around : around_body block levels ≡ suc (levels + nevers_of_statements block) = ap (λ has. if has then suc (levels + nevers_of_statements block) else levels) has in
+          let room = of.joined.room in
+          let most = block_lies.levels (in_room short) in
+          let found =
+          laws.found there.steps count_few (λ at step there_is. levelled step.levels step.kind (are_levelled (flow fewest of left) there (placed fewest of left captured) at step there_is)) (around_of params names ahead) block_lies.behind
+          (at_beginning params names ahead) block_lies.flow block_lies.lies (omega (arith, most, room, around)) in
+          let low = found.2 in
+          (found.0, found.1, omega (arith, low, most, room, around), omega (arith, low, most, around))
+      by false none =
+          let around : around_body block levels ≡ levels = ap (λ has. if has then suc (levels + nevers_of_statements block) else levels) none in
+          let room = of.joined.room in
+          let found = blockless_stand laws.acts mixed params names ahead block mixed_laid none of.joined.formed (in_room short) in
+          (found.0, found.1, omega (arith, found.2, room, around), omega (arith, found.2, around))
 
   pub flow_is_read : IsFlowRead fewest chunk (lefts 0) params names ahead block
   flow_is_read = record { told = is_told fewest of; steps = there; read = is_read fewest of left captured; each = each_likes; stands = one_stands }
+
+  -- with its parameters
+  pub flow_params : flow_is_read.steps.params ≡ params
+  unfolding flow_is_read
+  flow_params = refl

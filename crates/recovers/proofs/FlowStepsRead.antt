@@ -15,6 +15,7 @@ use Rattle.recover_expr.specs.Situation.{is_return}
 use Rattle.scheme.specs.Functions.{Heading, chunk_of}
 use Rattle.scheme.specs.Making.{Ahead}
 use Rattle.scheme_stands.specs.Words.{Names}
+use Rattle.same_flow.specs.Space.{space_of_statements}
 use Rattle.reads_back.specs.Placed.{ArePlacedLike}
 use Rattle.reads_back.proofs.FlowBegins.{params_behind}
 use Rattle.reads_back.proofs.FlowDrafts.{FlowRead}
@@ -32,12 +33,12 @@ use Rattle.reads_back.proofs.WordsRead.{abc_is_read}
 use Rattle.recovers.specs.Joined.{IsRoomyPart}
 use Rattle.recovers.proofs.FlowHere.{IsFlowHere, closes, code, each_part, f, g, is_function, is_made, laid, last_is, plain, same_own, stand, words_count, z}
 
-roomy_part : (part : Part) → IsRoomyPart part → HasRoomyPart part
-roomy_part nothing_part roomy = roomy
-roomy_part (statement_part s) roomy = roomy
-roomy_part (values_part es) roomy = roomy
-roomy_part (condition_part e) roomy = roomy
-roomy_part (head_part es names) roomy = roomy
+roomy_part : (most : ℕ) (part : Part) → IsRoomyPart most part → HasRoomyPart most part
+roomy_part most nothing_part roomy = roomy
+roomy_part most (statement_part s) roomy = roomy
+roomy_part most (values_part es) roomy = roomy
+roomy_part most (condition_part e) roomy = roomy
+roomy_part most (head_part es names) roomy = roomy
 
 module _ {n : Names} {heading : Heading} {params : List Text} {block : Statements} {names : List Text} {ahead : Ahead} {chunk : Chunk} (fewest : Bool) (of : IsFlowHere n heading params block names ahead chunk) where
   pub takes : (f fewest of).of.params ≡ length params
@@ -75,15 +76,15 @@ module _ {n : Names} {heading : Heading} {params : List Text} {block : Statement
   alone : IsFlowBy (Unit {0}) (f fewest of) (g fewest of) (placed_maker (code fewest of) (plain fewest of) params names ahead) (code fewest of) params names ahead block
   alone = whole_flow (whole tt)
 
-  -- each is made by one of its steps
-  pub each_is_made : (number : ℕ) → number < function_count (functions chunk) → IsMadeAt (f fewest of) (g fewest of) 200 200 number
+  -- each is made by one of its steps, with less room than its statements
+  pub each_is_made : (number : ℕ) → number < function_count (functions chunk) → IsMadeAt (f fewest of) (g fewest of) 200 (space_of_statements block) number
   each_is_made number within =
       let made = functions (chunk_of heading (z fewest of)) in
       let same = count_same (functions chunk) made (inner_same chunk (chunk_of heading (z fewest of)) of.same) in
       let count = counted (z fewest of).functions in
       let placed : length (z fewest of).functions ≡ length (placed_maker (code fewest of) (plain fewest of) params names ahead).functions =
       ap (λ (functions : List Chunk). length functions) (same_functions (code fewest of) (plain fewest of) params names ahead block (laid fewest of)) in
-      flow_made alone (λ at part there. roomy_part part (each_part fewest of at part there).roomy) number (omega (arith, within, same, count, placed))
+      flow_made (space_of_statements block) alone (λ at part there. roomy_part (space_of_statements block) part (each_part fewest of at part there).roomy) number (omega (arith, within, same, count, placed))
 
   -- ---- with what is left of them
 

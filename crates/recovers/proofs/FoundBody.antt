@@ -1,7 +1,8 @@
--- What is found of a function whose words are read stands for its body: it makes the same function, says the same but for breaks, and is fine.
-use Rattle.std.proofs.Common.{◌≡◌, ◌≤◌, ◌++◌, ◌+◌, suc, Bool, true, false, List, length, Option, None, sym, ap, ap₂, ◌∙◌, subst, arith}
+-- What is found of a function whose words are read stands for its body: it makes the same function, says the same but for breaks, and is fine. In the forms of fewest levels something is found of it.
+use Rattle.std.proofs.Common.{◌≡◌, ◌≤◌, ◌++◌, Bool, true, false, List, length, Option, None, refl, sym, ap, ap₂, ◌∙◌, subst, arith, inl, inr}
 use Rattle.std.proofs.lemmas.Bool.{and_from}
-use Rattle.std.proofs.lemmas.Option.{same_Some, some_pair_parts}
+use Rattle.std.proofs.lemmas.Bool.Decides.{nat_tests}
+use Rattle.std.proofs.lemmas.Option.{none-some, same_Some, some_pair_parts}
 use Rattle.lua_num.specs.Bytes.{Text}
 use Rattle.lua_tree.specs.Names.{are_names}
 use Rattle.lua_tree.specs.Outline.{Mark, Part, Place, all_params, body_part, both, come, declares, in_function, innermost, marked, opened, statements_part, within}
@@ -12,7 +13,7 @@ use Rattle.core_expr.specs.Values.{Inner}
 use Rattle.recover_expr.specs.Placing.{Steps}
 use Rattle.recover_flow.specs.Built.{built_body}
 use Rattle.recover_flow.specs.Plans.{Plans, body_levels}
-use Rattle.recover_flow.specs.Recovering.{IsFunctionFound}
+use Rattle.recover_flow.specs.Recovering.{IsFunctionFound, IsUnrecovered, StandsNowhere}
 use Rattle.recover_flow.specs.Searching.{whole_body}
 use Rattle.recover_flow.specs.Standing.{BodyStands}
 use Rattle.scheme.specs.Functions.{Heading}
@@ -20,9 +21,8 @@ use Rattle.scheme.specs.Making.{Ahead}
 use Rattle.scheme.specs.Scheme.{inner}
 use Rattle.scheme.specs.Shapes.{plain_body}
 use Rattle.same_flow.proofs.Breaks.{breaks_append}
-use Rattle.same_flow.specs.Never.{nevers_of_statements}
 use Rattle.same_flow.specs.SameMarks.{but_breaks}
-use Rattle.same_flow.specs.Space.{space_of_statements}
+use Rattle.same_flow.specs.Space.{around_body, space_of_statements}
 use Rattle.reads_back.specs.ReadAs.{is_vararg}
 use Rattle.reads_back.proofs.Marks.{SamePart, both_same, same_part}
 use Rattle.reads_back.proofs.WrittenFormed.{IsFineFunction}
@@ -128,7 +128,7 @@ module _ {short : Bool} {chunk : Chunk} {left : List (Option Inner)} {names : Li
   few_levels : found.levels ≤ 200
   few_levels = let fits = is.fits in let levels = is.levels in omega (arith, fits, levels)
 
-  low_levels : IsOfFewest is → short ≡ true → found.levels ≤ suc (space_of_statements block + nevers_of_statements block)
+  low_levels : IsOfFewest is → short ≡ true → found.levels ≤ around_body block (space_of_statements block)
   low_levels fewest is_short =
       let one = read.stands is_short in
       let stands = subst (λ (s : Steps). BodyStands s.steps (whole_body s.steps) one.0) (sym steps_same) one.1 in
@@ -153,3 +153,19 @@ module _ {short : Bool} {chunk : Chunk} {left : List (Option Inner)} {names : Li
   -- as it always has
   pub found_as : IsFoundAs short (function_body params vararg block 1 1) method names before found
   found_as = found_of_fewest is.fewest
+
+-- ---- in the forms of fewest levels it is recovered
+
+module _ {chunk : Chunk} {left : List (Option Inner)} {params names : List Text} {before : Ahead} {block : Statements} (read : IsFlowRead true chunk left params names before block) where
+  pub read_recovered : IsUnrecovered chunk left true → ⊥
+  read_recovered (inl unread) = none-some read.steps (sym unread ∙ read.read)
+  read_recovered (inr (steps, is, inl nowhere)) =
+      let there = read.stands refl in
+      let none = subst (λ (s : Steps). StandsNowhere s) (same_Some steps read.steps (sym is ∙ read.read)) nowhere in
+      let many = none there.0 there.1 in
+      let few = there.2 in
+      grind (arith, nat_tests)
+  read_recovered (inr (steps, is, inr (plans, stands, few, unbuilt))) =
+      let same : steps ≡ read.steps = same_Some steps read.steps (sym is ∙ read.read) in
+      let made = read.each plans (subst (λ (s : Steps). BodyStands s.steps (whole_body s.steps) plans) same stands) (subst (λ (s : Steps). body_levels s.steps plans ≤ 200) same few) in
+      none-some (made.0, made.1) (sym unbuilt ∙ ap (λ (s : Steps). built_body plans s.parts) same ∙ made.2)

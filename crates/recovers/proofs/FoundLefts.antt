@@ -1,4 +1,4 @@
--- What is found of the functions of a function is what is left to it, where each stands for whatever body it is made of and is made somewhere in it.
+-- Each function of a function stands as a plain one where it is made, with less room than so much; and what is found of these is what is left to it, where it stands for their bodies.
 use Rattle.std.proofs.Common.{◌≡◌, ◌++◌, ℕ, zero, suc, ◌<◌, ◌≤◌, Bool, false, List, [], ◌∷◌, length, Option, Some, refl, sym, ap, ◌∙◌, subst, arith}
 use Rattle.std.specs.Prelude.{slice_get}
 use Rattle.std.proofs.lemmas.Option.{same_Some}
@@ -11,11 +11,12 @@ use Rattle.core_expr.specs.Values.{Inner}
 use Rattle.recover_expr.specs.Situation.{Function}
 use Rattle.recover_flow.specs.Recovering.{AreFound, IsFound}
 use Rattle.scheme.specs.Functions.{without_sources}
-use Rattle.scheme.specs.Making.{Maker, head_or}
+use Rattle.scheme.specs.Making.{Ahead, Maker, head_or}
 use Rattle.scheme.specs.Scheme.{inner}
 use Rattle.scheme.specs.declared.making.Active.{Active}
 use Rattle.scheme_stands.specs.Relation.{FunctionOf}
 use Rattle.scheme_stands.specs.Words.{Fn, Law, Names, law_inside, names_in, onto}
+use Rattle.same_flow.specs.Space.{space_of_body}
 use Rattle.reads_back.specs.Coming.{Coming, IsMadeNext}
 use Rattle.reads_back.specs.Cores.{IsPlainBody}
 use Rattle.reads_back.proofs.EachMade.{IsMadeAt}
@@ -27,7 +28,12 @@ use Rattle.reads_back.proofs.NamesInside.{named_inside}
 use Rattle.reads_back.proofs.StraightActs.{AreLeft}
 use Rattle.reads_back.proofs.StraightBlocks.{IsMadeWhole}
 use Rattle.reads_back.proofs.WrittenFormed.{IsFineFunction}
-use Rattle.recovers.specs.EverFound.{IsEverFound, IsFoundIn}
+use Rattle.recovers.specs.EverFound.{IsEverFound, StandsAs}
+use Rattle.recovers.specs.Joined.{IsFoundAs}
+
+-- so it is with each of some functions
+abbrev pub EachOf : (Chunk → Type 0) → Functions → Type 0
+EachOf Holds functions = (number : ℕ) (c : Chunk) → function_at functions number ≡ Some c → Holds c
 
 -- ---- functions that are found, in order
 
@@ -66,7 +72,18 @@ all_found short no_functions left are = record {
 }
 all_found short (and_function c rest) left (found, others, is, are, same) = all_found_behind short c rest found others left is (all_found short rest others are) same
 
--- ---- the functions that are left to one
+-- ---- the functions that stand in one
+
+-- a function stands as one with less room than so much
+pub record StandsWithin (limit : ℕ) (chunk : Chunk) : Type 0 where
+  pub body : FunctionBody
+  pub method : Bool
+  pub n : Names
+  pub before : Ahead
+  pub behind : Ahead
+  pub made : Chunk
+  pub stands : StandsAs chunk body method n before behind made
+  pub roomy : space_of_body body < limit
 
 -- these are left to it where so many were made, and these parts of the source they are; before any was made all are left
 pub record FunctionsFoundLeft (f : Function) (g : Fn) (left : List (Option Inner)) : Type 0 where
@@ -75,25 +92,16 @@ pub record FunctionsFoundLeft (f : Function) (g : Fn) (left : List (Option Inner
   pub left_is : lefts 0 ≡ left
   pub are : AreLeft f g lefts parts
 
-module _ (short : Bool) (functions : Functions) (left : List (Option Inner)) (found_left_are : AreFound short functions left) (ever : (number : ℕ) (c : Chunk) → function_at functions number ≡ Some c → IsEverFound short c) {outer : Function} {made_of : Fn} {z : Maker}
-    (whole : IsMadeWhole outer made_of z) (is_short : outer.short ≡ short) (told : outer.of.upvalue_names ≡ made_of.upvalue_names) (all_same : each_of no_lines functions ≡ each_of no_lines made_of.functions)
-    (each_there : (number : ℕ) → number < function_count functions → IsMadeAt outer made_of 200 200 number) where
-  founds : AreAllFound short functions left
-  founds = all_found short functions left found_left_are
-
-  -- those that are left where so many were made, and the parts of the source that they are
-  abbrev lefts : ℕ → List (Option Inner)
-  lefts made = left_behind made founds.founds
-
-  abbrev parts : ℕ → Part
-  parts number = part_found (slice_get founds.founds number)
-
+module _ (limit : ℕ) (functions : Functions) {outer : Function} {made_of : Fn} {z : Maker}
+    (whole : IsMadeWhole outer made_of z) (told : outer.of.upvalue_names ≡ made_of.upvalue_names) (all_same : each_of no_lines functions ≡ each_of no_lines made_of.functions)
+    (each_there : (number : ℕ) → number < function_count functions → IsMadeAt outer made_of 200 limit number) where
   -- where one is made the chunk has one
   there : {active : List Active} {body : FunctionBody} {method : Bool} {c : Coming} (next : IsMadeNext made_of active body method c) → StandsToo functions c.functions next.chunk
   there {c = c} next = stands_too functions made_of.functions c.functions next.chunk all_same next.is
 
-  -- one that is made next, and what is found of it
-  module _ {active : List Active} {listed : List ℕ} (all : AreListed outer made_of active listed) {body : FunctionBody} {method : Bool} {c : Coming} (plain : IsPlainBody body) (shallow : depth_of_body body ≤ 199) (next : IsMadeNext made_of active body method c) where
+  -- it stands as what is made next
+  module _ {active : List Active} {listed : List ℕ} (all : AreListed outer made_of active listed) {body : FunctionBody} {method : Bool} {c : Coming}
+      (plain : IsPlainBody body) (shallow : depth_of_body body ≤ 199) (next : IsMadeNext made_of active body method c) where
     abbrev inside : Names
     inside = record { around = names_in (onto active []) ++ whole.names.around; upvalues = next.names }
 
@@ -102,59 +110,98 @@ module _ (short : Bool) (functions : Functions) (left : List (Option Inner)) (fo
         ap (λ names. as_name (slice_get names slot)) next.named
         ∙ named_inside whole.names whole.law all next.names (head_or [] c.ahead.sources) next.captured told text slot is
 
-    next_stands : FunctionOf body method (Some inside) (without_sources c.ahead) next.behind next.chunk
-    next_stands = subst (λ (law : Law). FunctionOf body method (law_inside law active next.names) (without_sources c.ahead) next.behind next.chunk) whole.law next.made_at
+    next_stands : StandsAs (there next).c body method inside (without_sources c.ahead) next.behind next.chunk
+    next_stands = record {
+      plain = plain;
+      shallow = shallow;
+      at = subst (λ (law : Law). FunctionOf body method (law_inside law active next.names) (without_sources c.ahead) next.behind next.chunk) whole.law next.made_at;
+      same = (there next).same;
+      named = next_named;
+    }
 
-    -- whatever is found of the function of this number stands for it
-    stands_for : (d : Chunk) (found : Inner) → function_at functions c.functions ≡ Some d → IsFound short d found → IsFoundIn short body method (own next.chunk).upvalue_names (without_sources c.ahead) found
-    stands_for d found at is =
-        let one = there next in
-        let same : d ≡ one.c = same_Some d one.c (sym at ∙ one.is) in
-        ever c.functions one.c one.is found (subst (λ (d : Chunk). IsFound short d found) same is) body method inside (without_sources c.ahead) next.behind next.chunk plain shallow next_stands one.same next_named
+  -- so the function of each number stands as a plain one with less room
+  pub each_stands : EachOf (StandsWithin limit) functions
+  each_stands number c is =
+      let m = each_there number (within_count functions number c is) in
+      let one = there m.is in
+      let low : depth_of_body m.body ≤ 199 = omega (arith, m.low) in
+      let same : one.c ≡ c = same_Some one.c c (sym one.is ∙ ap (function_at functions) m.number_is ∙ is) in
+      let n = inside m.all m.plain low m.is in
+      record {
+        body = m.body;
+        method = m.method;
+        n = n;
+        before = without_sources m.c.ahead;
+        behind = m.is.behind;
+        made = m.is.chunk;
+        stands = subst (λ (c : Chunk). StandsAs c m.body m.method n (without_sources m.c.ahead) m.is.behind m.is.chunk) same (next_stands m.all m.plain low m.is);
+        roomy = m.in_room;
+      }
 
-    record IsFoundNext : Type 0 where
-      found : Inner
-      there : slice_get founds.founds c.functions ≡ Some found
-      is : IsFoundIn short body method (own next.chunk).upvalue_names (without_sources c.ahead) found
+  -- ---- those that are left to it
 
-    next_found : IsFoundNext
-    next_found =
-        let one = there next in
-        let e = founds.each c.functions one.c one.is in
-        record { found = e.0; there = e.1; is = stands_for one.c e.0 one.is e.2 }
+  module _ (short : Bool) (left : List (Option Inner)) (found_left_are : AreFound short functions left) (ever : EachOf (IsEverFound short) functions) (is_short : outer.short ≡ short) where
+    founds : AreAllFound short functions left
+    founds = all_found short functions left found_left_are
 
-  -- each of them is fine, since it is made somewhere
-  number_fine : (number : ℕ) (found : Inner) → slice_get founds.founds number ≡ Some found → IsFineFunction found
-  number_fine number found is =
-      let back = founds.back number found is in
-      let m = each_there number (within_count functions number back.0 back.1) in
-      (stands_for m.all m.plain (omega (arith, m.low)) m.is back.0 found (ap (function_at functions) m.number_is ∙ back.1) back.2).stands.fine
+    -- those that are left where so many were made, and the parts of the source that they are
+    abbrev lefts : ℕ → List (Option Inner)
+    lefts made = left_behind made founds.founds
 
-  are : AreLeft outer made_of lefts parts
-  are = record {
-    again = record {
-      next = λ active listed all body method c plain shallow next.
-          let r = next_found all plain shallow next in (
-            r.found,
-            next_left founds.founds c.functions r.found r.there,
-            record {
-              same = subst (λ names. inner r.found.body false names (without_sources c.ahead) ≡ inner body method names (without_sources c.ahead)) next.named r.is.stands.same;
-              few = r.is.stands.few;
-              low = λ is. r.is.low (sym is_short ∙ is);
-            },
-          );
-      others = λ active body method c plain next. others_left founds.founds c.functions (omega (arith, founds.as_many, within_count functions c.functions (there next).c (there next).is));
-    };
-    fine = each_left (λ number found. IsFineFunction found) founds.founds number_fine;
-    parts = each_left (IsPartLeft parts) founds.founds (λ number found is. exact_part (λ here. ap (λ found. part_found found here) (sym is)));
-    made = λ active listed all body c plain shallow next.
-        let r = next_found all plain shallow next in
-        part_then (exact_part (λ here. ap (λ found. part_found found here) r.there)) r.is.stands.part;
-  }
+    abbrev parts : ℕ → Part
+    parts number = part_found (slice_get founds.founds number)
 
-  functions_found_left : FunctionsFoundLeft outer made_of left
-  functions_found_left = record { lefts = lefts; parts = parts; left_is = founds.left_is; are = are }
+    -- one that is made next, and what is found of it
+    module _ {active : List Active} {listed : List ℕ} (all : AreListed outer made_of active listed) {body : FunctionBody} {method : Bool} {c : Coming}
+        (plain : IsPlainBody body) (shallow : depth_of_body body ≤ 199) (next : IsMadeNext made_of active body method c) where
+      -- whatever is found of the function of this number stands for it
+      stands_for : (d : Chunk) (found : Inner) → function_at functions c.functions ≡ Some d → IsFound short d found →
+          IsFoundAs short body method (own next.chunk).upvalue_names (without_sources c.ahead) found
+      stands_for d found at is =
+          let one = there next in
+          let same : d ≡ one.c = same_Some d one.c (sym at ∙ one.is) in
+          ever c.functions one.c one.is found (subst (λ (d : Chunk). IsFound short d found) same is) body method (inside all plain shallow next) (without_sources c.ahead) next.behind next.chunk
+          (next_stands all plain shallow next)
 
-pub found_left : (short : Bool) (functions : Functions) (left : List (Option Inner)) → AreFound short functions left → ((number : ℕ) (c : Chunk) → function_at functions number ≡ Some c → IsEverFound short c) → {f : Function} {g : Fn} {z : Maker} (made : IsMadeWhole f g z) →
-    f.short ≡ short → f.of.upvalue_names ≡ g.upvalue_names → each_of no_lines functions ≡ each_of no_lines g.functions → ((number : ℕ) → number < function_count functions → IsMadeAt f g 200 200 number) → FunctionsFoundLeft f g left
-found_left short functions left are ever made is_short told same each = functions_found_left short functions left are ever made is_short told same each
+      record IsFoundNext : Type 0 where
+        found : Inner
+        found_there : slice_get founds.founds c.functions ≡ Some found
+        is : IsFoundAs short body method (own next.chunk).upvalue_names (without_sources c.ahead) found
+
+      next_found : IsFoundNext
+      next_found =
+          let one = there next in
+          let e = founds.each c.functions one.c one.is in
+          record { found = e.0; found_there = e.1; is = stands_for one.c e.0 one.is e.2 }
+
+    -- each of them is fine, since it is made somewhere
+    number_fine : (number : ℕ) (found : Inner) → slice_get founds.founds number ≡ Some found → IsFineFunction found
+    number_fine number found is =
+        let back = founds.back number found is in
+        let m = each_there number (within_count functions number back.0 back.1) in
+        (stands_for m.all m.plain (omega (arith, m.low)) m.is back.0 found (ap (function_at functions) m.number_is ∙ back.1) back.2).fine
+
+    are : AreLeft outer made_of lefts parts
+    are = record {
+      again = record {
+        next = λ active listed all body method c plain shallow next.
+            let r = next_found all plain shallow next in (
+              r.found,
+              next_left founds.founds c.functions r.found r.found_there,
+              record {
+                same = subst (λ names. inner r.found.body false names (without_sources c.ahead) ≡ inner body method names (without_sources c.ahead)) next.named r.is.same;
+                few = r.is.few;
+                low = λ is. r.is.low (sym is_short ∙ is);
+              },
+            );
+        others = λ active body method c plain next. others_left founds.founds c.functions (omega (arith, founds.as_many, within_count functions c.functions (there next).c (there next).is));
+      };
+      fine = each_left (λ number found. IsFineFunction found) founds.founds number_fine;
+      parts = each_left (IsPartLeft parts) founds.founds (λ number found is. exact_part (λ here. ap (λ found. part_found found here) (sym is)));
+      made = λ active listed all body c plain shallow next.
+          let r = next_found all plain shallow next in
+          part_then (exact_part (λ here. ap (λ found. part_found found here) r.found_there)) r.is.part;
+    }
+
+    pub found_left : FunctionsFoundLeft outer made_of left
+    found_left = record { lefts = lefts; parts = parts; left_is = founds.left_is; are = are }

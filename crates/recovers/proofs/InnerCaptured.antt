@@ -16,7 +16,7 @@ use Rattle.scheme_stands.proofs.Entering.{entered_by}
 use Rattle.scheme_stands.proofs.Growth.{spot}
 use Rattle.scheme_stands.proofs.Here.{here_as, here_at, here_entered, here_function}
 use Rattle.scheme_stands.proofs.Lines.{declared}
-use Rattle.scheme_stands.specs.Places.{Here, ahead_at, inside_part}
+use Rattle.scheme_stands.specs.Places.{Here, Mentions, ahead_at, inside_part}
 use Rattle.scheme_stands.specs.Words.{Fn, Spot}
 use Rattle.reads_back.proofs.ActiveCaptured.{AllHome, home_below, names_home}
 use Rattle.reads_back.proofs.CapturedInEnd.{CapturedInside}
@@ -24,6 +24,7 @@ use Rattle.reads_back.proofs.FlowPlaced.{AreCapturedLike}
 use Rattle.reads_back.proofs.FlowThere.{IsFlowFunction}
 use Rattle.reads_back.proofs.KnownBeginnings.{inside_ahead, inside_begins}
 use Rattle.reads_back.proofs.MainCaptured.{flow_captured_like}
+use Rattle.reads_back.proofs.StepsApart.{IsOutside, block_outside}
 use Rattle.reads_back.proofs.MarksCaptured.{captured_both}
 
 -- what is declared in a part of the source is captured by all its marks where those of the part capture it
@@ -88,4 +89,5 @@ module _ (all : List Mark) (method : Bool) (params : List Text) (vararg : Bool) 
           let there = here_as all (statements_part block) (statements_part other) entered rest (spot (declare texts (empty_maker before names)).after) (sym (same entered)) (entered_here names) in
           let begins = inside_begins all method params vararg block first last place rest before ahead_there names ∙ ap (λ (walk : Walk). ahead_at all entered (walk.marks ++ rest)) (sym (same entered)) in
           flow_captured_like of takes formed all entered rest there.between there.scope begins place.declarations (suc place.functions) ((inside_part method body inside).marks ++ rest)
-          (inside_ahead all method params vararg block first last place rest before ahead_there) parameters_home inside_alone
+          (inside_ahead all method params vararg block first last place rest before ahead_there) parameters_home inside_alone there.apart
+          (subst (λ (walk : Walk). Mentions (IsOutside entered.declarations walk.next.declarations) rest) (sym (same entered)) (block_outside all method params vararg block first last place rest here.apart))

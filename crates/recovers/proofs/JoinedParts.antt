@@ -18,20 +18,22 @@ use Rattle.same_flow.specs.Renaming.{IsOneStep, IsTested}
 use Rattle.same_flow.specs.Space.{space_of_expression, space_of_expressions, space_of_statement}
 use Rattle.reads_back.specs.Assignments.{as_assignment, with_self}
 use Rattle.reads_back.specs.Cores.{AllHaveCores, HasCore}
-use Rattle.reads_back.specs.Ordered.{IsOrderedAmong, NumbersStay, OperandsStay, names_stay}
-use Rattle.reads_back.specs.Straight.{AllHaveCoresBy, HasCoreBy, IsActBy, IsStraightBody, IsStraightStatementBy, StatementIndexesNoTable}
+use Rattle.reads_back.specs.Flows.{IsFlowBody, IsFlowLeafBy, IsFlowPartBy}
+use Rattle.reads_back.specs.Ordered.{keeps_names}
+use Rattle.reads_back.specs.Straight.{AllHaveCoresBy, HasCoreBy, IsActBy, IsStraightStatementBy, StatementIndexesNoTable}
 use Rattle.reads_back.proofs.FlowThere.{IsFlowAct, IsFlowStatement}
-use Rattle.reads_back.proofs.FunctionStatements.{assigned_formed, assigned_shallow, indexes_still, path_on_line, statement_is_act}
+use Rattle.reads_back.proofs.FunctionStatements.{assigned_formed, assigned_in_room, assigned_shallow, indexes_still, path_on_line, statement_is_act}
 use Rattle.reads_back.proofs.OneLineActs.{act_on_line, core_on_line, cores_on_line, straight_statement_on_line}
 use Rattle.reads_back.proofs.PlainBodies.{plain_act, plain_core, plain_cores}
-use Rattle.reads_back.proofs.PlainStraight.{bodies_stay, same_some, statement_indexes_none}
-use Rattle.reads_back.proofs.Rooms.{inside_room}
+use Rattle.reads_back.proofs.OneLineRules.{same_some, statement_indexes_none}
+use Rattle.reads_back.proofs.Rooms.{inside_room, left_room}
 use Rattle.reads_back.proofs.TestedAs.{HasTest}
 use Rattle.reads_back.proofs.Tests.{both_hold, first_of_both, second_of_both}
-use Rattle.reads_back.proofs.WordsSame.{same_literal, same_name}
-use Rattle.recovers.specs.FlowSources.{IsLeafBy, IsReadablePart}
+use Rattle.reads_back.proofs.WordsSame.{same_literal}
 use Rattle.recovers.specs.Joined.{IsJoinedPart}
-use Rattle.recovers.proofs.CoresPlain.{core_plain, cores_plain, straight_plain, straight_statement_plain}
+use Rattle.recovers.proofs.CoresPlain.{core_plain, cores_plain, straight_statement_plain}
+use Rattle.recovers.proofs.FlowOnLine.{flow_stays, flow_with_self, keeps_on_line, tested_on_line}
+use Rattle.recovers.proofs.FlowPlain.{flow_plain}
 use Rattle.recovers.proofs.OneLineBlocks.{expression_again, expression_as_deep, expression_as_roomy, expression_formed, expressions_again, expressions_as_deep, expressions_as_roomy, expressions_formed, statement_again, statement_as_deep, statement_as_roomy, statement_formed}
 
 -- ---- the assignment that a function statement stands for
@@ -56,10 +58,6 @@ IsLeaf e = Unit {0}
 tested_again : (e : Expression) → tested_as (tested_as e) ≡ tested_as e
 tested_again (binary_expression line BinaryOp.Ne left right) = refl
 tested_again e = refl
-
-tested_on_line : (e : Expression) → one_line_expression (tested_as e) ≡ tested_as (one_line_expression e)
-tested_on_line (binary_expression line BinaryOp.Ne left right) = refl
-tested_on_line e = refl
 
 tested_as_deep : (e : Expression) → depth_of_expression (tested_as e) ≡ depth_of_expression e
 tested_as_deep (binary_expression line BinaryOp.Ne left right) = refl
@@ -87,82 +85,66 @@ binary_tested : (op : BinaryOp) (left right : Expression) → (plainness left).v
 binary_tested BinaryOp.Ne left right first second = both_hold _ _ first second
 binary_tested op left right first second = both_hold _ _ first second
 
--- its operands keep their order
-module _ (constants : List Constant) where
-  same_names_stay : (left right : Expression) → names_stay (one_line_expression left) (one_line_expression right) ≡ names_stay left right
-  same_names_stay left right = cc (same_name left, same_name right, same_literal left, same_literal right)
-
-  numbers_stay : (left : Expression) → NumbersStay constants left → NumbersStay constants (one_line_expression left)
-  numbers_stay left stay k is there = stay k (sym (same_literal left) ∙ is) there
-
-  operands_stay : (op : BinaryOp) (left right : Expression) → OperandsStay constants op left right → OperandsStay constants op (one_line_expression left) (one_line_expression right)
-  operands_stay BinaryOp.Lt left right stay = numbers_stay left stay
-  operands_stay BinaryOp.Le left right stay = numbers_stay left stay
-  operands_stay BinaryOp.Gt left right stay = (same_names_stay left right ∙ stay.0, numbers_stay left stay.1)
-  operands_stay BinaryOp.Ge left right stay = (same_names_stay left right ∙ stay.0, numbers_stay left stay.1)
-  operands_stay op left right stay = tt
-
-  ordered_on_line : (e : Expression) → IsOrderedAmong constants e → IsOrderedAmong constants (one_line_expression e)
-  ordered_on_line (binary_expression line op left right) ordered = operands_stay op left right ordered
-  ordered_on_line e ordered = tt
-
-module _ (constants : List Constant) (deep : ℕ) where
+module _ (most : ℕ) (few : most ≤ 200) (deep : ℕ) where
   -- ---- values
 
-  core_joined : (e : Expression) → HasCoreBy (IsStraightBody deep) e → formed_expression e ≡ true → HasCore (one_line_expression e)
-  core_joined e has formed = plain_core deep (one_line_expression e) (core_on_line (bodies_stay deep) e has) (expression_formed e formed) (expression_again e)
+  core_joined : (e : Expression) → HasCoreBy (IsFlowBody deep) e → formed_expression e ≡ true → space_of_expression e ≤ 200 → HasCore (one_line_expression e)
+  core_joined e has formed roomy =
+      plain_core deep (one_line_expression e) (core_on_line (flow_stays deep) e has) (expression_formed e formed) (expression_again e) (omega (arith, roomy, expression_as_roomy e))
 
-  value_plain : (e : Expression) → HasCoreBy (IsStraightBody deep) e → (plainness (one_line_expression e)).value ≡ true
-  value_plain e has = core_plain (straight_plain deep) (one_line_expression e) (core_on_line (bodies_stay deep) e has)
+  value_plain : (e : Expression) → HasCoreBy (IsFlowBody deep) e → (plainness (one_line_expression e)).value ≡ true
+  value_plain e has = core_plain (flow_plain deep) (one_line_expression e) (core_on_line (flow_stays deep) e has)
 
-  cores_joined : (es : Expressions) → AllHaveCoresBy (IsStraightBody deep) es → formed_expressions es ≡ true → AllHaveCores (one_line_expressions es)
-  cores_joined es have formed = plain_cores deep (one_line_expressions es) (cores_on_line (bodies_stay deep) es have) (expressions_formed es formed) (expressions_again es)
+  cores_joined : (es : Expressions) → AllHaveCoresBy (IsFlowBody deep) es → formed_expressions es ≡ true → space_of_expressions es ≤ 200 → AllHaveCores (one_line_expressions es)
+  cores_joined es have formed roomy =
+      plain_cores deep (one_line_expressions es) (cores_on_line (flow_stays deep) es have) (expressions_formed es formed) (expressions_again es) (omega (arith, roomy, expressions_as_roomy es))
 
   -- ---- acts
 
-  flow_act : (s : Statement) → IsActBy (IsStraightBody deep) s → StatementIndexesNoTable s → formed_statement s ≡ true → depth_of_statement s ≤ 199 → IsFlowAct (one_line_statement s)
-  flow_act s is begins formed shallow = record {
-    is = plain_act deep (one_line_statement s) (act_on_line (bodies_stay deep) s is) (statement_formed s formed) (statement_again s);
+  flow_act : (s : Statement) → IsActBy (IsFlowBody deep) s → StatementIndexesNoTable s → formed_statement s ≡ true → depth_of_statement s ≤ 199 → space_of_statement s ≤ 200 → IsFlowAct (one_line_statement s)
+  flow_act s is begins formed shallow roomy = record {
+    is = plain_act deep (one_line_statement s) (act_on_line (flow_stays deep) s is) (statement_formed s formed) (statement_again s) (omega (arith, roomy, statement_as_roomy s));
     begins = statement_indexes_none s begins;
     shallow = subst (λ (depth : ℕ). depth ≤ 199) (sym (statement_as_deep s)) shallow;
     on_line = statement_again s;
   }
 
   -- a function statement stands for an assignment
-  flow_statement : (s : Statement) → IsStraightStatementBy (IsStraightBody deep) s → StatementIndexesNoTable s → formed_statement s ≡ true → depth_of_statement s ≤ 199 → IsFlowStatement (one_line_statement s)
-  flow_statement s is begins formed shallow = record {
+  flow_statement : (s : Statement) → IsStraightStatementBy (IsFlowBody deep) s → StatementIndexesNoTable s → formed_statement s ≡ true → depth_of_statement s ≤ 199 → space_of_statement s ≤ 200 → IsFlowStatement (one_line_statement s)
+  flow_statement s is begins formed shallow roomy = record {
     formed = statement_formed s formed;
-    act = subst IsFlowAct (assignment_line s) (flow_act (as_assignment s) (statement_is_act deep s is formed) (indexes_still s begins formed) (assigned_formed s formed) (assigned_shallow deep s is shallow));
+    act = subst IsFlowAct (assignment_line s) (flow_act (as_assignment s) (statement_is_act (IsFlowBody deep) (flow_with_self deep) s is formed) (indexes_still s begins formed) (assigned_formed s formed)
+        (assigned_shallow (IsFlowBody deep) s is shallow) (assigned_in_room (IsFlowBody deep) s is roomy));
   }
 
-  pub act_joined : (s : Statement) → IsOneStep (one_line_statement s) → ends_block (one_line_statement s) ≡ false → IsStraightStatementBy (IsStraightBody deep) s × StatementIndexesNoTable s →
-      formed_statement s ≡ true → depth_of_statement s ≤ 199 → space_of_statement s < 200 → IsJoinedPart constants (statement_part (one_line_statement s))
+  pub act_joined : (s : Statement) → IsOneStep (one_line_statement s) → ends_block (one_line_statement s) ≡ false → IsStraightStatementBy (IsFlowBody deep) s × StatementIndexesNoTable s →
+      formed_statement s ≡ true → depth_of_statement s ≤ 199 → space_of_statement s < most → IsJoinedPart most (statement_part (one_line_statement s))
   act_joined s one goes_on is formed shallow roomy = record {
-    plain = (one, straight_statement_plain (straight_plain deep) (one_line_statement s) (straight_statement_on_line (bodies_stay deep) s is.0));
-    flow = flow_statement s is.0 is.1 formed shallow;
+    plain = (one, straight_statement_plain (flow_plain deep) (one_line_statement s) (straight_statement_on_line (flow_stays deep) s is.0));
+    flow = flow_statement s is.0 is.1 formed shallow (omega (arith, few, roomy));
     formed = (statement_formed s formed, goes_on);
     ordered = tt;
-    roomy = subst (λ (room : ℕ). room < 200) (sym (statement_as_roomy s)) roomy;
+    roomy = subst (λ (room : ℕ). room < most) (sym (statement_as_roomy s)) roomy;
   }
 
-  pub values_joined : (es : Expressions) → AllHaveCoresBy (IsStraightBody deep) es →
-      formed_expressions es ≡ true → depth_of_expressions es ≤ 199 → space_of_expressions es < 200 → IsJoinedPart constants (values_part (one_line_expressions es))
+  pub values_joined : (es : Expressions) → AllHaveCoresBy (IsFlowBody deep) es →
+      formed_expressions es ≡ true → depth_of_expressions es ≤ 199 → space_of_expressions es < most → IsJoinedPart most (values_part (one_line_expressions es))
   values_joined es have formed shallow roomy = record {
-    plain = cores_plain (straight_plain deep) (one_line_expressions es) (cores_on_line (bodies_stay deep) es have);
-    flow = flow_act (return_statement es) have tt formed shallow;
+    plain = cores_plain (flow_plain deep) (one_line_expressions es) (cores_on_line (flow_stays deep) es have);
+    flow = flow_act (return_statement es) have tt formed shallow (omega (arith, few, roomy));
     formed = expressions_formed es formed;
     ordered = tt;
-    roomy = subst (λ (room : ℕ). room < 200) (sym (expressions_as_roomy es)) roomy;
+    roomy = subst (λ (room : ℕ). room < most) (sym (expressions_as_roomy es)) roomy;
   }
 
-  pub head_joined : (es : Expressions) (names : List Text) → AllHaveCoresBy (IsStraightBody deep) es → has_expressions es ≡ true → are_some_names names ≡ true →
-      formed_expressions es ≡ true → depth_of_expressions es ≤ 200 → space_of_expressions es < 200 → IsJoinedPart constants (head_part (one_line_expressions es) names)
+  pub head_joined : (es : Expressions) (names : List Text) → AllHaveCoresBy (IsFlowBody deep) es → has_expressions es ≡ true → are_some_names names ≡ true →
+      formed_expressions es ≡ true → depth_of_expressions es ≤ 200 → space_of_expressions es < most → IsJoinedPart most (head_part (one_line_expressions es) names)
   head_joined es names have some good formed shallow roomy =
       let some_there : has_expressions (one_line_expressions es) ≡ true = same_some es ∙ some in
       record {
-        plain = cores_plain (straight_plain deep) (one_line_expressions es) (cores_on_line (bodies_stay deep) es have);
+        plain = cores_plain (flow_plain deep) (one_line_expressions es) (cores_on_line (flow_stays deep) es have);
         flow = record {
-          has = cores_joined es have formed;
+          has = cores_joined es have formed (omega (arith, few, roomy));
           some = some_there;
           good = good;
           shallow = subst (λ (depth : ℕ). depth ≤ 200) (sym (expressions_as_deep es)) shallow;
@@ -170,17 +152,17 @@ module _ (constants : List Constant) (deep : ℕ) where
         };
         formed = (good, some_there, expressions_formed es formed);
         ordered = tt;
-        roomy = subst (λ (room : ℕ). room < 200) (sym (expressions_as_roomy es)) roomy;
+        roomy = subst (λ (room : ℕ). room < most) (sym (expressions_as_roomy es)) roomy;
       }
 
   -- ---- conditions
 
-  pub operands_have : (line : ℕ) (op : BinaryOp) (left right : Expression) → IsLeafBy (IsStraightBody deep) (tested_as (binary_expression line op left right)) →
-      HasCoreBy (IsStraightBody deep) left × HasCoreBy (IsStraightBody deep) right
+  pub operands_have : (line : ℕ) (op : BinaryOp) (left right : Expression) → IsFlowLeafBy (IsFlowBody deep) (tested_as (binary_expression line op left right)) →
+      HasCoreBy (IsFlowBody deep) left × HasCoreBy (IsFlowBody deep) right
   operands_have line BinaryOp.Ne left right are = are
   operands_have line op left right are = are
 
-  leaf_tested : (e : Expression) → IsLeaf e → IsLeafBy (IsStraightBody deep) (tested_as e) → IsTested (tested_as (one_line_expression e))
+  leaf_tested : (e : Expression) → IsLeaf e → IsFlowLeafBy (IsFlowBody deep) (tested_as e) → IsTested (tested_as (one_line_expression e))
   leaf_tested (binary_expression line op left right) leaf is =
       let have = operands_have line op left right is in
       binary_tested op (one_line_expression left) (one_line_expression right) (value_plain left have.0) (value_plain right have.1)
@@ -190,49 +172,50 @@ module _ (constants : List Constant) (deep : ℕ) where
   leaf_tested (parenthesized line e) leaf is = absurd leaf
   leaf_tested e leaf is = value_plain e is
 
-  leaf_has : (e : Expression) → IsLeaf e → literal e ≡ None → IsLeafBy (IsStraightBody deep) (tested_as e) → formed_expression e ≡ true → HasTest (tested_as (one_line_expression e))
-  leaf_has (binary_expression line op left right) leaf none is formed =
+  leaf_has : (e : Expression) → IsLeaf e → literal e ≡ None → IsFlowLeafBy (IsFlowBody deep) (tested_as e) → formed_expression e ≡ true → space_of_expression e ≤ 200 → HasTest (tested_as (one_line_expression e))
+  leaf_has (binary_expression line op left right) leaf none is formed roomy =
+      let inside = left_room line op left right in
       let have = operands_have line op left right is in
       let level = level_of_op op in
       let associative = is_right_associative op in
       let parts = second_of_both (right_binds level associative right) _ (second_of_both (left_binds level associative left) _ formed) in
       binary_test op (one_line_expression left) (one_line_expression right)
-      (core_joined left have.0 (first_of_both _ _ parts), core_joined right have.1 (second_of_both (formed_expression left) _ parts))
+      (core_joined left have.0 (first_of_both _ _ parts) (omega (arith, inside, roomy)), core_joined right have.1 (second_of_both (formed_expression left) _ parts) (omega (arith, inside, roomy)))
       (same_literal (binary_expression line op left right) ∙ none)
-  leaf_has (and_expression line left right) leaf none is formed = absurd leaf
-  leaf_has (or_expression line left right) leaf none is formed = absurd leaf
-  leaf_has (unary_expression line UnaryOp.Not e) leaf none is formed = absurd leaf
-  leaf_has (parenthesized line e) leaf none is formed = absurd leaf
-  leaf_has e leaf none is formed = (core_joined e is formed, same_literal e ∙ none)
+  leaf_has (and_expression line left right) leaf none is formed roomy = absurd leaf
+  leaf_has (or_expression line left right) leaf none is formed roomy = absurd leaf
+  leaf_has (unary_expression line UnaryOp.Not e) leaf none is formed roomy = absurd leaf
+  leaf_has (parenthesized line e) leaf none is formed roomy = absurd leaf
+  leaf_has e leaf none is formed roomy = (core_joined e is formed roomy, same_literal e ∙ none)
 
-  leaf_joined : (e : Expression) → IsLeaf e → literal e ≡ None → IsReadablePart constants (IsStraightBody deep) (condition_part (tested_as e)) →
-      formed_expression e ≡ true → depth_of_expression e ≤ 200 → space_of_expression e < 200 → IsJoinedPart constants (condition_part (tested_as (one_line_expression e)))
+  leaf_joined : (e : Expression) → IsLeaf e → literal e ≡ None → IsFlowPartBy (IsFlowBody deep) (condition_part (tested_as e)) →
+      formed_expression e ≡ true → depth_of_expression e ≤ 200 → space_of_expression e < most → IsJoinedPart most (condition_part (tested_as (one_line_expression e)))
   leaf_joined e leaf none is formed shallow roomy =
       let line = one_line_expression e in
       record {
         plain = leaf_tested e leaf is.0;
         flow = record {
-          has = leaf_has e leaf none is.0 formed;
+          has = leaf_has e leaf none is.0 formed (omega (arith, few, roomy));
           shallow = subst (λ (depth : ℕ). depth ≤ 200) (sym (tested_as_deep line ∙ expression_as_deep e)) shallow;
           on_line = tested_on_line line ∙ ap tested_as (expression_again e);
           tested = tested_again line;
         };
         formed = tested_formed line ∙ expression_formed e formed;
-        ordered = subst (IsOrderedAmong constants) (tested_on_line e) (ordered_on_line constants (tested_as e) is.1);
-        roomy = subst (λ (room : ℕ). room < 200) (sym (tested_as_roomy line ∙ expression_as_roomy e)) roomy;
+        ordered = ap keeps_names (sym (tested_on_line e)) ∙ keeps_on_line (tested_as e) ∙ is.1;
+        roomy = subst (λ (room : ℕ). room < most) (sym (tested_as_roomy line ∙ expression_as_roomy e)) roomy;
       }
 
-  alone_joined : (e : Expression) → IsLeaf e → (k : Option Constant) → literal e ≡ k → AloneHolds (IsReadablePart constants (IsStraightBody deep)) k e →
-      formed_expression e ≡ true → depth_of_expression e ≤ 200 → space_of_expression e < 200 → AloneHolds (IsJoinedPart constants) (literal (one_line_expression e)) (one_line_expression e)
-  alone_joined e leaf k is holds formed shallow roomy = subst (λ (k : Option Constant). AloneHolds (IsJoinedPart constants) k (one_line_expression e)) (sym (same_literal e ∙ is)) (by k is holds)
+  alone_joined : (e : Expression) → IsLeaf e → (k : Option Constant) → literal e ≡ k → AloneHolds (IsFlowPartBy (IsFlowBody deep)) k e →
+      formed_expression e ≡ true → depth_of_expression e ≤ 200 → space_of_expression e < most → AloneHolds (IsJoinedPart most) (literal (one_line_expression e)) (one_line_expression e)
+  alone_joined e leaf k is holds formed shallow roomy = subst (λ (k : Option Constant). AloneHolds (IsJoinedPart most) k (one_line_expression e)) (sym (same_literal e ∙ is)) (by k is holds)
     where
-      by : (k : Option Constant) → literal e ≡ k → AloneHolds (IsReadablePart constants (IsStraightBody deep)) k e → AloneHolds (IsJoinedPart constants) k (one_line_expression e)
+      by : (k : Option Constant) → literal e ≡ k → AloneHolds (IsFlowPartBy (IsFlowBody deep)) k e → AloneHolds (IsJoinedPart most) k (one_line_expression e)
       by (Some k) is holds = tt
       by None is holds = leaf_joined e leaf is holds formed shallow roomy
 
   -- the leaves of a condition
-  pub test_joined : (e : Expression) → TestHolds (IsReadablePart constants (IsStraightBody deep)) e →
-      formed_expression e ≡ true → depth_of_expression e ≤ 200 → space_of_expression e < 200 → TestHolds (IsJoinedPart constants) (one_line_expression e)
+  pub test_joined : (e : Expression) → TestHolds (IsFlowPartBy (IsFlowBody deep)) e →
+      formed_expression e ≡ true → depth_of_expression e ≤ 200 → space_of_expression e < most → TestHolds (IsJoinedPart most) (one_line_expression e)
   test_joined (and_expression line left right) holds formed shallow roomy =
       let parts = second_of_both (right_binds 2 false right) _ (second_of_both (left_binds 2 false left) _ formed) in (
         test_joined left holds.0 (first_of_both _ _ parts) (omega (arith, shallow)) (omega (arith, roomy)),

@@ -1,7 +1,12 @@
 pub mod ActsLevels
+pub mod Blockless
 pub mod CoresPlain
+pub mod EverFound
+pub mod FlatSources
 pub mod FlowHere
 pub mod FlowLikes
+pub mod FlowOnLine
+pub mod FlowPlain
 pub mod FlowSources
 pub mod FlowStepsRead
 pub mod FoundBody
@@ -13,11 +18,7 @@ pub mod JoinedParts
 pub mod MainFlow
 pub mod OneLineBlocks
 pub mod PlainBuilt
-pub mod ReadableSpace
+pub mod ReadHere
 pub mod SmallSource
 pub mod SourceRecovered
 pub mod StandsApart
-pub mod StepsApart
-pub mod StraightEverFound
-pub mod StraightFound
-pub mod StraightRecovered

@@ -11,8 +11,8 @@ use Rattle.lua_tree.specs.declared.tree.UnaryOp.{UnaryOp}
 use Rattle.proto.specs.declared.parts.Constant.{Constant}
 use Rattle.scheme.specs.Shapes.{branch_count, logic_count}
 use Rattle.same_flow.specs.Never.{is_other_literal, never_is, nevers_of_branches, nevers_of_further, nevers_of_otherwise, nevers_of_statement, nevers_of_statements, one_if}
-use Rattle.same_flow.specs.Space.{has_block, has_blocks, space_of_arguments, space_of_body, space_of_branches, space_of_expression, space_of_expressions, space_of_fields, space_of_otherwise, space_of_statement, space_of_statements, space_of_step}
-use Rattle.reads_back.proofs.PlainStraight.{given_on_line, same_follow, same_item, same_left, same_prefix, same_right, same_some, same_targets}
+use Rattle.same_flow.specs.Space.{around_body, has_block, has_blocks, space_of_arguments, space_of_body, space_of_branches, space_of_expression, space_of_expressions, space_of_fields, space_of_otherwise, space_of_statement, space_of_statements, space_of_step}
+use Rattle.reads_back.proofs.OneLineRules.{given_on_line, same_follow, same_item, same_left, same_prefix, same_right, same_some, same_targets}
 use Rattle.reads_back.proofs.Tests.{both_hold, first_of_both, second_of_both}
 use Rattle.reads_back.proofs.WordsSame.{same_fold, same_literal}
 
@@ -288,6 +288,9 @@ mutual
   fields_as_roomy (positional e separator rest) = same_most (expression_as_roomy e) (fields_as_roomy rest)
   fields_as_roomy (named name e separator rest) = same_most (expression_as_roomy e) (fields_as_roomy rest)
   fields_as_roomy (keyed key e separator rest) = same_most (same_most (expression_as_roomy key) (expression_as_roomy e)) (fields_as_roomy rest)
+
+pub block_as_around : (block : Statements) → around_body (one_line_statements block) (space_of_statements (one_line_statements block)) ≡ around_body block (space_of_statements block)
+block_as_around block = same_around (same_blocks block) (block_as_roomy block) (block_as_never block)
 
 -- ---- it is well formed
 

@@ -11,8 +11,8 @@ small_comes_back = record {
   formed = record { formed = refl; shallow = omega arith };
   scoped = refl;
   fits = refl;
-  deep = 0;
-  blocks = (((refl, (refl, tt)), (((((refl, refl), tt), (((refl, (refl, (refl, tt))), tt), tt), tt), tt), tt)), tt);
+  deep = 1;
+  blocks = (((omega arith, (((refl, (refl, tt)), (((((refl, refl), refl), (((refl, (refl, (refl, tt))), tt), tt), tt), tt), tt)), tt)), tt), tt);
   room = omega arith;
   same = refl;
 }

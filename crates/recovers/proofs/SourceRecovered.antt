@@ -1,8 +1,7 @@
--- A source with blocks is recovered where the words of its main function are read as blocks that are like its own, and those of each function in it as statements.
-use Rattle.std.proofs.Common.{◌≡◌, ◌∙◌, ℕ, ◌≤◌, Bool, true, false, List, [], ◌∷◌, Option, Some, refl, sym, ap, subst, arith, inl, inr}
+-- A source with blocks is recovered where its main function is read as a block that is like its own, whatever was found of the functions in it, none of these is lost, and they tell what is asked.
+use Rattle.std.proofs.Common.{◌≡◌, ◌∙◌, ℕ, ◌≤◌, Bool, true, false, List, [], Option, Some, refl, sym, ap, subst, arith, inl, inr}
 use Rattle.std.specs.Prelude.{IsSome}
-use Rattle.std.proofs.lemmas.Bool.Decides.{nat_tests}
-use Rattle.std.proofs.lemmas.Option.{none-some, same_Some, some_pair_parts}
+use Rattle.std.proofs.lemmas.Option.{same_Some, some_pair_parts}
 use Rattle.lua_num.specs.Bytes.{Text}
 use Rattle.lua_tree.specs.OneLine.{on_one_line}
 use Rattle.lua_tree.specs.Outline.{beginning, outline}
@@ -16,7 +15,7 @@ use Rattle.recover_expr.specs.Placing.{Steps}
 use Rattle.recover_flow.specs.Built.{built_body}
 use Rattle.recover_flow.specs.Debug.{FirstUntold}
 use Rattle.recover_flow.specs.Plans.{body_levels}
-use Rattle.recover_flow.specs.Recovering.{IsFound, IsFunctionFound, IsLost, IsMainFound, IsSourceFound, IsUnrecovered, StandsNowhere, main_of}
+use Rattle.recover_flow.specs.Recovering.{AreFound, IsFound, IsLost, IsMainFound, IsOneLost, IsSourceFound, main_of}
 use Rattle.recover_flow.specs.Searching.{whole_body}
 use Rattle.recover_flow.specs.Standing.{BodyStands}
 use Rattle.scheme.specs.Functions.{Finished, Heading}
@@ -26,12 +25,11 @@ use Rattle.scheme_lines.proofs.Again.{bare_again}
 use Rattle.scheme_lines.specs.Alike.{AreAlike, SemicolonsDoNotMatter}
 use Rattle.same_flow.proofs.Breaks.{breaks_say_nothing}
 use Rattle.same_flow.specs.SameMarks.{but_breaks}
-use Rattle.reads_back.specs.ReadAs.{AreRead}
 use Rattle.reads_back.proofs.StraightFunctions.{own_of_same}
 use Rattle.recovers.specs.FlowSources.{IsFlowChunk}
 use Rattle.recovers.specs.Found.{IsSourceRecovered}
 use Rattle.recovers.specs.Joined.{IsFlowRead, IsLike}
-use Rattle.recovers.proofs.StraightFound.{ActLaws, left_once, none_lost, none_untold_in, tells}
+use Rattle.recovers.proofs.FoundBody.{read_recovered}
 
 -- ---- a block like that of a source
 
@@ -73,8 +71,9 @@ module _ (source : Source) (written : Statements) (like : IsLike [] [] (ahead_of
 
 -- ---- what is recovered
 
-module _ (laws : ActLaws) (semicolons : SemicolonsDoNotMatter) (mine : Own) (functions : Functions) (of : IsFlowChunk (function mine functions)) (left : Bool → List (Option Inner)) (are : (short : Bool) → AreRead short 200 functions (left short))
-    (reads : (short : Bool) → IsFlowRead short (function mine functions) (left short) [] [] (ahead_of (resolved (on_one_line of.source))) (on_one_line of.source).body) where
+module _ (semicolons : SemicolonsDoNotMatter) (mine : Own) (functions : Functions) (of : IsFlowChunk (function mine functions))
+    (reads : (short : Bool) (left : List (Option Inner)) → AreFound short functions left →
+    IsFlowRead short (function mine functions) left [] [] (ahead_of (resolved (on_one_line of.source))) (on_one_line of.source).body) where
   abbrev chunk : Chunk
   chunk = function mine functions
 
@@ -87,18 +86,14 @@ module _ (laws : ActLaws) (semicolons : SemicolonsDoNotMatter) (mine : Own) (fun
   abbrev IsTree : Source → Type 0
   IsTree = IsTreeLike (ahead_of (resolved plain)) plain.body
 
-  -- each that is found, where those in it are the ones that are read, has a block like that of the source
-  function_is : (short : Bool) (found : Inner) → IsFunctionFound chunk (left short) short found → IsTree (main_of found.body)
-  function_is short found is =
-      let one = reads short in
+  -- each that is found has a block like that of the source
+  found_is : (short : Bool) (found : Inner) → IsFound short chunk found → IsTree (main_of found.body)
+  found_is short found (left, are, is) =
+      let one = reads short left are in
       let same : is.steps ≡ one.steps = same_Some is.steps one.steps (sym is.read ∙ one.read) in
       let made = one.each is.plans (subst (λ (s : Steps). BodyStands s.steps (whole_body s.steps) is.plans) same is.stands) (subst (λ (s : Steps). body_levels s.steps is.plans ≤ 200) same is.fits) in
       let block = (some_pair_parts is.statements made.0 is.behind made.1 (sym is.built ∙ ap (λ (s : Steps). built_body is.plans s.parts) same ∙ made.2)).0 in
       record { written = made.0; like = made.3; is = ap main_of is.body ∙ ap source_of block }
-
-  found_is : (short : Bool) (found : Inner) → IsFound short chunk found → IsTree (main_of found.body)
-  found_is short found (those, they, is) =
-      function_is short found (subst (λ (given : List (Option Inner)). IsFunctionFound chunk given short found) (left_once laws short 200 functions (left short) those (are short) they) is)
 
   tree_is : (tree : Source) → IsSourceFound chunk tree → IsTree tree
   tree_is tree is = subst IsTree (sym is.is_main) (by is.function)
@@ -124,40 +119,15 @@ module _ (laws : ActLaws) (semicolons : SemicolonsDoNotMatter) (mine : Own) (fun
 
   -- ---- nothing is lost in the forms of fewest levels
 
-  is_recovered : IsUnrecovered chunk (left true) true → ⊥
-  is_recovered (inl unread) = none-some (reads true).steps (sym unread ∙ (reads true).read)
-  is_recovered (inr (steps, read, inl nowhere)) =
-      let one = reads true in
-      let there = one.stands refl in
-      let none = subst (λ (s : Steps). StandsNowhere s) (same_Some steps one.steps (sym read ∙ one.read)) nowhere in
-      let many = none there.0 there.1 in
-      let few = there.2 in
-      grind (arith, nat_tests)
-  is_recovered (inr (steps, read, inr (plans, stands, few, unbuilt))) =
-      let one = reads true in
-      let same : steps ≡ one.steps = same_Some steps one.steps (sym read ∙ one.read) in
-      let made = one.each plans (subst (λ (s : Steps). BodyStands s.steps (whole_body s.steps) plans) same stands) (subst (λ (s : Steps). body_levels s.steps plans ≤ 200) same few) in
-      none-some (made.0, made.1) (sym unbuilt ∙ ap (λ (s : Steps). built_body plans s.parts) same ∙ made.2)
+  none_is_lost : (IsOneLost true 1 functions → ⊥) → IsLost true 0 chunk → ⊥
+  none_is_lost inside (inl many) = absurd (omega (arith, many))
+  none_is_lost inside (inr (inl one)) = inside one
+  none_is_lost inside (inr (inr (left, are, unrecovered))) = read_recovered (reads true left are) unrecovered
 
-  none_is_lost : IsLost true 0 chunk → ⊥
-  none_is_lost (inl many) = absurd (omega (arith, many))
-  none_is_lost (inr (inl one)) = none_lost laws 200 1 functions (left true) (omega arith) (are true) one
-  none_is_lost (inr (inr (those, they, unrecovered))) =
-      is_recovered (subst (λ (given : List (Option Inner)). IsUnrecovered chunk given true) (left_once laws true 200 functions (left true) those (are true) they) unrecovered)
-
-  -- ---- it tells what it is recovered by
-
-  told : (path : List ℕ) → FirstUntold chunk path → ⊥
-  told [] untold = untold (tells mine (reads true).told)
-  told (n ∷ path) untold = none_untold_in true 200 functions (left true) (are true) n path untold.1
+  -- ---- it tells its name
 
   named : IsSome mine.source
   named = subst IsSome (sym (ap (λ (own : Own). own.source) (own_of_same chunk (scheme of.source of.name) of.same))) refl
 
-  recovered : IsSourceRecovered of.source chunk
-  recovered = record { named = named; told = told; formed = formed; alike = found_alike; found = none_is_lost }
-
-pub source_recovered : ActLaws → SemicolonsDoNotMatter → (mine : Own) (functions : Functions) (of : IsFlowChunk (function mine functions)) → (left : Bool → List (Option Inner)) → ((short : Bool) → AreRead short 200 functions (left short))
-    → ((short : Bool) → IsFlowRead short (function mine functions) (left short) [] [] (ahead_of (resolved (on_one_line of.source))) (on_one_line of.source).body)
-    → IsSourceRecovered of.source (function mine functions)
-source_recovered = recovered
+  pub source_recovered : (IsOneLost true 1 functions → ⊥) → ((path : List ℕ) → FirstUntold chunk path → ⊥) → IsSourceRecovered of.source chunk
+  source_recovered inside told = record { named = named; told = told; formed = formed; alike = found_alike; found = none_is_lost inside }

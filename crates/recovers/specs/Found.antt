@@ -1,12 +1,15 @@
 -- To be believed. What is recovered of a chunk whose source it has: a tree that is alike to the source, whatever the search takes; and nothing is lost in the forms of fewest levels.
-use Rattle.std.specs.Prelude.{ℕ, List, true, IsSome}
+use Rattle.std.specs.Prelude.{◌≤◌, ℕ, List, true, false, IsSome}
 use Rattle.lua_tree.specs.Syntax.{Source}
 use Rattle.lua_tree.specs.WellFormed.{WellFormed}
 use Rattle.proto.specs.Chunk.{Chunk, own}
 use Rattle.proto.specs.Short.{IsShort}
 use Rattle.recover_flow.specs.Debug.{FirstUntold}
 use Rattle.recover_flow.specs.Recovering.{IsLost, IsSourceFound}
-use Rattle.reads_back.specs.ReadAs.{IsStraightChunk}
+use Rattle.reads_back.specs.Flows.{IsFlowBody, IsFlowPartBy}
+use Rattle.same_flow.specs.Blocks.{StatementsHold}
+use Rattle.same_flow.specs.Space.{around_body, space_of_statements}
+use Rattle.scheme.specs.Shapes.{Flat}
 use Rattle.scheme_lines.specs.Alike.{AreAlike}
 use Rattle.recovers.specs.FlowSources.{IsFlowChunk}
 
@@ -22,5 +25,6 @@ pub record IsSourceRecovered (source : Source) (chunk : Chunk) : Type 0 where
 abbrev pub FlowSourcesAreRecovered : Type 0
 FlowSourcesAreRecovered = (chunk : Chunk) (of : IsFlowChunk chunk) → IsShort chunk → IsSourceRecovered of.source chunk
 
-abbrev pub StraightSourcesAreRecovered : Type 0
-StraightSourcesAreRecovered = (chunk : Chunk) (of : IsStraightChunk chunk) → IsShort chunk → IsSourceRecovered of.source chunk
+-- flat sources are such
+abbrev pub FlatSourcesAreFlow : Type 0
+FlatSourcesAreFlow = (source : Source) → WellFormed source → Flat source → StatementsHold (IsFlowPartBy (IsFlowBody 0)) false source.body × (around_body source.body (space_of_statements source.body) ≤ 200)

@@ -2,20 +2,11 @@
 #![tactic(auto)]
 
 ghost use Rattle.recovers.specs.FlowSources.{IsFlowChunk};
-ghost use Rattle.recovers.specs.Found.{FlowSourcesAreRecovered, StraightSourcesAreRecovered};
+ghost use Rattle.recovers.specs.Found.{FlatSourcesAreFlow, FlowSourcesAreRecovered};
 ghost use Rattle.recovers.specs.Rows.{small_chunk};
 
-/// Law: what is recovered of the chunk of a straight source is a well-formed tree that is alike to the source, and in the forms of fewest levels nothing is lost.
-pub fn straight_sources_are_recovered()
-    ensures { StraightSourcesAreRecovered }
-{
-    scheme_lines::lines_do_not_matter();
-    reads_back::straight_sources_are_read();
-    recover_flow::acts_are_found();
-}
-
-/// Law: so it is with a source whose statements have blocks, whichever body the search takes of those that stand: the functions in it are straight, conditions keep the order of their operands, and there is room for one level more, and for one
-/// for each further arm of an `if` whose condition never fails.
+/// Law: what is recovered of the chunk of a source is a well-formed tree that is alike to the source, whichever body the search takes of those that stand, for each function at any depth; and in the forms of fewest levels nothing is lost. In
+/// comparisons with `>` and `>=` names keep their places, and there is room for one level more in each function whose statements have blocks, and for one for each further arm of an `if` whose condition never fails.
 pub fn flow_sources_are_recovered()
     ensures { FlowSourcesAreRecovered }
 {
@@ -32,7 +23,12 @@ pub fn flow_sources_are_recovered()
     built_flow::what_is_built_stands();
 }
 
-/// The chunk of a small source with a loop and an `if` in it is one of those, by computing.
+/// Law: flat sources are such.
+pub fn flat_sources_are_flow()
+    ensures { FlatSourcesAreFlow }
+{}
+
+/// The chunk of a small source with a function that has a loop and an `if` in it is one of those, by computing.
 pub fn small_source_has_blocks()
     ensures { IsFlowChunk small_chunk }
 {}

@@ -43,7 +43,7 @@ use Rattle.scheme_stands.proofs.Few.{kept}
 use Rattle.scheme_stands.proofs.Environment.{seen_length, named_enters, named_locals, named_hidden, named_still, named_first}
 use Rattle.scheme_stands.proofs.Small.{Setting, field_a, field_b, CountRoom, count_small, activated_length, declared_length, captured_inside}
 use Rattle.scheme_stands.proofs.Words.{Lifted, alone, plain_first, same_lift, abc_lift, jump_lift, jmp_lift, jump_on_lift, constant_lift, close_lift}
-use Rattle.scheme_stands.proofs.Lifts.{Stands, Calm, stands_first, stands_behind, Lift, WordLift, RelLifts, ValueLifts, value_of, one_lift, GivenLifts, single_lifts, load_lift, field_lifts, name_lifts, paren_lifts, unary_lifts, binary_lifts, index_lifts, logic_lifts, call_lift, method_lift, call_lifts, moved_lift, vararg_lifts}
+use Rattle.scheme_stands.proofs.Lifts.{Stands, Calm, stands_first, stands_first_by, stands_behind, Lift, WordLift, RelLifts, ValueLifts, value_of, one_lift, GivenLifts, single_lifts, load_lift, field_lifts, name_lifts, paren_lifts, unary_lifts, binary_lifts, index_lifts, logic_lifts, call_lift, method_lift, call_lifts, moved_lift, vararg_lifts}
 use Rattle.scheme_stands.proofs.Lifting.{calm_expression, FunctionLifts, AllLift, AllFit, FieldsLift, counts, open_lifts, list_room, adjust_lifts, table_lift, closure_lift, copies_lift, assign_lift, store_lift, store_word}
 use Rattle.scheme_stands.proofs.Standing.{stands_statement, stands_onwards, named_statements, statements_room}
 
@@ -126,7 +126,7 @@ module _ (all : List Mark) (rules : RulesKept all) where
           around = n;
           active = active;
           ahead = p.ahead;
-          here = record { between = h.between; scope = h.scope; ahead = h.ahead };
+          here = record { between = h.between; scope = h.scope; ahead = h.ahead; apart = h.apart };
           active_at = s.active_at;
           named = s.named;
           captures = c;
@@ -480,7 +480,7 @@ module _ (all : List Mark) (rules : RulesKept all) where
         let tn = tame_turn names place.declarations (statements_part block) (tame_statements block) in
         let numbers : Stands all n f (both (numbers_part first last step) (within (turn_in names place.declarations) (statements_part block))) p1 rest active r.declared_by =
         record { here = hn; active_at = closed_active (declares line 3 names) place active (declares_closed line 3 names place) s.active_at; named = s.named; room = s.room; plain = start } in
-        let sn = stands_first all n f (numbers_part first last step) (within (turn_in names place.declarations) (statements_part block)) p1 rest active r.declared_by (tame_numbers first last step) tn numbers in
+        let sn = stands_first_by all n f (numbers_part first last step) (within (turn_in names place.declarations) (statements_part block)) p1 rest active r.declared_by (omega arith) (tame_numbers first last step) tn numbers in
         let m1 = g1.to_reg active (length active) (length active) r.declared_by r.with_first r.first_at in
         let m2 = g2.to_reg active (length active + 1) (length active + 1) r.with_first r.with_last r.last_at in
         let m3 = step_moves all f step f3 active (length active + 2) r.with_last r.with_step r.step_at in
@@ -548,7 +548,7 @@ module _ (all : List Mark) (rules : RulesKept all) where
         let tn = tame_turn names place.declarations (statements_part block) (tame_statements block) in
         let values : Stands all n f (both (expressions_part es) (within (turn_in names place.declarations) (statements_part block))) p1 rest active r.declared_by =
         record { here = hn; active_at = closed_active (declares line 3 names) place active (declares_closed line 3 names place) s.active_at; named = s.named; room = s.room; plain = start } in
-        let valued = adjust_lifts all n f setting 3 es g (all_lift n f setting es he) active (length active) p1 _ r.declared_by r.valued (stands_first all n f (expressions_part es) (within (turn_in names place.declarations) (statements_part block)) p1 rest active r.declared_by (tame_expressions es) tn values) r.values_at in
+        let valued = adjust_lifts all n f setting 3 es g (all_lift n f setting es he) active (length active) p1 _ r.declared_by r.valued (stands_first_by all n f (expressions_part es) (within (turn_in names place.declarations) (statements_part block)) p1 rest active r.declared_by (omega arith) (tame_expressions es) tn values) r.values_at in
         let m = adjust_moves all f es 3 g active (length active) r.declared_by r.valued r.values_at in
         let enter = jmp_lift n f (r.loop).pc r.valued r.begin valued.plain r.enter in
         let hb2 = here_generic_block all line names es block place rest r.declared_by r.begin (behind all (expressions_part es) r.declared_by r.valued r.begin m w1.ahead) hn in

@@ -23,7 +23,7 @@ use Rattle.scheme_stands.specs.Lists.{GivenRel, CallAt, MethodAt, MovedFrom, rel
 use Rattle.scheme_stands.specs.Placed.{NamedAt}
 use Rattle.scheme_stands.specs.Places.{Moves, ValueMoves, RelMoves, ActiveAt, Here, Closed}
 use Rattle.scheme_stands.proofs.Locals.{closed_active}
-use Rattle.scheme_stands.proofs.Here.{Tame, here_first, here_behind, here_at, name_is}
+use Rattle.scheme_stands.proofs.Here.{Tame, TameBy, here_first, here_first_by, here_behind, here_at, name_is}
 use Rattle.scheme_stands.proofs.Moving.{operand_moves, rk_moves, behind, text_same}
 use Rattle.scheme_stands.proofs.Environment.{named_still, name_means}
 use Rattle.scheme_stands.proofs.Small.{Setting, field_a, field_b, WhereFits, where_fits, TargetFits, local_low, operand_low, rk_low, text_low, CountRoom, count_small, want_room, base_room, results_asking}
@@ -48,6 +48,9 @@ no_several : {A : Type 0} (form : Form) → several form ≡ false → several f
 no_several form h k = absurd (true≢false (sym k ∙ h))
 
 module _ (all : List Mark) (n : Names) (f : Fn) where
+  pub stands_first_by : {bound : ℕ} (a b : outline.Part) (place : Place) (rest : List Mark) (active : List Active) (p : Spot) → bound ≤ place.declarations → Tame a → TameBy bound b → Stands all n f (both a b) place rest active p → Stands all n f a place ((b (a place).next).marks ++ rest) active p
+  stands_first_by a b place rest active p below ta tb s = record { here = here_first_by all a b place rest p below ta tb s.here; active_at = s.active_at; named = s.named; room = s.room; plain = s.plain }
+
   pub stands_first : (a b : outline.Part) (place : Place) (rest : List Mark) (active : List Active) (p : Spot) → Tame a → Tame b → Stands all n f (both a b) place rest active p → Stands all n f a place ((b (a place).next).marks ++ rest) active p
   stands_first a b place rest active p ta tb s = record { here = here_first all a b place rest p ta tb s.here; active_at = s.active_at; named = s.named; room = s.room; plain = s.plain }
 

@@ -175,18 +175,46 @@ pub record ScopeAt (place : Place) : Type 0 where
   pub homes : (name : Text) (binding : Binding) → place.scope name ≡ Some binding → is_one_of binding.home place.around ≡ true
   pub declared : (name : Text) (binding : Binding) → place.scope name ≡ Some binding → binding.declaration < place.declarations
 
+-- ---- what is mentioned before a part and behind it
+
+-- a binding that is in scope at a place
+abbrev pub Seen : Place → Binding → Type 0
+Seen place b = (name : Text) × (place.scope name ≡ Some b)
+
+-- it is in scope at a place, or is declared behind it
+abbrev pub KnownFrom : Place → Binding → Type 0
+KnownFrom base b = Seen base b ⊎ (base.declarations ≤ b.declaration)
+
+-- a mention of what is declared before a number
+abbrev pub Under : ℕ → Option Binding → List ℕ → Type 0
+Under n None around = Unit {0}
+Under n (Some binding) around = binding.declaration < n
+
+-- what is in scope at a place is declared before it
+abbrev pub LowAt : Place → Type 0
+LowAt place = (name : Text) (binding : Binding) → place.scope name ≡ Some binding → binding.declaration < place.declarations
+
+-- a mention of what is declared before a number, or behind a place, or is in scope there
+abbrev pub IsApart : (from : ℕ) → Place → Option Binding → List ℕ → Type 0
+IsApart from next means around = (b : Binding) → means ≡ Some b → (b.declaration < from) ⊎ KnownFrom next b
+
+-- before a part only what is declared before it is mentioned, and behind it nothing that is declared in it, but what is in scope at its end
+pub record StandsApart (all : List Mark) (part : outline.Part) (place : Place) (rest : List Mark) : Type 0 where
+  pub before : List Mark
+  pub is : all ≡ before ++ ((part place).marks ++ rest)
+  pub low : Mentions (Under place.declarations) before
+  pub scope : LowAt place
+  pub apart : Mentions (IsApart place.declarations (part place).next) rest
+
 -- ---- all of it: the words from p on are those of a part at its place in the source
 
 pub record Here (all : List Mark) (part : outline.Part) (place : Place) (rest : List Mark) (p : Spot) : Type 0 where
   pub between : Between all part place rest
   pub scope : ScopeAt place
   pub ahead : p.ahead ≡ ahead_at all place ((part place).marks ++ rest)
+  pub apart : StandsApart all part place rest
 
 -- ---- what names and the further words of closures mean
-
--- a binding that is in scope at a place
-abbrev pub Seen : Place → Binding → Type 0
-Seen place b = (name : Text) × (place.scope name ≡ Some b)
 
 -- what a name means where it is mentioned
 pub data NameIs (all : List Mark) (place : Place) (name : Text) (active : List Active) (w : Where) : Type 0 where

@@ -4,7 +4,7 @@ use Rattle.recovers.proofs.flow_sources_are_recovered.Goals as goal
 
 pub returns : goal.returns
 returns c =
-    flow_sources_recovered c.names_stand.ensures c.lines_do_not_matter.ensures.semicolons (record { found = c.acts_are_found.ensures.found; built = c.acts_are_found.ensures.built })
+    flow_sources_recovered c.names_stand.ensures c.lines_do_not_matter.ensures.semicolons
     (record {
       found = c.flow_is_found.ensures;
       apart = c.flow_comes_apart.ensures;
@@ -19,4 +19,5 @@ returns c =
       steps = c.like_steps_make_the_same.ensures.steps;
       makes = c.like_steps_make_the_same.ensures.makes;
       says = c.like_steps_make_the_same.ensures.says;
+      acts = c.acts_are_found.ensures.found;
     })

@@ -9,7 +9,7 @@ use Rattle.lua_tree.specs.Outline.{Binding, Mark, mention, local_name, hidden_lo
 use Rattle.lua_tree.specs.Scoping.{is_captured}
 use Rattle.lua_tree.specs.Syntax as syntax
 use Rattle.lua_tree.specs.Syntax.{Expressions, no_expressions, Arguments, argument_list, text_argument, table_argument, Fields, no_fields, positional, named, keyed, Statements, no_statements, Statement, assignment, call_statement, do_block, while_loop, repeat_loop, if_statement, numeric_for, generic_for, function_statement, local_function, local_statement, return_statement, break_statement, Branches, no_branches, branch, Otherwise, no_otherwise, otherwise, ForStep, no_step, by_step, FunctionBody, function_body, Expression, nil_literal, true_literal, false_literal, vararg_expression, number_literal, text_literal, name_expression, function_expression, index_expression, field_expression, call_expression, method_call, and_expression, or_expression, binary_expression, unary_expression, constructor, parenthesized}
-use Rattle.scheme_stands.specs.Places.{Mentions}
+use Rattle.scheme_stands.specs.Places.{LowAt, Mentions, Under}
 use Rattle.scheme_stands.proofs.Environment.{Low}
 use Rattle.scheme_stands.proofs.Origins.{mentions_both, mentions_more}
 
@@ -30,17 +30,9 @@ names_low [] number home n scope below low = low
 names_low (name ∷ names) number home n scope below low =
     names_low names (suc number) home n (with_name name (record { declaration = number; home = home }) scope) (omega (arith, below)) (name_low name number home n scope (omega (arith, below)) low)
 
--- what is in scope at a place is declared before it
-abbrev pub LowAt : Place → Type 0
-LowAt place = Low place.scope place.declarations
-
 -- ---- walks
 
-abbrev pub Under : ℕ → Option Binding → List ℕ → Type 0
-Under n None around = Unit {0}
-Under n (Some binding) around = binding.declaration < n
-
-under_more : (low high : ℕ) → low ≤ high → (marks : List Mark) → Mentions (Under low) marks → Mentions (Under high) marks
+pub under_more : (low high : ℕ) → low ≤ high → (marks : List Mark) → Mentions (Under low) marks → Mentions (Under high) marks
 under_more low high more marks is = mentions_more (Under low) (Under high) by marks is
   where
     by : (means : Option Binding) (around : List ℕ) → Under low means around → Under high means around
@@ -53,10 +45,10 @@ pub record StaysLow (place : Place) (walk : Walk) : Type 0 where
   pub low : LowAt walk.next
   pub grows : place.declarations ≤ walk.next.declarations
 
-low_nothing : (place : Place) → LowAt place → StaysLow place (nothing place)
+pub low_nothing : (place : Place) → LowAt place → StaysLow place (nothing place)
 low_nothing place low = record { mentions = tt; low = low; grows = omega arith }
 
-low_both : (a b : outline.Part) (place : Place) → StaysLow place (a place) → StaysLow (a place).next (b (a place).next) → StaysLow place (both a b place)
+pub low_both : (a b : outline.Part) (place : Place) → StaysLow place (a place) → StaysLow (a place).next (b (a place).next) → StaysLow place (both a b place)
 low_both a b place one two =
     let middle = one.grows in
     let more = two.grows in
@@ -68,7 +60,7 @@ low_both a b place one two =
       grows = omega (arith, middle, more);
     }
 
-low_within : (enter : Place → Place) (part : outline.Part) (place : Place) → LowAt place → place.declarations ≤ (enter place).declarations → StaysLow (enter place) (part (enter place)) → StaysLow place (within enter part place)
+pub low_within : (enter : Place → Place) (part : outline.Part) (place : Place) → LowAt place → place.declarations ≤ (enter place).declarations → StaysLow (enter place) (part (enter place)) → StaysLow place (within enter part place)
 low_within enter part place low more inside =
     let grows = inside.grows in
     let end = (part (enter place)).next in
@@ -107,7 +99,7 @@ low_mentions line name place low = record { mentions = (by (place.scope name) (l
     by None below = tt
     by (Some binding) below = below binding refl
 
-low_path : (line : ℕ) (path : List Text) (place : Place) → LowAt place → StaysLow place (path_part line path place)
+pub low_path : (line : ℕ) (path : List Text) (place : Place) → LowAt place → StaysLow place (path_part line path place)
 low_path line [] place low = low_nothing place low
 low_path line (name ∷ fields) place low = low_mentions line name place low
 
@@ -172,19 +164,19 @@ mutual
   low_statement line (return_statement es) place low = low_expressions es place low
   low_statement line break_statement place low = low_marked (λ place. leave line place.looped) place low tt
 
-  low_branches : (branches : Branches) → IsLow (branches_part branches)
+  pub low_branches : (branches : Branches) → IsLow (branches_part branches)
   low_branches no_branches place low = low_nothing place low
   low_branches (branch e block others) place low = row (low_expression e) (row (inner (low_statements block)) (low_branches others)) place low
 
-  low_otherwise : (last : Otherwise) → IsLow (otherwise_part last)
+  pub low_otherwise : (last : Otherwise) → IsLow (otherwise_part last)
   low_otherwise no_otherwise place low = low_nothing place low
   low_otherwise (otherwise block) place low = inner (low_statements block) place low
 
-  low_step : (step : ForStep) → IsLow (step_part step)
+  pub low_step : (step : ForStep) → IsLow (step_part step)
   low_step no_step place low = low_nothing place low
   low_step (by_step e) place low = low_expression e place low
 
-  low_body : (method : Bool) (body : FunctionBody) → IsLow (body_part method body)
+  pub low_body : (method : Bool) (body : FunctionBody) → IsLow (body_part method body)
   low_body method (function_body params vararg block first last) place low =
       let names = all_params method params in
       let part = λ (place : Place). both (declares first 0 names) (both (come 0 names place.declarations) (statements_part block)) place in
@@ -222,12 +214,12 @@ mutual
   low_expression (constructor line items) place low = low_fields items place low
   low_expression (parenthesized line e) place low = low_expression e place low
 
-  low_arguments : (args : Arguments) → IsLow (arguments_part args)
+  pub low_arguments : (args : Arguments) → IsLow (arguments_part args)
   low_arguments (argument_list es) place low = low_expressions es place low
   low_arguments (text_argument text) place low = low_nothing place low
   low_arguments (table_argument items) place low = low_fields items place low
 
-  low_fields : (items : Fields) → IsLow (fields_part items)
+  pub low_fields : (items : Fields) → IsLow (fields_part items)
   low_fields no_fields place low = low_nothing place low
   low_fields (positional e separator rest) place low = row (low_expression e) (low_fields rest) place low
   low_fields (named text e separator rest) place low = row (low_expression e) (low_fields rest) place low

@@ -14,22 +14,21 @@ use Rattle.recover_expr.specs.declared.steps.StepKind.{StepKind}
 use Rattle.scheme.specs.Making.{Ahead, Maker}
 use Rattle.scheme_stands.proofs.Entering.{entered_by}
 use Rattle.scheme_stands.proofs.Origins.{mentions_both, mentions_more}
-use Rattle.scheme_stands.specs.Places.{Between, Mentions, ScopeAt}
+use Rattle.scheme_stands.specs.Places.{Between, IsApart, KnownFrom, LowAt, Mentions, ScopeAt, StandsApart, Under}
 use Rattle.scheme_stands.specs.Words.{Fn}
+use Rattle.scheme_stands.proofs.KnownMarks.{Later, MeansFrom}
+use Rattle.scheme_stands.proofs.LowMentions.{StaysLow, under_more}
 use Rattle.same_flow.specs.SameMarks.{but_breaks}
 use Rattle.same_flow.specs.Told.{PartFits}
 use Rattle.same_flow.proofs.Walks.{Entry, Said, State, back_to, ended_in, said_at, says, state_of}
 use Rattle.reads_back.proofs.ActiveCaptured.{part_leads}
-use Rattle.reads_back.proofs.CapturedMarks.{KnownFrom, Later, MeansFrom}
 use Rattle.reads_back.proofs.FlowThere.{IsFlowFunction, StepIs, step_is}
-use Rattle.reads_back.proofs.LowMentions.{LowAt, StaysLow, Under}
 use Rattle.reads_back.proofs.MarksCaptured.{all_declarations}
 use Rattle.reads_back.proofs.MarksUnbroken.{mentions_unbroken}
 use Rattle.reads_back.proofs.NamesCome.{Comes, Stays, step_scoped}
 use Rattle.reads_back.proofs.NoLaterCaptured.{IsLow, LowEntries, low_before, part_low}
 use Rattle.reads_back.proofs.StepsHere.{all_at, declarations_next, marks_before, marks_from, marks_next, rest_at, said_is, said_marks}
 use Rattle.reads_back.proofs.StepsKnown.{part_said, says_part, state_before}
-use Rattle.recovers.proofs.StandsApart.{IsApart, StandsApart, under_more}
 
 -- what is declared before a number or from another on
 abbrev pub IsOutside : (low high : ℕ) → Option Binding → List ℕ → Type 0
