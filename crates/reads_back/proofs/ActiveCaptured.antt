@@ -31,7 +31,7 @@ use Rattle.reads_back.proofs.LocalsBrought.{names_by}
 use Rattle.reads_back.proofs.MarksCaptured.{captured_unbroken}
 use Rattle.reads_back.proofs.NamesCome.{Comes, Stays, names_mean, step_scoped}
 use Rattle.reads_back.proofs.PlacedLocals.{Rising, rises_before}
-use Rattle.reads_back.proofs.ScopeActive.{ScopesActiveBefore, active_before, scope_active, scope_active_params}
+use Rattle.reads_back.proofs.ScopeActive.{ScopesActiveBefore, scope_active_params}
 use Rattle.reads_back.proofs.StepsKnown.{part_said, says_part, state_before}
 
 -- ---- what a step captures is in scope
@@ -150,7 +150,7 @@ rising_once low high (first ∷ others) rising (suc i) (suc j) one other is also
 
 module _ {f : Function} {g : Fn} {z : Maker} {lefts : ℕ → List (Option Inner)} {parts : ℕ → outline.Part} {code : Steps} {params names : List Text} {ahead : Ahead} {block : Statements} (of : IsFlowFunction f g z lefts parts code params names ahead block) where
   -- where what is in scope is active, so is what a step captures
-  pub captures_by : (place : Place) (from : ℕ) → ScopesActiveBefore of place from → CapturesActive of place from
+  captures_by : (place : Place) (from : ℕ) → ScopesActiveBefore of place from → CapturesActive of place from
   captures_by place from active at declaration less low before captured =
       let step = step_is of at less in
       let now = state_before code (state_of place []) at in
@@ -194,10 +194,6 @@ module _ {f : Function} {g : Fn} {z : Maker} {lefts : ℕ → List (Option Inner
       home_ended from (innermost place.around) (suc at) said.after.place said.after.entries behind.0 behind.1
 
   module _ (formed : formed_statements block ≡ true) (all : List Mark) (place : Place) (rest : List Mark) (begun : (begun_of params names ahead).ahead ≡ ahead_at all place ((statements_part block place).marks ++ rest)) where
-    -- where all that is in scope at the beginning was declared before a number, a step captures of what was declared from it on only active locals
-    pub captures_active : (from : ℕ) → ((name : Text) (b : Binding) → place.scope name ≡ Some b → b.declaration < from) → CapturesActive of place from
-    captures_active from below = captures_by place from (active_before of place from (scope_active of formed all place rest begun from below))
-
     module _ (declarations functions : ℕ) (marks : List Mark) (ahead_is : ahead ≡ ahead_by all declarations functions marks) (counted : (statements_part block place).next.declarations ≤ declarations_in all) where
       -- so it is in a function with parameters
       pub captures_active_params : LowAt place → CapturesActive of place declarations

@@ -39,7 +39,7 @@ use Rattle.reads_back.proofs.Tests.{first_of_both, second_of_both}
 abbrev pub texts_in : List LocVar → List Text
 texts_in entries = map (λ (entry : LocVar). entry.name) entries
 
-abbrev pub names_of : List Active → List Text
+abbrev names_of : List Active → List Text
 names_of active = map (λ (one : Active). one.local.name) active
 
 pub texts_of_entries : (start end : ℕ) (texts : List Text) → texts_in (entries_of start end texts) ≡ texts

@@ -195,7 +195,7 @@ called_is at g active left e before behind v n call is = not_so call
 
 module _ (at : Place) (g : Fn) (active : List Active) where
   -- an assignment, where no path says it
-  pub assigned_formed : (targets es : Expressions) (before behind : ℕ) (ts : List TargetValue) (vs : Values) (all : Bool) (last : Option OperandValue) (n : ℕ) (left : List (Option Inner)) → AreFineLeft left → Assigns targets es → AreAssigned g active targets es ts before behind (record { values = vs; all = all; last = last }) → can_act at left (assigned ts vs all last) ≡ true →
+  assigned_formed : (targets es : Expressions) (before behind : ℕ) (ts : List TargetValue) (vs : Values) (all : Bool) (last : Option OperandValue) (n : ℕ) (left : List (Option Inner)) → AreFineLeft left → Assigns targets es → AreAssigned g active targets es ts before behind (record { values = vs; all = all; last = last }) → can_act at left (assigned ts vs all last) ≡ true →
       formed_statement (assigned_statement at n left ts vs all last) ≡ true
   assigned_formed targets es before behind ts vs all last n left fine_left has is can =
       let fine = assigned_parts at ts vs all last n left fine_left can in
@@ -205,7 +205,7 @@ module _ (at : Place) (g : Fn) (active : List Active) where
       both_hold _ _ (some_targets g active at n left targets before is.0 ts has.some is.1) (both_hold _ _ fine.0.1 (both_hold _ _ to.formed (both_hold _ _ some values.formed)))
 
   -- it is no deeper than its levels tell
-  pub assigned_shallow : (ts : List TargetValue) (vs : Values) (all : Bool) (last : Option OperandValue) (n : ℕ) (left : List (Option Inner)) → AreFineLeft left → can_act at left (assigned ts vs all last) ≡ true → assigned_levels at n left ts vs all last ≤ 1000 →
+  assigned_shallow : (ts : List TargetValue) (vs : Values) (all : Bool) (last : Option OperandValue) (n : ℕ) (left : List (Option Inner)) → AreFineLeft left → can_act at left (assigned ts vs all last) ≡ true → assigned_levels at n left ts vs all last ≤ 1000 →
       suc (depth_of_statement (assigned_statement at n left ts vs all last)) ≤ assigned_levels at n left ts vs all last
   assigned_shallow ts vs all last n left fine_left can few =
       let fine = assigned_parts at ts vs all last n left fine_left can in

@@ -39,7 +39,7 @@ module _ (at : Place) (of : ℕ → Part) where
 
 module _ (at : Place) (of : ℕ → Part) where
   -- the path of a target mentions what the target does
-  pub path_of_part : (fs : List (Option Inner)) (t : TargetValue) (path : List Text) → can_write_target at fs t ≡ true → path_of at t ≡ Some path → SamePart (path_part 1 path) (part_of at of (value_of_target t))
+  path_of_part : (fs : List (Option Inner)) (t : TargetValue) (path : List Text) → can_write_target at fs t ≡ true → path_of at t ≡ Some path → SamePart (path_part 1 path) (part_of at of (value_of_target t))
   path_of_part fs (local_target r) path can is = single_path_part at of (local_name at r) path can is
   path_of_part fs (upvalue_target u) path can is = single_path_part at of (upvalue_name at u) path can is
   path_of_part fs (global_target k) path can is = single_path_part at of (constant_name at k) path can is
@@ -114,7 +114,7 @@ module _ {f : Function} {g : Fn} {active : List Active} {listed : List ℕ} (is_
       part_then (assigned_parts at of (length ts) (last_target ts) (ends_open es) is.0 to is.3) (list_part is_function listed_names of parts_made es has (omega (arith, few)) before behind is.0 is.1)
 
   -- an assignment, where no path says it
-  pub assigned_marks : (targets es : Expressions) (before behind : ℕ) (ts : List TargetValue) (vs : Values) (all : Bool) (last : Option OperandValue) (n : ℕ) (left : List (Option Inner)) → ArePartsLeft of left → Assigns targets es → max (depth_of_expressions targets) (depth_of_expressions es) ≤ 200 → AreAssigned g active targets es ts before behind (record { values = vs; all = all; last = last }) → can_act at left (assigned ts vs all last) ≡ true →
+  assigned_marks : (targets es : Expressions) (before behind : ℕ) (ts : List TargetValue) (vs : Values) (all : Bool) (last : Option OperandValue) (n : ℕ) (left : List (Option Inner)) → ArePartsLeft of left → Assigns targets es → max (depth_of_expressions targets) (depth_of_expressions es) ≤ 200 → AreAssigned g active targets es ts before behind (record { values = vs; all = all; last = last }) → can_act at left (assigned ts vs all last) ≡ true →
       SamePart (statement_part 1 (assigned_statement at n left ts vs all last)) (statement_part 1 (one_line_statement (assignment targets es)))
   assigned_marks targets es before behind ts vs all last n left parts_left has few is can =
       let values = second_of_both (can_write_targets at left ts) _ can in

@@ -19,15 +19,15 @@ use Rattle.recover_expr.specs.declared.function.Word.{Word}
 use Rattle.scheme.specs.declared.making.Active.{Active}
 use Rattle.scheme.specs.declared.making.Piece.{Piece}
 use Rattle.scheme_stands.specs.Relation.{related}
-use Rattle.scheme_stands.specs.Words.{Fn, Spot, WordAt, IsRead}
+use Rattle.scheme_stands.specs.Words.{Fn, Spot}
 use Rattle.reads_back.specs.Acted.{Acted, called, declared, returned, IsActed, act_levels, act_statement, can_act, left_by_act, taken_behind_act, declared_function}
 use Rattle.reads_back.specs.Cores.{IsCore}
 use Rattle.reads_back.specs.ReadAs.{part_of}
 use Rattle.reads_back.proofs.Comes.{CallComes, ReadsCall}
 use Rattle.reads_back.proofs.BehindWords.{HasLocals, SameLocals, behind_words}
-use Rattle.reads_back.proofs.Reaches.{reaches_on, step_ends, Reaches}
+use Rattle.reads_back.proofs.Reaches.{reaches_on, step_ends}
 use Rattle.reads_back.proofs.ValueWords.{next_free}
-use Rattle.reads_back.proofs.WordsRead.{IsFunction, IsQuiet, word_of, word_there, turn_there}
+use Rattle.reads_back.proofs.WordsRead.{IsFunction, IsQuiet, word_of}
 
 -- ---- what is known of an act that is read
 
@@ -92,14 +92,6 @@ after_act acted s = with_left (left_by_act acted s.left) s
 -- the last word of the step ends it
 ends_turn : (f : Function) (w : Word) (draft : Drafted) (s behind : Situation) → read_word f w (see w.instr s) ≡ Some (ends draft, behind) → turn_of f s w ≡ Some (over draft, behind)
 ends_turn f w draft s behind does = ap (option_and_then (λ p. turned f w p.1 p.0)) does
-
--- the last word of a step
-pub last_word : {f : Function} {g : Fn} {w : Piece} {p q : Spot} {first : ℕ} {s t behind : Situation} (draft : Drafted) → IsFunction f g → Reaches f first s p.pc t → IsQuiet f t.scope first q.pc → WordAt g w p q → IsRead p.pc w →
-    read_word f (word_of p.pc w) (see (word_of p.pc w).instr t) ≡ Some (ends draft, behind) → (count : ℕ) → q.pc < count + first → words_from f count first s ≡ Some (draft, behind)
-last_word {f} {g} {w} {p} {q} {first} {s} {t} {behind} draft is_function reaches quiet at read does count few =
-    let later : p.pc < q.pc = omega (arith, at.next) in
-    let turn = turn_there p.pc t quiet (reaches_on reaches) later (word_there is_function at read (omega (arith, quiet.within))) in
-    step_ends draft count reaches (turn ∙ ends_turn f (word_of p.pc w) draft t behind does) (omega (arith, at.next))
 
 -- ---- calls
 

@@ -23,7 +23,7 @@ use Rattle.reads_back.proofs.Tests.{and_not, both_hold, first_of_both, given_is,
 -- ---- single values one by one
 
 -- these entries are these values
-abbrev pub AreSingles : Entries → Values → Type 0
+abbrev AreSingles : Entries → Values → Type 0
 AreSingles [] no_values = Unit {0}
 AreSingles (entry ∷ entries) (and_value v vs) = (single_of entry ≡ Some v) × AreSingles entries vs
 AreSingles entries vs = ⊥

@@ -1,5 +1,5 @@
 -- An assignment that is written of what was read makes the same words.
-use Rattle.std.proofs.Common.{◌≡◌, ℕ, suc, ◌+◌, ◌-◌, ◌*◌, ◌≤◌, ◌<◌, Bool, true, false, cond, List, [], ◌∷◌, ◌++◌, length, nat_lt, Option, Some, None, refl, sym, ap, ap₂, ◌∙◌, subst, arith, inl, inr, ◌⊎◌, max}
+use Rattle.std.proofs.Common.{◌≡◌, ℕ, suc, ◌+◌, ◌-◌, ◌*◌, ◌≤◌, ◌<◌, Bool, true, false, cond, List, [], ◌∷◌, ◌++◌, length, nat_lt, Option, Some, None, refl, sym, ap, ap₂, ◌∙◌, subst, arith, inl, inr, ◌⊎◌, max, zero}
 use Rattle.std.proofs.lemmas.Bool.{eq-eqb, eqb-false, eqb-true, ltb-false, ltb-true, ne_eqb}
 use Rattle.std.specs.Prelude.{◌&&◌, ◌==◌, not, if◌then◌else◌}
 use Rattle.lua_tree.specs.OneLine.{one_line_expressions}
@@ -16,9 +16,9 @@ use Rattle.recover_expr.specs.Lists.{value_count}
 use Rattle.recover_expr.specs.Situation.{Function}
 use Rattle.scheme.specs.Expressions.{Coded, Target}
 use Rattle.scheme.specs.Lists.{adjust, all_next, nils}
-use Rattle.scheme.specs.Making.{Got, Maker, active_count}
+use Rattle.scheme.specs.Making.{Got, Maker, active_count, answer}
 use Rattle.scheme.specs.Scheme.{all_coded}
-use Rattle.scheme.specs.Statements.{all_targets, assign_adjusted, assign_part, copies, each_stored, stored_from}
+use Rattle.scheme.specs.Statements.{all_targets, assign_adjusted, assign_part, copies, each_stored, stored_from, clashes, copied}
 use Rattle.scheme.specs.declared.making.Active.{Active}
 use Rattle.scheme_stands.proofs.Growth.{Final, before as before_part, calm, later}
 use Rattle.scheme_stands.proofs.Lines.{grows_adjust}
@@ -28,12 +28,11 @@ use Rattle.same_flow.specs.Space.{space_of_expressions, space_of_statement, spac
 use Rattle.reads_back.specs.Acted.{AreActTargets, AreAssigned, AreTargets, AreValues, AreWithOperand, Assigned, EndWithOperand, Assigns, IsActTarget, IsTarget, all_named_behind, assigned, can_write_last, is_part, last_target, left_by_last, left_by_targets, some_missing, taken_behind_last, taken_behind_targets, with_last_nil, words_assigned, words_targets, can_act, named_by, lean_assignment, function_in}
 use Rattle.reads_back.specs.Cores.{AllHaveCores, AreCores, IsCore, ends_open}
 use Rattle.reads_back.proofs.AdjustedEntries.{count_last}
-use Rattle.reads_back.proofs.AssignedMentions.{copies_pass}
 use Rattle.reads_back.proofs.DeclaredSame.{Adjusts, adjust_closed, closed_written, more_written, nil_written, nils_one, open_written}
 use Rattle.reads_back.proofs.EachStoredSame.{with_operand_levels, operand_levels_are, name_no_part, EachSame, LastNoLocal, Placed, and_nil, as_many_places, before_each, before_stored, each_values, each_with_operand, nil_all_rewritten, nil_cores, nil_count, nil_from, nil_have, nil_names, nil_operand, operand_written, placed_of, places, places_are, stored_taken, targets_are, targets_of, with_operand_coded}
 use Rattle.reads_back.proofs.GivenSame.{AllRewritten}
 use Rattle.reads_back.proofs.ListsSame.{coded_count, codes_of, cores_count, list_few, opens_is, values_coded}
-use Rattle.reads_back.proofs.Mentions.{IsAhead, ahead_behind, ahead_front, mentions_in_all, made_behind, made_both}
+use Rattle.reads_back.proofs.Mentions.{IsAhead, ahead_behind, ahead_front, mentions_in_all, made_behind, made_both, Passed, Mention}
 use Rattle.reads_back.proofs.NamedSame.{lean_room_alone, lean_room_values, lean_alone, lean_values, named_few, named_same}
 use Rattle.reads_back.proofs.Rewriting.{IsMadeBy, Rewritten, RewrittenAct}
 use Rattle.reads_back.proofs.TargetsSame.{ArePlaces, TargetSame, TargetsSame, copies_constants, copies_grow, copies_places, field_same, index_same, more_same, name_same, none_same, targets_grow, written_count}
@@ -55,6 +54,17 @@ module _ (f : Function) (g : Fn) (active : List Active) (listed : List ℕ) (z :
   abbrev pub TargetsWritten : Expressions → Type 0
   TargetsWritten no_expressions = Unit {0}
   TargetsWritten (syntax.expression target targets) = TargetWritten target × TargetsWritten targets
+
+-- ---- copies of locals that are targets
+
+-- copies of locals pass none
+copied_pass : {mentions : List Mention} {m : Maker} (clash : Bool) (x : ℕ) (targets : List Target) (n : Maker) → Passed mentions m n → Passed mentions m (cond clash (copied 1 x targets) (answer targets) n).after
+copied_pass true x targets n passed = record { around = passed.around; behind = passed.behind }
+copied_pass false x targets n passed = passed
+
+copies_pass : {mentions : List Mention} {m : Maker} (count : ℕ) (targets : List Target) (n : Maker) → Passed mentions m n → Passed mentions m (copies 1 count targets n).after
+copies_pass zero targets n passed = passed
+copies_pass (suc x) targets n passed = let before = copies 1 x targets n in copied_pass (clashes x targets) x before.value before.after (copies_pass x targets n passed)
 
 -- ---- where the values go
 

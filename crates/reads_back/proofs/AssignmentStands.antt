@@ -1,7 +1,7 @@
 -- The words of an assignment are read as one step, which is that assignment.
 use Rattle.std.proofs.Common.{add-one, ◌≡◌, ◌≢◌, ◌⊎◌, ℕ, zero, suc, ◌+◌, ◌<◌, ◌≤◌, ◌&&◌, ◌||◌, nat_le, max, Bool, true, false, List, [], ◌∷◌, ◌++◌, length, length-append, Option, Some, None, refl, sym, ap, ap₂, ◌∙◌, subst, subst₂, arith, le-leb, lt-ltb, eq-eqb, inl, inr, is_some}
 use Rattle.std.proofs.lemmas.Bool.{eqb-true, le-ltb, ne_eqb}
-use Rattle.std.specs.Prelude.{◌==◌, not, option_map, if◌then◌else◌, replicate, Option}
+use Rattle.std.specs.Prelude.{◌==◌, not, option_map, if◌then◌else◌, replicate}
 use Rattle.lua_tree.specs.Syntax as syntax
 use Rattle.lua_tree.specs.Syntax.{Expression, Expressions, field_expression, index_expression, name_expression, no_expressions, assignment}
 use Rattle.lua_tree.specs.WellFormed.{depth_of_expression, depth_of_expressions, has_expressions}

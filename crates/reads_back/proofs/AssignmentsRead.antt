@@ -18,14 +18,14 @@ use Rattle.reads_back.proofs.Reaches.{Reaches, reaches_on, step_ends}
 -- ---- the step
 
 -- the step, and what is known behind it, where so many constants are taken
-abbrev pub step_of : Function → (next : ℕ) → Acted → Scope → Situation → (seen : ℕ) → Drafted
+abbrev step_of : Function → (next : ℕ) → Acted → Scope → Situation → (seen : ℕ) → Drafted
 step_of f next acted scope s seen = act_draft f next acted (record s { scope = scope; seen = seen })
 
-abbrev pub known_behind : Acted → Scope → Entries → Situation → (seen : ℕ) → Situation
+abbrev known_behind : Acted → Scope → Entries → Situation → (seen : ℕ) → Situation
 known_behind acted scope entries s seen = record (after_act acted (record s { scope = scope; seen = seen })) { entries = entries }
 
 -- words that are read as the step are this act
-pub act_is_read : {f : Function} {g : Fn} {active : List Active} {statement : Statement} {before behind first last : ℕ} {s : Situation} (acted : Acted) (next : ℕ) (scope : Scope) (entries : Entries) → locals_of acted ≡ 0 → IsActed g active statement before behind acted →
+act_is_read : {f : Function} {g : Fn} {active : List Active} {statement : Statement} {before behind first last : ℕ} {s : Situation} (acted : Acted) (next : ℕ) (scope : Scope) (entries : Entries) → locals_of acted ≡ 0 → IsActed g active statement before behind acted →
     SameLocals s.scope scope → next ≡ last → first < last →
     ((count : ℕ) → last < count + first → words_from f count first s ≡ Some (step_of f next acted scope s (taken_behind_act acted s.seen), known_behind acted scope entries s (taken_behind_act acted s.seen))) →
     ActRead f g active statement before behind s first last

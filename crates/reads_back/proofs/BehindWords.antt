@@ -1,10 +1,9 @@
 -- What is known of locals, entries and constants behind words.
-use Rattle.std.proofs.Common.{◌≡◌, ℕ, List, [], ◌∷◌, ◌++◌, length, refl, ap, ◌∙◌, drop}
+use Rattle.std.proofs.Common.{◌≡◌, ℕ, List, ◌++◌, length, refl, ap, ◌∙◌, drop}
 use Rattle.std.specs.List.{prefix_len}
 use Rattle.std.specs.Prelude.{◌==◌}
 use Rattle.proto.specs.declared.parts.LocVar.{LocVar}
-use Rattle.core_expr.specs.Values.{Values, no_values, and_value}
-use Rattle.recover_expr.specs.Entries.{Entries, value_entry}
+use Rattle.recover_expr.specs.Entries.{Entries}
 use Rattle.recover_expr.specs.Locals.{Scope}
 use Rattle.recover_expr.specs.Situation.{Function, Situation}
 use Rattle.scheme.specs.declared.making.Active.{Active}
@@ -39,8 +38,3 @@ behind_words scope seen more s = record s { scope = scope; entries = s.entries +
 -- the locals are known there too
 pub locals_then : {active : List Active} {listed : List ℕ} {s : Situation} {scope : Scope} {entries : Entries} {seen : ℕ} → SameLocals s.scope scope → HasLocals active listed s → HasLocals active listed (record s { scope = scope; entries = entries; seen = seen })
 locals_then same locals = record { base = locals.base; places = same.active ∙ locals.places }
-
--- the entries of values
-abbrev pub entries_of : Values → Entries
-entries_of no_values = []
-entries_of (and_value v values) = value_entry v ∷ entries_of values

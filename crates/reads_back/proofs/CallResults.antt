@@ -134,7 +134,6 @@ call_value_reads part is_function reads = record {
 
 call_opens : {f : Function} {Is : Value → Type 0} {deep free first last : ℕ} {s : Situation} → free ≡ next_free s → CallComes f Is deep s Op.Call free 0 first last → OpenComes f Is deep s first last
 call_opens {f} {free = free} {first = first} {last = last} {s = s} is call =
-    let t = behind_words call.scope call.seen call.more s in
     let behind = record s { scope = call.scope; seen = call.seen } in
     let w = word_of call.pc (Piece.Abc Op.Call free call.b 0) in
     let does : Done → Option (Turn × Situation) = option_and_then (λ p. turned f w p.1 p.0) in

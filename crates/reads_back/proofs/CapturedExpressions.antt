@@ -57,7 +57,7 @@ literal_by : (folded : Option ℤ) (e : Expression) (k : Constant) → fold e �
 literal_by (Some n) e k folded is place = fold_still e n folded place
 literal_by None e k folded is place = plain_still e k is place
 
-pub literal_still : (e : Expression) (k : Constant) → literal e ≡ Some k → (place : Place) → expression_part e place ≡ nothing place
+literal_still : (e : Expression) (k : Constant) → literal e ≡ Some k → (place : Place) → expression_part e place ≡ nothing place
 literal_still e k is place = literal_by (fold e) e k refl is place
 
 module _ {f : Function} {g : Fn} {all : Onward} {base : Place} {active : List Active} (of : Catching f g all base active) where
@@ -97,7 +97,7 @@ module _ {f : Function} {g : Fn} {all : Onward} {base : Place} {active : List Ac
     pub rk_caught : (free x free1 : ℕ) (p q : Spot) → RkAt g active c free x free1 p q → Caught part p q
     rk_caught free x free1 p q at = rk_by c.form.literal free x free1 p q refl at
 
-    pub test_caught : (free : ℕ) (truth : Bool) (label : ℕ) (p q : Spot) → TestAt g active c free truth label p q → Caught part p q
+    test_caught : (free : ℕ) (truth : Bool) (label : ℕ) (p q : Spot) → TestAt g active c free truth label p q → Caught part p q
     test_caught free truth label p q at =
         let words = at.words_at in
         caught_on (operand_caught free at.x at.free1 p at.mid at.operand_at) (still_then {m = words.mid} (abc_still of.is_function refl words.first_at) (jump_still of.is_function refl words.second_at))
@@ -110,7 +110,7 @@ module _ {f : Function} {g : Fn} {all : Onward} {base : Place} {active : List Ac
     test_by (Some k) free truth label p q is at = v.quiet k is p q (jump_on _ label p q at)
     test_by None free truth label p q is at = test_caught free truth label p q at
 
-    pub value_jump : (free : ℕ) (truth : Bool) (label : ℕ) (p q : Spot) → TestBy c.form.literal g active c free truth label p q → Caught part p q
+    value_jump : (free : ℕ) (truth : Bool) (label : ℕ) (p q : Spot) → TestBy c.form.literal g active c free truth label p q → Caught part p q
     value_jump free truth label p q at = test_by c.form.literal free truth label p q refl at
 
   pub text_still : (text : Text) (free x free1 : ℕ) (p q : Spot) → RkTextAt g text free x free1 p q → Still f p q
@@ -143,7 +143,7 @@ module _ {f : Function} {g : Fn} {all : Onward} {base : Place} {active : List Ac
   comparison_still op truth x y p q at = abc_still of.is_function refl at
 
   module _ (a b : outline.Part) (left right : Rel) (s t : Bool) (first : Uses a s left) (second : Uses b t right) where
-    pub compare_caught : (op : BinaryOp) (free : ℕ) (truth : Bool) (label : ℕ) (p q : Spot) → CompareAt g op left right active free truth label p q → Caught (both a b) p q
+    compare_caught : (op : BinaryOp) (free : ℕ) (truth : Bool) (label : ℕ) (p q : Spot) → CompareAt g op left right active free truth label p q → Caught (both a b) p q
     compare_caught op free truth label = two_caught a b (RkAt g active left) (RkAt g active right) (rk_caught a left first.value) (rk_caught b right second.value) _
         (λ x y p q at. still_then {m = at.mid} (comparison_still op truth x y p at.mid at.first_at) (jump_still of.is_function refl at.second_at)) free
 
@@ -321,7 +321,7 @@ module _ {f : Function} {g : Fn} {all : Onward} {base : Place} {active : List Ac
   -- ---- calls
 
   -- the arguments of a call
-  abbrev pub GivenCaught : outline.Part → GivenRel → Type 0
+  abbrev GivenCaught : outline.Part → GivenRel → Type 0
   GivenCaught part given = (free : ℕ) (p q : Spot) → given.part active free p q → Caught part p q
 
   pub call_caught : (a b : outline.Part) (on : Rel) (given : GivenRel) → Value a on → GivenCaught b given → (free : ℕ) (op : Op) (want : Want) → is_quiet op ≡ true → (p q : Spot) → CallAt g on given active free op want p q → Caught (both a b) p q

@@ -1,5 +1,5 @@
 -- Each step of a function captures what its marks do, where these come next at its place.
-use Rattle.std.proofs.Common.{◌≡◌, ◌<◌, ℕ, suc, ◌-◌, Bool, true, List, [], ◌∷◌, ◌++◌, append_assoc, length, Some, refl, sym, ap, ap₂, ◌∙◌, subst, arith}
+use Rattle.std.proofs.Common.{◌≡◌, ◌<◌, ℕ, suc, ◌-◌, Bool, true, List, [], ◌∷◌, length, Some, refl, sym, ap, ap₂, ◌∙◌, subst, arith}
 use Rattle.std.proofs.lemmas.Option.{same_Some}
 use Rattle.std.specs.Prelude.{◌==◌, ◌&&◌, ◌||◌, Option, not, option_map}
 use Rattle.lua_num.specs.Bytes.{Text}
@@ -17,16 +17,14 @@ use Rattle.recover_expr.specs.Situation.{Function, Situation, begun}
 use Rattle.recover_expr.specs.declared.steps.Step.{Step}
 use Rattle.recover_expr.specs.declared.steps.StepKind.{StepKind}
 use Rattle.scheme.specs.Making.{Ahead, Maker}
-use Rattle.scheme_stands.specs.Places.{ahead_at}
 use Rattle.scheme_stands.specs.Words.{Fn}
 use Rattle.scheme_stands.proofs.Growth.{spot}
 use Rattle.scheme_stands.proofs.Walks.{and_right}
-use Rattle.same_flow.specs.SameFlow.{begun_of}
 use Rattle.same_flow.specs.SameMarks.{but_breaks}
 use Rattle.same_flow.proofs.ListedRun.{step_there}
-use Rattle.same_flow.proofs.Walks.{Said, run, said_at, says_at, state_of}
+use Rattle.same_flow.proofs.Walks.{Said, said_at, says_at, state_of}
 use Rattle.reads_back.proofs.CapturedSteps.{KindCatching, kind_caught, own_captured}
-use Rattle.reads_back.proofs.CapturedStretches.{Onward, Shown, by_ahead}
+use Rattle.reads_back.proofs.CapturedStretches.{Onward, Shown}
 use Rattle.reads_back.proofs.CapturedWords.{captured_between, spans_between}
 use Rattle.reads_back.proofs.CapturedInEnd.{CapturesNoHidden}
 use Rattle.reads_back.proofs.CapturesLike.{CapturesLike, StepsCaptureLike}
@@ -36,7 +34,7 @@ use Rattle.reads_back.proofs.FlowThere.{IsFlowFunction, StepIs, before_at, made_
 use Rattle.reads_back.proofs.FormedSteps.{IsFormed, laid_formed}
 use Rattle.reads_back.proofs.ScopesRead.{has_register}
 use Rattle.reads_back.proofs.StepsExact.{captured_by_step, step_of_words}
-use Rattle.reads_back.proofs.StepsKnown.{ahead_unbroken, known_laid, part_said, says_part, state_before}
+use Rattle.reads_back.proofs.StepsKnown.{part_said, says_part, state_before}
 use Rattle.reads_back.proofs.StepsSpan.{step_captures_between}
 
 -- breaks capture nothing
@@ -60,7 +58,7 @@ module _ {f : Function} {g : Fn} {z : Maker} {lefts : ℕ → List (Option Inner
   }
 
   -- a step that is read ends where the next one begins
-  pub step_next : (at : ℕ) (now behind : Situation) (draft : Drafted) → at < length code.steps → Begins of at now → step_at f at (pcs of at) now ≡ Some (draft, behind) → draft.next ≡ pcs of (suc at)
+  step_next : (at : ℕ) (now behind : Situation) (draft : Drafted) → at < length code.steps → Begins of at now → step_at f at (pcs of at) now ≡ Some (draft, behind) → draft.next ≡ pcs of (suc at)
   step_next at now behind draft less begins is =
       let step = step_is of at less in
       let read = kind_step_read of step.0 step.1 step.2 (begun at (pcs of at) now) (begins_again begins) (later_at of (suc at) (omega (arith, less))) in
@@ -71,7 +69,7 @@ module _ {f : Function} {g : Fn} {z : Maker} {lefts : ℕ → List (Option Inner
 
   module _ (place : Place) where
     -- the place before a step, where the statements begin at a place
-    abbrev pub place_at : ℕ → Place
+    abbrev place_at : ℕ → Place
     place_at at = (state_before code (state_of place []) at).place
 
     -- the marks of a step come next at its place, by a list of all marks of its own, and so much is known there
@@ -89,14 +87,14 @@ module _ {f : Function} {g : Fn} {z : Maker} {lefts : ℕ → List (Option Inner
         ∙ ap (is_captured d) said.0
         ∙ unbroken_captured d (part_said kind part (place_at at)).marks
 
-    pub formed_at : formed_statements block ≡ true → {at : ℕ} {kind : StepKind} {part : Part} → StepIs of at kind part → IsFormed kind part
+    formed_at : formed_statements block ≡ true → {at : ℕ} {kind : StepKind} {part : Part} → StepIs of at kind part → IsFormed kind part
     formed_at formed {at} {kind} {part} is =
         let step = step_there code.steps at is.within in
         let same : kind ≡ step.0.kind = same_Some kind step.0.kind (sym is.there ∙ ap (option_map (λ (it : Step). it.kind)) step.1) in
         subst (λ kind. IsFormed kind part) (sym same) (laid_formed code params names ahead block of.laid formed at step.0 part step.1 is.part_there)
 
     -- The words of a step capture what its marks do.
-    pub step_captures_like : formed_statements block ≡ true → {at : ℕ} {kind : StepKind} {part : Part} (is : StepIs of at kind part) → StepComes at kind part →
+    step_captures_like : formed_statements block ≡ true → {at : ℕ} {kind : StepKind} {part : Part} (is : StepIs of at kind part) → StepComes at kind part →
         CapturesLike (said_at code at (state_before code (state_of place []) at)).marks (before_at of at).active (captured_between f (pcs of (suc at) - pcs of at) (pcs of at))
     step_captures_like formed {at} {kind} {part} is comes =
         let caught = kind_caught code (pcs of) kind part (before_at of at) (made_at of at kind part) (spot (made_at of at kind part)) is.fits (formed_at formed is) comes.catching is.stands in
@@ -139,34 +137,3 @@ module _ {f : Function} {g : Fn} {z : Maker} {lefts : ℕ → List (Option Inner
         step_captures_between f at (pcs of at) now draft behind is ∙ ap (λ next. captured_between f (next - pcs of at) (pcs of at)) (step_next at now behind draft less begins is) in
         subst (λ (registers : List ℕ). CapturesLike (said_at code at (state_before code (state_of place []) at)).marks (before_at of at).active registers) (sym registers)
         (step_captures_like formed step.2 (comes at step.0 step.1 step.2))
-
-  -- ---- by what is known of the source ahead
-
-  module _ (marks : List Mark) (place : Place) (rest : List Mark) (formed : formed_statements block ≡ true) (begins_at : (begun_of params names ahead).ahead ≡ ahead_at marks place ((statements_part block place).marks ++ rest)) where
-    -- the marks of a step come next at its place
-    step_comes : {at : ℕ} {kind : StepKind} {part : Part} → StepIs of at kind part → KindCatching f g (by_ahead marks) (place_at place at) kind part (before_at of at).active (made_at of at kind part).active → StepComes place at kind part
-    step_comes {at} {kind} {part} is catching =
-        let first = state_of place [] in
-        let now = state_before code first at in
-        let said = said_at code at now in
-        let left = length code.steps - suc at in
-        let others = run code (suc at) left said.after in
-        let step = part_said kind part now.place in
-        let less = is.within in
-        let known = known_laid marks g code of.plain params names ahead block of.laid formed of.stand place rest begins_at at (suc left) (omega (arith, less)) in
-        let same : said.marks ≡ but_breaks step.marks =
-        ap (λ (it : Said). it.marks) (ap₂ (λ kind part. says_at kind part now) is.there is.part_there) ∙ (says_part kind part now is.fits).0 in
-        record {
-          all = by_ahead marks;
-          rest = others.marks ++ rest;
-          here =
-              known
-              ∙ ap (ahead_at marks now.place) (append_assoc said.marks others.marks rest)
-              ∙ ap (λ (own : List Mark). ahead_at marks now.place (own ++ (others.marks ++ rest))) same
-              ∙ ahead_unbroken marks now.place step.marks (others.marks ++ rest);
-          catching = catching;
-        }
-
-    -- Each step of a function captures what its marks do, where the marks of its statements come next at the beginning.
-    pub known_steps_capture_like : ((at : ℕ) (kind : StepKind) (part : Part) → StepIs of at kind part → KindCatching f g (by_ahead marks) (place_at place at) kind part (before_at of at).active (made_at of at kind part).active) → StepsCaptureLike of place
-    known_steps_capture_like catching = steps_capture_like place formed (λ at kind part is. step_comes is (catching at kind part is))

@@ -54,7 +54,7 @@ use Rattle.reads_back.proofs.Tests.{not_below, or_first, or_second}
 
 module _ {f : Function} {g : Fn} {z : Maker} {lefts : ℕ → List (Option Inner)} {parts : ℕ → outline.Part} {code : Steps} {params names : List Text} {ahead : Ahead} {block : Statements} (of : IsFlowFunction f g z lefts parts code params names ahead block) where
   -- what a step says of a function whose statements begin at a place
-  abbrev pub StepMarks : Place → (at : ℕ) → List Mark
+  abbrev StepMarks : Place → (at : ℕ) → List Mark
   StepMarks place at = (said_at code at (state_before code (state_of place []) at)).marks
 
   -- of the declarations from a number on that stand before a step it captures those only whose local is active there

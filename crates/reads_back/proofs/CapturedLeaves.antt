@@ -36,12 +36,12 @@ use Rattle.reads_back.proofs.WordsRead.{IsFunction, abx_is_read, further_is_ther
 
 -- ---- the registers of locals that are upvalues
 
-abbrev pub register_as : Where → List ℕ
+abbrev register_as : Where → List ℕ
 register_as (in_register r) = r ∷ []
 register_as (in_upvalue slot) = []
 register_as in_globals = []
 
-abbrev pub used_registers : List Active → List Use → List ℕ
+abbrev used_registers : List Active → List Use → List ℕ
 used_registers active [] = []
 used_registers active (one ∷ uses) = register_as (where_is one active) ++ used_registers active uses
 
@@ -55,7 +55,7 @@ found_by true d one others register x is further there = let same : one ≡ x = 
     is_number (Some e) is = ap (λ (n : ℕ). Some n) (eqb-true e d is)
 found_by false d one others register x is further there = further there
 
-pub found_declared : (d : ℕ) (active : List Active) (x : Active) → slice_get active (register_among d active) ≡ Some x → x.local.declaration ≡ Some d
+found_declared : (d : ℕ) (active : List Active) (x : Active) → slice_get active (register_among d active) ≡ Some x → x.local.declaration ≡ Some d
 found_declared d [] x there = cc
 found_declared d (one ∷ others) x there = found_by (option_eq nat_eq one.local.declaration (Some d)) d one others (register_among d others) x refl (found_declared d others x) there
 
@@ -103,7 +103,7 @@ use_like active distinct (local_use e) r d x there declared = or_none (register_
 use_like active distinct (upvalue_use slot) r d x there declared = refl
 use_like active distinct global_use r d x there declared = refl
 
-pub uses_like : (active : List Active) → Distinct active → (uses : List Use) (r d : ℕ) (x : Active) → slice_get active r ≡ Some x → x.local.declaration ≡ Some d → has_register r (used_registers active uses) ≡ list_any (is_local_use d) uses
+uses_like : (active : List Active) → Distinct active → (uses : List Use) (r d : ℕ) (x : Active) → slice_get active r ≡ Some x → x.local.declaration ≡ Some d → has_register r (used_registers active uses) ≡ list_any (is_local_use d) uses
 uses_like active distinct [] r d x there declared = refl
 uses_like active distinct (one ∷ uses) r d x there declared =
     list_any-append (λ (n : ℕ). n == r) (register_as (where_is one active)) (used_registers active uses)
@@ -121,7 +121,7 @@ use_shown active (local_use e) r x there hidden = none (register_among e active 
 use_shown active (upvalue_use slot) r x there hidden = refl
 use_shown active global_use r x there hidden = refl
 
-pub uses_shown : (active : List Active) (uses : List Use) → Shown active (used_registers active uses)
+uses_shown : (active : List Active) (uses : List Use) → Shown active (used_registers active uses)
 uses_shown active [] = shown_none active
 uses_shown active (one ∷ uses) = shown_both active (register_as (where_is one active)) (used_registers active uses) (use_shown active one) (uses_shown active uses)
 
@@ -140,7 +140,7 @@ module _ {f : Function} {g : Fn} (is_function : IsFunction f g) where
       ap₂ (λ there pc. captured_by there ++ captured_from f (length uses) pc) (further_is_there is_function at.first_at) (sym at.first_at.next)
       ∙ ap₂ (λ (first rest : List ℕ). first ++ rest) (one_captured active text (where_is one active) p.pc captured.0) (further_captured active uses texts at.mid q captured.1 at.second_at)
 
-  pub closure_spanned : {made : Law → FunctionRel} {active : List Active} {free r : ℕ} (p q : Spot) → ClosureAt g made active free r p q → Spans f p.pc q.pc (used_registers active (head_or [] p.ahead.sources))
+  closure_spanned : {made : Law → FunctionRel} {active : List Active} {free r : ℕ} (p q : Spot) → ClosureAt g made active free r p q → Spans f p.pc q.pc (used_registers active (head_or [] p.ahead.sources))
   closure_spanned {active = active} {r = r} p q at =
       let uses = head_or [] p.ahead.sources in
       let captured : CapturedBy is_function.names active at.names uses = subst (λ (l : Law). Captured l active at.names uses) is_function.law at.captured in

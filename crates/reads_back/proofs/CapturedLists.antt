@@ -44,7 +44,7 @@ module _ {f : Function} {g : Fn} {all : Onward} {base : Place} {active : List Ac
 
   -- ---- lists
 
-  pub next_caught : (es : Expressions) → AllCaught es → (free : ℕ) (p q : Spot) → AllNextAt g (all_related g es) active free p q → Caught (expressions_part es) p q
+  next_caught : (es : Expressions) → AllCaught es → (free : ℕ) (p q : Spot) → AllNextAt g (all_related g es) active free p q → Caught (expressions_part es) p q
   next_caught no_expressions each free p q at = caught_none (still_same at)
   next_caught (syntax.expression e es) each free p q at = caught_then (expression_part e) (expressions_part es) (each.0.value.to_reg free free p at.mid at.first) (next_caught es each.1 (free + 1) at.mid q at.others)
 
@@ -101,7 +101,7 @@ module _ {f : Function} {g : Fn} {all : Onward} {base : Place} {active : List Ac
         ahead = second.ahead ∙ first.ahead;
       }
 
-  pub set_list_still : (t n done : ℕ) (p q : Spot) → SetListAt g t n done p q → Still f p q
+  set_list_still : (t n done : ℕ) (p q : Spot) → SetListAt g t n done p q → Still f p q
   set_list_still t n done p q at =
       let block = (done - 1) / 50 + 1 in
       set_list_by (nat_le block 511) t n block (some ((done - 1) / 50)) p q at
@@ -109,7 +109,7 @@ module _ {f : Function} {g : Fn} {all : Onward} {base : Place} {active : List Ac
       some : (m : ℕ) → (m + 1 == 0) ≡ false
       some m = grind (arith, nat_tests)
 
-  pub set_list_if : (are : Bool) (t n done : ℕ) (p q : Spot) → SetListIf are g t n done p q → Still f p q
+  set_list_if : (are : Bool) (t n done : ℕ) (p q : Spot) → SetListIf are g t n done p q → Still f p q
   set_list_if true t n done p q at = set_list_still t n done p q at
   set_list_if false t n done p q at = still_same at
 

@@ -1,5 +1,5 @@
--- What the marks of a part capture of what was declared before it: only what is in scope there, nothing of the running function where no function is opened, and of a function's body what the sources of its upvalues say.
-use Rattle.std.proofs.Common.{◌≡◌, ◌≤◌, ◌<◌, ◌⊎◌, inl, inr, ℕ, suc, Bool, true, false, not, ◌&&◌, ◌||◌, List, [], ◌∷◌, ◌++◌, Option, Some, None, refl, sym, ap, ap₂, ◌∙◌, subst, true≢false, arith, if◌then◌else◌}
+-- What the marks of a part capture of what was declared before it: only what is in scope there, and of a function's body what the sources of its upvalues say.
+use Rattle.std.proofs.Common.{◌≡◌, ◌≤◌, ◌<◌, inl, inr, ℕ, suc, Bool, true, false, not, ◌&&◌, ◌||◌, List, [], ◌∷◌, ◌++◌, Option, Some, None, refl, sym, ap, ap₂, ◌∙◌, subst, arith, if◌then◌else◌}
 use Rattle.std.proofs.Math.Bool.{or_assoc}
 use Rattle.std.proofs.lemmas.Bool.{eqb-true, eq-eqb}
 use Rattle.std.specs.List.{list_any}
@@ -8,16 +8,15 @@ use Rattle.lua_num.specs.Bytes.{Text}
 use Rattle.lua_tree.specs.Outline as outline
 use Rattle.lua_tree.specs.Outline.{Binding, Scope, Mark, mention, local_name, hidden_local, dots, leave, opened, innermost, Place, with_name, with_names, both, within, nothing, stay, in_loop, in_function, with_locals, come, declares, reaching, marked, mentions, path_part, all_params, statements_part, statement_part, branches_part, otherwise_part, step_part, body_part, expressions_part, expression_part, arguments_part, fields_part}
 use Rattle.lua_tree.specs.Scoping.{Use, local_use, upvalue_use, global_use, use_in, uses_by, inside_of, is_captured, is_known, is_one_of, slot_of, upvalues_of}
-use Rattle.lua_tree.specs.Syntax.{Expressions, Statements, FunctionBody, function_body, Expression}
+use Rattle.lua_tree.specs.Syntax.{Expressions, Statements, FunctionBody, function_body}
 use Rattle.scheme.specs.Making.{head_or}
-use Rattle.scheme_stands.specs.Places.{AllOf, Below, From, Here, Mentions, Origin, seen, of_inside, declared_behind, KnownFrom, Seen, inside_part}
+use Rattle.scheme_stands.specs.Places.{AllOf, From, Here, Mentions, KnownFrom, Seen, inside_part}
 use Rattle.scheme_stands.specs.Words.{Spot}
-use Rattle.scheme_stands.proofs.KnownMarks.{Leads, MeansFrom, body_leads, expression_leads, expressions_lead, inside_leads, same_place, statements_lead}
+use Rattle.scheme_stands.proofs.KnownMarks.{Leads, MeansFrom, expressions_lead, inside_leads, same_place, statements_lead}
 use Rattle.scheme_stands.proofs.Names.{sources_are}
-use Rattle.scheme_stands.proofs.Origins.{Derived, Fresh, Start, Walked, all_more, entered, expression_walked, expressions_walked, inside_walked, itself}
+use Rattle.scheme_stands.proofs.Origins.{all_more, entered, inside_walked}
 use Rattle.scheme_stands.proofs.Upvalues.{AllBindings, Knows, captured_among, differ, knows_all, mentions_back, mentions_front, mentions_two, upvalues_all, upvalues_seen}
-use Rattle.same_flow.specs.SameMarks.{but_breaks}
-use Rattle.reads_back.proofs.Tests.{and_not, or_second}
+use Rattle.reads_back.proofs.Tests.{or_second}
 
 -- ---- lists of marks
 
@@ -32,17 +31,6 @@ captured_both d (hidden_local line reached ∷ marks) others = captured_both d m
 captured_both d (dots line vararg ∷ marks) others = captured_both d marks others
 captured_both d (leave line looped ∷ marks) others = captured_both d marks others
 captured_both d (opened outer ∷ marks) others = captured_both d marks others
-
-pub captured_but_breaks : (declaration : ℕ) (marks : List Mark) → is_captured declaration (but_breaks marks) ≡ is_captured declaration marks
-captured_but_breaks d [] = refl
-captured_but_breaks d (mention line name (Some b) around ∷ marks) = ap (λ rest. ((b.declaration == d) && not (b.home == innermost around)) || rest) (captured_but_breaks d marks)
-captured_but_breaks d (mention line name None around ∷ marks) = captured_but_breaks d marks
-captured_but_breaks d (local_name line reached ∷ marks) = captured_but_breaks d marks
-captured_but_breaks d (hidden_local line reached ∷ marks) = captured_but_breaks d marks
-captured_but_breaks d (dots line vararg ∷ marks) = captured_but_breaks d marks
-captured_but_breaks d (leave line true ∷ marks) = captured_but_breaks d marks
-captured_but_breaks d (leave line false ∷ marks) = captured_but_breaks d marks
-captured_but_breaks d (opened outer ∷ marks) = captured_but_breaks d marks
 
 -- a mention that captures a declaration, of which so much is known
 record Capturing (P : Option Binding → List ℕ → Type 0) (declaration : ℕ) : Type 0 where
@@ -73,13 +61,6 @@ capturing P d (dots line vararg ∷ marks) each h = capturing P d marks each h
 capturing P d (leave line looped ∷ marks) each h = capturing P d marks each h
 capturing P d (opened outer ∷ marks) each h = capturing P d marks each h
 
-not_captured : (P : Option Binding → List ℕ → Type 0) (d : ℕ) (marks : List Mark) → Mentions P marks → (Capturing P d → ⊥) → is_captured d marks ≡ false
-not_captured P d marks each none = by (is_captured d marks) refl
-  where
-    by : (is : Bool) → is_captured d marks ≡ is → is ≡ false
-    by true e = absurd (none (capturing P d marks each e))
-    by false e = refl
-
 -- ---- what is captured and was declared before is in scope
 
 -- a declaration that is in scope at a place
@@ -96,89 +77,12 @@ in_scope place d before c = by (c.known c.binding refl)
 pub captured_in_scope : (part : outline.Part) (place : Place) → Leads place part → (d : ℕ) → is_captured d (part place).marks ≡ true → d < place.declarations → InScope place d
 captured_in_scope part place leads d is before = in_scope place d before (capturing (MeansFrom place) d (part place).marks (leads place (same_place place)).from is)
 
-pub expression_captured : (e : Expression) (place : Place) (d : ℕ) → is_captured d (expression_part e place).marks ≡ true → d < place.declarations → InScope place d
-expression_captured e place = captured_in_scope (expression_part e) place (expression_leads place e)
-
 pub expressions_captured : (es : Expressions) (place : Place) (d : ℕ) → is_captured d (expressions_part es place).marks ≡ true → d < place.declarations → InScope place d
 expressions_captured es place = captured_in_scope (expressions_part es) place (expressions_lead place es)
-
-pub body_captured : (method : Bool) (body : FunctionBody) (place : Place) (d : ℕ) → is_captured d (body_part method body place).marks ≡ true → d < place.declarations → InScope place d
-body_captured method body place = captured_in_scope (body_part method body) place (body_leads place method body)
-
--- ---- where no function is opened nothing of the running function is captured
 
 -- what is in scope with this declaration is of the running function
 abbrev pub OnlyOwn : Place → (declaration : ℕ) → Type 0
 OnlyOwn place d = (name : Text) (b : Binding) → place.scope name ≡ Some b → b.declaration ≡ d → b.home ≡ innermost place.around
-
--- names of which no two have one declaration
-abbrev pub Apart : Scope → Type 0
-Apart scope = (a b : Text) (x y : Binding) → scope a ≡ Some x → scope b ≡ Some y → x.declaration ≡ y.declaration → a ≡ b
-
-pub only_own : (place : Place) → Apart place.scope → (d : ℕ) (name : Text) (b : Binding) → place.scope name ≡ Some b → b.declaration ≡ d → b.home ≡ innermost place.around → OnlyOwn place d
-only_own place apart d name b is number home other x at same =
-    let one : name ≡ other = apart name other b x is at (number ∙ sym same) in
-    let both : Some b ≡ Some x = sym is ∙ ap place.scope one ∙ at in
-    let equal : b ≡ x = cc in
-    ap (λ (x : Binding). x.home) (sym equal) ∙ home
-
--- of a function behind its beginning: what is declared in it is its own
-pub own_behind : (base place : Place) → Derived base place → ((name : Text) (b : Binding) → base.scope name ≡ Some b → b.declaration < base.declarations) → (d : ℕ) → base.declarations ≤ d → OnlyOwn place d
-own_behind base place derived low d behind name b is same = by (derived.scope name b is)
-  where
-    by : (base.scope name ≡ Some b) ⊎ Fresh base b → b.home ≡ innermost place.around
-    by (inl there) = let before = low name b there in absurd (omega (arith, before, behind, same))
-    by (inr fresh) = fresh.0 ∙ ap innermost (sym derived.around)
-
--- a mention in the function of what it means captures nothing
-pub mention_at_home : (line : ℕ) (name : Text) (place : Place) (b : Binding) → place.scope name ≡ Some b → b.home ≡ innermost place.around → (d : ℕ) → is_captured d (mentions line name place).marks ≡ false
-mention_at_home line name place b is home d =
-    ap (λ means. is_captured d (mention line name means place.around ∷ [])) is
-    ∙ ap (λ at. ((b.declaration == d) && not at) || false) (eq-eqb b.home (innermost place.around) home)
-    ∙ ap (λ at. at || false) (and_not (b.declaration == d))
-
--- and any mention nothing of the running function
-pub none_by_itself : (line : ℕ) (name : Text) (place : Place) (d : ℕ) → OnlyOwn place d → is_captured d (mentions line name place).marks ≡ false
-none_by_itself line name place d own = not_captured P d (mentions line name place).marks ((refl, refl), tt) none
-  where
-    P : Option Binding → List ℕ → Type 0
-    P means around = (means ≡ place.scope name) × (around ≡ place.around)
-
-    none : Capturing P d → ⊥
-    none c = let k = c.known in true≢false (sym (eq-eqb c.binding.home (innermost c.around) (own name c.binding (sym k.0) c.same ∙ ap innermost (sym k.1))) ∙ c.elsewhere)
-
--- numbers from one on that are below it are none
-none_between : (n k : ℕ) (xs : List ℕ) → k ≡ n → AllOf (λ g. n ≤ g) xs → (ys : List ℕ) → AllOf (λ g. g < k) (xs ++ ys) → xs ≡ []
-none_between n k [] same low ys high = refl
-none_between n k (x ∷ xs) same low ys high = let a = low.0 in let b = high.0 in absurd (omega (arith, same, a, b))
-
--- the same of a part in which no function is opened
-pub none_without_functions : (part : outline.Part) (place : Place) → Walked place part place → (part place).next.functions ≡ place.functions → (d : ℕ) → OnlyOwn place d → is_captured d (part place).marks ≡ false
-none_without_functions part place w same d own = not_captured P d (part place).marks (mentions_two (From place) (Below (part place).next.functions) P (λ means around from upto. (from, upto)) (part place).marks w.from w.upto) none
-  where
-    P : Option Binding → List ℕ → Type 0
-    P means around = From place means around × Below (part place).next.functions means around
-
-    home_is : (inside : List ℕ) (b : Binding) → inside ≡ [] → b.declaration ≡ d → Origin place inside b → b.home ≡ innermost place.around
-    home_is inside b empty number (seen name is) = own name b is number
-    home_is inside b empty number (of_inside is) = absurd (true≢false (sym is ∙ ap (is_one_of b.home) empty))
-    home_is inside b empty number (declared_behind home later) = home
-
-    none : Capturing P d → ⊥
-    none c =
-        let from : From place (Some c.binding) c.around = c.known.0 in
-        let empty = none_between place.functions (part place).next.functions from.inside same from.later place.around (subst (AllOf (λ g. g < (part place).next.functions)) from.is c.known.1) in
-        let around : c.around ≡ place.around = from.is ∙ ap (λ xs. xs ++ place.around) empty in
-        true≢false (sym (eq-eqb c.binding.home (innermost c.around) (home_is from.inside c.binding empty c.same from.origin ∙ ap innermost (sym around))) ∙ c.elsewhere)
-
-starts : (place : Place) → AllOf (λ g. g < place.functions) place.around → Start place place
-starts place low = (itself place, low)
-
-pub expression_without : (e : Expression) (place : Place) → AllOf (λ g. g < place.functions) place.around → (expression_part e place).next.functions ≡ place.functions → (d : ℕ) → OnlyOwn place d → is_captured d (expression_part e place).marks ≡ false
-expression_without e place low = none_without_functions (expression_part e) place (expression_walked place e place (starts place low))
-
-pub expressions_without : (es : Expressions) (place : Place) → AllOf (λ g. g < place.functions) place.around → (expressions_part es place).next.functions ≡ place.functions → (d : ℕ) → OnlyOwn place d → is_captured d (expressions_part es place).marks ≡ false
-expressions_without es place low = none_without_functions (expressions_part es) place (expressions_walked place es place (starts place low))
 
 -- ---- what a function captures that is opened at a place
 
@@ -296,12 +200,3 @@ module _ (all : List Mark) (method : Bool) (params : List Text) (vararg : Bool) 
 pub opened_captures : (all : List Mark) (method : Bool) (body : FunctionBody) (place : Place) (rest : List Mark) (p : Spot) → Here all (body_part method body) place rest p → (d : ℕ) → d < place.declarations → OnlyOwn place d →
     is_captured d (body_part method body place).marks ≡ list_any (is_local_use d) (head_or [] p.ahead.sources)
 opened_captures all method (function_body params vararg block first last) place rest p h d before own = opened_by all method params vararg block first last place rest p h d before own
-
--- so of a local that is in scope
-pub local_captures : (all : List Mark) (method : Bool) (body : FunctionBody) (place : Place) (rest : List Mark) (p : Spot) → Here all (body_part method body) place rest p → Apart place.scope →
-    (d : ℕ) (name : Text) (b : Binding) → place.scope name ≡ Some b → b.declaration ≡ d → b.home ≡ innermost place.around →
-    is_captured d (body_part method body place).marks ≡ list_any (is_local_use d) (head_or [] p.ahead.sources)
-local_captures all method body place rest p h apart d name b is number home =
-    let s = h.scope in
-    let before = s.declared name b is in
-    opened_captures all method body place rest p h d (omega (arith, before, number)) (only_own place apart d name b is number home)

@@ -71,7 +71,7 @@ pub record StepCatches (f : Function) (all : Onward) (place : Place) (active : L
   pub shown : Shown active registers
 
 module _ {f : Function} {all : Onward} {place : Place} {active : List Active} where
-  pub step_catches : {part : outline.Part} {p q : Spot} → Catches f all place active part p q → StepCatches f all place active part p q
+  step_catches : {part : outline.Part} {p q : Spot} → Catches f all place active part p q → StepCatches f all place active part p q
   step_catches one = record { registers = one.registers; spans = one.spans; like = λ rest here. one.like place rest (fine_here here); shown = one.shown }
 
   declares_caught : (line hidden : ℕ) (names : List Text) (locals : List Local) (p q : Spot) → q.pc ≡ p.pc → Declared names p.ahead locals q.ahead → Catches f all place active (declares line hidden names) p q
@@ -143,7 +143,7 @@ module _ {f : Function} {g : Fn} {all : Onward} {place : Place} {active : List A
   -- ---- statements
 
   -- one that stands in a step, and is no local function
-  abbrev pub IsPlainStep : Statement → Type 0
+  abbrev IsPlainStep : Statement → Type 0
   IsPlainStep (assignment targets es) = Unit {0}
   IsPlainStep (call_statement e) = Unit {0}
   IsPlainStep (function_statement path method body) = Unit {0}
@@ -151,7 +151,7 @@ module _ {f : Function} {g : Fn} {all : Onward} {place : Place} {active : List A
   IsPlainStep (return_statement es) = Unit {0}
   IsPlainStep s = ⊥
 
-  pub statement_caught : (line : ℕ) (s : Statement) → IsPlainStep s → formed_statement s ≡ true → (after : List Active) (p q : Spot) → StatementAt g None s active after p q → StepCatches f all place active (outline.statement_part line s) p q
+  statement_caught : (line : ℕ) (s : Statement) → IsPlainStep s → formed_statement s ≡ true → (after : List Active) (p q : Spot) → StatementAt g None s active after p q → StepCatches f all place active (outline.statement_part line s) p q
   statement_caught line (assignment targets es) is h after p q at =
       let a = and_right (has_expressions targets) _ h in
       let b = and_right (are_targets targets) _ a in
@@ -201,7 +201,7 @@ own_shown active after registers local is shown register one there hidden =
     shown register one (ap (λ (active : List Active). slice_get active register) is ∙ get_front active (local ∷ []) register (slice_get_within active register one there) ∙ there) hidden
 
 module _ {f : Function} {g : Fn} {all : Onward} {place : Place} {active after : List Active} (text : Text) (of : Catching f g all (behind_name 1 text place) after) where
-  pub own_caught : (body : FunctionBody) → formed_body body ≡ true → (p q : Spot) → LocalFunctionAt g text (FunctionOf body false) active after p q → StepCatches f all place active (outline.statement_part 1 (local_function text body)) p q
+  own_caught : (body : FunctionBody) → formed_body body ≡ true → (p q : Spot) → LocalFunctionAt g text (FunctionOf body false) active after p q → StepCatches f all place active (outline.statement_part 1 (local_function text body)) p q
   own_caught body formed p q at =
       let own = own_active body at in
       let one = function_caught of body false formed (length active + 1) (length active) at.mid q at.closure_at in

@@ -1,10 +1,10 @@
 -- What words capture in a stretch of the code scheme is what its marks capture.
-use Rattle.std.proofs.Common.{◌≡◌, ℕ, suc, ◌-◌, ◌<◌, ◌≤◌, inl, inr, Bool, true, false, List, [], ◌∷◌, ◌++◌, append_assoc, Option, Some, None, refl, sym, ap, ap₂, ◌∙◌, subst, arith}
+use Rattle.std.proofs.Common.{◌≡◌, ℕ, suc, ◌≤◌, Bool, true, false, List, [], ◌∷◌, ◌++◌, Option, Some, None, refl, sym, ap, ap₂, ◌∙◌, subst, arith}
 use Rattle.std.proofs.Math.Bool.{or_assoc}
-use Rattle.std.proofs.lemmas.Bool.{cases_lt, eq-eqb, eqb-true}
+use Rattle.std.proofs.lemmas.Bool.{eq-eqb, eqb-true}
 use Rattle.std.proofs.lemmas.List.Folds.{list_any-append}
 use Rattle.std.specs.List.{list_any}
-use Rattle.std.specs.Prelude.{◌⊎◌, ◌==◌, ◌||◌, ◌&&◌, not, option_and_then, slice_get}
+use Rattle.std.specs.Prelude.{◌==◌, ◌||◌, ◌&&◌, not, option_and_then, slice_get}
 use Rattle.lua_num.specs.Bytes.{Text}
 use Rattle.lua_tree.specs.Outline as outline
 use Rattle.lua_tree.specs.Outline.{Binding, Mark, Place, body_part, both, declares, innermost, mention, mentions, nothing, local_name, hidden_local, dots, leave, opened}
@@ -19,15 +19,14 @@ use Rattle.scheme.specs.declared.making.Active.{Active}
 use Rattle.scheme.specs.declared.making.Local.{Local}
 use Rattle.scheme.specs.declared.making.Piece.{Piece}
 use Rattle.scheme_stands.specs.Functions.{ClosureAt, Declared}
-use Rattle.scheme_stands.specs.Places.{ActiveAt, Closed, Here, Moves, ahead_at}
+use Rattle.scheme_stands.specs.Places.{Closed, Here, Moves}
 use Rattle.scheme_stands.specs.Relation.{FunctionOf}
 use Rattle.scheme_stands.specs.Words.{Fn, IsRead, Same, Spot, WordAt, instr_by}
 use Rattle.scheme_stands.proofs.Counting.{closed_row, closed_still}
 use Rattle.scheme_stands.proofs.Entering.{behind_name}
 use Rattle.scheme_stands.proofs.Here.{Tame, here_as, here_at, here_behind, here_local_function, tame_both, tame_nothing, TameBy, here_first_by}
 use Rattle.scheme_stands.proofs.Moving.{ahead_of, behind, chain, still_as}
-use Rattle.scheme_stands.proofs.Walks.{declared_moves}
-use Rattle.reads_back.proofs.CapturedWords.{captured_between, spans_between, Spans, skips_as, spans_none, spans_on, spans_then, word_spans}
+use Rattle.reads_back.proofs.CapturedWords.{Spans, skips_as, spans_none, spans_on, spans_then, word_spans}
 use Rattle.reads_back.proofs.CapturesLike.{CapturesLike}
 use Rattle.reads_back.proofs.ScopesCaptured.{registers_as}
 use Rattle.reads_back.proofs.ScopesRead.{has_register}
@@ -156,21 +155,6 @@ by_place marks = record {
   own = λ text body place rest locals p m. here_local_function marks 1 text body place rest locals p m;
 }
 
--- what is known of the source ahead alone
-abbrev pub by_ahead : List Mark → Onward
-by_ahead marks = record {
-  marks = marks;
-  Comes = λ part place rest p. p.ahead ≡ ahead_at marks place ((part place).marks ++ rest);
-  first = λ bound a b place rest p below tame_a tame_b is. is ∙ ap (ahead_at marks place) (append_assoc (a place).marks (b (a place).next).marks rest);
-  second = λ a b place rest p m tame_a closed moves is. let x = a place in let y = b x.next in moves place (y.marks ++ rest) (is ∙ ap (ahead_at marks place) (append_assoc x.marks y.marks rest));
-  again = λ part place rest p q same is. same ∙ is;
-  other = λ part same place rest p written is. is ∙ ap (λ (walk : outline.Walk). ahead_at marks place (walk.marks ++ rest)) written;
-  own = λ text body place rest locals p m declared is.
-      let x = declares 1 0 (text ∷ []) place in
-      let y = body_part false body (behind_name 1 text place) in
-      declared_moves marks 1 0 (text ∷ []) locals p m declared place (y.marks ++ rest) (is ∙ ap (ahead_at marks place) (append_assoc x.marks y.marks rest));
-}
-
 -- a part that comes next at a place of the same function with the same names in scope
 pub record Fine (all : Onward) (base : Place) (part : outline.Part) (p : Spot) (place : Place) (rest : List Mark) : Type 0 where
   pub scope : place.scope ≡ base.scope
@@ -180,7 +164,7 @@ pub record Fine (all : Onward) (base : Place) (part : outline.Part) (p : Spot) (
   pub here : all.Comes part place rest p
 
 -- where a name is mentioned in the running function, no declaration of an active local is captured
-abbrev pub Unmentioned : Onward → Place → List Active → Type 0
+abbrev Unmentioned : Onward → Place → List Active → Type 0
 Unmentioned all base active =
     (line : ℕ) (text : Text) (p : Spot) (place : Place) (rest : List Mark) → Fine all base (mentions line text) p place rest →
     (register declaration : ℕ) (one : Active) → slice_get active register ≡ Some one → one.local.declaration ≡ Some declaration → is_captured declaration (mentions line text place).marks ≡ false
@@ -191,7 +175,7 @@ is_local_use declaration (upvalue_use slot) = false
 is_local_use declaration global_use = false
 
 -- the upvalues of a function that are locals around it are those that its marks capture
-abbrev pub Opened : Fn → Onward → Place → List Active → Type 0
+abbrev Opened : Fn → Onward → Place → List Active → Type 0
 Opened g all base active =
     (body : FunctionBody) (method : Bool) (free r : ℕ) (p q : Spot) (place : Place) (rest : List Mark) → ClosureAt g (FunctionOf body method) active free r p q → Fine all base (body_part method body) p place rest →
     (register declaration : ℕ) (one : Active) → slice_get active register ≡ Some one → one.local.declaration ≡ Some declaration
@@ -220,7 +204,7 @@ pub record Catches (f : Function) (all : Onward) (base : Place) (active : List A
 pub fine_first_by : {all : Onward} {base : Place} {p : Spot} {bound : ℕ} (a b : outline.Part) (place : Place) (rest : List Mark) → bound ≤ place.declarations → Tame a → TameBy bound b → Fine all base (both a b) p place rest → Fine all base a p place ((b (a place).next).marks ++ rest)
 fine_first_by {all} {p = p} {bound} a b place rest below tame_a tame_b fine = record { scope = fine.scope; around = fine.around; active = fine.active; later = fine.later; here = all.first bound a b place rest p below tame_a tame_b fine.here }
 
-pub fine_first : {all : Onward} {base : Place} {p : Spot} (a b : outline.Part) (place : Place) (rest : List Mark) → Tame a → Tame b → Fine all base (both a b) p place rest → Fine all base a p place ((b (a place).next).marks ++ rest)
+fine_first : {all : Onward} {base : Place} {p : Spot} (a b : outline.Part) (place : Place) (rest : List Mark) → Tame a → Tame b → Fine all base (both a b) p place rest → Fine all base a p place ((b (a place).next).marks ++ rest)
 fine_first a b place rest tame_a tame_b fine = fine_first_by a b place rest (omega arith) tame_a tame_b fine
 
 pub fine_second : {all : Onward} {base : Place} {p m : Spot} (a b : outline.Part) (place : Place) (rest : List Mark) → Tame a → Closed a place → Moves all.marks a p m → Fine all base (both a b) p place rest → Fine all base b m (a place).next rest
@@ -236,7 +220,7 @@ fine_second {all} {p = p} {m} a b place rest tame_a closed moves fine =
     }
 
 -- at another spot with the same ahead
-pub fine_at : {all : Onward} {base : Place} {part : outline.Part} {p q : Spot} {place : Place} {rest : List Mark} → q.ahead ≡ p.ahead → Fine all base part p place rest → Fine all base part q place rest
+fine_at : {all : Onward} {base : Place} {part : outline.Part} {p q : Spot} {place : Place} {rest : List Mark} → q.ahead ≡ p.ahead → Fine all base part p place rest → Fine all base part q place rest
 fine_at {all} {part = part} {p} {q} {place} {rest} same fine = record { scope = fine.scope; around = fine.around; active = fine.active; later = fine.later; here = all.again part place rest p q same fine.here }
 
 module _ {f : Function} {all : Onward} {base : Place} {active : List Active} where
@@ -292,17 +276,8 @@ module _ {f : Function} {all : Onward} {base : Place} {active : List Active} whe
     shown = one.shown;
   }
 
--- where locals are active at a place, their declarations are their own
-pub distinct_at : (place : Place) (active : List Active) → ActiveAt place active → Distinct active
-distinct_at place active at i j x y declaration one other first second = by (cases_lt i j) (cases_lt j i)
-  where
-    by : (i < j) ⊎ (j ≤ i) → (j < i) ⊎ (i ≤ j) → i ≡ j
-    by (inl before) behind = let less = at.order i j x y declaration declaration before one other first second in absurd (omega (arith, less))
-    by (inr most) (inl before) = let less = at.order j i y x declaration declaration before other one second first in absurd (omega (arith, less))
-    by (inr most) (inr least) = omega (arith, most, least)
-
 -- no declaration of an active local is that of another function in scope
-abbrev pub OwnHomes : Place → List Active → Type 0
+abbrev OwnHomes : Place → List Active → Type 0
 OwnHomes base active =
     (text : Text) (binding : Binding) (register : ℕ) (one : Active) → base.scope text ≡ Some binding → slice_get active register ≡ Some one → one.local.declaration ≡ Some binding.declaration → binding.home ≡ innermost base.around
 
@@ -323,8 +298,3 @@ unmentioned_at all base active homes line text p place rest fine register declar
 -- a part comes next at a place itself
 pub fine_here : {all : Onward} {part : outline.Part} {p : Spot} {place : Place} {rest : List Mark} → all.Comes part place rest p → Fine all place part p place rest
 fine_here here = record { scope = refl; around = refl; active = refl; later = omega arith; here = here }
-
--- The words of a part that comes next at a place capture what its marks do.
-pub caught_like : {f : Function} {all : Onward} {place : Place} {active : List Active} {part : outline.Part} {p q : Spot} {rest : List Mark} → Catches f all place active part p q → all.Comes part place rest p →
-    CapturesLike (part place).marks active (captured_between f (q.pc - p.pc) p.pc)
-caught_like {place = place} {active} {part} {rest = rest} one here = subst (CapturesLike (part place).marks active) (sym (spans_between one.spans)) (one.like place rest (fine_here here))

@@ -1,15 +1,12 @@
 -- The words of every well-formed expression capture what its marks do, for each use of it.
-use Rattle.std.proofs.Common.{◌≡◌, ℕ, Bool, true, false, List, refl}
-use Rattle.std.specs.Prelude.{◌-◌}
+use Rattle.std.proofs.Common.{◌≡◌, ℕ, true, false, List, refl}
 use Rattle.lua_tree.specs.Names.{is_name}
-use Rattle.lua_tree.specs.Outline.{Mark, Place, arguments_part, both, expression_part, fields_part}
+use Rattle.lua_tree.specs.Outline.{Place, arguments_part, both, expression_part, fields_part}
 use Rattle.lua_tree.specs.Precedence.{left_binds, right_binds}
 use Rattle.lua_tree.specs.Syntax as syntax
 use Rattle.lua_tree.specs.Syntax.{Expressions, no_expressions, Arguments, argument_list, text_argument, table_argument, Fields, no_fields, positional, named, keyed, Expression, nil_literal, true_literal, false_literal, vararg_expression, number_literal, text_literal, name_expression, function_expression, index_expression, field_expression, call_expression, method_call, and_expression, or_expression, binary_expression, unary_expression, constructor, parenthesized}
 use Rattle.lua_tree.specs.WellFormed.{ends_item, formed_arguments, formed_expression, formed_expressions, formed_fields, is_prefix, on_its_line}
-use Rattle.opcode.specs.declared.op.Op.{Op}
 use Rattle.recover_expr.specs.Situation.{Function}
-use Rattle.scheme.specs.Expressions.{Want}
 use Rattle.scheme.specs.declared.making.Active.{Active}
 use Rattle.scheme_stands.specs.Expressions.{form_of, rel_alone, rel_single, several}
 use Rattle.scheme_stands.specs.Lists.{CallAt, MethodAt, TableAt}
@@ -19,9 +16,7 @@ use Rattle.scheme_stands.proofs.Walks.{and_left, and_right}
 use Rattle.reads_back.proofs.CapturedExpressions.{RelCatches, ValueCatches, binary_all, binary_value, call_all, call_caught, field_all, index_all, literal_caught, load_caught, logic_all, logic_value, method_caught, moved_caught, name_all, named_caught, paren_all, single_caught, unary_all, unary_value, vararg_all}
 use Rattle.reads_back.proofs.CapturedLeaves.{function_caught}
 use Rattle.reads_back.proofs.CapturedLists.{AllCaught, ExpressionCaught, FieldsCaught, items_caught, open_caught}
-use Rattle.reads_back.proofs.CapturedStretches.{Onward, Catches, Catching, caught_like, is_quiet, abc_still, abx_still, caught_from, caught_none}
-use Rattle.reads_back.proofs.CapturedWords.{captured_between}
-use Rattle.reads_back.proofs.CapturesLike.{CapturesLike}
+use Rattle.reads_back.proofs.CapturedStretches.{Onward, Catches, Catching, abc_still, abx_still, caught_from, caught_none}
 
 module _ {f : Function} {g : Fn} {all : Onward} {base : Place} {active : List Active} (of : Catching f g all base active) where
   -- what has a value alone
@@ -91,7 +86,7 @@ module _ {f : Function} {g : Fn} {all : Onward} {base : Place} {active : List Ac
         let first = expression_caught e h in
         paren_all of (expression_part e) line e (related g e) _ (λ p q is passed. named_caught of e is p q passed) (λ k p q is still. literal_caught of (parenthesized line e) k is p q still) first
 
-    pub given_caught : (args : Arguments) → formed_arguments args ≡ true → (free : ℕ) (p q : Spot) → (given_rel g args).part active free p q → Catches f all base active (arguments_part args) p q
+    given_caught : (args : Arguments) → formed_arguments args ≡ true → (free : ℕ) (p q : Spot) → (given_rel g args).part active free p q → Catches f all base active (arguments_part args) p q
     given_caught (argument_list es) h free p q at = open_caught of es (all_caught es h) free p q at
     given_caught (text_argument text) h free p q at = caught_none (abx_still of.is_function refl at.value_at.word)
     given_caught (table_argument items) h free p q at = caught_from (abc_still of.is_function refl at.word) (items_caught of items (fields_caught items h) free 0 0 at.mid q at.items_at)
@@ -100,7 +95,7 @@ module _ {f : Function} {g : Fn} {all : Onward} {base : Place} {active : List Ac
     all_caught no_expressions h = tt
     all_caught (syntax.expression e es) h = (expression_caught e (and_left (formed_expression e) (formed_expressions es) h), all_caught es (and_right (formed_expression e) (formed_expressions es) h))
 
-    pub fields_caught : (items : Fields) → formed_fields items ≡ true → FieldsCaught of items
+    fields_caught : (items : Fields) → formed_fields items ≡ true → FieldsCaught of items
     fields_caught no_fields h = tt
     fields_caught (positional e separator rest) h =
         let inside = and_right (ends_item separator rest) _ h in
@@ -112,17 +107,3 @@ module _ {f : Function} {g : Fn} {all : Onward} {base : Place} {active : List Ac
         let inside = and_right (ends_item separator rest) _ h in
         let behind = and_right (formed_expression key) _ inside in
         (expression_caught key (and_left (formed_expression key) _ inside), expression_caught e (and_left (formed_expression e) (formed_fields rest) behind), fields_caught rest (and_right (formed_expression e) (formed_fields rest) behind))
-
-  -- ---- at the place of the expression
-
-  module _ (e : Expression) (formed : formed_expression e ≡ true) (rest : List Mark) where
-    -- The words that make its value capture what its marks do.
-    pub value_captures_like : (free r : ℕ) (p q : Spot) → (related g e).to_reg active free r p q → all.Comes (expression_part e) base rest p → CapturesLike (expression_part e base).marks active (captured_between f (q.pc - p.pc) p.pc)
-    value_captures_like free r p q at here = caught_like ((expression_caught e formed).value.to_reg free r p q at) here
-
-    pub test_captures_like : (free : ℕ) (truth : Bool) (label : ℕ) (p q : Spot) → (related g e).jump_if active free truth label p q → all.Comes (expression_part e) base rest p → CapturesLike (expression_part e base).marks active (captured_between f (q.pc - p.pc) p.pc)
-    test_captures_like free truth label p q at here = caught_like ((expression_caught e formed).jump_if free truth label p q at) here
-
-    pub several_capture_like : several (related g e).form ≡ true → (free : ℕ) (op : Op) (want : Want) → is_quiet op ≡ true → (p q : Spot) → (related g e).multi active free op want p q → all.Comes (expression_part e) base rest p →
-        CapturesLike (expression_part e base).marks active (captured_between f (q.pc - p.pc) p.pc)
-    several_capture_like is free op want quiet p q at here = caught_like ((expression_caught e formed).multi is free op want quiet p q at) here

@@ -22,20 +22,20 @@ skips_as Op.Closure f i = or_zero (upvalues_in f i.bx)
 skips_as Op.SetList f i = list_skips (i.c == 0)
 skips_as op f i = 0
 
-abbrev pub skips_of : Function → Option Instr → ℕ
+abbrev skips_of : Function → Option Instr → ℕ
 skips_of f None = 0
 skips_of f (Some i) = skips_as i.op f i
 
 -- the word at a pc
-abbrev pub word_with : (pc : ℕ) → Instr → Word
+abbrev word_with : (pc : ℕ) → Instr → Word
 word_with pc i = record { pc = pc; next = suc pc; instr = i }
 
-abbrev pub captured_at : Function → (pc : ℕ) → Option Instr → List ℕ
+abbrev captured_at : Function → (pc : ℕ) → Option Instr → List ℕ
 captured_at f pc None = []
 captured_at f pc (Some i) = registers_as i.op f (word_with pc i)
 
 -- the registers that so many words from a pc on capture, where so many of them are left out first
-abbrev pub captured_behind : Function → (skip count pc : ℕ) → List ℕ
+abbrev captured_behind : Function → (skip count pc : ℕ) → List ℕ
 captured_behind f skip zero pc = []
 captured_behind f (suc skip) (suc count) pc = captured_behind f skip count (suc pc)
 captured_behind f zero (suc count) pc = captured_at f pc (instr_at f pc) ++ captured_behind f (skips_of f (instr_at f pc)) count (suc pc)

@@ -112,7 +112,7 @@ made_comes {f} {s = s} made next = record {
       reaches_then made.reaches (word made.later turn here);
 }
 
-pub arrives_next : {f : Function} {Is : Value → Type 0} {deep r first last : ℕ} {s : Situation} → Arrives f Is deep s r first last → r ≡ next_free s → Comes f Is deep s first last
+arrives_next : {f : Function} {Is : Value → Type 0} {deep r first last : ℕ} {s : Situation} → Arrives f Is deep s r first last → r ≡ next_free s → Comes f Is deep s first last
 arrives_next (inl made) next = made_comes made next
 arrives_next (inr (inl (next, comes))) same = comes
 arrives_next (inr (inr moved)) next = absurd (moved.other (sym next))

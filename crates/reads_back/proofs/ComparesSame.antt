@@ -59,7 +59,7 @@ final_both free label truth op x y final =
 -- ---- constants
 
 -- a constant stands among others at its number
-pub stands_within : (k : Constant) (xs : List Constant) → list_any (same_constant k) xs ≡ true → constant_number k xs < length xs
+stands_within : (k : Constant) (xs : List Constant) → list_any (same_constant k) xs ≡ true → constant_number k xs < length xs
 stands_within k [] is = cc
 stands_within k (x ∷ xs) is = by (same_constant k x) is (stands_within k xs)
   where
@@ -111,14 +111,14 @@ literal_word_plain (Constant.Text text) plain = refl
 
 module _ {f : Function} {g : Fn} {active : List Active} {listed : List ℕ} {z : Maker} (made : IsMadeBy f g active listed z) where
   -- where it is taken already, nothing changes
-  pub number_known : {j : ℕ} (k : Constant) (number : ℕ) (m : Maker) → HasNumber g k number → list_any (same_constant k) m.constants ≡ true → Final j m z → small_constant k m ≡ record { value = number + 256; after = m }
+  number_known : {j : ℕ} (k : Constant) (number : ℕ) (m : Maker) → HasNumber g k number → list_any (same_constant k) m.constants ≡ true → Final j m z → small_constant k m ≡ record { value = number + 256; after = m }
   number_known {j} k number m has there final =
       let same : pool_with k m.constants ≡ m.constants = taken_there k k m.constants there in
       let is = number_is made k number m has (subst (λ (xs : List Constant). Final j (record m { constants = xs }) z) (sym same) final) in
       ap₂ (λ (number : ℕ) (xs : List Constant). record { value = number + 256; after = record m { constants = xs } }) (sym is) same
 
   -- where it is new, it gets the next number
-  pub number_next : {j : ℕ} (k : Constant) (number : ℕ) (m : Maker) → HasNumber g k number → list_any (same_constant k) m.constants ≡ false → Final j (plus k m) z → (small_constant k m ≡ record { value = number + 256; after = plus k m }) × (number ≡ length m.constants)
+  number_next : {j : ℕ} (k : Constant) (number : ℕ) (m : Maker) → HasNumber g k number → list_any (same_constant k) m.constants ≡ false → Final j (plus k m) z → (small_constant k m ≡ record { value = number + 256; after = plus k m }) × (number ≡ length m.constants)
   number_next {j} k number m has none final =
       let same : pool_with k m.constants ≡ m.constants ++ k ∷ [] = taken_behind_none k k m.constants none in
       let is = number_is made k number m has (subst (λ (xs : List Constant). Final j (record m { constants = xs }) z) (sym same) final) in
@@ -151,7 +151,7 @@ module _ {f : Function} {g : Fn} {active : List Active} {listed : List ℕ} {z :
     pub front : Final (length m.labels) x_got.after z
     front = before_part (grows_rk {v = calm} (code r) (grows calm (one_line_expression r)) x_got.after) final
 
-    pub back : Final (length x_got.after.labels) y_got.after z
+    back : Final (length x_got.after.labels) y_got.after z
     back = let grown = grows_rk {v = calm} (code l) (grows calm (one_line_expression l)) m in later grown.more final
 
     pub ahead_left : IsAhead g active before (mentions_in l) m
@@ -160,10 +160,10 @@ module _ {f : Function} {g : Fn} {active : List Active} {listed : List ℕ} {z :
     pub ahead_right : IsAhead g active mid (mentions_in r) x_got.after
     ahead_right = ahead_behind (mentions_in l) (mentions_in r) first.makes (rk_passes (mentions_in l) (code l) (mentions_passed l has_l) m) ahead
 
-    abbrev pub word_first : (n : ℕ) → Wording
+    abbrev word_first : (n : ℕ) → Wording
     word_first n = operand_wording f listed z lefts before n o1
 
-    abbrev pub word_second : (n : ℕ) → Wording
+    abbrev word_second : (n : ℕ) → Wording
     word_second n = word_operand (place f.of listed f.short) (taken_behind_operand o1 n) (left_by_operand o1 (lefts before)) o2
 
     -- a constant that is new has the next number

@@ -10,11 +10,11 @@ use Rattle.reads_back.proofs.TestedAs.{IsField}
 use Rattle.reads_back.proofs.Tests.{first_of_both, not_below}
 
 -- the first operand is a constant that is taken already; or it is a constant, the second one takes none, and the number that is taken next is not the last that a field has
-abbrev pub IsLateFirst : (n : ℕ) → (first second : OperandValue) → Type 0
+abbrev IsLateFirst : (n : ℕ) → (first second : OperandValue) → Type 0
 IsLateFirst n first second = (number : ℕ) × (first ≡ constant_operand number) × ((number < n) ⊎ ((taken_behind_operand second n ≡ n) × (n ≡ 255 → ⊥)))
 
 -- the second operand is the constant whose number is taken next
-abbrev pub IsEarlySecond : (n : ℕ) → (second : OperandValue) → Type 0
+abbrev IsEarlySecond : (n : ℕ) → (second : OperandValue) → Type 0
 IsEarlySecond n second = (number : ℕ) × (second ≡ constant_operand number) × (number ≡ n)
 
 -- both are in registers, and one of these is a local's

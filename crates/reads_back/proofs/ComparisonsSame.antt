@@ -68,7 +68,7 @@ module _ (at : Place) (n : ℕ) (fs : List (Option Inner)) (x y : ℕ) (o1 o2 : 
   ordered_word op is swapped = cc
 
   -- the other way round
-  pub turned_word : (op : BinaryOp) → has_mirror (word_op op) ≡ true → is_swapped (length at.entries) n (comparison_of op x y o1 o2) ≡ not (is_turned op) → word_comparison at n fs (comparison_of op x y o1 o2) ≡ word_both at n fs (other_op op) o2 o1
+  turned_word : (op : BinaryOp) → has_mirror (word_op op) ≡ true → is_swapped (length at.entries) n (comparison_of op x y o1 o2) ≡ not (is_turned op) → word_comparison at n fs (comparison_of op x y o1 o2) ≡ word_both at n fs (other_op op) o2 o1
   turned_word BinaryOp.Lt is swapped = ap (written_of BinaryOp.Lt) swapped
   turned_word BinaryOp.Le is swapped = ap (written_of BinaryOp.Le) swapped
   turned_word BinaryOp.Gt is swapped = ap (written_of BinaryOp.Gt) swapped
@@ -83,7 +83,7 @@ other_word BinaryOp.Gt truth x y is = refl
 other_word BinaryOp.Ge truth x y is = refl
 other_word op truth x y is = cc
 
-pub other_compares : (op : BinaryOp) → has_mirror (word_op op) ≡ true → is_comparison (other_op op) ≡ true
+other_compares : (op : BinaryOp) → has_mirror (word_op op) ≡ true → is_comparison (other_op op) ≡ true
 other_compares BinaryOp.Lt is = refl
 other_compares BinaryOp.Le is = refl
 other_compares BinaryOp.Gt is = refl
@@ -188,8 +188,13 @@ module _ {g : Fn} {active : List Active} {l r : Expression} {before behind : ℕ
 -- ---- what is made of it
 
 -- Where its operands are written the other way round, names keep their order: both are in registers only where one of them is a number or a string. The numbers of constants do not matter.
-pub record CanTurn {g : Fn} {active : List Active} {l r : Expression} {before behind : ℕ} (both : BothTested g active l r before behind) : Type 0 where
-  pub names : HasLocal (length active) both.x both.y both.first both.second → OneConstant l r
+abbrev pub CanTurn : {g : Fn} {active : List Active} {l r : Expression} {before behind : ℕ} → BothTested g active l r before behind → Type 0
+CanTurn {g} {active} {l} {r} both = HasLocal (length active) both.x both.y both.first both.second → OneConstant l r
+
+-- so it is with the leaf of a condition
+abbrev pub KeepsNames : Fn → List Active → (n before behind : ℕ) → Expression → Type 0
+KeepsNames g active n before behind (binary_expression line op l r) = is_comparison op ≡ true → (both : BothTested g active l r before behind) → is_swapped (length active) n (comparison_of op both.x both.y both.first both.second) ≡ not (is_turned op) → CanTurn both
+KeepsNames g active n before behind e = Unit {0}
 
 -- a local in a field of a word
 field_local : (count free field free1 : ℕ) (o : OperandValue) (v : Value) → o ≡ value_operand v → field < count → count ≤ free → IsField count free field free1 o → v ≡ local_value field
@@ -206,7 +211,7 @@ field_above count field free1 (value_operand v) (inl at) = omega (arith, at.2)
 field_above count field free1 (value_operand v) (inr at) = omega (arith, at.2)
 
 -- the constants of both operands
-pub counts_of : (op : BinaryOp) (n x y : ℕ) (o1 o2 : OperandValue) → taken_behind_test (tested_comparison (comparison_of op x y o1 o2)) n ≡ taken_behind_operand o2 (taken_behind_operand o1 n)
+counts_of : (op : BinaryOp) (n x y : ℕ) (o1 o2 : OperandValue) → taken_behind_test (tested_comparison (comparison_of op x y o1 o2)) n ≡ taken_behind_operand o2 (taken_behind_operand o1 n)
 counts_of BinaryOp.Gt n x y o1 o2 = taken_either o1 o2 n
 counts_of BinaryOp.Ge n x y o1 o2 = taken_either o1 o2 n
 counts_of op n x y o1 o2 = refl
@@ -268,7 +273,7 @@ module _ (lefts : ℕ → List (Option Inner)) {f : Function} {g : Fn} {active :
     where
       by : Turns made l r has_l has_r first_rewritten second_rewritten m ahead final_operands ⊎ HasLocal (length active) both.x both.y both.first both.second → Turns made l r has_l has_r first_rewritten second_rewritten m ahead final_operands
       by (inl turns) = turns
-      by (inr locals) = literal_turns made l r has_l has_r first_rewritten second_rewritten m ahead final_operands (local_and_literal both locals (can.names locals))
+      by (inr locals) = literal_turns made l r has_l has_r first_rewritten second_rewritten m ahead final_operands (local_and_literal both locals (can locals))
 
   -- the same test
   pub comparison_same : (is_swapped (length active) (length m.constants) (comparison_of op both.x both.y both.first both.second) ≡ not (is_turned op) → CanTurn both) →

@@ -53,7 +53,7 @@ joined_on_one_line (binary_expression line BinaryOp.Concat l r) = refl
 joined_on_one_line (binary_expression line op l r) = refl
 joined_on_one_line e = refl
 
-pub code_alone : (e : Expression) → is_joined e ≡ false → (m : Maker) → (code e).spine m ≡ next_reg (code e) m
+code_alone : (e : Expression) → is_joined e ≡ false → (m : Maker) → (code e).spine m ≡ next_reg (code e) m
 code_alone e other m = spine_alone (one_line_expression e) (joined_on_one_line e ∙ other) m
 
 -- what binds on the right of a `..` is none

@@ -52,7 +52,7 @@ field_is is_local field x is = let same = second_of_both is_local (field == x) i
 -- ---- what is renamed
 
 -- the entry of a copy
-abbrev pub with_local : (x : ℕ) → Entries → Entries
+abbrev with_local : (x : ℕ) → Entries → Entries
 with_local x entries = entries ++ value_entry (local_value x) ∷ []
 
 record KeptCopied (f : Function) (count : ℕ) (listed : List ℕ) (entries more : Entries) (low : ℕ) (kept : Kept) (field high : ℕ) (moved : Bool) (copy : ℕ) : Type 0 where

@@ -3,7 +3,7 @@ use Rattle.std.proofs.Common.{◌≡◌, ℕ, zero, suc, ◌^◌, ◌+◌, ◌<�
 use Rattle.std.proofs.lemmas.Bool.{le-ltb}
 use Rattle.std.proofs.lemmas.Option.{same_Some}
 use Rattle.std.specs.List.{prefix_len}
-use Rattle.std.specs.Prelude.{◌==◌, option_and_then, option_map, slice_get, if◌then◌else◌, Option}
+use Rattle.std.specs.Prelude.{◌==◌, option_and_then, option_map, slice_get, if◌then◌else◌}
 use Rattle.lua_num.specs.Bytes.{Text}
 use Rattle.lua_tree.specs.Syntax.{Expressions, local_statement, Statement}
 use Rattle.lua_tree.specs.WellFormed.{depth_of_expressions}
@@ -55,7 +55,7 @@ entered_same step before other same = record {
 }
 
 -- where the same locals are declared and active the same are declared next
-abbrev pub DeclaresSame : List LocVar → (count pc : ℕ) → Option ℕ → (other behind : Scope) → Type 0
+abbrev DeclaresSame : List LocVar → (count pc : ℕ) → Option ℕ → (other behind : Scope) → Type 0
 DeclaresSame locals count pc step other behind = (scope : Scope) × (declare locals count pc step other ≡ Some scope) × SameLocals behind scope
 
 pub declares_same : (locals : List LocVar) (count pc : ℕ) (step : Option ℕ) (before other behind : Scope) → SameLocals before other → declare locals count pc step before ≡ Some behind →

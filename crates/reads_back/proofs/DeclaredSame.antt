@@ -36,8 +36,7 @@ use Rattle.reads_back.proofs.DeclaredValues.{nil_last}
 use Rattle.reads_back.proofs.GivenSame.{AllRewritten, list_rewritten}
 use Rattle.reads_back.proofs.AdjustedEntries.{count_last, last_split, taken_end}
 use Rattle.reads_back.proofs.ListsSame.{EachFine, can_last, codes_of, coded_count, cores_count, cores_fine, fine_front, fine_last, left_last, list_closed, list_few, multi_all, multi_all_taken, next_all, next_all_taken, nil_next, opens_is, values_coded, multi_all_low, next_all_low, stays_bare}
-use Rattle.reads_back.proofs.DeclaredLocals.{declare_passes}
-use Rattle.reads_back.proofs.Mentions.{IsAhead, ahead_behind, locals_mention, mentions_in_all, made_behind}
+use Rattle.reads_back.proofs.Mentions.{IsAhead, ahead_behind, locals_mention, mentions_in_all, made_behind, declare_passes}
 use Rattle.reads_back.proofs.Rewriting.{IsMadeBy, RewrittenAct, RewrittenGiven}
 use Rattle.reads_back.proofs.Tests.{and_not, first_of_both, not_so, second_of_both}
 
@@ -126,7 +125,7 @@ nils_one m = let same : m.free + 1 - 1 ≡ m.free = omega arith in ap (λ last. 
 before_nils : {k : ℕ} {z : Maker} (n : ℕ) (m : Maker) → Final k (nils 1 n m) z → Final k m z
 before_nils n m final = before_take n m (before_put 1 (Piece.Abc Op.LoadNil m.free (m.free + n - 1) 0) (take_registers n m) final)
 
-pub adjust_more : (cs : List Coded) (n : ℕ) (m : Maker) → n ≤ length cs → adjust 1 cs n m ≡ free_from (m.free + n) (all_next cs m)
+adjust_more : (cs : List Coded) (n : ℕ) (m : Maker) → n ≤ length cs → adjust 1 cs n m ≡ free_from (m.free + n) (all_next cs m)
 adjust_more cs n m enough = ap (λ fewer. cond fewer (filled 1 cs (n - length cs)) (λ k. free_from (m.free + n) (all_next cs k)) m) (le-ltb (length cs) n enough)
 
 adjust_fewer : (cs : List Coded) (n : ℕ) (m : Maker) → length cs < n → adjust 1 cs n m ≡ filled 1 cs (n - length cs) m
@@ -139,7 +138,7 @@ pub adjust_closed : (cs : List Coded) (n : ℕ) (m : Maker) → length cs < n �
 adjust_closed cs n m fewer is = adjust_fewer cs n m fewer ∙ ap (λ several. cond several (all_multi Op.Call (Some (n - length cs + 1)) cs) (λ m. nils 1 (n - length cs) (all_next cs m)) m) is
 
 -- F is there already
-pub free_there : (r : ℕ) (m : Maker) → m.free ≡ r → free_from r m ≡ m
+free_there : (r : ℕ) (m : Maker) → m.free ≡ r → free_from r m ≡ m
 free_there r m is = ap (λ r. free_from r m) (sym is)
 
 -- ---- what is declared

@@ -10,7 +10,7 @@ use Rattle.scheme.specs.declared.making.Active.{Active}
 use Rattle.scheme_stands.specs.Lists.{GivenRel}
 use Rattle.scheme_stands.specs.Words.{Fn, Stretch}
 use Rattle.reads_back.specs.Cores.{Counted, CountedValues}
-use Rattle.reads_back.proofs.Comes.{Comes, Made, Moved, Arrives, Reads, OperandComes, ReadsOperand, SpineComes, ReadsSpine, CallComes, ReadsCall, OpenComes, ReadsOpen, GivenComes, ReadsGiven}
+use Rattle.reads_back.proofs.Comes.{Comes, Made, Moved, Arrives, Reads, OperandComes, ReadsOperand, SpineComes, ReadsSpine, CallComes, OpenComes, ReadsOpen, GivenComes, ReadsGiven}
 
 -- an expression is a level deep at least
 pub some_depth : (e : Expression) → 1 ≤ depth_of_expression e
@@ -54,14 +54,14 @@ made_so deeper less one = record {
 moved_so : {f : Function} {Is Less : Value → Type 0} {deep more : ℕ} {s : Situation} {r first last : ℕ} → deep ≤ more → ((v : Value) → Is v → Less v) → Moved f Is deep s r first last → Moved f Less more s r first last
 moved_so deeper less moved = record { mid = moved.mid; comes = comes_so deeper less moved.comes; no_nil = moved.no_nil; other = moved.other; later = moved.later; turn = moved.turn }
 
-pub arrives_so : {f : Function} {Is Less : Value → Type 0} {deep more : ℕ} {s : Situation} {r first last : ℕ} → deep ≤ more → ((v : Value) → Is v → Less v) → Arrives f Is deep s r first last → Arrives f Less more s r first last
+arrives_so : {f : Function} {Is Less : Value → Type 0} {deep more : ℕ} {s : Situation} {r first last : ℕ} → deep ≤ more → ((v : Value) → Is v → Less v) → Arrives f Is deep s r first last → Arrives f Less more s r first last
 arrives_so deeper less (inl made) = inl (made_so deeper less made)
 arrives_so deeper less (inr (inl (next, comes))) = inr (inl (next, comes_so deeper less comes))
 arrives_so deeper less (inr (inr moved)) = inr (inr (moved_so deeper less moved))
 
 -- ---- operands, the operands of a `..`, calls, and lists
 
-pub operand_so : {f : Function} {Is Less : OperandValue → Type 0} {deep more : ℕ} {s : Situation} {free x free1 first last : ℕ} → deep ≤ more → ((o : OperandValue) → Is o → Less o) → OperandComes f Is deep s free x free1 first last →
+operand_so : {f : Function} {Is Less : OperandValue → Type 0} {deep more : ℕ} {s : Situation} {free x free1 first last : ℕ} → deep ≤ more → ((o : OperandValue) → Is o → Less o) → OperandComes f Is deep s free x free1 first last →
     OperandComes f Less more s free x free1 first last
 operand_so deeper less one = record {
   operand = one.operand;
@@ -147,35 +147,14 @@ module _ {f : Function} {g : Fn} {active : List Active} {listed : List ℕ} wher
   pub reads_deeper : {Is : Counted Value} {deep more : ℕ} {to : (free r : ℕ) → Stretch} → deep ≤ more → Reads f g active listed Is deep to → Reads f g active listed Is more to
   reads_deeper deeper reads = record { forward = reads.forward; begins = reads.begins; arrives = λ free r p q s locals is goal quiet wanted at. arrives_so deeper (λ v is. is) (reads.arrives free r p q s locals is goal quiet wanted at) }
 
-  pub reads_less : {Is Less : Counted Value} {deep : ℕ} {to : (free r : ℕ) → Stretch} → ((before behind : ℕ) (v : Value) → Is before behind v → Less before behind v) → Reads f g active listed Is deep to → Reads f g active listed Less deep to
-  reads_less less reads = record { forward = reads.forward; begins = reads.begins; arrives = λ free r p q s locals is goal quiet wanted at. arrives_so (omega arith) (less p.functions q.functions) (reads.arrives free r p q s locals is goal quiet wanted at) }
-
   pub operand_deeper : {Is : Counted OperandValue} {deep more : ℕ} {to : (free x free1 : ℕ) → Stretch} → deep ≤ more → ReadsOperand f g active listed Is deep to → ReadsOperand f g active listed Is more to
   operand_deeper deeper reads = record { forward = reads.forward; begins = reads.begins; comes = λ free x free1 p q s locals is quiet wanted at. operand_so deeper (λ o is. is) (reads.comes free x free1 p q s locals is quiet wanted at) }
-
-  pub operand_less : {Is Less : Counted OperandValue} {deep : ℕ} {to : (free x free1 : ℕ) → Stretch} → ((before behind : ℕ) (o : OperandValue) → Is before behind o → Less before behind o) → ReadsOperand f g active listed Is deep to → ReadsOperand f g active listed Less deep to
-  operand_less less reads = record { forward = reads.forward; begins = reads.begins; comes = λ free x free1 p q s locals is quiet wanted at. operand_so (omega arith) (less p.functions q.functions) (reads.comes free x free1 p q s locals is quiet wanted at) }
 
   pub spine_deeper : {Are : Counted Values} {deep more : ℕ} {to : (free free1 : ℕ) → Stretch} → deep ≤ more → ReadsSpine f g active listed Are deep to → ReadsSpine f g active listed Are more to
   spine_deeper deeper reads = record { forward = reads.forward; begins = reads.begins; comes = λ free free1 p q s locals is quiet wanted at. spine_so deeper (λ values are. are) (reads.comes free free1 p q s locals is quiet wanted at) }
 
-  pub spine_less : {Are Less : Counted Values} {deep : ℕ} {to : (free free1 : ℕ) → Stretch} → ((before behind : ℕ) (values : Values) → Are before behind values → Less before behind values) → ReadsSpine f g active listed Are deep to → ReadsSpine f g active listed Less deep to
-  spine_less less reads = record { forward = reads.forward; begins = reads.begins; comes = λ free free1 p q s locals is quiet wanted at. spine_so (omega arith) (less p.functions q.functions) (reads.comes free free1 p q s locals is quiet wanted at) }
-
-  pub call_deeper : {Is : Counted Value} {deep more : ℕ} {part : (free : ℕ) → Op → Want → Stretch} → deep ≤ more → ReadsCall f g active listed Is deep part → ReadsCall f g active listed Is more part
-  call_deeper deeper reads = record { forward = reads.forward; begins = reads.begins; comes = λ free op want p q s locals is quiet calls at. call_so deeper (λ v is. is) (reads.comes free op want p q s locals is quiet calls at) }
-
-  pub call_less : {Is Less : Counted Value} {deep : ℕ} {part : (free : ℕ) → Op → Want → Stretch} → ((before behind : ℕ) (v : Value) → Is before behind v → Less before behind v) → ReadsCall f g active listed Is deep part → ReadsCall f g active listed Less deep part
-  call_less less reads = record { forward = reads.forward; begins = reads.begins; comes = λ free op want p q s locals is quiet calls at. call_so (omega arith) (less p.functions q.functions) (reads.comes free op want p q s locals is quiet calls at) }
-
   pub open_deeper : {Is : Counted Value} {deep more : ℕ} {part : (free : ℕ) → Op → Want → Stretch} → deep ≤ more → ReadsOpen f g active listed Is deep part → ReadsOpen f g active listed Is more part
   open_deeper deeper reads = record { forward = reads.forward; begins = reads.begins; comes = λ free p q s locals is quiet at. open_so deeper (λ v is. is) (reads.comes free p q s locals is quiet at) }
 
-  pub open_less : {Is Less : Counted Value} {deep : ℕ} {part : (free : ℕ) → Op → Want → Stretch} → ((before behind : ℕ) (v : Value) → Is before behind v → Less before behind v) → ReadsOpen f g active listed Is deep part → ReadsOpen f g active listed Less deep part
-  open_less less reads = record { forward = reads.forward; begins = reads.begins; comes = λ free p q s locals is quiet at. open_so (omega arith) (less p.functions q.functions) (reads.comes free p q s locals is quiet at) }
-
   pub given_deeper : {Are : CountedValues} {deep more : ℕ} {given : GivenRel} → deep ≤ more → ReadsGiven f g active listed Are deep given → ReadsGiven f g active listed Are more given
   given_deeper deeper reads = record { forward = reads.forward; begins = reads.begins; comes = λ free p q s locals is quiet some at. given_so deeper (λ values all are. are) (reads.comes free p q s locals is quiet some at) }
-
-  pub given_less : {Are Less : CountedValues} {deep : ℕ} {given : GivenRel} → ((before behind : ℕ) (values : Values) (all : Bool) → Are before behind values all → Less before behind values all) → ReadsGiven f g active listed Are deep given → ReadsGiven f g active listed Less deep given
-  given_less less reads = record { forward = reads.forward; begins = reads.begins; comes = λ free p q s locals is quiet some at. given_so (omega arith) (less p.functions q.functions) (reads.comes free p q s locals is quiet some at) }

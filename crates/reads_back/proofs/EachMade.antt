@@ -106,11 +106,11 @@ assigned_low (syntax.expression target no_expressions) (syntax.expression (funct
 assigned_low targets es to from = both_low (depth_of_expressions targets) (depth_of_expressions es) _ (space_of_expressions targets) (space_of_expressions es) _ (mentions_in_all targets) (mentions_in_all es) (omega arith) (omega arith) (low_in_all targets to) (low_in_all es from)
 
 -- no local function, which alone mentions one of its own
-abbrev pub IsNotLocal : Statement → Type 0
+abbrev IsNotLocal : Statement → Type 0
 IsNotLocal (local_function text body) = ⊥
 IsNotLocal s = Unit {0}
 
-pub mentions_low : (s : Statement) → IsAct s → IsNotLocal s → AreLowMentions (lean_depth s) (lean_room s) (mentions_of_statement s)
+mentions_low : (s : Statement) → IsAct s → IsNotLocal s → AreLowMentions (lean_depth s) (lean_room s) (mentions_of_statement s)
 mentions_low (call_statement e) is other = low_in e is.1
 mentions_low (assignment targets es) is other = assigned_low targets es (targets_have_cores IsPlainBody targets is.targets) is.values
 mentions_low (local_statement names es) is other = low_in_all es is.1

@@ -24,7 +24,7 @@ use Rattle.reads_back.proofs.TargetsCome.{AllFit, AreSaid, Fits, IsSaid}
 
 module _ (g : Fn) where
   -- as the words of any store say it
-  abbrev pub destination_of : Target → Destination
+  abbrev destination_of : Target → Destination
   destination_of (name_target text (in_register x)) = to_local x
   destination_of (name_target text (in_upvalue slot)) = to_upvalue slot
   destination_of (name_target text in_globals) = to_global (constant_number (Constant.Text text) g.constants)

@@ -1,11 +1,10 @@
 -- Expressions with the law asked, as `names_stand` has them, but for each by itself: all its uses, and those of the lists, the steps and the bodies of functions in it.
 use Rattle.std.proofs.Common.{◌≡◌, ◌<◌, ℕ, Bool, true, false, ◌&&◌, List, [], ◌++◌, refl, sym, ◌∙◌, arith}
-use Rattle.std.specs.Prelude.{Option, Some, None, is_some, ◌==◌, pos}
-use Rattle.std.proofs.lemmas.Bool.{eqb-true}
+use Rattle.std.specs.Prelude.{Option, None, is_some, pos}
 use Rattle.lua_num.specs.Bytes.{Text}
 use Rattle.lua_tree.specs.Names.{are_names, is_name}
-use Rattle.lua_tree.specs.Outline.{Binding, Mark, Place, both, nothing, in_function, all_params, statements_part, statement_part, step_part, body_part, expression_part, arguments_part, fields_part}
-use Rattle.lua_tree.specs.Scoping.{is_one_of, upvalues_of}
+use Rattle.lua_tree.specs.Outline.{Mark, Place, both, nothing, in_function, all_params, statements_part, statement_part, step_part, body_part, expression_part, arguments_part, fields_part}
+use Rattle.lua_tree.specs.Scoping.{upvalues_of}
 use Rattle.lua_tree.specs.Syntax as syntax
 use Rattle.lua_tree.specs.Syntax.{Expressions, no_expressions, Arguments, argument_list, text_argument, table_argument, Fields, no_fields, positional, named, keyed, Statements, no_statements, ForStep, no_step, by_step, FunctionBody, function_body, Expression, nil_literal, true_literal, false_literal, vararg_expression, number_literal, text_literal, name_expression, function_expression, index_expression, field_expression, call_expression, method_call, and_expression, or_expression, binary_expression, unary_expression, constructor, parenthesized}
 use Rattle.lua_tree.specs.WellFormed.{is_target, is_prefix, may_follow, formed_statements, formed_statement, formed_step, formed_body, formed_expressions, formed_expression, formed_arguments, formed_fields, on_its_line, ends_item}
@@ -21,7 +20,6 @@ use Rattle.scheme_stands.specs.Functions.{ClosureAt}
 use Rattle.scheme_stands.specs.Statements.{LoopAt}
 use Rattle.scheme_stands.specs.Relation.{related, given_rel, StatementsAt, StepAt, FunctionOf}
 use Rattle.scheme_stands.specs.Placed.{RulesKept, names_of_seen}
-use Rattle.scheme_stands.specs.Places.{ScopeAt}
 use Rattle.scheme_stands.proofs.Counting.{statement_counted}
 use Rattle.scheme_stands.proofs.Entering.{entered_by}
 use Rattle.scheme_stands.proofs.Here.{tame_arguments}
@@ -36,14 +34,7 @@ use Rattle.scheme_stands.proofs.Standing.{stands_statement, stands_onwards}
 use Rattle.scheme_stands.proofs.Lawful.{function_named, statement_lift}
 
 module _ (all : List Mark) (rules : RulesKept all) where
-  new_home : (place : Place) → ScopeAt place → ((b : Binding) → is_one_of b.home place.around ≡ true → b.home ≡ place.functions → ⊥) → (name : Text) (b : Binding) → place.scope name ≡ Some b → (b.home == place.functions) ≡ false
-  new_home place s h name b e = by (b.home == place.functions) refl
-    where
-      by : (t : Bool) → (b.home == place.functions) ≡ t → (b.home == place.functions) ≡ false
-      by true q = absurd (h b (s.homes name b e) (eqb-true b.home place.functions q))
-      by false q = q
-
-  abbrev pub StatementsLift : Statements → Type 0
+  abbrev StatementsLift : Statements → Type 0
   StatementsLift ss =
       (n : Names) (f : Fn) → Setting n f → (loop : Option LoopAt) (place : Place) (rest : List Mark) (active after : List Active) (p q : Spot) → is_some loop ≡ place.looped →
       Stands all n f (statements_part ss) place rest active p → StatementsAt f loop ss active after p q → Lifted f (StatementsAt (asking n f) loop ss active after p q) q

@@ -31,7 +31,6 @@ use Rattle.reads_back.specs.ReadAs.{part_of}
 use Rattle.reads_back.proofs.ActiveNames.{IsGood, NamedIn, named_both, texts_in}
 use Rattle.reads_back.proofs.ActsRead.{ActRead, Declares, kind_of_act, locals_of}
 use Rattle.reads_back.proofs.DeclarationsRead.{StartHere}
-use Rattle.reads_back.proofs.BlockReads.{some_names}
 use Rattle.reads_back.proofs.FlowRead.{ActPart, Begins, KindRead, as_many, final_here, has_locals, last_is, upvalues_here, within_last}
 use Rattle.reads_back.proofs.FlowStarts.{declaration_starts, few_behind, from_at, quiet_to, row_from}
 use Rattle.reads_back.proofs.FlowThere.{IsFlowAct, IsFlowBy, IsFlowFunction, StepIs, are_listed, before_at, made_at, made_before, named_before, pcs}
@@ -41,6 +40,7 @@ use Rattle.reads_back.proofs.OwnLocals.{listed_same}
 use Rattle.reads_back.proofs.PlacedEnds.{length_entries, stands_in}
 use Rattle.reads_back.proofs.Rewriting.{IsMadeBy, OwnListed, RewrittenAct, mentions_of_statement}
 use Rattle.reads_back.proofs.SameStatements.{assigned_makes, assigned_stands}
+use Rattle.reads_back.proofs.SomeNames.{some_names}
 use Rattle.reads_back.proofs.StartingLocals.{StartFrom, start_later}
 use Rattle.reads_back.proofs.StatementsMeant.{statement_meant}
 use Rattle.reads_back.proofs.StraightActs.{StartsWith, act_read, written}

@@ -68,13 +68,13 @@ module _ {f : Function} {g : Fn} {z : Maker} {lefts : ℕ → List (Option Inner
   declared_first = are_declared f.of.locals 0 end parameters (from_at of 0) None empty all (all_there 0 end params) (omega arith) refl (omega (arith, count, few))
 
   -- behind them
-  abbrev pub params_scope : Scope
+  abbrev params_scope : Scope
   params_scope = declared_first.behind
 
   abbrev pub params_behind : Situation
   params_behind = record (at_first (lefts 0)) { scope = params_scope }
 
-  pub params_are_read : read_params f (at_first (lefts 0)) ≡ Some (params, params_behind)
+  params_are_read : read_params f (at_first (lefts 0)) ≡ Some (params, params_behind)
   params_are_read =
       let many = length params in
       let s : Situation = at_first (lefts 0) in

@@ -28,13 +28,13 @@ use Rattle.reads_back.proofs.Tests.{not_below}
 
 module _ {f : Function} {g : Fn} {z : Maker} {lefts : ℕ → List (Option Inner)} {parts : ℕ → outline.Part} {code : Steps} {params names : List Text} {ahead : Ahead} {block : Statements} (of : IsFlowFunction f g z lefts parts code params names ahead block) where
   -- the steps from one on are read behind these drafts
-  pub record StepsRead (at : ℕ) (drafts : List Drafted) (now : Situation) : Type 0 where
-    pub more : List Drafted
-    pub behind : Situation
-    pub reads : (count : ℕ) → f.last ≤ count + pcs of at → drafts_from f count (drafts, pcs of at, now) ≡ Some (drafts ++ more, f.last, behind)
-    pub as_many : at + length more ≡ length code.steps
-    pub each : (i : ℕ) (draft : Drafted) → slice_get more i ≡ Some draft → DraftRead of (at + i) draft
-    pub there : IsThere of (length code.steps) behind
+  record StepsRead (at : ℕ) (drafts : List Drafted) (now : Situation) : Type 0 where
+    more : List Drafted
+    behind : Situation
+    reads : (count : ℕ) → f.last ≤ count + pcs of at → drafts_from f count (drafts, pcs of at, now) ≡ Some (drafts ++ more, f.last, behind)
+    as_many : at + length more ≡ length code.steps
+    each : (i : ℕ) (draft : Drafted) → slice_get more i ≡ Some draft → DraftRead of (at + i) draft
+    there : IsThere of (length code.steps) behind
 
   no_steps : (at : ℕ) (drafts : List Drafted) (now : Situation) → at ≡ length code.steps → IsThere of at now → StepsRead at drafts now
   no_steps at drafts now is there = record {

@@ -95,7 +95,7 @@ behind_labels code (Some kind) None now plain = refl
 -- ---- the pcs of steps as labels
 
 -- so many, from one on
-abbrev pub places_from : (pcs : ℕ → ℕ) → (first count : ℕ) → List ℕ
+abbrev places_from : (pcs : ℕ → ℕ) → (first count : ℕ) → List ℕ
 places_from pcs first zero = []
 places_from pcs first (suc count) = pcs first ∷ places_from pcs (suc first) count
 
@@ -109,7 +109,7 @@ target_of (Piece.Jump op a label) = label
 target_of piece = 0
 
 -- the highest label of these words
-abbrev pub highest_label : List Item → ℕ
+abbrev highest_label : List Item → ℕ
 highest_label [] = 0
 highest_label (item ∷ items) = max (target_of item.piece) (highest_label items)
 

@@ -27,9 +27,7 @@ use Rattle.same_flow.specs.Told as told
 use Rattle.reads_back.specs.Cores.{AllHaveCores}
 use Rattle.reads_back.specs.Stepped.{CountedAt}
 use Rattle.reads_back.proofs.ActsRead.{Declares}
-use Rattle.reads_back.proofs.DeclaredLocals.{declare_passes}
 use Rattle.reads_back.proofs.FlowLones.{target_within}
-use Rattle.reads_back.proofs.BlockReads.{some_names}
 use Rattle.reads_back.proofs.FlowRead.{Begins, KindRead, final_here, has_locals, last_is, upvalues_here, within_last}
 use Rattle.reads_back.proofs.FlowStarts.{from_at, head_count, head_from, head_starts, own_entries, quiet_to}
 use Rattle.reads_back.proofs.FlowThere.{IsFlowFunction, StepIs, before_at, made_at, made_before, pcs}
@@ -37,9 +35,10 @@ use Rattle.reads_back.proofs.HeadValues.{IsHeaded, counted_list, head_wording}
 use Rattle.reads_back.proofs.HeadsRead.{CanHead, HeadRead, LoopStarts, generic_head_read, numeric_head_read}
 use Rattle.reads_back.proofs.HeadsSame.{AreCounted, AreOfHead, RewrittenHead, head_can_be_written, head_rewritten, head_taken, mentions_of_head, mentions_of_loop}
 use Rattle.reads_back.proofs.LocalsLeave.{listed_of}
-use Rattle.reads_back.proofs.Mentions.{AreMeant, IsAhead, coming, mentions_in, mentions_in_all}
+use Rattle.reads_back.proofs.Mentions.{AreMeant, IsAhead, coming, mentions_in, mentions_in_all, declare_passes}
 use Rattle.reads_back.proofs.MentionsMeant.{Meant, adjust_meant, each_meant, meant_none, meant_then, mentions_meant, word_keeps}
 use Rattle.reads_back.proofs.Rewriting.{IsMadeBy}
+use Rattle.reads_back.proofs.SomeNames.{some_names}
 use Rattle.reads_back.proofs.StartingLocals.{StartFrom, start_later}
 use Rattle.reads_back.proofs.StraightActs.{all_written}
 use Rattle.reads_back.proofs.WordsRead.{IsQuiet}

@@ -132,7 +132,7 @@ module _ {f : Function} {g : Fn} {z : Maker} {lefts : ℕ → List (Option Inner
         by false test = earlier (grind (arith, nat_tests))
 
     -- as much is known behind it
-    pub there_next : IsThere of (suc at) (left_at f (pcs of (suc at)) read.behind)
+    there_next : IsThere of (suc at) (left_at f (pcs of (suc at)) read.behind)
     there_next =
         let less = is.within in
         let more = read.declares.declared_more in
@@ -168,7 +168,7 @@ module _ {f : Function} {g : Fn} {z : Maker} {lefts : ℕ → List (Option Inner
         }
 
     -- it is read at its pc
-    pub step_reads : step_at f at (pcs of at) now ≡ Some (read.draft, read.behind)
+    step_reads : step_at f at (pcs of at) now ≡ Some (read.draft, read.behind)
     step_reads =
         let less = is.within in
         let begins = there_begins of at there in

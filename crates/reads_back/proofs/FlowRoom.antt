@@ -108,7 +108,6 @@ steps_room g z code plain params names ahead block laid stand final high room (s
     let m = (before_place code params names ahead at).maker in
     let step = step_there code.steps at (omega (arith, most)) in
     let told = laid_are_told code plain params names ahead block laid at step.0 step.1 in
-    let made = kind_made code step.0.kind told.part m in
     let makes = step_makes code plain params names ahead at step.0 told.part step.1 told.there in
     let earlier = steps_room g z code plain params names ahead block laid stand final high room at (omega (arith, most)) in
     let here = taken_few (still_active at now.ends) now.maker.active in

@@ -25,8 +25,6 @@ use Rattle.same_flow.proofs.LocalsListed.{all_end, locals_listed, parted_at}
 use Rattle.same_flow.proofs.LocalsListed as listed
 use Rattle.same_flow.proofs.StatementsTold.{run}
 use Rattle.reads_back.specs.Placed.{listed_before}
-use Rattle.reads_back.proofs.BlockMakers.{good_names}
-use Rattle.reads_back.proofs.BlockReads.{some_names}
 use Rattle.reads_back.proofs.DeclarationsRead.{StartHere}
 use Rattle.reads_back.proofs.EndsFall.{Falling, ends_fall, last_of_all}
 use Rattle.reads_back.proofs.FlowThere.{IsFlowBy, StepIs, before_at, few_now, made_at, pcs}
@@ -36,6 +34,7 @@ use Rattle.reads_back.proofs.LoopsStarting.{hidden_locals, loop_starts, row_star
 use Rattle.reads_back.proofs.PlacedEnds.{length_entries}
 use Rattle.reads_back.proofs.PlacedFlow.{three_hidden}
 use Rattle.reads_back.proofs.PlacedLocals.{count_before, kind_adds}
+use Rattle.reads_back.proofs.SomeNames.{good_names, some_names}
 use Rattle.reads_back.proofs.StartingLocals.{StartFrom, start_both, start_later}
 use Rattle.reads_back.proofs.StepsGrow.{pcs_grow}
 use Rattle.reads_back.proofs.WordsRead.{IsQuiet}
@@ -66,7 +65,7 @@ module _ {Left : Type 0} {f : Function} {g : Fn} {z : Maker} {code : Steps} {par
   from_at at = entries_from code (pcs of) at (length code.steps - at)
 
   -- these are listed next
-  pub next_entries : (at : ℕ) → at ≤ length code.steps → drop (listed_before code params names ahead at) f.of.locals ≡ from_at at
+  next_entries : (at : ℕ) → at ≤ length code.steps → drop (listed_before code params names ahead at) f.of.locals ≡ from_at at
   next_entries at most =
       let last = length code.steps in
       let parameters = entries_of 0 (pcs of last) params in
@@ -124,7 +123,6 @@ module _ {Left : Type 0} {f : Function} {g : Fn} {z : Maker} {code : Steps} {par
     count_new =
         let less = is.within in
         let m = before_at of at in
-        let made = made_at of at kind part in
         let adds = kind_adds code kind part (of.plain at part is.part_there) m in
         let listed = locals_listed code of.plain params names ahead block of.laid in
         let one = (listed.before at (omega (arith, less))).count in

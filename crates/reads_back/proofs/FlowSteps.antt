@@ -1,8 +1,8 @@
 -- Each step of a function is read from its words, and what is known before it is known again before the next one.
-use Rattle.std.proofs.Common.{◌≡◌, ◌≤◌, ℕ, zero, suc, ◌+◌, ◌-◌, true, false, List, [], ◌∷◌, length, take, refl, sym, ap, ◌∙◌, arith, subst}
+use Rattle.std.proofs.Common.{◌≡◌, ◌≤◌, ℕ, zero, suc, ◌+◌, ◌-◌, true, false, List, [], ◌∷◌, length, take, refl, sym, ap, ◌∙◌, arith, subst, None}
 use Rattle.std.proofs.lemmas.List.{length-map, length-replicate}
 use Rattle.std.proofs.lemmas.Option.{none-some, slice_get-map, slice_get_past}
-use Rattle.std.specs.Prelude.{None, Option, Some, option_and_then, option_map, replicate, slice_get}
+use Rattle.std.specs.Prelude.{Option, Some, option_and_then, option_map, replicate, slice_get}
 use Rattle.lua_num.specs.Bytes.{Text}
 use Rattle.lua_tree.specs.Outline as outline
 use Rattle.lua_tree.specs.Syntax.{Statements}
@@ -20,7 +20,6 @@ use Rattle.same_flow.specs.Declaring.{declaring, declaring_before, same_option}
 use Rattle.same_flow.specs.Listed.{entries_from}
 use Rattle.same_flow.specs.Performed.{kind_at, still_active}
 use Rattle.reads_back.specs.Placed.{HaveWords, listed_before}
-use Rattle.reads_back.proofs.BlockReads.{no_local}
 use Rattle.reads_back.proofs.FlowActs.{act_step_read, declaration_step_read, return_step_read}
 use Rattle.reads_back.proofs.FlowHeads.{head_step_read}
 use Rattle.reads_back.proofs.FlowKnown.{AllKnown, known_first}
@@ -31,6 +30,10 @@ use Rattle.reads_back.proofs.FlowTests.{test_step_read}
 use Rattle.reads_back.proofs.FlowThere.{IsFlowFunction, StepIs, before_at, now_at, pcs, step_is}
 use Rattle.reads_back.proofs.LocalsLeave.{listed_of, taken_few}
 use Rattle.reads_back.proofs.StartingLocals.{StartFrom, start_both, start_later}
+
+-- one local of an invented situation
+no_local : Declared
+no_local = record { outer = None; register = 0; step = None; captured = false }
 
 module _ {f : Function} {g : Fn} {z : Maker} {lefts : ℕ → List (Option Inner)} {parts : ℕ → outline.Part} {code : Steps} {params names : List Text} {ahead : Ahead} {block : Statements} (of : IsFlowFunction f g z lefts parts code params names ahead block) where
   -- ---- a step of any kind
@@ -50,7 +53,7 @@ module _ {f : Function} {g : Fn} {z : Maker} {lefts : ℕ → List (Option Inner
   -- ---- each step has words
 
   -- an invented situation where a step begins
-  abbrev pub invented : ℕ → Situation
+  abbrev invented : ℕ → Situation
   invented at = record {
     left = lefts (length (before_at of at).functions);
     scope = record { declared = replicate (listed_before code params names ahead at) no_local; active = listed_of (before_at of at).active };
@@ -63,7 +66,7 @@ module _ {f : Function} {g : Fn} {z : Maker} {lefts : ℕ → List (Option Inner
     seen = length (before_at of at).constants;
   }
 
-  pub begins_invented : (at : ℕ) → Begins of at (invented at)
+  begins_invented : (at : ℕ) → Begins of at (invented at)
   begins_invented at = record { declared = length-replicate (listed_before code params names ahead at) no_local; active = refl; base = refl; left = refl; seen = refl; taken = refl; entries = refl; pc = refl }
 
   later_from : (count at : ℕ) → length code.steps ≡ count + at → StartFrom (suc (pcs of at)) (from_at of at)

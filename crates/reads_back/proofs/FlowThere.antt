@@ -39,17 +39,16 @@ use Rattle.reads_back.specs.Cores.{AllHaveCores}
 use Rattle.reads_back.specs.Stepped.{KindAt, StepStands, begun_by}
 use Rattle.reads_back.specs.Straight.{StatementIndexesNoTable}
 use Rattle.reads_back.proofs.ActiveNames.{HasGoodNames, NamedIn, kind_brings, named_behind, named_longer, named_taken, params_named, texts_in, texts_of_entries}
-use Rattle.reads_back.proofs.BlockMakers.{good_names}
 use Rattle.reads_back.proofs.ListedLocals.{own_named}
 use Rattle.reads_back.proofs.LocalsLeave.{listed_of, taken_few}
+use Rattle.reads_back.proofs.MadeWhole.{IsMadeWhole, is_certain}
 use Rattle.reads_back.proofs.NameReads.{AreListed, IsListed}
 use Rattle.reads_back.proofs.PlacedEnds.{length_entries}
 use Rattle.reads_back.proofs.PlacedInside.{GoesInside, laid_inside}
 use Rattle.reads_back.proofs.PlacedLocals.{kind_adds, step_makes}
 use Rattle.reads_back.proofs.Rewriting.{IsMadeBy}
+use Rattle.reads_back.proofs.SomeNames.{good_names}
 use Rattle.reads_back.proofs.StraightActs.{AreLeft}
-use Rattle.reads_back.proofs.StraightBlocks.{IsMadeWhole}
-use Rattle.reads_back.proofs.StraightScopes.{is_certain}
 use Rattle.reads_back.proofs.TestedAs.{HasTest}
 use Rattle.reads_back.proofs.Tests.{both_hold, first_of_both, second_of_both}
 
@@ -215,7 +214,7 @@ module _ {Left : Type 0} {f : Function} {g : Fn} {z : Maker} {code : Steps} {par
     pub are_listed : length active ≤ 250 → AreListed f g active (listed_of active)
     are_listed few = record { listed_as = λ text w means. named_there text w (subst (λ law. Means law active text w) of.made.law means); few = few }
 
-    pub are_made : length active ≤ 250 → IsMadeBy f g active (listed_of active) z
+    are_made : length active ≤ 250 → IsMadeBy f g active (listed_of active) z
     are_made few = record {
       is_function = of.made.is_function;
       all = are_listed few;

@@ -23,7 +23,7 @@ use Rattle.reads_back.specs.Stepped.{StepStands}
 use Rattle.reads_back.proofs.FlowFinal.{placed_maker, same_constants, same_high, same_upvalues, steps_final}
 use Rattle.reads_back.proofs.FlowRoom.{steps_room}
 use Rattle.reads_back.proofs.FlowThere.{IsFlowBy, IsFlowPart}
-use Rattle.reads_back.proofs.StraightBlocks.{IsMadeWhole}
+use Rattle.reads_back.proofs.MadeWhole.{IsMadeWhole}
 
 -- what its statements make, and with the last word
 abbrev pub tree_of : (params names : List Text) → Ahead → Statements → Maker

@@ -109,7 +109,7 @@ literal_closed_by : (text : Text) (folded : Option ℤ) (e : Expression) (k : Co
 literal_closed_by text (Some x) e k folded is = folded_closed text e x folded
 literal_closed_by text None e k folded is = plain_closed text e k is
 
-pub literal_closed : (text : Text) (e : Expression) (k : Constant) → literal e ≡ Some k → free_in text e ≡ false
+literal_closed : (text : Text) (e : Expression) (k : Constant) → literal e ≡ Some k → free_in text e ≡ false
 literal_closed text e k is = literal_closed_by text (fold e) e k refl is
 
 closed_last : (text : Text) (fields : Fields) → is_last_item fields ≡ true → free_in_fields text fields ≡ false
@@ -422,7 +422,7 @@ module _ (text : Text) (n : Names) where
 
     -- ---- lists and calls
 
-    pub next_finds : (free other : Bool) (c : Rel) (from : ℕ) (rest : Stretch) → UsesFind free active c → Finds other rest → Finds (free || other) (FirstAt g c active from rest)
+    next_finds : (free other : Bool) (c : Rel) (from : ℕ) (rest : Stretch) → UsesFind free active c → Finds other rest → Finds (free || other) (FirstAt g c active from rest)
     next_finds free other c from rest first second p q at is = of_either free other is (λ is. first.to_reg from from p at.mid at.first is) (λ is. second at.mid q at.others is)
 
     next_each_finds : (es : Expressions) → EachFinds es → (from : ℕ) → Finds (free_in_all text es) (AllNextAt g (all_related g es) active from)

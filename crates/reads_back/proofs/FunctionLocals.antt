@@ -72,7 +72,7 @@ drop_front (x ∷ xs) ys = drop_front xs ys
 same_behind : (xs ys zs : List Local) → xs ++ ys ≡ xs ++ zs → ys ≡ zs
 same_behind xs ys zs same = sym (drop_front xs ys) ∙ ap (drop (length xs)) same ∙ drop_front xs zs
 
-abbrev pub locals_at : Option StepKind → Option Part → Maker → List Local
+abbrev locals_at : Option StepKind → Option Part → Maker → List Local
 locals_at (Some kind) (Some part) m = locals_by kind part m
 locals_at kind part m = []
 
@@ -184,7 +184,7 @@ module _ {f : Function} {g : Fn} {z : Maker} {lefts : ℕ → List (Option Inner
         let grows = part_grows kind part now.place is.fits in
         omega (arith, grows, next, declarations_stay (suc at) said.after.place said.after.entries)
 
-    pub declared_grows : (count at : ℕ) → at + count ≡ length code.steps → declared_before at ≤ declared_before (length code.steps)
+    declared_grows : (count at : ℕ) → at + count ≡ length code.steps → declared_before at ≤ declared_before (length code.steps)
     declared_grows zero at is = let same = ap declared_before (let same : at ≡ length code.steps = omega (arith, is) in same) in omega (arith, same)
     declared_grows (suc count) at is =
         let step = step_is of at (omega (arith, is)) in

@@ -9,7 +9,7 @@ use Rattle.lua_tree.specs.Syntax.{Expression, Expressions, FunctionBody, Stateme
 use Rattle.lua_tree.specs.WellFormed.{depth_of_body, depth_of_expression, depth_of_expressions, depth_of_statement, ends_block, formed_body, formed_expression, formed_statement, is_optional_name, is_prefix, is_target}
 use Rattle.same_flow.specs.Space.{space_of_body, space_of_expression, space_of_expressions, space_of_statement}
 use Rattle.reads_back.specs.Assignments.{as_assignment, fields_behind, path_target, with_method_name, with_self}
-use Rattle.reads_back.specs.Acted.{is_path, lean_assignment, lean_depth}
+use Rattle.reads_back.specs.Acted.{is_path, lean_assignment}
 use Rattle.reads_back.specs.Straight.{HasCoreBy, IsActBy, IsActTargetBy, IsStraightStatementBy, StatementIndexesNoTable, IndexesNoTable, is_constructor}
 use Rattle.reads_back.proofs.Rooms.{lean_room, lean_room_assignment}
 use Rattle.reads_back.proofs.Tests.{both_hold, first_of_both, not_so, second_of_both}
@@ -137,9 +137,8 @@ pub assigned_in_room : (P : FunctionBody → Type 0) (s : Statement) → IsStrai
 assigned_in_room P (function_statement path method body) is roomy = omega (arith, is.0, path_roomy path method, self_room (is_some method) body, roomy)
 assigned_in_room P s is roomy = roomy
 
--- ---- nor is it deeper, where a path does not count
+-- ---- an assignment is no deeper where its path does not count
 
--- a path that does not count makes an assignment no deeper
 pub lean_is_less : (targets es : Expressions) → lean_assignment targets es ≤ max (depth_of_expressions targets) (depth_of_expressions es)
 lean_is_less (syntax.expression target no_expressions) (syntax.expression (function_expression line body) no_expressions) = by (is_path target)
   where
@@ -147,22 +146,6 @@ lean_is_less (syntax.expression target no_expressions) (syntax.expression (funct
     by true = omega arith
     by false = omega arith
 lean_is_less targets es = omega arith
-
-pub assigned_lean : (s : Statement) → formed_statement s ≡ true → lean_depth (as_assignment s) ≤ depth_of_statement s
-assigned_lean (function_statement [] method body) formed = not_so formed
-assigned_lean (function_statement (name ∷ names) method body) formed =
-    let behind = second_of_both (are_some_names (name ∷ names)) _ formed in
-    let named = path_is_named (λ body. Unit {0}) name names method (first_of_both _ _ formed) (first_of_both _ _ behind) in
-    by (is_path (path_target (name ∷ names) method)) named.path
-  where
-    inside : FunctionBody
-    inside = with_self (is_some method) body
-
-    by : (path : Bool) → path ≡ true → (if path then suc (depth_of_body inside) else max (depth_of_expression (path_target (name ∷ names) method)) (suc (depth_of_body inside))) ≤ 1 + depth_of_body body
-    by true is = omega (arith, self_deep (is_some method) body)
-    by false is = not_so is
-assigned_lean (assignment targets es) formed = lean_is_less targets es
-assigned_lean s formed = omega arith
 
 -- ---- and it has as much room
 

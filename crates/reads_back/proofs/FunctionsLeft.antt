@@ -5,7 +5,7 @@ use Rattle.core_expr.specs.Counting.{left_by, left_by_items, left_by_operand, le
 use Rattle.core_expr.specs.Targets.{TargetValue, index_target, left_by_target}
 use Rattle.core_expr.specs.Values.{Inner, Value, Values, OperandValue, OperandList, ItemList, index_value, binary_value, unary_value, concat_value, call_value, method_value, table_value, function_value, no_values, and_value, constant_operand, value_operand, no_operands, and_operand, no_items, and_positional, and_keyed}
 use Rattle.core_expr.specs.Writing.{function_left, function_there}
-use Rattle.reads_back.specs.Acted.{left_by_last, left_by_targets}
+use Rattle.reads_back.specs.Acted.{left_by_targets}
 
 -- this holds of each that is left, and its number, where the first one has this number
 abbrev pub EachLeft : (Holds : ℕ → Inner → Type 0) → (number : ℕ) → List (Option Inner) → Type 0
@@ -64,11 +64,11 @@ module _ (Holds : ℕ → Inner → Type 0) where
     each_by_operand (constant_operand k) left each = each
     each_by_operand (value_operand v) left each = each_by v left each
 
-    pub each_by_operands : (os : OperandList) (left : List (Option Inner)) → EachLeft Holds 0 left → EachLeft Holds 0 (left_by_operands os left)
+    each_by_operands : (os : OperandList) (left : List (Option Inner)) → EachLeft Holds 0 left → EachLeft Holds 0 (left_by_operands os left)
     each_by_operands no_operands left each = each
     each_by_operands (and_operand o rest) left each = each_by_operands rest (left_by_operand o left) (each_by_operand o left each)
 
-    pub each_by_items : (items : ItemList) (left : List (Option Inner)) → EachLeft Holds 0 left → EachLeft Holds 0 (left_by_items items left)
+    each_by_items : (items : ItemList) (left : List (Option Inner)) → EachLeft Holds 0 left → EachLeft Holds 0 (left_by_items items left)
     each_by_items no_items left each = each
     each_by_items (and_positional v rest) left each = each_by_items rest (left_by v left) (each_by v left each)
     each_by_items (and_keyed key item rest) left each = each_by_items rest (left_by_operand item (left_by_operand key left)) (each_by_operand item (left_by_operand key left) (each_by_operand key left each))
@@ -82,7 +82,3 @@ module _ (Holds : ℕ → Inner → Type 0) where
   pub each_by_targets : (ts : List TargetValue) (left : List (Option Inner)) → EachLeft Holds 0 left → EachLeft Holds 0 (left_by_targets ts left)
   each_by_targets [] left each = each
   each_by_targets (t ∷ ts) left each = each_by_targets ts (left_by_target t left) (each_by_target t left each)
-
-  pub each_by_last : (last : Option OperandValue) (left : List (Option Inner)) → EachLeft Holds 0 left → EachLeft Holds 0 (left_by_last last left)
-  each_by_last None left each = each
-  each_by_last (Some o) left each = each_by_operand o left each

@@ -103,7 +103,7 @@ numbers_then first (suc count) more =
     ap (numbers_from first) one ∙ ap (λ rest. first ∷ rest) (numbers_then (suc first) count more ∙ ap (λ next. numbers_from (suc first) count ++ numbers_from next more) same)
 
 -- so many locals, and others behind them
-pub declares_then : (count more : ℕ) (before mid behind : Scope) → Declares count before mid → Declares more mid behind → Declares (count + more) before behind
+declares_then : (count more : ℕ) (before mid behind : Scope) → Declares count before mid → Declares more mid behind → Declares (count + more) before behind
 declares_then count more before mid behind one other = record {
   declared_more = omega (arith, one.declared_more, other.declared_more);
   active_more =
@@ -176,7 +176,7 @@ module _ (f : Function) (numeric : Bool) (names : List Text) (foot pc : ℕ) (w 
           ∙ variables_read
 
 -- the turn before the word at the pc, where these locals start
-pub head_turn : {f : Function} {numeric : Bool} {before : Scope} {names : List Text} {pc : ℕ} (s : Situation) (step : Drafted × Situation) → SameLocals before s.scope → LoopStarts f numeric before names pc → loop_head f pc 3 s ≡ Some step → turn_at f pc s ≡ Some (over step.0, step.1)
+head_turn : {f : Function} {numeric : Bool} {before : Scope} {names : List Text} {pc : ℕ} (s : Situation) (step : Drafted × Situation) → SameLocals before s.scope → LoopStarts f numeric before names pc → loop_head f pc 3 s ≡ Some step → turn_at f pc s ≡ Some (over step.0, step.1)
 head_turn {f} {pc = pc} s step same start does =
     let rest = if nat_le f.last pc then None else option_and_then (turn_of f s) (word_at f pc) in
     let starts = λ (n : ℕ). prefix_len (λ (local : LocVar). local.start == pc) (drop n f.of.locals) in

@@ -36,14 +36,13 @@ use Rattle.same_flow.specs.Performed.{counted_values, head_made, kind_made}
 use Rattle.same_flow.specs.Space.{space_of_expressions}
 use Rattle.reads_back.specs.Cores.{AllHaveCores, AreCores, IsCore, ends_open}
 use Rattle.reads_back.proofs.ActsRewritten.{AllWritten, each_written}
-use Rattle.reads_back.proofs.DeclaredLocals.{declare_passes}
 use Rattle.reads_back.proofs.DeclaredSame.{Adjusts, activate_constants, closed_written, declare_constants, more_written, nil_written, open_listed}
 use Rattle.reads_back.proofs.Deeper.{some_depth}
 use Rattle.reads_back.proofs.GivenSame.{AllRewritten, list_rewritten}
 use Rattle.reads_back.proofs.HeadValues.{IsHeaded, counted_list, head_wording, headed_by, headed_values, three_of}
 use Rattle.reads_back.proofs.HeadsRead.{CanHead}
 use Rattle.reads_back.proofs.ListsSame.{codes_of, cores_count, cores_few, list_few, next_all, next_all_low, next_all_taken, values_coded}
-use Rattle.reads_back.proofs.Mentions.{IsAhead, Mention, ahead_behind, locals_mention, made_behind, mentions_in_all}
+use Rattle.reads_back.proofs.Mentions.{IsAhead, Mention, ahead_behind, locals_mention, made_behind, mentions_in_all, declare_passes}
 use Rattle.reads_back.proofs.Rewriting.{IsMadeBy, code}
 use Rattle.reads_back.proofs.Rooms.{some_room}
 use Rattle.reads_back.proofs.Tests.{not_so}
@@ -182,7 +181,7 @@ mentions_of_head true es = mentions_in_all (counted_list es)
 mentions_of_head false es = mentions_in_all es
 
 -- what its values make
-abbrev pub values_made : (numeric : Bool) → Expressions → Part
+abbrev values_made : (numeric : Bool) → Expressions → Part
 values_made true es = counted_values es
 values_made false es = adjust 1 (all_coded es) 3
 

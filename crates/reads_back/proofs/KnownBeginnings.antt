@@ -1,7 +1,7 @@
 -- What is known of the source ahead at the beginning of a function: behind its parameters, the marks of its statements come next.
-use Rattle.std.proofs.Common.{◌≡◌, ℕ, suc, Bool, List, [], ◌++◌, append_assoc, refl, ap, ◌∙◌}
+use Rattle.std.proofs.Common.{◌≡◌, ℕ, suc, Bool, List, ◌++◌, append_assoc, refl, ap, ◌∙◌}
 use Rattle.lua_num.specs.Bytes.{Text}
-use Rattle.lua_tree.specs.Outline.{Mark, Place, all_params, beginning, body_part, both, come, declares, in_function, outline, statements_part}
+use Rattle.lua_tree.specs.Outline.{Mark, Place, all_params, body_part, both, come, declares, in_function, outline, statements_part}
 use Rattle.lua_tree.specs.Resolved.{resolved}
 use Rattle.lua_tree.specs.Syntax.{function_body, Source, Statements}
 use Rattle.scheme.specs.Functions.{empty_maker, without_sources}
@@ -11,16 +11,11 @@ use Rattle.scheme_stands.specs.Places.{ahead_at, ahead_by, inside_part}
 use Rattle.scheme_stands.specs.Words.{Spot}
 use Rattle.scheme_stands.proofs.Entering.{entered_by}
 use Rattle.scheme_stands.proofs.Growth.{spot}
-use Rattle.scheme_stands.proofs.Here.{here_all}
 use Rattle.scheme_stands.proofs.Lines.{activate_spot, declared}
-use Rattle.scheme_stands.proofs.Makers.{begun}
 use Rattle.scheme_stands.proofs.Walks.{declared_moves, opened_ahead}
 use Rattle.same_flow.specs.SameFlow.{begun_of}
 
 -- ---- the main function
-
-pub main_begins : (source : Source) → (begun_of [] [] (ahead_of (resolved source))).ahead ≡ ahead_at (outline source) beginning ((statements_part source.body beginning).marks ++ [])
-main_begins source = (here_all source (spot (begun source)) refl).ahead
 
 pub main_ahead : (source : Source) → ahead_of (resolved source) ≡ ahead_by (outline source) 0 1 (outline source)
 main_ahead source = refl

@@ -25,7 +25,7 @@ use Rattle.reads_back.proofs.WordsRead.{IsFunction, IsQuiet}
 -- ---- where a value is tested
 
 -- what is no literal is tested as it is
-pub tests_value : (k : Option Constant) (g : Fn) (active : List Active) (c : Rel) (free : ℕ) (truth : Bool) (label : ℕ) (p q : Spot) → k ≡ None → TestBy k g active c free truth label p q → TestAt g active c free truth label p q
+tests_value : (k : Option Constant) (g : Fn) (active : List Active) (c : Rel) (free : ℕ) (truth : Bool) (label : ℕ) (p q : Spot) → k ≡ None → TestBy k g active c free truth label p q → TestAt g active c free truth label p q
 tests_value (Some k) g active c free truth label p q none at = cc
 tests_value None g active c free truth label p q none at = at
 

@@ -10,16 +10,12 @@ pub mod AdjustedComes
 pub mod AdjustedEntries
 pub mod AdjustedWords
 pub mod AssignedComes
-pub mod AssignedMentions
 pub mod AssignedSame
 pub mod AssignedValues
 pub mod AssignmentStands
 pub mod AssignmentsRead
 pub mod AssignmentsRefused
 pub mod BehindWords
-pub mod BlockMakers
-pub mod BlockReads
-pub mod BlocksStand
 pub mod BothOperands
 pub mod CallResults
 pub mod CallWords
@@ -42,14 +38,12 @@ pub mod ComparesSame
 pub mod ComparisonOrder
 pub mod ComparisonsRead
 pub mod ComparisonsSame
-pub mod ComparisonsTurned
 pub mod Concats
 pub mod ConcatsSame
 pub mod ConstantsSame
 pub mod CopiesCome
 pub mod DeclarationsRead
 pub mod DeclaredComes
-pub mod DeclaredLocals
 pub mod DeclaredSame
 pub mod DeclaredValues
 pub mod Deeper
@@ -127,6 +121,7 @@ pub mod LonesRead
 pub mod LoopLabels
 pub mod LoopsStand
 pub mod LoopsStarting
+pub mod MadeWhole
 pub mod MainCaptured
 pub mod Marks
 pub mod MarksCaptured
@@ -154,6 +149,7 @@ pub mod OrderedTests
 pub mod OwnEntries
 pub mod OwnFirst
 pub mod OwnLocals
+pub mod OwnNames
 pub mod OwnSteps
 pub mod OwnValues
 pub mod OwnWords
@@ -190,7 +186,6 @@ pub mod ReturnsRead
 pub mod ReturnsSame
 pub mod Rewriting
 pub mod Rooms
-pub mod SameFunctions
 pub mod SameStatements
 pub mod ScopeActive
 pub mod ScopesCaptured
@@ -198,6 +193,7 @@ pub mod ScopesGrow
 pub mod ScopesRead
 pub mod SeveralValues
 pub mod ShortWords
+pub mod SomeNames
 pub mod StartingLocals
 pub mod StatementsMeant
 pub mod StatementsStand
@@ -209,7 +205,6 @@ pub mod StepsGrow
 pub mod StepsHere
 pub mod StepsKnown
 pub mod StepsOwn
-pub mod StepsPlaced
 pub mod StepsSpan
 pub mod StepsStand
 pub mod StoredTargets
@@ -217,9 +212,7 @@ pub mod StoresKept
 pub mod StoresRead
 pub mod StoresRefused
 pub mod StraightActs
-pub mod StraightBlocks
 pub mod StraightFunctions
-pub mod StraightScopes
 pub mod TableItems
 pub mod TableReads
 pub mod TableValues
@@ -235,7 +228,6 @@ pub mod TargetsTaken
 pub mod TestedAs
 pub mod Tests
 pub mod TestsEnd
-pub mod TestsFormed
 pub mod TestsLow
 pub mod TestsMarks
 pub mod TestsMeant

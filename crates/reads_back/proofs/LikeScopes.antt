@@ -21,10 +21,10 @@ pub record LikeScope (one two : Scope) : Type 0 where
   pub active : two.active ≡ one.active
   pub declared : map uncaptured two.declared ≡ map uncaptured one.declared
 
-pub like_same : (scope : Scope) → LikeScope scope scope
+like_same : (scope : Scope) → LikeScope scope scope
 like_same scope = record { active = refl; declared = refl }
 
-pub like_then : {one two three : Scope} → LikeScope one two → LikeScope two three → LikeScope one three
+like_then : {one two three : Scope} → LikeScope one two → LikeScope two three → LikeScope one three
 like_then first second = record { active = second.active ∙ first.active; declared = second.declared ∙ first.declared }
 
 -- ---- captures
@@ -34,25 +34,25 @@ set_uncaptured [] entry one there = refl
 set_uncaptured (first ∷ declared) zero one there = ap (λ (one : Declared). uncaptured one ∷ map uncaptured declared) (sym (same_Some first one there))
 set_uncaptured (first ∷ declared) (suc entry) one there = ap (λ rest. uncaptured first ∷ rest) (set_uncaptured declared entry one there)
 
-pub like_entry : (entry : ℕ) (scope : Scope) → LikeScope scope (capture_entry entry scope)
+like_entry : (entry : ℕ) (scope : Scope) → LikeScope scope (capture_entry entry scope)
 like_entry entry scope = record { active = refl; declared = by (slice_get scope.declared entry) refl }
   where
     by : (there : Option Declared) → slice_get scope.declared entry ≡ there → map uncaptured (captured_at entry scope.declared there) ≡ map uncaptured scope.declared
     by None is = refl
     by (Some one) is = set_uncaptured scope.declared entry one is
 
-pub like_capture : (register : ℕ) (scope : Scope) → LikeScope scope (capture register scope)
+like_capture : (register : ℕ) (scope : Scope) → LikeScope scope (capture register scope)
 like_capture register scope = by (slice_get scope.active register)
   where
     by : (entry : Option ℕ) → LikeScope scope (capture_some entry scope)
     by None = like_same scope
     by (Some entry) = like_entry entry scope
 
-pub like_all : (registers : List ℕ) (scope : Scope) → LikeScope scope (capture_all registers scope)
+like_all : (registers : List ℕ) (scope : Scope) → LikeScope scope (capture_all registers scope)
 like_all [] scope = like_same scope
 like_all (register ∷ registers) scope = like_then (like_capture register scope) (like_all registers (capture register scope))
 
-pub like_captured : (first : ℕ) (itself : Bool) (scope : Scope) → LikeScope scope (and_captured first itself scope)
+like_captured : (first : ℕ) (itself : Bool) (scope : Scope) → LikeScope scope (and_captured first itself scope)
 like_captured first true scope = like_entry first scope
 like_captured first false scope = like_same scope
 
@@ -61,7 +61,7 @@ like_captured first false scope = like_same scope
 pub as_many_like : {one two : Scope} → LikeScope one two → length two.declared ≡ length one.declared
 as_many_like {one} {two} like = sym (length-map two.declared uncaptured) ∙ ap length like.declared ∙ length-map one.declared uncaptured
 
-pub like_entered : {one two : Scope} (step : Option ℕ) → LikeScope one two → LikeScope (entered step one) (entered step two)
+like_entered : {one two : Scope} (step : Option ℕ) → LikeScope one two → LikeScope (entered step one) (entered step two)
 like_entered {one} {two} step like =
     let next : List ℕ → Declared = λ active. record { outer = slice_get active (length active - 1); register = length active; step = step; captured = false } in
     record {
@@ -72,7 +72,7 @@ like_entered {one} {two} step like =
           ∙ sym (map-append uncaptured one.declared (next one.active ∷ []));
     }
 
-pub like_times : (count : ℕ) {one two : Scope} (step : Option ℕ) → LikeScope one two → LikeScope (entered_times count step one) (entered_times count step two)
+like_times : (count : ℕ) {one two : Scope} (step : Option ℕ) → LikeScope one two → LikeScope (entered_times count step one) (entered_times count step two)
 like_times zero step like = like
 like_times (suc count) step like = like_times count step (like_entered step like)
 

@@ -47,7 +47,7 @@ adjusted_refused f places may_be_none taken (entry ∷ entries) s own = not_so o
 
 -- ---- what assignments store
 
-abbrev pub straight_own : Straight → Bool
+abbrev straight_own : Straight → Bool
 straight_own (straight_value v) = holds_own v
 straight_own (straight_operand o) = operand_own o
 

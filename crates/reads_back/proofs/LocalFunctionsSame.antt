@@ -37,8 +37,6 @@ use Rattle.reads_back.proofs.OperatorsSame.{few_more}
 use Rattle.reads_back.proofs.PassedMentions.{sources_named}
 use Rattle.reads_back.proofs.Rewriting.{AreAgain, IsAgain, IsMadeBy, OwnListed, RewrittenAct}
 
--- ---- the names of what is captured
-
 -- ---- what is captured besides the last local
 
 -- here, or behind at places and with names that are the same

@@ -1,4 +1,4 @@
--- An operand in the register of a local is a name, and a number or a string is a constant: what operands of a comparison are in registers.
+-- An operand in the register of a local is a name that means this local, and a number or a string is a constant: what operands of a comparison are in registers.
 use Rattle.std.proofs.Common.{◌≡◌, ℕ, ◌<◌, ◌≤◌, ◌⊎◌, inl, inr, max, Bool, true, false, ℤ, List, length, Option, Some, None, refl, sym, ap, ◌∙◌, subst, arith}
 use Rattle.std.proofs.lemmas.Option.{same_Some}
 use Rattle.std.specs.Prelude.{◌||◌}
@@ -9,10 +9,11 @@ use Rattle.proto.specs.declared.parts.Constant.{Constant}
 use Rattle.core_expr.specs.Making.{and_last, deepest, deepest_item, depth_of, depth_of_operand, made_index}
 use Rattle.core_expr.specs.Values.{OperandValue, Value, Values, and_operand, binary_value, call_value, concat_value, constant_operand, index_value, local_value, method_value, no_operands, table_value, unary_value, value_operand}
 use Rattle.scheme.specs.Expressions.{fold, is_name, literal, number_or, plain_literal}
+use Rattle.scheme.specs.Making.{in_globals, in_register, in_upvalue}
 use Rattle.scheme.specs.declared.making.Active.{Active}
 use Rattle.scheme_stands.specs.Expressions.{IsLarge}
-use Rattle.scheme_stands.specs.Words.{Fn}
-use Rattle.reads_back.specs.Cores.{Counted, IsArithmetic, IsConstant, IsCore, IsFoldedOr, IsOperand, IsOperandBy, IsOperator, IsUnary, core, still}
+use Rattle.scheme_stands.specs.Words.{Fn, Means, Names, own_register}
+use Rattle.reads_back.specs.Cores.{Counted, IsArithmetic, IsConstant, IsCore, IsFoldedOr, IsNamed, IsOperand, IsOperandBy, IsOperator, IsUnary, core, still}
 use Rattle.reads_back.specs.Ordered.{is_constant_literal}
 use Rattle.reads_back.proofs.ComparisonOrder.{HasLocal}
 use Rattle.reads_back.proofs.MarksSame.{over_made}
@@ -21,7 +22,7 @@ use Rattle.reads_back.proofs.Tests.{not_so}
 
 -- ---- the value of a local is that of a name
 
-pub index_no_local : (on : Value) (key : OperandValue) (v : Value) (r : ℕ) → made_index on key ≡ Some v → v ≡ local_value r → ⊥
+index_no_local : (on : Value) (key : OperandValue) (v : Value) (r : ℕ) → made_index on key ≡ Some v → v ≡ local_value r → ⊥
 index_no_local (index_value on keys depth) key v r is local = let made = over_made (depth_of_operand key) (λ d. index_value on (and_last keys key) (max depth d)) v is in cc
 index_no_local on key v r is local = let made = over_made (max (depth_of on) (depth_of_operand key)) (λ d. index_value on (and_operand key no_operands) d) v is in cc
 
@@ -29,15 +30,15 @@ module _ (g : Fn) (active : List Active) (r : ℕ) where
   arithmetic_no_local : (op : BinaryOp) (Left Right : OperandValue → Type 0) (v : Value) → IsArithmetic op Left Right v → v ≡ local_value r → ⊥
   arithmetic_no_local op Left Right v (plain, x, y, is_x, is_y, made) local = let is = over_made (max (depth_of_operand x) (depth_of_operand y)) (λ d. binary_value op x y d) v made in cc
 
-  pub operator_no_local : (op : BinaryOp) (Left Right : Counted OperandValue) (Operands : Counted Values) (before behind : ℕ) (v : Value) → IsOperator op Left Right Operands before behind v → v ≡ local_value r → ⊥
+  operator_no_local : (op : BinaryOp) (Left Right : Counted OperandValue) (Operands : Counted Values) (before behind : ℕ) (v : Value) → IsOperator op Left Right Operands before behind v → v ≡ local_value r → ⊥
   operator_no_local BinaryOp.Concat Left Right Operands before behind v (values, are, made) local = let is = over_made (deepest values) (λ d. concat_value values d) v made in cc
   operator_no_local op Left Right Operands before behind v is local = arithmetic_no_local op (Left before is.0) (Right is.0 behind) v is.1 local
 
-  pub folded_no_local : (folded : Option ℤ) (Is : Counted Value) (before behind : ℕ) (v : Value) → (Is before behind v → v ≡ local_value r → ⊥) → IsFoldedOr folded g Is before behind v → v ≡ local_value r → ⊥
+  folded_no_local : (folded : Option ℤ) (Is : Counted Value) (before behind : ℕ) (v : Value) → (Is before behind v → v ≡ local_value r → ⊥) → IsFoldedOr folded g Is before behind v → v ≡ local_value r → ⊥
   folded_no_local (Some n) Is before behind v none (still, (number, has, is)) local = cc
   folded_no_local None Is before behind v none is local = none is local
 
-  pub name_of_local : (e : Expression) (before behind : ℕ) (v : Value) → IsCore g active e before behind v → v ≡ local_value r → is_name e ≡ true
+  name_of_local : (e : Expression) (before behind : ℕ) (v : Value) → IsCore g active e before behind v → v ≡ local_value r → is_name e ≡ true
   name_of_local (nil_literal line) before behind v is local = let same = is.1 in cc
   name_of_local (true_literal line) before behind v is local = let same = is.1 in cc
   name_of_local (false_literal line) before behind v is local = let same = is.1 in cc
@@ -61,7 +62,7 @@ module _ (g : Fn) (active : List Active) (r : ℕ) where
   name_of_local (parenthesized line e) before behind v is local = name_of_local e before behind v is local
   name_of_local e before behind v is local = absurd is
 
-  pub operand_of_local : (e : Expression) (before behind : ℕ) (o : OperandValue) → IsOperand g active e before behind o → o ≡ value_operand (local_value r) → is_name e ≡ true
+  operand_of_local : (e : Expression) (before behind : ℕ) (o : OperandValue) → IsOperand g active e before behind o → o ≡ value_operand (local_value r) → is_name e ≡ true
   operand_of_local e before behind o is local = by (literal e) is
     where
       by : (k : Option Constant) → IsOperandBy k g (IsCore g active e) before behind o → is_name e ≡ true
@@ -81,10 +82,32 @@ name_no_literal (name_expression line text) named = refl
 name_no_literal (parenthesized line e) named = ap (λ folded. number_or folded None) (name_unfolded e named)
 name_no_literal e named = cc
 
-pub name_still : (g : Fn) (active : List Active) (e : Expression) → is_name e ≡ true → (before behind : ℕ) (v : Value) → IsCore g active e before behind v → behind ≡ before
+name_still : (g : Fn) (active : List Active) (e : Expression) → is_name e ≡ true → (before behind : ℕ) (v : Value) → IsCore g active e before behind v → behind ≡ before
 name_still g active (name_expression line text) named before behind v is = is.0
 name_still g active (parenthesized line e) named before behind v is = name_still g active e named before behind v is
 name_still g active e named before behind v is = cc
+
+-- ---- what the name of a local means
+
+-- it is a name, in parentheses or not, that means the local in this register
+abbrev pub IsNameOf : List Active → (register : ℕ) → Expression → Type 0
+IsNameOf active r (name_expression line text) = own_register text active ≡ Some r
+IsNameOf active r (parenthesized line e) = IsNameOf active r e
+IsNameOf active r e = ⊥
+
+-- where the law is asked, a name with the value of a local means that local
+module _ (g : Fn) (active : List Active) (r : ℕ) (n : Names) (law : g.law ≡ Some n) where
+  text_means : (text : Text) → IsNamed g active text (local_value r) → own_register text active ≡ Some r
+  text_means text (in_register place, means, is) =
+      let same : place ≡ r = cc in
+      subst (λ r. own_register text active ≡ Some r) same (subst (λ law. Means law active text (in_register place)) law means)
+  text_means text (in_upvalue slot, means, is) = cc
+  text_means text (in_globals, means, (number, has, is)) = cc
+
+  name_means : (e : Expression) → is_name e ≡ true → (before behind : ℕ) → IsCore g active e before behind (local_value r) → IsNameOf active r e
+  name_means (name_expression line text) named before behind is = text_means text is.1
+  name_means (parenthesized line e) named before behind is = name_means e named before behind is
+  name_means e named before behind is = cc
 
 -- ---- a number or a string is a constant
 
@@ -104,7 +127,7 @@ module _ (g : Fn) (active : List Active) where
   text_constant (text_literal line other) text before behind v is inside = let same : other ≡ text = cc in subst (λ text. still (IsConstant g (Constant.Text text)) before behind v) same inside
   text_constant e text before behind v is inside = cc
 
-  pub literal_constant : (e : Expression) (k : Constant) (before behind : ℕ) (v : Value) → literal e ≡ Some k → is_constant_literal (Some k) ≡ true → IsCore g active e before behind v → still (IsConstant g k) before behind v
+  literal_constant : (e : Expression) (k : Constant) (before behind : ℕ) (v : Value) → literal e ≡ Some k → is_constant_literal (Some k) ≡ true → IsCore g active e before behind v → still (IsConstant g k) before behind v
   literal_constant e k before behind v is constant inside = by (fold e) refl is
     where
       plain : (k : Constant) → plain_literal e ≡ Some k → is_constant_literal (Some k) ≡ true → still (IsConstant g k) before behind v
@@ -133,8 +156,10 @@ pub record LocalOperand (g : Fn) (active : List Active) (e : Expression) (before
   pub named : is_name e ≡ true
   pub inside : IsCore g active e before behind (local_value register)
   pub still : behind ≡ before
+  -- where the law is asked, it means the local in this register
+  pub means : (n : Names) → g.law ≡ Some n → IsNameOf active register e
 
-pub local_operand : (g : Fn) (active : List Active) (e : Expression) (before behind : ℕ) (o : OperandValue) (r : ℕ) → IsOperand g active e before behind o → o ≡ value_operand (local_value r) → LocalOperand g active e before behind o
+local_operand : (g : Fn) (active : List Active) (e : Expression) (before behind : ℕ) (o : OperandValue) (r : ℕ) → IsOperand g active e before behind o → o ≡ value_operand (local_value r) → LocalOperand g active e before behind o
 local_operand g active e before behind o r is local = by (subst (λ (k : Option Constant). IsOperandBy k g (IsCore g active e) before behind o) (name_no_literal e named) is)
   where
     named : is_name e ≡ true
@@ -143,7 +168,8 @@ local_operand g active e before behind o r is local = by (subst (λ (k : Option 
     by : IsOperandBy None g (IsCore g active e) before behind o → LocalOperand g active e before behind o
     by (v, inside, same) =
         let is_local : v ≡ local_value r = cc in
-        record { register = r; is = local; named = named; inside = subst (IsCore g active e before behind) is_local inside; still = name_still g active e named before behind v inside }
+        let here = subst (IsCore g active e before behind) is_local inside in
+        record { register = r; is = local; named = named; inside = here; still = name_still g active e named before behind v inside; means = λ n law. name_means g active r n law e named before behind here }
 
 -- an operand in a register that is a number or a string
 pub record LiteralOperand (g : Fn) (e : Expression) (before behind : ℕ) : Type 0 where
@@ -153,7 +179,7 @@ pub record LiteralOperand (g : Fn) (e : Expression) (before behind : ℕ) : Type
   pub large : IsLarge g constant
   pub still : behind ≡ before
 
-pub literal_operand : (g : Fn) (active : List Active) (e : Expression) (before behind : ℕ) (v : Value) → is_constant_literal (literal e) ≡ true → IsOperand g active e before behind (value_operand v) → LiteralOperand g e before behind
+literal_operand : (g : Fn) (active : List Active) (e : Expression) (before behind : ℕ) (v : Value) → is_constant_literal (literal e) ≡ true → IsOperand g active e before behind (value_operand v) → LiteralOperand g e before behind
 literal_operand g active e before behind v constant is = by (literal e) refl constant is
   where
     by : (k : Option Constant) → literal e ≡ k → is_constant_literal k ≡ true → IsOperandBy k g (IsCore g active e) before behind (value_operand v) → LiteralOperand g e before behind

@@ -94,7 +94,7 @@ module _ {f : Function} {g : Fn} {active : List Active} {listed : List ℕ} {z :
   before_first = before_part (grows_rk {v = calm} (code l) (grows calm (one_line_expression l)) m) first_final
 
   -- the first one is loaded
-  pub literal_first : LiteralOperand g l before mid → LocalOperand g active r mid behind o2 → Turns made l r has_l has_r first second m ahead final
+  literal_first : LiteralOperand g l before mid → LocalOperand g active r mid behind o2 → Turns made l r has_l has_r first second m ahead final
   literal_first literal_is local = record { between = pass_name m; second_same = second_same; first_same = first_same; second_low = second_low; first_low = first_low }
     where
       k : Constant
@@ -160,7 +160,7 @@ module _ {f : Function} {g : Fn} {active : List Active} {listed : List ℕ} {z :
           (first.low short formed (pass_name m) ahead_l (subst (λ (x : Got ℕ). Final (length m.labels) x.after z) (sym l_is) final_y))
 
   -- the second one is loaded
-  pub literal_second : LocalOperand g active l before mid o1 → LiteralOperand g r mid behind → Turns made l r has_l has_r first second m ahead final
+  literal_second : LocalOperand g active l before mid o1 → LiteralOperand g r mid behind → Turns made l r has_l has_r first second m ahead final
   literal_second local literal_is = record { between = loaded_behind k m; second_same = second_same; first_same = first_same; second_low = second_low; first_low = first_low }
     where
       k : Constant

@@ -197,15 +197,6 @@ module _ (all : List Mark) where
       same i j x y d is also (inr v) (inl w) = let a = two.low_of v.0 x d v.2 is in let b = one.high_of j y d w.1 also in absurd (omega (arith, a, b))
       same i j x y d is also (inr v) (inr w) = let e : v.0 ≡ w.0 = two.once v.0 w.0 x y d v.2 w.2 is also in let a : i ≡ length xs + v.0 = v.1 in let b : j ≡ length xs + w.0 = w.1 in omega (arith, e, a, b)
 
-  pub sound_none : (low : ℕ) → AreSound low low []
-  sound_none low = record {
-    low_of = λ i one d there is. absurd (none-some one there);
-    high_of = λ i one d there is. absurd (none-some one there);
-    captured = λ i one d there is. absurd (none-some one there);
-    hidden = λ i one there is. absurd (none-some one there);
-    once = λ i j one other d there here is also. absurd (none-some one there);
-  }
-
   -- hidden ones have no declaration
   abbrev AllHidden : List Local → Type 0
   AllHidden locals = (i : ℕ) (one : Local) → slice_get locals i ≡ Some one → (one.declaration ≡ None) × (one.captured ≡ false)

@@ -85,7 +85,7 @@ module _ (pcs : ℕ → ℕ) (locals : List LocVar) (active : List Active) (ends
             let there : slice_get first n ≡ Some ended.0 = sym (element_left first behind n (omega (arith, same))) ∙ ap (λ all. slice_get all n) (sym both) ∙ ended.1 in
             here false (not_below pc (pcs ended.0) (later n ended.0 there)) ∙ ap (λ n. take n places) (sym same)
 
-    pub leaves : (scope : Scope) → scope.active ≡ places → length first ≤ length active → (leave locals pc scope).active ≡ listed_of (take (length first) active)
+    leaves : (scope : Scope) → scope.active ≡ places → length first ≤ length active → (leave locals pc scope).active ≡ listed_of (take (length first) active)
     leaves scope same few =
         ap (λ (active : List ℕ). left_of locals pc active (length active)) same
         ∙ ap (left_of locals pc places) (length-map active (λ (one : Active). one.listed))
@@ -102,7 +102,7 @@ module _ (code : Steps) (plain : HasPlainParts code) (params names : List Text) 
   now_at at = performed_to code (at_beginning code params names ahead) at
 
   -- in the list of all locals the active ones end where their steps say
-  pub ends_at : (at : ℕ) → at ≤ length code.steps → ends_listed (all_entries code params names ahead) (now_at at).maker.active ≡ map (λ end. Some (pcs_of end)) (now_at at).ends
+  ends_at : (at : ℕ) → at ≤ length code.steps → ends_listed (all_entries code params names ahead) (now_at at).maker.active ≡ map (λ end. Some (pcs_of end)) (now_at at).ends
   ends_at at most =
       let last = length code.steps in
       let parameters = entries_of 0 (pcs_of last) params in

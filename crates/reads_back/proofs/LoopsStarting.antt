@@ -20,7 +20,7 @@ use Rattle.reads_back.proofs.Tests.{both_hold, first_of_both, second_of_both}
 
 -- ---- what the list has next
 
-abbrev pub hidden_local : (name : Text) → (start end : ℕ) → LocVar
+abbrev hidden_local : (name : Text) → (start end : ℕ) → LocVar
 hidden_local name start end = record { name = name; start = start; end = end }
 
 -- the hidden locals of a loop, which end together
@@ -114,7 +114,7 @@ pub all_there : (start end : ℕ) (names : List Text) → AllByRecursion (λ (en
 all_there start end [] = tt
 all_there start end (name ∷ names) = ((refl, refl), all_there start end names)
 
-pub count_there : (start end : ℕ) (names : List Text) → length (variable_locals names start end) ≡ length names
+count_there : (start end : ℕ) (names : List Text) → length (variable_locals names start end) ≡ length names
 count_there start end [] = refl
 count_there start end (name ∷ names) = ap suc (count_there start end names)
 

@@ -20,7 +20,7 @@ use Rattle.reads_back.proofs.Tests.{first_of_both, not_so, second_of_both}
 -- ---- parts of an outline
 
 -- what stands in a part but for the breaks that stand in a loop, and the place behind it
-abbrev pub but_breaks_of : Walk → Walk
+abbrev but_breaks_of : Walk → Walk
 but_breaks_of walk = record { marks = but_breaks walk.marks; next = walk.next }
 
 -- one walk, and another behind it

@@ -6,7 +6,7 @@ use Rattle.lua_tree.specs.Syntax as syntax
 use Rattle.lua_tree.specs.Syntax.{Expressions, no_expressions, Arguments, argument_list, text_argument, table_argument, Expression, name_expression, index_expression, field_expression, call_expression, method_call, binary_expression, unary_expression, parenthesized, constructor, Fields, no_fields, positional, named, keyed, FunctionBody, function_expression}
 use Rattle.proto.specs.declared.parts.LocVar.{LocVar}
 use Rattle.scheme.specs.Functions.{without_sources, name_of}
-use Rattle.scheme.specs.Making.{Ahead, Asks, Maker, Part, head_or, where_is, is_declaration}
+use Rattle.scheme.specs.Making.{Ahead, Asks, Maker, Part, head_or, where_is, is_declaration, declare}
 use Rattle.scheme.specs.Scheme.{inner}
 use Rattle.scheme.specs.declared.making.Active.{Active}
 use Rattle.scheme.specs.declared.making.Local.{Local}
@@ -116,7 +116,7 @@ made_is active names (own_mention text body ∷ mentions) c = made_is active nam
 
 -- ---- what it means
 
-abbrev pub IsMentionMeant : Fn → List Active → Mention → Coming → Type 0
+abbrev IsMentionMeant : Fn → List Active → Mention → Coming → Type 0
 IsMentionMeant g active (name_mention text) c = Means g.law active text (where_is (head_or global_use c.ahead.names) active)
 IsMentionMeant g active (function_mention body method) c = IsMadeNext g active body method c
 IsMentionMeant g active (locals_mention texts) c = Unit {0}
@@ -127,11 +127,11 @@ abbrev pub AreMeant : Fn → List Active → List Mention → Coming → Type 0
 AreMeant g active [] c = Unit {0}
 AreMeant g active (mention ∷ mentions) c = IsMentionMeant g active mention c × AreMeant g active mentions (behind_mention active g.upvalue_names mention c)
 
-pub front_meant : (g : Fn) (active : List Active) (mentions others : List Mention) (c : Coming) → AreMeant g active (mentions ++ others) c → AreMeant g active mentions c
+front_meant : (g : Fn) (active : List Active) (mentions others : List Mention) (c : Coming) → AreMeant g active (mentions ++ others) c → AreMeant g active mentions c
 front_meant g active [] others c are = tt
 front_meant g active (mention ∷ mentions) others c are = (are.0, front_meant g active mentions others (behind_mention active g.upvalue_names mention c) are.1)
 
-pub rest_meant : (g : Fn) (active : List Active) (mentions others : List Mention) (c : Coming) → AreMeant g active (mentions ++ others) c → AreMeant g active others (coming_behind active g.upvalue_names mentions c)
+rest_meant : (g : Fn) (active : List Active) (mentions others : List Mention) (c : Coming) → AreMeant g active (mentions ++ others) c → AreMeant g active others (coming_behind active g.upvalue_names mentions c)
 rest_meant g active [] others c are = are
 rest_meant g active (mention ∷ mentions) others c are = rest_meant g active mentions others (behind_mention active g.upvalue_names mention c) are.1
 
@@ -147,7 +147,7 @@ pub record Around : Type 0 where
   pub locals : List LocVar
   pub upvalue_names : List Text
 
-abbrev pub around_of : Maker → Around
+abbrev around_of : Maker → Around
 around_of m = record { active = m.active; locals = m.locals; upvalue_names = m.upvalue_names }
 
 -- these mentions are passed
@@ -172,6 +172,14 @@ Passes mentions part = (m : Maker) → Passed mentions m (part m)
 
 abbrev pub AskingPasses : {A : Type 0} → List Mention → Asks A → Type 0
 AskingPasses mentions ask = (m : Maker) → Passed mentions m (ask m).after
+
+-- a declaration of locals passes their names
+pub declare_passes : (texts : List Text) → AskingPasses (locals_mention texts ∷ []) (declare texts)
+declare_passes [] m = record { around = refl; behind = refl }
+declare_passes (text ∷ texts) m =
+    let later = record m { ahead = record (m.ahead) { captures = drop 1 m.ahead.captures; declarations = suc m.ahead.declarations } } in
+    let others = declare_passes texts later in
+    record { around = others.around; behind = others.behind }
 
 -- ---- what is known ahead of a part
 

@@ -43,7 +43,7 @@ Meant g active mentions part = (p q : Spot) → part p q → IsMeant g active me
 abbrev pub Keeps : (p q : Spot) → Type 0
 Keeps p q = coming_at q ≡ coming_at p
 
-pub keep_both : (p q : Spot) → q.ahead ≡ p.ahead → q.functions ≡ p.functions → Keeps p q
+keep_both : (p q : Spot) → q.ahead ≡ p.ahead → q.functions ≡ p.functions → Keeps p q
 keep_both p q ahead functions = ap₂ (λ (ahead : Ahead) (functions : ℕ). record { ahead = ahead; functions = functions }) ahead functions
 
 pub word_keeps : {g : Fn} {w : Piece} {p q : Spot} → WordAt g w p q → Keeps p q
@@ -311,7 +311,7 @@ module _ {g : Fn} {active : List Active} where
 
   -- ---- lists and calls
 
-  pub next_meant : (mentions others : List Mention) (c : Rel) (free : ℕ) (rest : Stretch) → MeansMentions g active mentions c → Meant g active others rest → Meant g active (mentions ++ others) (FirstAt g c active free rest)
+  next_meant : (mentions others : List Mention) (c : Rel) (free : ℕ) (rest : Stretch) → MeansMentions g active mentions c → Meant g active others rest → Meant g active (mentions ++ others) (FirstAt g c active free rest)
   next_meant mentions others c free rest first second p q at = meant_then mentions others (first.to_reg free free p at.mid at.first) (second at.mid q at.others)
 
   next_each_meant : (es : Expressions) → EachMeant g active es → (free : ℕ) → Meant g active (mentions_in_all es) (AllNextAt g (all_related g es) active free)

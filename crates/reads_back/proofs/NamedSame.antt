@@ -141,7 +141,7 @@ function_said : (path : List Text) (body : FunctionBody) (m : Maker) → stateme
 function_said path body m = function_as_holds (λ s. statement_made s 1 None m ≡ assign_part 1 (path_from 1 path ∷ []) (coded (function_expression 1 body) ∷ []) m) path body refl (method_said path body m)
 
 -- the statement of a function that goes to a target with a path makes the same words as the assignment
-pub function_named : (at : Place) (n : ℕ) (fs : List (Option Inner)) (t : TargetValue) (path : List Text) (body : FunctionBody) → path_of at t ≡ Some path → can_write_target at fs t ≡ true → (m : Maker) →
+function_named : (at : Place) (n : ℕ) (fs : List (Option Inner)) (t : TargetValue) (path : List Text) (body : FunctionBody) → path_of at t ≡ Some path → can_write_target at fs t ≡ true → (m : Maker) →
     statement_made (function_as path body) 1 None m ≡ statement_made (syntax.assignment (syntax.expression (word_target at n fs t).words no_expressions) (syntax.expression (function_expression 1 body) no_expressions)) 1 None m
 function_named at n fs t path body is can m = function_said path body m ∙ ap (λ on. assign_part 1 (on ∷ []) (coded (function_expression 1 body) ∷ []) m) (sym (path_words at n fs t path is can))
 
@@ -287,7 +287,7 @@ module _ {f : Function} {g : Fn} {active : List Active} {listed : List ℕ} {z :
   target_variable text in_globals t (number, has, is) = ap (λ t. is_some (path_of named_at t)) is
 
   -- what a path means has a path
-  pub target_there : (target : Expression) (before behind : ℕ) (t : TargetValue) → is_path target ≡ true → IsTarget g active target before behind t → is_some (path_of named_at t) ≡ true
+  target_there : (target : Expression) (before behind : ℕ) (t : TargetValue) → is_path target ≡ true → IsTarget g active target before behind t → is_some (path_of named_at t) ≡ true
   target_there (name_expression line text) before behind t is (same, w, means, variable) = target_variable text w t variable
   target_there (field_expression line on text) before behind (index_target o k) is (mid, on_is, key_is) =
       path_there named_at o k (value_there on before mid o (first_of_both _ _ is) on_is) (field_there text mid behind k (second_of_both _ _ is) key_is)

@@ -12,11 +12,11 @@ use Rattle.scheme_stands.proofs.Counting.{body_closed, expression_closed, expres
 use Rattle.same_flow.specs.Performed.{ends_of}
 use Rattle.same_flow.specs.Told.{IsActPart, PartFits}
 use Rattle.same_flow.proofs.Walks.{State, says}
-use Rattle.reads_back.proofs.BlockReads.{some_names}
 use Rattle.reads_back.proofs.FlowThere.{IsFlowPart}
 use Rattle.reads_back.proofs.LocalsBrought.{hidden_by, names_by}
 use Rattle.reads_back.proofs.PlacedCaptures.{element_right}
 use Rattle.reads_back.proofs.PlacedInside.{GoesInside}
+use Rattle.reads_back.proofs.SomeNames.{some_names}
 
 -- the same end so many times
 pub repeated : (n end i : ℕ) → i < n → slice_get (replicate n end) i ≡ Some end
@@ -34,9 +34,6 @@ pub names_mean : (names : List Text) (number home : ℕ) (scope : Scope) (name :
 names_mean [] number home scope name b is = inl is
 names_mean (first ∷ names) number home scope name b is = rest (names_mean names (suc number) home (with_name first (record { declaration = number; home = home }) scope) name b is)
   where
-    new : Binding
-    new = record { declaration = number; home = home }
-
     here : (same : Bool) → (if same then Some (record { declaration = number; home = home }) else scope name) ≡ Some b → Named scope (suc (length names)) number home name b
     here true is =
         let same : record { declaration = number; home = home } ≡ b = cc in
@@ -72,7 +69,7 @@ pub record Comes (kind : StepKind) (part : Part) (state : State) : Type 0 where
   pub scope : (says kind part state).after.place.scope ≡ with_names (names_by kind part) state.place.declarations (innermost state.place.around) state.place.scope
   pub entries : (says kind part state).after.entries ≡ record { scope = state.place.scope; active = state.place.active; end = names_end kind } ∷ state.entries
 
-abbrev pub Scoped : StepKind → Part → State → Type 0
+abbrev Scoped : StepKind → Part → State → Type 0
 Scoped kind part state = Stays kind part state ⊎ Comes kind part state
 
 act_scoped : (s : Statement) (state : State) → IsActPart s → Scoped StepKind.Act (statement_part s) state

@@ -6,11 +6,6 @@ use Rattle.lua_tree.specs.Syntax.{Arguments, Expression, Expressions, Statement,
 use Rattle.lua_tree.specs.WellFormed.{has_expressions, is_call}
 use Rattle.reads_back.specs.Straight.{IsActBy, IsActTargetBy, AreActTargetsBy, IsStraightStatementBy, HasCoreBy, AllHaveCoresBy, HaveCoresBy, HaveItemsBy}
 
--- an act is a statement that a straight block may have
-pub act_is_straight : (P : FunctionBody → Type 0) (s : Statement) → IsActBy P s → IsStraightStatementBy P s
-act_is_straight P (function_statement path method body) is = absurd is
-act_is_straight P s is = is
-
 module _ (P : FunctionBody → Type 0) where
   -- a target can be read as well, as a value
   target_has_core : (e : Expression) → IsActTargetBy P e → HasCoreBy P e

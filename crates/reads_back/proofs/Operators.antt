@@ -55,8 +55,6 @@ value_by false number (Some taken) v t behind is = (refl, ap (option_and_then va
 value_popped : (f : Function) (x : ℕ) (t behind : Situation) (operand : OperandValue) (v : Value) → operand ≡ value_operand v → pop_operand f x t ≡ Some (operand, behind) → (nat_le 256 x ≡ false) × (pop f x t ≡ Some (v, behind))
 value_popped f x t behind operand v is popped = value_by (nat_le 256 x) (constant_in f (x - 256)) (pop f x t) v t behind (popped ∙ ap (λ (operand : OperandValue). Some (operand, behind)) is)
 
--- ---- operands one behind the other
-
 -- ---- registers of operands
 
 -- an operand takes the next free register, one of those that the function has, or none
@@ -73,7 +71,7 @@ module _ (g : Fn) (active : List Active) (c : Rel) where
   operand_few (Some r) free x free1 p q at next = omega (arith, at.at_free, next)
   operand_few None free x free1 p q at next = at.room
 
-  pub operand_takes : TakesNext g (OperandAt g active c)
+  operand_takes : TakesNext g (OperandAt g active c)
   operand_takes = record {
     no_lower = λ free x free1 p q at. operand_no_lower (local_at c.form active p) free x free1 p q at;
     few = λ free x free1 p q at next. operand_few (local_at c.form active p) free x free1 p q at next;

@@ -1,19 +1,19 @@
--- A condition whose names keep their places can be tested with its operands written the other way round, where they are; the numbers of its constants do not matter.
-use Rattle.std.proofs.Common.{◌≡◌, ℕ, ◌<◌, ◌≤◌, ◌⊎◌, inl, inr, ◌&&◌, ◌||◌, nat_lt, Bool, true, false, not, List, length, refl, sym, ◌∙◌, subst, arith, true≢false}
+-- A condition in which no local of the function changes places can be tested with its operands written the other way round, where they are; the numbers of its constants do not matter.
+use Rattle.std.proofs.Common.{◌≡◌, ℕ, ◌<◌, ◌≤◌, ◌⊎◌, inl, inr, ◌&&◌, ◌||◌, nat_lt, Bool, true, false, not, List, length, Some, refl, sym, ◌∙◌, subst, arith, true≢false}
 use Rattle.std.proofs.lemmas.Bool.Decides.{nat_tests}
-use Rattle.lua_tree.specs.Syntax.{Expression, binary_expression}
+use Rattle.lua_num.specs.Bytes.{Text}
+use Rattle.lua_tree.specs.Syntax.{Expression, binary_expression, name_expression, parenthesized}
 use Rattle.lua_tree.specs.declared.tree.BinaryOp.{BinaryOp}
 use Rattle.core_expr.specs.Targets.{is_constant_field, is_swapped, swapped_fields}
-use Rattle.scheme.specs.Expressions.{is_comparison, is_name}
+use Rattle.core_expr.specs.Values.{OperandValue}
+use Rattle.scheme.specs.Expressions.{is_comparison}
 use Rattle.scheme.specs.declared.making.Active.{Active}
-use Rattle.scheme_stands.specs.Words.{Fn}
-use Rattle.reads_back.specs.Ordered.{keeps_names, names_stay}
+use Rattle.scheme_stands.specs.Words.{Fn, Names, is_among, own_register}
+use Rattle.reads_back.specs.Ordered.{is_own, keeps_names, names_stay}
 use Rattle.reads_back.proofs.ComparisonOrder.{HasLocal, fields_are, register_field}
-use Rattle.reads_back.proofs.ComparisonsSame.{CanTurn}
-use Rattle.reads_back.proofs.LocalOperands.{LocalOperand, OneConstant, some_local}
+use Rattle.reads_back.proofs.ComparisonsSame.{CanTurn, KeepsNames}
+use Rattle.reads_back.proofs.LocalOperands.{IsNameOf, LocalOperand, OneConstant, some_local}
 use Rattle.reads_back.proofs.TestedAs.{BothTested, IsField, comparison_of, is_turned}
-use Rattle.reads_back.proofs.TestsMarks.{KeepsNames}
-use Rattle.reads_back.proofs.TestsSame.{CanBeTurned}
 
 -- ---- operands that keep their order
 
@@ -26,16 +26,29 @@ either_true : {A : Type 0} (a b : Bool) → (a || b) ≡ true → (a ≡ true �
 either_true true b is one other = one refl
 either_true false b is one other = other is
 
+-- the names of the locals that are active are among these
+abbrev pub AreOwn : (own : List Text) → List Active → Type 0
+AreOwn own active = (text : Text) (r : ℕ) → own_register text active ≡ Some r → is_among text own ≡ true
+
+-- so a name that means one of them is one of these names
+name_own : (own : List Text) (active : List Active) → AreOwn own active → (r : ℕ) (e : Expression) → IsNameOf active r e → is_own own e ≡ true
+name_own own active named r (name_expression line text) means = named text r means
+name_own own active named r (parenthesized line e) means = name_own own active named r e means
+name_own own active named r e means = absurd means
+
 module _ {g : Fn} {active : List Active} (few_locals : length active ≤ 250) {l r : Expression} {before behind : ℕ} (both : BothTested g active l r before behind) where
   abbrev count : ℕ
   count = length active
 
-  names_kept : names_stay l r ≡ true → HasLocal count both.x both.y both.first both.second → OneConstant l r
-  names_kept keeps locals = either_true (not (is_name l || is_name r)) _ keeps (λ none. absurd (no_name none (some_local both locals))) (λ one. one)
+  names_kept : (names : Names) → g.law ≡ Some names → (own : List Text) → AreOwn own active → names_stay own l r ≡ true → HasLocal count both.x both.y both.first both.second → OneConstant l r
+  names_kept names law own named keeps locals = either_true (not (is_own own l || is_own own r)) _ keeps (λ none. absurd (no_local none (some_local both locals))) (λ one. one)
     where
-      no_name : not (is_name l || is_name r) ≡ true → LocalOperand g active l before both.mid both.first ⊎ LocalOperand g active r both.mid behind both.second → ⊥
-      no_name none (inl local) = true≢false (sym local.named ∙ (both_false (is_name l) (is_name r) none).0)
-      no_name none (inr local) = true≢false (sym local.named ∙ (both_false (is_name l) (is_name r) none).1)
+      local_own : {e : Expression} {one other : ℕ} {o : OperandValue} → LocalOperand g active e one other o → is_own own e ≡ true
+      local_own {e} local = name_own own active named local.register e (local.means names law)
+
+      no_local : not (is_own own l || is_own own r) ≡ true → LocalOperand g active l before both.mid both.first ⊎ LocalOperand g active r both.mid behind both.second → ⊥
+      no_local none (inl local) = true≢false (sym (local_own local) ∙ (both_false (is_own own l) (is_own own r) none).0)
+      no_local none (inr local) = true≢false (sym (local_own local) ∙ (both_false (is_own own l) (is_own own r) none).1)
 
   -- in the word of `<` and `<=` a local and another register keep their order
   plain_stays : (n : ℕ) → HasLocal count both.x both.y both.first both.second → swapped_fields count n both.x both.y both.first both.second (is_constant_field both.x) (is_constant_field both.y) ≡ true → ⊥
@@ -49,18 +62,18 @@ module _ {g : Fn} {active : List Active} (few_locals : length active ≤ 250) {l
       by x y (inl low) is = grind (arith, nat_tests)
       by x y (inr low) is = grind (arith, nat_tests)
 
--- a condition whose names keep their places can be written the other way round where it is
-module _ (g : Fn) (active : List Active) (few_locals : length active ≤ 250) (n : ℕ) where
-  operands_turn : (line : ℕ) (op : BinaryOp) (l r : Expression) {before behind : ℕ} → keeps_names (binary_expression line op l r) ≡ true → is_comparison op ≡ true → (both : BothTested g active l r before behind) →
+-- where the law is asked, and the names of the locals are these, a condition in which none of them changes places can be written the other way round where it is
+module _ (g : Fn) (active : List Active) (few_locals : length active ≤ 250) (names : Names) (law : g.law ≡ Some names) (own : List Text) (named : AreOwn own active) (n : ℕ) where
+  operands_turn : (line : ℕ) (op : BinaryOp) (l r : Expression) {before behind : ℕ} → keeps_names own (binary_expression line op l r) ≡ true → is_comparison op ≡ true → (both : BothTested g active l r before behind) →
       is_swapped (length active) n (comparison_of op both.x both.y both.first both.second) ≡ not (is_turned op) → CanTurn both
   operands_turn line BinaryOp.Eq l r keeps is both swapped = cc
   operands_turn line BinaryOp.Ne l r keeps is both swapped = cc
-  operands_turn line BinaryOp.Lt l r keeps is both swapped = record { names = λ locals. absurd (plain_stays few_locals both n locals swapped) }
-  operands_turn line BinaryOp.Le l r keeps is both swapped = record { names = λ locals. absurd (plain_stays few_locals both n locals swapped) }
-  operands_turn line BinaryOp.Gt l r keeps is both swapped = record { names = names_kept few_locals both keeps }
-  operands_turn line BinaryOp.Ge l r keeps is both swapped = record { names = names_kept few_locals both keeps }
+  operands_turn line BinaryOp.Lt l r keeps is both swapped = λ locals. absurd (plain_stays few_locals both n locals swapped)
+  operands_turn line BinaryOp.Le l r keeps is both swapped = λ locals. absurd (plain_stays few_locals both n locals swapped)
+  operands_turn line BinaryOp.Gt l r keeps is both swapped = names_kept few_locals both names law own named keeps
+  operands_turn line BinaryOp.Ge l r keeps is both swapped = names_kept few_locals both names law own named keeps
   operands_turn line op l r keeps is both swapped = cc
 
-  pub ordered_turns : (before behind : ℕ) (e : Expression) → keeps_names e ≡ true → CanBeTurned g active n before behind e × KeepsNames g active n before behind e
-  ordered_turns before behind (binary_expression line op l r) keeps = (operands_turn line op l r keeps, λ is both swapped. (operands_turn line op l r keeps is both swapped).names)
-  ordered_turns before behind e keeps = (tt, tt)
+  pub ordered_turns : (before behind : ℕ) (e : Expression) → keeps_names own e ≡ true → KeepsNames g active n before behind e
+  ordered_turns before behind (binary_expression line op l r) keeps = operands_turn line op l r keeps
+  ordered_turns before behind e keeps = tt

@@ -32,7 +32,7 @@ none_taken (suc count) (entry ∷ entries) none =
     let both = neither (is_own_function entry) (captures_itself entries) none in
     nor (is_own_function entry) (captures_itself (take count entries)) both.0 (none_taken count entries both.1)
 
-pub none_set : (entries : Entries) (place : ℕ) (one : EntryValue) → is_own_function one ≡ false → NoMore entries (slice_set entries place one)
+none_set : (entries : Entries) (place : ℕ) (one : EntryValue) → is_own_function one ≡ false → NoMore entries (slice_set entries place one)
 none_set [] place one is none = refl
 none_set (entry ∷ entries) zero one is none = nor (is_own_function one) (captures_itself entries) is (neither (is_own_function entry) (captures_itself entries) none).1
 none_set (entry ∷ entries) (suc place) one is none =
@@ -45,7 +45,7 @@ none_more (suc count) one is = nor (is_own_function one) (captures_itself (more 
 
 -- ---- values that are taken out
 
-pub held_none : (place : ℕ) (entries : Entries) → Each (λ p. NoMore entries p.1) (hold place entries)
+held_none : (place : ℕ) (entries : Entries) → Each (λ p. NoMore entries p.1) (hold place entries)
 held_none place entries = by (slice_get entries place)
   where
     by : (there : Option EntryValue) → Each (λ p. NoMore entries p.1) (held_at place entries there)
@@ -72,7 +72,7 @@ take_from_none first entries = each_where (nat_le first (length entries)) (each_
 pub take_singles_none : (first : ℕ) (entries : Entries) → Each (λ p. NoMore entries p.1) (take_singles first entries)
 take_singles_none first entries = each_then (take_from_none first entries) (λ p less. each_map _ each_there (λ vs is. less))
 
-pub take_open_none : (entries : Entries) → Each (λ p. NoMore entries p.1) (take_open entries)
+take_open_none : (entries : Entries) → Each (λ p. NoMore entries p.1) (take_open entries)
 take_open_none entries = each_map _ each_there (λ v is. none_taken (length entries - 1) entries)
 
 pub take_method_none : (place : ℕ) (entries : Entries) → Each (λ p. NoMore entries p.1) (take_method place entries)
@@ -84,14 +84,14 @@ take_list_none first (suc count) entries = each_where (nat_le first (length entr
 
 -- ---- constructors
 
-pub with_items_none : (place : ℕ) (items : ItemList) (entries : Entries) → Each (NoMore entries) (with_items place items entries)
+with_items_none : (place : ℕ) (items : ItemList) (entries : Entries) → Each (NoMore entries) (with_items place items entries)
 with_items_none place items entries = by (slice_get entries place)
   where
     by : (there : Option EntryValue) → Each (NoMore entries) (with_items_at place items entries there)
     by (Some (maker_entry before all)) = each_some (none_set entries place (maker_entry (join_items before items) all) refl)
     by entry = each_none
 
-pub opened_none : (place : ℕ) (entries : Entries) → NoMore entries (opened place entries)
+opened_none : (place : ℕ) (entries : Entries) → NoMore entries (opened place entries)
 opened_none place entries = by (slice_get entries place)
   where
     by : (there : Option EntryValue) → NoMore entries (opened_at place entries there)
@@ -105,7 +105,7 @@ hold_from_none : (place count at : ℕ) (entries : Entries) → Each (NoMore ent
 hold_from_none place zero at entries = each_some (λ none. none)
 hold_from_none place (suc count) at entries = each_then (hold_next_none place at entries) (λ p less. each_of (hold_from_none place count (suc at) p) (λ behind fewer none. fewer (less none)))
 
-pub hold_items_none : (place : ℕ) (entries : Entries) → Each (NoMore entries) (hold_items place entries)
+hold_items_none : (place : ℕ) (entries : Entries) → Each (NoMore entries) (hold_items place entries)
 hold_items_none place entries = hold_from_none place (length entries - behind_held place entries) (behind_held place entries) entries
 
 pub with_keyed_none : (place : ℕ) (key item : OperandValue) (entries : Entries) → Each (NoMore entries) (with_keyed place key item entries)

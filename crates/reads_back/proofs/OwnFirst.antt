@@ -61,7 +61,7 @@ take_singles_own elsewhere (suc first) [] own = each_then {Holds = λ (p : Entri
 take_singles_own elsewhere (suc first) (entry ∷ entries) own =
     each_then {Holds = λ (p : Entries × Entries). (other : Bool) → own_in other p.1 ≡ true} (each_where (nat_le (suc first) (length (entry ∷ entries))) (each_some (λ other. own))) (λ p still. each_map _ each_there (λ vs is. still (elsewhere || values_own vs)))
 
-pub take_open_own : (entries : Entries) → first_own entries ≡ true → Each (λ p. own_in (holds_own p.0) p.1 ≡ true) (take_open entries)
+take_open_own : (entries : Entries) → first_own entries ≡ true → Each (λ p. own_in (holds_own p.0) p.1 ≡ true) (take_open entries)
 take_open_own [] own = not_so own
 take_open_own (entry ∷ []) own = only entry own
   where

@@ -1,7 +1,7 @@
 -- A local that is declared behind those that are active has the next register, and only its own name finds it there: a function that captures it captures its name.
 use Rattle.std.proofs.Common.{◌≡◌, ℕ, Bool, true, false, ◌&&◌, List, [], ◌∷◌, ◌++◌, length, map, Some, None, is_some, refl, sym, ap, ap₂, ◌∙◌, subst, arith, if◌then◌else◌, length-append}
 use Rattle.std.proofs.lemmas.Cmp.{nat_list_eq_equiv}
-use Rattle.std.proofs.lemmas.Option.{get_or_from_slice_get, same_Some, slice_get-map, slice_get_past}
+use Rattle.std.proofs.lemmas.Option.{get_or_from_slice_get, same_Some, slice_get-map}
 use Rattle.std.proofs.lemmas.Slice.Eq.{bytes_eq-Decides}
 use Rattle.std.specs.Prelude.{get_or, option_map, slice_get}
 use Rattle.std.specs.Str.{bytes_eq}
@@ -29,20 +29,13 @@ onto_last [] y zs = refl
 onto_last (x ∷ xs) y zs = onto_last xs y (x ∷ zs)
 
 -- it hides others of its name
-pub own_last : (text : Text) (active : List Active) (x : Active) → own_register text (active ++ x ∷ []) ≡ (if is_named text x then Some (length active) else own_register text active)
+own_last : (text : Text) (active : List Active) (x : Active) → own_register text (active ++ x ∷ []) ≡ (if is_named text x then Some (length active) else own_register text active)
 own_last text active x =
     let size : length (onto active []) ≡ length active = omega (arith, onto_length active []) in
     ap (register_in text) (onto_last active x []) ∙ ap (λ r. if is_named text x then Some r else own_register text active) size
 
 own_by : (text : Text) (active : List Active) (x : Active) (named : Bool) → is_named text x ≡ named → own_register text (active ++ x ∷ []) ≡ (if named then Some (length active) else own_register text active)
 own_by text active x named is = own_last text active x ∙ ap (λ named. if named then Some (length active) else own_register text active) is
-
--- no other local has that register
-none_there : (text : Text) (active : List Active) → own_register text active ≡ Some (length active) → ⊥
-none_there text active is =
-    let found = own_named text active (length active) is in
-    let no : None ≡ Some found.local = sym (slice_get_past active (length active) (omega arith)) ∙ found.there in
-    cc
 
 module _ (text : Text) (ahead : Ahead) (x : Active) (is : x.local ≡ declared_local text ahead) where
   pub named_as : (other : Text) → is_named other x ≡ bytes_eq text other
@@ -54,14 +47,6 @@ module _ (text : Text) (ahead : Ahead) (x : Active) (is : x.local ≡ declared_l
   -- its name finds it
   pub own_found : (active : List Active) → own_register text (active ++ x ∷ []) ≡ Some (length active)
   own_found active = own_by text active x true named_itself
-
-  -- and no other
-  pub own_only : (active : List Active) (other : Text) → own_register other (active ++ x ∷ []) ≡ Some (length active) → other ≡ text
-  own_only active other found = by (is_named other x) refl
-    where
-      by : (named : Bool) → is_named other x ≡ named → other ≡ text
-      by true known = sym ((bytes_eq-Decides text other).0 (sym (named_as other) ∙ known))
-      by false known = absurd (none_there other active (sym (own_by other active x false known) ∙ found))
 
 -- ---- what else is captured there
 
@@ -93,7 +78,7 @@ declared_inside n active text declaration captured =
 
 module _ {f : Function} {g : Fn} {active : List Active} {listed : List ℕ} (n : Names) (law : g.law ≡ Some n) (all : AreListed f g active listed) (same : f.of.upvalue_names ≡ g.upvalue_names) (x : Active) where
   -- it is named as it is
-  pub own_name_inside : (text : Text) (one : Use) → IsCaptured n (active ++ x ∷ []) text (where_is one (active ++ x ∷ [])) → captured_name (active ++ x ∷ []) g.upvalue_names one ≡ text
+  own_name_inside : (text : Text) (one : Use) → IsCaptured n (active ++ x ∷ []) text (where_is one (active ++ x ∷ [])) → captured_name (active ++ x ∷ []) g.upvalue_names one ≡ text
   own_name_inside text (local_use declaration) captured = declared_inside n (active ++ x ∷ []) text declaration captured
   own_name_inside text (upvalue_use slot) captured = by (is_named text x) refl
     where
@@ -114,7 +99,7 @@ module _ {f : Function} {g : Fn} {active : List Active} {listed : List ℕ} (n :
 -- ---- they hang on nothing else of the last local
 
 module _ (active : List Active) (x y : Active) (same : x.local ≡ y.local) where
-  pub own_register_same : (text : Text) → own_register text (active ++ x ∷ []) ≡ own_register text (active ++ y ∷ [])
+  own_register_same : (text : Text) → own_register text (active ++ x ∷ []) ≡ own_register text (active ++ y ∷ [])
   own_register_same text =
       own_last text active x
       ∙ ap (λ (local : Local). if is_some local.declaration && bytes_eq text local.name then Some (length active) else own_register text active) same

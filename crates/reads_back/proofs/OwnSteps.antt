@@ -7,7 +7,7 @@ use Rattle.opcode.specs.declared.op.Op.{Op}
 use Rattle.recover_expr.specs.Assigning.{assignment_from}
 use Rattle.core_expr.specs.Writing.{Wordings}
 use Rattle.recover_expr.specs.Closures.{behind_closure, behind_upvalues, captures, closure, closure_to}
-use Rattle.recover_expr.specs.Declaring.{and_captured, captures_itself, declaration, declared_by, ends_with_nil, has_last_nil, head_at, hidden_count, is_nil_entry, locals_declared, loop_head, statement_made, without_nil}
+use Rattle.recover_expr.specs.Declaring.{captures_itself, declaration, declared_by, ends_with_nil, has_last_nil, head_at, hidden_count, is_nil_entry, locals_declared, loop_head, statement_made, without_nil}
 use Rattle.recover_expr.specs.Drafts.{Did, Drafted, ends, goes, makes}
 use Rattle.recover_expr.specs.Entries.{EntryValue, Entries, missing_entry, place_in, value_entry}
 use Rattle.recover_expr.specs.Locals.{Scope, declare, is_hidden, names_from, or_zero, starting}
@@ -22,12 +22,12 @@ use Rattle.reads_back.proofs.OwnFirst.{entry_own, first_own, own_alone, own_in, 
 use Rattle.reads_back.proofs.OwnValues.{holds_own}
 use Rattle.reads_back.proofs.OwnWords.{OwnDid, OwnDone, OwnsFirst, call_word_own, constant_own, get_table_own, item_own, new_table_own, nil_own, operator_own, returned_own, sees_entries, self_word_own, set_list_own, tail_own, test_own, vararg_own}
 use Rattle.reads_back.proofs.ScopesCaptured.{MarksAs, captured_from, registers_as, words_mark}
-use Rattle.reads_back.proofs.ScopesGrow.{MadeAs, entered_times, statement_made_kept}
-use Rattle.reads_back.proofs.ScopesRead.{capture_all, captures_same, declared_of, has_register, is_local_function, sees_kept}
+use Rattle.reads_back.proofs.ScopesGrow.{MadeAs, statement_made_kept}
+use Rattle.reads_back.proofs.ScopesRead.{captures_same, has_register, is_local_function, sees_kept}
 use Rattle.reads_back.proofs.StepScopes.{TurnAs, TurnedAs, turn_captures, captured_by_words, captured_on, captured_then, registers_at, registers_of, step_captures}
 use Rattle.reads_back.proofs.Tests.{not_so, second_of_both}
 
-abbrev pub IsLocalFunction : (Drafted × Situation) → Type 0
+abbrev IsLocalFunction : (Drafted × Situation) → Type 0
 IsLocalFunction p = is_local_function p.0.part ≡ true
 
 -- ---- declarations
@@ -140,12 +140,12 @@ word_own f w s own = each_if (stores_as w.instr.op f w s) (all_refused (assignme
 
 -- ---- turns
 
-abbrev pub OwnTurned : Situation → Turn → Type 0
+abbrev OwnTurned : Situation → Turn → Type 0
 OwnTurned behind (on next) = OwnsFirst behind
 OwnTurned behind (over draft) = is_local_function draft.part ≡ true
 
-pub record OwnTurn (p : Turn × Situation) : Type 0 where
-  pub own : OwnTurned p.1 p.0
+record OwnTurn (p : Turn × Situation) : Type 0 where
+  own : OwnTurned p.1 p.0
 
 did_own : (f : Function) (w : Word) (behind : Situation) (did : Did) → OwnDid behind did → Each OwnTurn (turned f w behind did)
 did_own f w behind (goes next) own = each_some (record { own = own })
@@ -235,10 +235,3 @@ own_by_words f count pc s draft behind is base none = by (has_register s.base (c
     by : (has : Bool) → has_register s.base (captured_by_words f count pc s) ≡ has → is_local_function draft.part ≡ has
     by true has = (words_base f count pc s base has).at (draft, behind) is
     by false has = (step_captures f count pc s draft behind is).own has none
-
--- Exactly what a step does to the listed locals, by its words: those in the registers that its CLOSUREs name are captured, it declares so many, one after the other, and the first of these is captured where its register is one of those.
-pub step_scope_exact : (f : Function) (count pc : ℕ) (s : Situation) (draft : Drafted) (behind : Situation) → words_from f count pc s ≡ Some (draft, behind) → length s.scope.active ≡ s.base → captures_itself s.entries ≡ false →
-    behind.scope ≡ and_captured (length s.scope.declared) (has_register s.base (captured_by_words f count pc s)) (entered_times (declared_of draft.kind) (Some s.step) (capture_all (captured_by_words f count pc s) s.scope))
-step_scope_exact f count pc s draft behind is base none =
-    (step_captures f count pc s draft behind is).scope
-    ∙ ap (λ (itself : Bool). and_captured (length s.scope.declared) itself (entered_times (declared_of draft.kind) (Some s.step) (capture_all (captured_by_words f count pc s) s.scope))) (own_by_words f count pc s draft behind is base none)

@@ -34,11 +34,11 @@ abbrev mutual
   operand_own (constant_operand k) = false
   operand_own (value_operand v) = holds_own v
 
-  pub operands_own : OperandList → Bool
+  operands_own : OperandList → Bool
   operands_own no_operands = false
   operands_own (and_operand o rest) = operand_own o || operands_own rest
 
-  pub items_own : ItemList → Bool
+  items_own : ItemList → Bool
   items_own no_items = false
   items_own (and_positional v rest) = holds_own v || items_own rest
   items_own (and_keyed key item rest) = operand_own key || (operand_own item || items_own rest)

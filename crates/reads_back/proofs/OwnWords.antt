@@ -69,20 +69,20 @@ sees_entries i s = by i.op
     by Op.Self_ = operand i.c s
     by op = operands (has_operands op)
 
-pub pop_own : (elsewhere : Bool) (f : Function) (register : ℕ) (s : Situation) → own_in elsewhere s.entries ≡ true → Each (λ p. own_in (elsewhere || holds_own p.0) p.1.entries ≡ true) (pop f register s)
+pop_own : (elsewhere : Bool) (f : Function) (register : ℕ) (s : Situation) → own_in elsewhere s.entries ≡ true → Each (λ p. own_in (elsewhere || holds_own p.0) p.1.entries ≡ true) (pop f register s)
 pop_own elsewhere f register s own = by (place_in s.base register)
   where
     by : (place : Option ℕ) → Each (λ p. own_in (elsewhere || holds_own p.0) p.1.entries ≡ true) (pop_at f s register place)
     by (Some place) = each_map _ (take_at_own elsewhere place s.entries own) (λ p is. is)
     by None = each_map _ (each_there {o = local_in f s register}) (λ v is. own_still elsewhere (elsewhere || holds_own v) s.entries (or_first elsewhere (holds_own v)) own)
 
-pub pop_operand_own : (elsewhere : Bool) (f : Function) (operand : ℕ) (s : Situation) → own_in elsewhere s.entries ≡ true → Each (λ p. own_in (elsewhere || operand_own p.0) p.1.entries ≡ true) (pop_operand f operand s)
+pop_operand_own : (elsewhere : Bool) (f : Function) (operand : ℕ) (s : Situation) → own_in elsewhere s.entries ≡ true → Each (λ p. own_in (elsewhere || operand_own p.0) p.1.entries ≡ true) (pop_operand f operand s)
 pop_operand_own elsewhere f operand s own =
     each_if (nat_le 256 operand) (each_map _ (each_there {o = constant_in f (operand - 256)}) (λ k is. own_still elsewhere (elsewhere || false) s.entries (or_first elsewhere false) own)) (each_map _ (pop_own elsewhere f operand s own) (λ p is. is))
 
 -- ---- registers that are set next
 
-pub register_own : (elsewhere : Bool) (register : ℕ) (entry : EntryValue) (s : Situation) → own_in elsewhere s.entries ≡ true → (elsewhere ≡ true → entry_own entry ≡ true) → Each OwnsFirst (with_register register entry s)
+register_own : (elsewhere : Bool) (register : ℕ) (entry : EntryValue) (s : Situation) → own_in elsewhere s.entries ≡ true → (elsewhere ≡ true → entry_own entry ≡ true) → Each OwnsFirst (with_register register entry s)
 register_own elsewhere register entry s own so = each_map _ (set_next_own elsewhere s.base register entry s.entries own so) (λ entries is. is)
 
 registers_own : (elsewhere : Bool) (register count : ℕ) (entry further : EntryValue) (s : Situation) → own_in elsewhere s.entries ≡ true → (elsewhere ≡ true → entry_own entry ≡ true) →
@@ -241,7 +241,7 @@ set_list_own f w s own = by (maker_place w s.base s.entries)
 
 -- ---- tests
 
-abbrev pub tested_own : TestedValue → Bool
+abbrev tested_own : TestedValue → Bool
 tested_own (tested_value v) = holds_own v
 tested_own (tested_comparison c) = operand_own c.left || operand_own c.right
 

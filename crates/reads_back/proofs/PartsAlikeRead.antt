@@ -1,5 +1,5 @@
 -- What is written of all steps of a function makes the same and says the same as its parts in the source.
-use Rattle.std.proofs.Common.{◌≡◌, ℕ, Bool, false, List, length, refl, sym, ap, ◌∙◌, arith, subst}
+use Rattle.std.proofs.Common.{◌≡◌, ℕ, Bool, true, false, List, length, refl, sym, ap, ◌∙◌, arith, subst}
 use Rattle.std.proofs.lemmas.List.{length-map}
 use Rattle.std.proofs.lemmas.Option.{none-some, same_Some, slice_get-map, slice_get_within}
 use Rattle.std.specs.Prelude.{None, Option, Some, map, option_map, slice_get}
@@ -13,14 +13,16 @@ use Rattle.recover_expr.specs.Situation.{Function}
 use Rattle.recover_expr.specs.declared.steps.Step.{Step}
 use Rattle.recover_expr.specs.declared.steps.StepKind.{StepKind}
 use Rattle.scheme.specs.Making.{Ahead, Maker}
-use Rattle.scheme_stands.specs.Words.{Fn}
+use Rattle.scheme_stands.specs.Words.{Fn, is_among}
 use Rattle.same_flow.specs.Alike.{ArePartsLike, SayLike}
 use Rattle.same_flow.specs.Performed.{kind_at, kind_made, names_in, part_at}
 use Rattle.reads_back.specs.Ordered.{IsOrderedPart}
+use Rattle.reads_back.specs.Owned.{names_of_part}
 use Rattle.reads_back.proofs.FlowNext.{DraftRead}
 use Rattle.reads_back.proofs.FlowRead.{PartRead}
 use Rattle.reads_back.proofs.FlowThere.{IsFlowFunction, StepIs, before_at, few_before, made_at, pcs}
 use Rattle.reads_back.proofs.OrderedTests.{ordered_turns}
+use Rattle.reads_back.proofs.OwnNames.{active_named}
 use Rattle.reads_back.proofs.PartsMake.{SameHeads, TestTurns, kind_made_same}
 use Rattle.reads_back.proofs.PartsSay.{say_like}
 use Rattle.reads_back.proofs.PlacedCaptures.{element_there}
@@ -28,10 +30,10 @@ use Rattle.reads_back.proofs.PlacedCaptures.{element_there}
 module _ {f : Function} {g : Fn} {z : Maker} {lefts : ℕ → List (Option Inner)} {parts : ℕ → outline.Part} {code : Steps} {params names : List Text} {ahead : Ahead} {block : Statements} (of : IsFlowFunction f g z lefts parts code params names ahead block)
     (drafts : List Drafted) (as_many : length drafts ≡ length code.steps) (each : (at : ℕ) (draft : Drafted) → slice_get drafts at ≡ Some draft → DraftRead of at draft) where
   -- the parts of all drafts
-  abbrev pub parts_read : List Part
+  abbrev parts_read : List Part
   parts_read = map (λ (draft : Drafted). draft.part) drafts
 
-  abbrev pub steps_read : Steps
+  abbrev steps_read : Steps
   steps_read = record { params = params; steps = code.steps; parts = parts_read }
 
   part_is : (at : ℕ) → part_at steps_read at ≡ option_map (λ (draft : Drafted). draft.part) (slice_get drafts at)
@@ -42,7 +44,7 @@ module _ {f : Function} {g : Fn} {z : Maker} {lefts : ℕ → List (Option Inner
   head_names m foot end variables_end captured (head_part es texts) behind draft read = ap (λ part. names_in (Some part)) read.part
   head_names m foot end variables_end captured part behind draft read = absurd read
 
-  pub heads_kept : SameHeads code steps_read
+  heads_kept : SameHeads code steps_read
   heads_kept at foot end variables_end captured there = by (slice_get code.steps at) refl there
     where
       by : (found : Option Step) → slice_get code.steps at ≡ found → option_map (λ (step : Step). step.kind) found ≡ Some (StepKind.Head false foot end variables_end captured) → names_in (part_at steps_read at) ≡ names_in (part_at code at)
@@ -61,13 +63,13 @@ module _ {f : Function} {g : Fn} {z : Maker} {lefts : ℕ → List (Option Inner
   IsRead at draft kind part = StepIs of at kind part × PartRead f g lefts (before_at of at) (pcs of) kind part (length (made_at of at kind part).functions) draft
 
   -- the draft with a part
-  pub record DraftOf (at : ℕ) (kind : StepKind) (one two : Part) : Type 0 where
-    pub draft : Drafted
-    pub is : StepIs of at kind one
-    pub part : draft.part ≡ two
-    pub part_read : PartRead f g lefts (before_at of at) (pcs of) kind one (length (made_at of at kind one).functions) draft
+  record DraftOf (at : ℕ) (kind : StepKind) (one two : Part) : Type 0 where
+    draft : Drafted
+    is : StepIs of at kind one
+    part : draft.part ≡ two
+    part_read : PartRead f g lefts (before_at of at) (pcs of) kind one (length (made_at of at kind one).functions) draft
 
-  pub draft_of : (at : ℕ) (kind : StepKind) (one two : Part) → kind_at code.steps at ≡ Some kind → part_at code at ≡ Some one → part_at steps_read at ≡ Some two → DraftOf at kind one two
+  draft_of : (at : ℕ) (kind : StepKind) (one two : Part) → kind_at code.steps at ≡ Some kind → part_at code at ≡ Some one → part_at steps_read at ≡ Some two → DraftOf at kind one two
   draft_of at kind one two kind_is one_is two_is = by (slice_get drafts at) refl (sym (part_is at) ∙ two_is)
     where
       by : (found : Option Drafted) → slice_get drafts at ≡ found → option_map (λ (draft : Drafted). draft.part) found ≡ Some two → DraftOf at kind one two
@@ -77,8 +79,8 @@ module _ {f : Function} {g : Fn} {z : Maker} {lefts : ℕ → List (Option Inner
           let both = subst (λ part. IsRead at draft kind part) (same_Some read.part one (sym read.is.part_there ∙ one_is)) (subst (λ kind. IsRead at draft kind read.part) (same_Some read.kind kind (sym read.is.there ∙ kind_is)) (read.is, read.part_read)) in
           record { draft = draft; is = both.0; part = same_Some draft.part two is; part_read = both.1 }
 
-  -- where each leaf that is written the other way round can be, and has no names that change places, all parts make the same and say the same
-  pub parts_alike : length code.parts ≡ length code.steps → ((at : ℕ) (kind : StepKind) (part : Part) → StepIs of at kind part → TestTurns of at kind part) → ArePartsLike code steps_read params names ahead
+  -- where no names change places in a leaf that is written the other way round, all parts make the same and say the same
+  parts_alike : length code.parts ≡ length code.steps → ((at : ℕ) (kind : StepKind) (part : Part) → StepIs of at kind part → TestTurns of at kind part) → ArePartsLike code steps_read params names ahead
   parts_alike count turns = record {
     steps = refl;
     count = length-map drafts (λ (draft : Drafted). draft.part) ∙ as_many ∙ sym count;
@@ -90,16 +92,22 @@ module _ {f : Function} {g : Fn} {z : Maker} {lefts : ℕ → List (Option Inner
         subst (SayLike kind one) found.part (say_like of kind one found.is (turns at kind one found.is) found.draft found.part_read);
   }
 
-  -- so where no names change places in the conditions
-  ordered_turn : ((at : ℕ) (part : Part) → part_at code at ≡ Some part → IsOrderedPart part) → (at : ℕ) (kind : StepKind) (part : Part) → StepIs of at kind part → TestTurns of at kind part
-  ordered_turn ordered at kind part is = by part (ordered at part is.part_there)
-    where
-      by : (part : Part) → IsOrderedPart part → TestTurns of at kind part
-      by (condition_part e) ordered = let less = is.within in ordered_turns g (before_at of at).active (few_before of at (omega (arith, less))) (length (before_at of at).constants) (length (before_at of at).functions) (length (made_at of at kind (condition_part e)).functions) e ordered
-      by nothing_part ordered = tt
-      by (statement_part s) ordered = tt
-      by (values_part es) ordered = tt
-      by (head_part es texts) ordered = tt
+  -- so where no local of the function changes places in the conditions, and these are the names of its locals
+  module _ (own : List Text) (ordered : (at : ℕ) (part : Part) → part_at code at ≡ Some part → IsOrderedPart own part) (in_params : (text : Text) → is_among text params ≡ true → is_among text own ≡ true)
+      (in_parts : (at : ℕ) (part : Part) → part_at code at ≡ Some part → (text : Text) → is_among text (names_of_part part) ≡ true → is_among text own ≡ true) where
+    ordered_turn : (at : ℕ) (kind : StepKind) (part : Part) → StepIs of at kind part → TestTurns of at kind part
+    ordered_turn at kind part is = by part (ordered at part is.part_there)
+      where
+        by : (part : Part) → IsOrderedPart own part → TestTurns of at kind part
+        by (condition_part e) ordered =
+            let less = is.within in
+            ordered_turns g (before_at of at).active (few_before of at (omega (arith, less))) of.made.names of.made.law own (active_named of own in_params in_parts at less)
+            (length (before_at of at).constants) (length (before_at of at).functions) (length (made_at of at kind (condition_part e)).functions) e ordered
+        by nothing_part ordered = tt
+        by (statement_part s) ordered = tt
+        by (values_part es) ordered = tt
+        by (head_part es texts) ordered = tt
 
-  pub ordered_alike : length code.parts ≡ length code.steps → ((at : ℕ) (part : Part) → part_at code at ≡ Some part → IsOrderedPart part) → ArePartsLike code steps_read params names ahead
-  ordered_alike count ordered = parts_alike count (ordered_turn ordered)
+  pub ordered_alike : length code.parts ≡ length code.steps → (own : List Text) → ((at : ℕ) (part : Part) → part_at code at ≡ Some part → IsOrderedPart own part) → ((text : Text) → is_among text params ≡ true → is_among text own ≡ true) →
+      ((at : ℕ) (part : Part) → part_at code at ≡ Some part → (text : Text) → is_among text (names_of_part part) ≡ true → is_among text own ≡ true) → ArePartsLike code steps_read params names ahead
+  ordered_alike count own ordered in_params in_parts = parts_alike count (ordered_turn own ordered in_params in_parts)

@@ -33,14 +33,14 @@ before_or_behind (suc n) (suc place) = ⊎_elim (λ before. inl (omega (arith, b
 -- ---- lists
 
 -- another place is set, or the same one to what stands there
-pub set_elsewhere : {A : Type 0} (xs : List A) (n m : ℕ) (x y : A) → slice_get xs m ≡ Some x → (n ≡ m → y ≡ x) → slice_get (slice_set xs n y) m ≡ Some x
+set_elsewhere : {A : Type 0} (xs : List A) (n m : ℕ) (x y : A) → slice_get xs m ≡ Some x → (n ≡ m → y ≡ x) → slice_get (slice_set xs n y) m ≡ Some x
 set_elsewhere [] n m x y there same = there
 set_elsewhere (z ∷ xs) zero zero x y there same = ap Some (same refl)
 set_elsewhere (z ∷ xs) zero (suc m) x y there same = there
 set_elsewhere (z ∷ xs) (suc n) zero x y there same = there
 set_elsewhere (z ∷ xs) (suc n) (suc m) x y there same = set_elsewhere xs n m x y there (λ is. same (ap suc is))
 
-pub set_there : {A : Type 0} (xs : List A) (n : ℕ) (y : A) → n < length xs → slice_get (slice_set xs n y) n ≡ Some y
+set_there : {A : Type 0} (xs : List A) (n : ℕ) (y : A) → n < length xs → slice_get (slice_set xs n y) n ≡ Some y
 set_there [] n y within = absurd (omega (arith, within))
 set_there (x ∷ xs) zero y within = refl
 set_there (x ∷ xs) (suc n) y within = set_there xs n y (omega (arith, within))
@@ -137,7 +137,7 @@ module _ (f : Function) (count : ℕ) (listed : List ℕ) (entries more : Entrie
   kept_grows (in_local r) low x high at = at
   kept_grows (in_next entry v) low x high at = (at.0, at.1, at.2, grows at.0 entry at.3, at.4, at.5)
 
-  pub part_grows : {low t k x y high : ℕ} {on key : Kept} → PartPlaced f count listed entries low t k on key x y high → PartPlaced f count listed more low t k on key x y high
+  part_grows : {low t k x y high : ℕ} {on key : Kept} → PartPlaced f count listed entries low t k on key x y high → PartPlaced f count listed more low t k on key x y high
   part_grows {low} {t} {k} {x} {y} {high} {on} {key} at = record {
     at_on = at.at_on;
     at_key = at.at_key;
@@ -158,7 +158,7 @@ module _ (f : Function) (count : ℕ) (listed : List ℕ) (entries more : Entrie
 -- ---- parts are taken
 
 -- these entries are still there by now, from a place on, and all that stay when they are taken
-abbrev pub Agrees : (entries now : Entries) → (low : ℕ) → Type 0
+abbrev Agrees : (entries now : Entries) → (low : ℕ) → Type 0
 Agrees entries now low = (n : ℕ) (entry : EntryValue) → slice_get entries n ≡ Some entry → (low ≤ n) ⊎ (left_of entry ≡ entry) → slice_get now n ≡ Some entry
 
 pub agrees_all : (entries : Entries) (low : ℕ) → Agrees entries entries low

@@ -20,8 +20,8 @@ use Rattle.same_flow.specs.Written.{ArePartsDeep, IsPartDeep}
 use Rattle.same_flow.specs.Alike.{IsKindLike}
 use Rattle.reads_back.specs.Acted.{act_statement}
 use Rattle.reads_back.specs.Assignments.{as_assignment}
+use Rattle.reads_back.specs.Placed.{AreLevelled, HasNegated, IsLevelled}
 use Rattle.reads_back.specs.ReadAs.{part_of}
-use Rattle.reads_back.specs.Written.{AreLevelled, HasNegated, IsLevelled}
 use Rattle.reads_back.proofs.Deeper.{some_depth}
 use Rattle.reads_back.proofs.FlowRead.{PartRead, writing}
 use Rattle.reads_back.proofs.FlowThere.{IsFlowFunction, StepIs, before_at, made_at, pcs}
@@ -32,7 +32,7 @@ use Rattle.reads_back.proofs.PartsFormed.{part_stays, returned_holds}
 use Rattle.reads_back.proofs.PlacedReads.{ArePlaced, placed_read}
 use Rattle.reads_back.proofs.StraightActs.{written_ends, written_shallow}
 use Rattle.reads_back.proofs.TestedAs.{condition_word}
-use Rattle.reads_back.proofs.TestsFormed.{condition_fine}
+use Rattle.reads_back.proofs.WrittenFormed.{condition_fine}
 
 -- ---- parts of steps
 
@@ -149,7 +149,7 @@ module _ {f : Function} {g : Fn} {z : Maker} {lefts : ℕ → List (Option Inner
   }
 
   -- the step that is placed of a draft has levels enough
-  pub part_deep : {at : ℕ} (kind : StepKind) (part : Part) → StepIs of at kind part → (draft : Drafted) → PartRead f g lefts (before_at of at) (pcs of) kind part (length (made_at of at kind part).functions) draft →
+  part_deep : {at : ℕ} (kind : StepKind) (part : Part) → StepIs of at kind part → (draft : Drafted) → PartRead f g lefts (before_at of at) (pcs of) kind part (length (made_at of at kind part).functions) draft →
       (other : StepKind) → IsKindLike kind other → HasNegated draft.kind other → IsPartDeep draft.levels other draft.part
   part_deep kind part is draft read = by_cases of Deep deep_cases kind part is draft read
 
@@ -179,7 +179,7 @@ module _ {f : Function} {g : Fn} {z : Maker} {lefts : ℕ → List (Option Inner
     lones = λ at kind part draft is lone other like negated. let levels = lone.levels in level_of_lone draft.levels kind other is like (omega (arith, levels));
   }
 
-  pub part_levelled : {at : ℕ} (kind : StepKind) (part : Part) → StepIs of at kind part → (draft : Drafted) → PartRead f g lefts (before_at of at) (pcs of) kind part (length (made_at of at kind part).functions) draft →
+  part_levelled : {at : ℕ} (kind : StepKind) (part : Part) → StepIs of at kind part → (draft : Drafted) → PartRead f g lefts (before_at of at) (pcs of) kind part (length (made_at of at kind part).functions) draft →
       (other : StepKind) → IsKindLike kind other → HasNegated draft.kind other → IsLevelled draft.levels other
   part_levelled kind part is draft read = by_cases of Levelled levelled_cases kind part is draft read
 

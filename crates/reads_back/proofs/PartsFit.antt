@@ -158,7 +158,7 @@ module _ (Holds : Expression → Type 0) (holds : HoldsOfTests Holds) (lefts : �
       let e = binary_expression line op l r in
       value_holds e (subst (λ (compares : Bool). HasTestBy compares l r e) (sym is) has) has.0 has.1 few tested value
 
-  pub test_holds : (e : Expression) → HasTest e → depth_of_expression e ≤ 200 → (tested : TestedValue) → IsTested g active e before behind tested → HoldsWritten tested
+  test_holds : (e : Expression) → HasTest e → depth_of_expression e ≤ 200 → (tested : TestedValue) → IsTested g active e before behind tested → HoldsWritten tested
   test_holds (binary_expression line op l r) has few tested is = operator_holds (is_comparison op) line op l r refl has few tested is
   test_holds (unary_expression line UnaryOp.Not e) has few tested is = absurd has
   test_holds (parenthesized line e) has few tested is = absurd has
@@ -252,7 +252,7 @@ module _ {f : Function} {g : Fn} {z : Maker} {lefts : ℕ → List (Option Inner
   }
 
   -- what is written of one step is of its kind
-  pub part_fits : {at : ℕ} (kind : StepKind) (part : Part) → StepIs of at kind part → (draft : Drafted) → PartRead f g lefts (before_at of at) (pcs of) kind part (length (made_at of at kind part).functions) draft → PartFits kind draft.part
+  part_fits : {at : ℕ} (kind : StepKind) (part : Part) → StepIs of at kind part → (draft : Drafted) → PartRead f g lefts (before_at of at) (pcs of) kind part (length (made_at of at kind part).functions) draft → PartFits kind draft.part
   part_fits kind part is draft read = by_cases of Fits fit_cases kind part is draft read is.fits
 
   -- and of all steps

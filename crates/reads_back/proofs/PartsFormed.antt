@@ -29,7 +29,7 @@ use Rattle.reads_back.proofs.PlacedEach.{part_placed}
 use Rattle.reads_back.proofs.PlacedReads.{ArePlaced}
 use Rattle.reads_back.proofs.StraightActs.{written_ends, written_formed}
 use Rattle.reads_back.proofs.Tests.{not_so}
-use Rattle.reads_back.proofs.TestsFormed.{condition_fine}
+use Rattle.reads_back.proofs.WrittenFormed.{condition_fine}
 
 -- ---- statements as parts
 
@@ -103,7 +103,7 @@ module _ {f : Function} {g : Fn} {z : Maker} {lefts : ℕ → List (Option Inner
   }
 
   -- what is written of one step keeps the rules of form
-  pub part_formed : {at : ℕ} (kind : StepKind) (part : Part) → StepIs of at kind part → (draft : Drafted) → PartRead f g lefts (before_at of at) (pcs of) kind part (length (made_at of at kind part).functions) draft → IsPartFormed draft.part
+  part_formed : {at : ℕ} (kind : StepKind) (part : Part) → StepIs of at kind part → (draft : Drafted) → PartRead f g lefts (before_at of at) (pcs of) kind part (length (made_at of at kind part).functions) draft → IsPartFormed draft.part
   part_formed kind part is draft read = by_cases of Formed formed_cases kind part is draft read
 
   -- and of all steps

@@ -23,6 +23,7 @@ use Rattle.same_flow.proofs.ListedRun.{step_there}
 use Rattle.reads_back.specs.Acted.{act_statement}
 use Rattle.reads_back.specs.Assignments.{as_assignment}
 use Rattle.reads_back.specs.ReadAs.{part_of}
+use Rattle.reads_back.proofs.ComparisonsSame.{KeepsNames}
 use Rattle.reads_back.proofs.FlowActs as acts
 use Rattle.reads_back.proofs.FlowActs.{act_own, act_stands, declaration_stands, own_listed, same_made}
 use Rattle.reads_back.proofs.FlowHeads as heads
@@ -36,25 +37,24 @@ use Rattle.reads_back.proofs.PlacedInside.{GoesBack, laid_back}
 use Rattle.reads_back.proofs.Rewriting.{OwnListed}
 use Rattle.reads_back.proofs.SameStatements.{assigned_makes}
 use Rattle.reads_back.proofs.StraightActs.{written}
-use Rattle.reads_back.proofs.TestsMarks.{KeepsNames}
-use Rattle.reads_back.proofs.TestsSame.{CanBeTurned, test_same}
+use Rattle.reads_back.proofs.TestsSame.{test_same}
 
 -- each head of a loop over other things has as many variables among other steps
 abbrev pub SameHeads : (code other : Steps) → Type 0
 SameHeads code other = (at foot end variables_end : ℕ) (captured : Bool) → kind_at code.steps at ≡ Some (StepKind.Head false foot end variables_end captured) → names_in (part_at other at) ≡ names_in (part_at code at)
 
 -- what stands of a statement in a step makes the statement
-pub part_of_made : (s : Statement) (m : Maker) → part_made (part_of s) m ≡ statement_made s 1 None m
+part_of_made : (s : Statement) (m : Maker) → part_made (part_of s) m ≡ statement_made s 1 None m
 part_of_made (return_statement es) m = refl
 part_of_made s m = refl
 
 module _ {f : Function} {g : Fn} {z : Maker} {lefts : ℕ → List (Option Inner)} {parts : ℕ → outline.Part} {code : Steps} {params names : List Text} {ahead : Ahead} {block : Statements} (of : IsFlowFunction f g z lefts parts code params names ahead block) where
-  -- a leaf whose operands are written the other way round has operands that can be, and no names that change places
+  -- a leaf whose operands are written the other way round has no names that change places
   abbrev pub TestTurns : (at : ℕ) → StepKind → Part → Type 0
   TestTurns at kind (condition_part e) =
       let m = before_at of at in
       let behind = length (made_at of at kind (condition_part e)).functions in
-      CanBeTurned g m.active (length m.constants) (length m.functions) behind e × KeepsNames g m.active (length m.constants) (length m.functions) behind e
+      KeepsNames g m.active (length m.constants) (length m.functions) behind e
   TestTurns at kind part = Unit {0}
 
   act_made : {at : ℕ} {kind : StepKind} {part : Part} (is : StepIs of at kind part) (s : Statement) (flow : IsFlowAct s) (makes : made_at of at kind part ≡ statement_made s 1 None (before_at of at))
@@ -70,7 +70,7 @@ module _ {f : Function} {g : Fn} {z : Maker} {lefts : ℕ → List (Option Inner
       ∙ rewritten.made m (acts.comes of is s flow makes stands own) (acts.final of is s flow makes stands own)
       ∙ sym (same_made of is s flow makes stands own)
 
-  test_made : {at target negated : ℕ} {when : Bool} {e : Expression} (is : StepIs of at (StepKind.Test when target negated) (condition_part e)) → CanBeTurned g (before_at of at).active (length (before_at of at).constants) (length (before_at of at).functions) (length (made_at of at (StepKind.Test when target negated) (condition_part e)).functions) e →
+  test_made : {at target negated : ℕ} {when : Bool} {e : Expression} (is : StepIs of at (StepKind.Test when target negated) (condition_part e)) → KeepsNames g (before_at of at).active (length (before_at of at).constants) (length (before_at of at).functions) (length (made_at of at (StepKind.Test when target negated) (condition_part e)).functions) e →
       (draft : Drafted) → TestPart f g lefts (before_at of at) when (pcs of target) e (length (made_at of at (StepKind.Test when target negated) (condition_part e)).functions) draft →
       tested_made when target draft.part (before_at of at) ≡ made_at of at (StepKind.Test when target negated) (condition_part e)
   test_made {at} {target} {negated} {when} {e} is turns draft read =
@@ -107,7 +107,7 @@ module _ {f : Function} {g : Fn} {z : Maker} {lefts : ℕ → List (Option Inner
   kind_made_same other same {at} (StepKind.Declaration end captured) (statement_part s) is turns draft read =
       sym (act_made is (as_assignment s) is.flow.act (assigned_makes s (before_at of at) is.flow.formed) (declaration_stands of is) (own_listed of s is.fits is) draft read)
   kind_made_same other same StepKind.Return (values_part es) is turns draft read = sym (act_made is (return_statement es) is.flow refl is.stands tt draft read)
-  kind_made_same other same (StepKind.Test when target negated) (condition_part e) is turns draft read = sym (test_made is turns.0 draft read)
+  kind_made_same other same (StepKind.Test when target negated) (condition_part e) is turns draft read = sym (test_made is turns draft read)
   kind_made_same other same (StepKind.Jump target) part is turns draft read = refl
   kind_made_same other same (StepKind.Close from declared) part is turns draft read = refl
   kind_made_same other same (StepKind.Head numeric foot end variables_end captured) (head_part es texts) is turns draft read = sym (head_made_same numeric is draft read)

@@ -56,7 +56,7 @@ module _ {f : Function} {g : Fn} {z : Maker} {lefts : ℕ → List (Option Inner
   }
 
   -- what is written of one step is plain
-  pub part_plain : {at : ℕ} (kind : StepKind) (part : Part) → StepIs of at kind part → (draft : Drafted) → PartRead f g lefts (before_at of at) (pcs of) kind part (length (made_at of at kind part).functions) draft → IsPlainPart draft.part
+  part_plain : {at : ℕ} (kind : StepKind) (part : Part) → StepIs of at kind part → (draft : Drafted) → PartRead f g lefts (before_at of at) (pcs of) kind part (length (made_at of at kind part).functions) draft → IsPlainPart draft.part
   part_plain kind part is draft read = by_cases of IsPlain plain_cases kind part is draft read
 
   -- and of all steps

@@ -10,7 +10,7 @@ use Rattle.reads_back.proofs.Tests.{given_is}
 -- ---- what stands in the registers of the step
 
 -- how many registers are taken for it
-abbrev pub height : Kept → ℕ
+abbrev height : Kept → ℕ
 height kept = length (entries_in kept)
 
 abbrev pub value_of : Kept → Value

@@ -1,5 +1,5 @@
--- The step of what is written needs no more levels than the source has room for, in the forms of fewest levels; and few in natural forms.
-use Rattle.std.proofs.Common.{◌≡◌, ◌≤◌, ◌+◌, ◌*◌, ℕ, suc, true, List, length, sym, ap, ◌∙◌, subst, arith}
+-- The step of what is written needs no more levels than the source has room for, in the forms of fewest levels.
+use Rattle.std.proofs.Common.{◌≡◌, ◌≤◌, ℕ, suc, true, List, length, sym, ap, ◌∙◌, subst, arith}
 use Rattle.std.proofs.lemmas.Option.{same_Some}
 use Rattle.std.specs.Prelude.{Option, Some, slice_get}
 use Rattle.lua_num.specs.Bytes.{Text}
@@ -19,12 +19,11 @@ use Rattle.same_flow.specs.Written.{AreInRoom, ArePartsFormed, IsPartFormed, Kin
 use Rattle.same_flow.specs.Alike.{IsKindLike}
 use Rattle.same_flow.specs.Performed.{part_at}
 use Rattle.same_flow.specs.Space.{space_of_expressions, space_of_statement}
-use Rattle.reads_back.specs.Acted.{lean_depth}
 use Rattle.reads_back.specs.Assignments.{as_assignment}
-use Rattle.reads_back.specs.Written.{AreFew, HasNegated, IsPartFew}
+use Rattle.reads_back.specs.Placed.{HasNegated}
 use Rattle.reads_back.proofs.FlowRead.{PartRead, as_many, writing}
-use Rattle.reads_back.proofs.FlowThere.{IsFlowFunction, IsFlowPart, StepIs, before_at, made_at, pcs}
-use Rattle.reads_back.proofs.FunctionStatements.{assigned_formed, assigned_lean, assigned_roomy}
+use Rattle.reads_back.proofs.FlowThere.{IsFlowFunction, StepIs, before_at, made_at, pcs}
+use Rattle.reads_back.proofs.FunctionStatements.{assigned_formed, assigned_roomy}
 use Rattle.reads_back.proofs.HeadsSame.{head_low}
 use Rattle.reads_back.proofs.PartsCases.{ActThere, Cases, IsLoneKind, by_cases}
 use Rattle.reads_back.proofs.PartsDeep.{test_negated}
@@ -35,18 +34,10 @@ use Rattle.reads_back.proofs.TestsLow.{test_low}
 
 -- ---- parts of steps
 
--- the same where a path that a function goes to does not count, whether a function statement has it or an assignment
-abbrev pub KindInLeanRoom : (levels : ℕ) → StepKind → Part → Type 0
+-- the step of a part is in its room where a path that a function goes to does not count, whether a function statement has it or an assignment
+abbrev KindInLeanRoom : (levels : ℕ) → StepKind → Part → Type 0
 KindInLeanRoom levels kind (statement_part s) = levels ≤ suc (lean_room (as_assignment s))
 KindInLeanRoom levels kind part = KindInRoom levels kind part
-
-abbrev pub IsPartLeanFew : (levels : ℕ) → Part → Type 0
-IsPartLeanFew levels (statement_part s) = levels ≤ 3 * lean_depth (as_assignment s) + 204
-IsPartLeanFew levels part = IsPartFew levels part
-
-lean_few : (levels : ℕ) (part : Part) → IsFlowPart part → IsPartLeanFew levels part → IsPartFew levels part
-lean_few levels (statement_part s) flow few = omega (arith, few, assigned_lean s flow.formed)
-lean_few levels part flow few = few
 
 -- whatever the kind of its step is
 statement_room : (levels : ℕ) (kind : StepKind) (s : Statement) → levels ≤ suc (space_of_statement s) → KindInRoom levels kind (statement_part s)
@@ -97,52 +88,7 @@ lone_lean : (levels : ℕ) (kind other : StepKind) (part : Part) → IsLoneKind 
 lone_lean levels kind other (statement_part s) is like one = omega (arith, one)
 lone_lean levels kind other part is like one = lone_room levels kind other part is like one
 
-lone_few : (levels : ℕ) (part : Part) → levels ≡ 1 → IsPartLeanFew levels part
-lone_few levels (statement_part s) one = omega (arith, one)
-lone_few levels (values_part es) one = omega (arith, one)
-lone_few levels (condition_part e) one = omega (arith, one)
-lone_few levels (head_part es names) one = omega (arith, one)
-lone_few levels nothing_part one = omega (arith, one)
-
 module _ {f : Function} {g : Fn} {z : Maker} {lefts : ℕ → List (Option Inner)} {parts : ℕ → outline.Part} {code : Steps} {params names : List Text} {ahead : Ahead} {block : Statements} (of : IsFlowFunction f g z lefts parts code params names ahead block) where
-  -- ---- in natural forms
-
-  abbrev Few : StepKind → Part → Drafted → Type 0
-  Few kind part draft = IsPartLeanFew draft.levels part
-
-  -- a path that a function goes to does not count
-  pub act_few : (at : ℕ) (s : Statement) (behind : ℕ) (draft : Drafted) → ActThere of at s behind draft → draft.levels ≤ 3 * lean_depth s + 204
-  act_few at s behind draft act =
-      let few = act.rewritten.few (length (before_at of at).constants) in
-      let levels = act.read.levels in
-      omega (arith, few, levels)
-
-  few_cases : Cases of Few
-  few_cases = record {
-    acts = λ at kind s behind draft is goes_on act. act_few at (as_assignment s) behind draft act;
-    returns = λ at es behind draft act. act_few at (return_statement es) behind draft act;
-    tests = λ at target negated when e behind draft test. let few = test.written.few in let levels = test.read.levels in omega (arith, few, levels);
-    heads = λ at foot end variables_end captured numeric es texts behind draft head.
-        let few = head.rewritten.few (length (before_at of at).constants) in
-        let levels = head.read.levels in
-        omega (arith, few, levels);
-    lones = λ at kind part draft is lone. lone_few draft.levels part lone.levels;
-  }
-
-  -- the step of one draft needs few levels
-  pub part_few : {at : ℕ} (kind : StepKind) (part : Part) → StepIs of at kind part → (draft : Drafted) → PartRead f g lefts (before_at of at) (pcs of) kind part (length (made_at of at kind part).functions) draft → IsPartLeanFew draft.levels part
-  part_few kind part is draft read = by_cases of Few few_cases kind part is draft read
-
-  -- and those of all steps, with the parts of the source
-  pub parts_lean_few : (other : Steps) → ArePlaced of other → (at : ℕ) (step : Step) (part : Part) → slice_get other.steps at ≡ Some step → part_at code at ≡ Some part → IsPartLeanFew step.levels part
-  parts_lean_few other are at step part there part_there =
-      let one = placed_read of other are at step there in
-      let read = one.read in
-      subst (IsPartLeanFew step.levels) (same_Some read.part part (sym read.is.part_there ∙ part_there)) (subst (λ levels. IsPartLeanFew levels read.part) (sym one.levels) (part_few read.kind read.part read.is one.draft read.part_read))
-
-  pub parts_few : (other : Steps) → ArePlaced of other → AreFew (record code { steps = other.steps })
-  parts_few other are at step part there part_there = lean_few step.levels part (of.flow at part part_there) (parts_lean_few other are at step part there part_there)
-
   -- ---- in the forms of fewest levels
 
   module _ (short : f.short ≡ true) where
@@ -150,7 +96,7 @@ module _ {f : Function} {g : Fn} {z : Maker} {lefts : ℕ → List (Option Inner
     Roomy kind part draft = IsPartFormed part → (other : StepKind) → IsKindLike kind other → HasNegated draft.kind other → KindInLeanRoom draft.levels other part
 
     -- a path that a function goes to does not count
-    pub act_low : (at : ℕ) (s : Statement) (behind : ℕ) (draft : Drafted) → ActThere of at s behind draft → formed_statement s ≡ true → draft.levels ≤ suc (lean_room s)
+    act_low : (at : ℕ) (s : Statement) (behind : ℕ) (draft : Drafted) → ActThere of at s behind draft → formed_statement s ≡ true → draft.levels ≤ suc (lean_room s)
     act_low at s behind draft act formed =
         let low = act.rewritten.low short formed (before_at of at) act.comes act.final in
         let levels = act.read.levels in
@@ -176,16 +122,12 @@ module _ {f : Function} {g : Fn} {z : Maker} {lefts : ℕ → List (Option Inner
     }
 
     -- there is room for the step of one draft
-    pub part_in_lean_room : {at : ℕ} (kind : StepKind) (part : Part) → StepIs of at kind part → (draft : Drafted) → PartRead f g lefts (before_at of at) (pcs of) kind part (length (made_at of at kind part).functions) draft →
+    part_in_lean_room : {at : ℕ} (kind : StepKind) (part : Part) → StepIs of at kind part → (draft : Drafted) → PartRead f g lefts (before_at of at) (pcs of) kind part (length (made_at of at kind part).functions) draft →
         IsPartFormed part → (other : StepKind) → IsKindLike kind other → HasNegated draft.kind other → KindInLeanRoom draft.levels other part
     part_in_lean_room kind part is draft read = by_cases of Roomy roomy_cases kind part is draft read
 
-    pub part_in_room : {at : ℕ} (kind : StepKind) (part : Part) → StepIs of at kind part → (draft : Drafted) → PartRead f g lefts (before_at of at) (pcs of) kind part (length (made_at of at kind part).functions) draft →
-        IsPartFormed part → (other : StepKind) → IsKindLike kind other → HasNegated draft.kind other → KindInRoom draft.levels other part
-    part_in_room kind part is draft read formed other like negated = lean_in_room draft.levels other part formed (part_in_lean_room kind part is draft read formed other like negated)
-
     -- and for all steps, with the parts of the source
-    pub parts_in_lean_room : ArePartsFormed code → (other : Steps) → ArePlaced of other → (at : ℕ) (step : Step) (part : Part) → slice_get other.steps at ≡ Some step → part_at code at ≡ Some part → KindInLeanRoom step.levels step.kind part
+    parts_in_lean_room : ArePartsFormed code → (other : Steps) → ArePlaced of other → (at : ℕ) (step : Step) (part : Part) → slice_get other.steps at ≡ Some step → part_at code at ≡ Some part → KindInLeanRoom step.levels step.kind part
     parts_in_lean_room formed other are at step part there part_there =
         let one = placed_read of other are at step there in
         let read = one.read in

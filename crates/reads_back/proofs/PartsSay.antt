@@ -22,6 +22,7 @@ use Rattle.same_flow.specs.Told.{IsActPart, IsDeclarationPart}
 use Rattle.reads_back.specs.Acted.{Acted, IsActed, act_statement, returned}
 use Rattle.reads_back.specs.Assignments.{as_assignment}
 use Rattle.reads_back.specs.ReadAs.{part_of}
+use Rattle.reads_back.proofs.ComparisonsSame.{KeepsNames}
 use Rattle.reads_back.proofs.FlowActs as acts
 use Rattle.reads_back.proofs.FlowActs.{act_own, act_stands, declaration_stands, own_listed}
 use Rattle.reads_back.proofs.FlowHeads as of_heads
@@ -38,11 +39,11 @@ use Rattle.reads_back.proofs.PartsMake.{TestTurns}
 use Rattle.reads_back.proofs.Rewriting.{OwnListed}
 use Rattle.reads_back.proofs.SameStatements.{assigned_makes, statement_part_same}
 use Rattle.reads_back.proofs.StraightActs.{written_ends, written_marks}
-use Rattle.reads_back.proofs.TestsMarks.{KeepsNames, test_marks}
+use Rattle.reads_back.proofs.TestsMarks.{test_marks}
 use Rattle.reads_back.proofs.TestsWritten.{test_writes}
 
 -- parts of an outline that are the same say the same
-pub says_like : {one other : outline.Part} → SamePart one other → SaysLike one other
+says_like : {one other : outline.Part} → SamePart one other → SaysLike one other
 says_like same = record { marks = λ here. ap (λ (walk : Walk). walk.marks) (same.each here); next = λ here. ap (λ (walk : Walk). walk.next) (same.each here) }
 
 -- a function statement says what its assignment says
@@ -145,7 +146,7 @@ module _ {f : Function} {g : Fn} {z : Maker} {lefts : ℕ → List (Option Inner
       subst (SayLike (StepKind.Declaration end captured) (statement_part s)) (sym (act_part is (as_assignment s) is.flow.act makes stands own draft read (same_ends s ∙ declaration_goes_on s is.fits)))
       (assigned_says s formed (act_says is (as_assignment s) is.flow.act makes stands own draft read))
   say_like StepKind.Return (values_part es) is turns draft read = return_says is draft read
-  say_like (StepKind.Test when target negated) (condition_part e) is turns draft read = test_says is turns.1 draft read
+  say_like (StepKind.Test when target negated) (condition_part e) is turns draft read = test_says is turns draft read
   say_like (StepKind.Jump target) part is turns draft read = tt
   say_like (StepKind.Close from declared) part is turns draft read = tt
   say_like (StepKind.Head numeric foot end variables_end captured) (head_part es texts) is turns draft read = head_says numeric is draft read

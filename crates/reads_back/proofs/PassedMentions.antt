@@ -38,7 +38,7 @@ pub record PassesMentions (mentions : List Mention) (c : Coded) : Type 0 where
 -- ---- what a part passes
 
 -- a part that changes no name, behind these
-pub passed_on : {mentions : List Mention} {m n o : Maker} → Passed mentions m n → Passed [] n o → Passed mentions m o
+passed_on : {mentions : List Mention} {m n o : Maker} → Passed mentions m n → Passed [] n o → Passed mentions m o
 passed_on first second = record { around = second.around ∙ first.around; behind = second.behind ∙ first.behind }
 
 -- the same names

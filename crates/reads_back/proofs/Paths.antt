@@ -44,29 +44,29 @@ long_is at on keys key path is =
     record { variable = first_of_both _ _ holds; fields = first_of_both _ _ behind; field = second_of_both (are_fields at keys) _ behind; same = given_is (is_long_path at on keys key) _ path is }
 
 -- it is of one target
-pub path_alone : (at : Place) (ts : List TargetValue) (path : List Text) → path_to at ts ≡ Some path → (t : TargetValue) × (ts ≡ t ∷ []) × (path_of at t ≡ Some path)
+path_alone : (at : Place) (ts : List TargetValue) (path : List Text) → path_to at ts ≡ Some path → (t : TargetValue) × (ts ≡ t ∷ []) × (path_of at t ≡ Some path)
 path_alone at [] path is = cc
 path_alone at (t ∷ []) path is = (t, refl, is)
 path_alone at (t ∷ u ∷ ts) path is = cc
 
 -- ---- a path uses no function
 
-pub field_leaves : (at : Place) (key : OperandValue) (fs : List (Option Inner)) → is_some (field_name at key) ≡ true → left_by_operand key fs ≡ fs
+field_leaves : (at : Place) (key : OperandValue) (fs : List (Option Inner)) → is_some (field_name at key) ≡ true → left_by_operand key fs ≡ fs
 field_leaves at (constant_operand k) fs is = refl
 field_leaves at (value_operand (constant_value k)) fs is = refl
 field_leaves at (value_operand v) fs is = not_so is
 
-pub fields_leave : (at : Place) (keys : OperandList) (fs : List (Option Inner)) → are_fields at keys ≡ true → left_by_operands keys fs ≡ fs
+fields_leave : (at : Place) (keys : OperandList) (fs : List (Option Inner)) → are_fields at keys ≡ true → left_by_operands keys fs ≡ fs
 fields_leave at no_operands fs are = refl
 fields_leave at (and_operand key rest) fs are = ap (left_by_operands rest) (field_leaves at key fs (first_of_both _ _ are)) ∙ fields_leave at rest fs (second_of_both (is_some (field_name at key)) _ are)
 
-pub variable_leaves : (on : Value) (fs : List (Option Inner)) → is_variable on ≡ true → left_by on fs ≡ fs
+variable_leaves : (on : Value) (fs : List (Option Inner)) → is_variable on ≡ true → left_by on fs ≡ fs
 variable_leaves (local_value r) fs is = refl
 variable_leaves (upvalue_value u) fs is = refl
 variable_leaves (global_value k) fs is = refl
 variable_leaves on fs is = not_so is
 
-pub long_leaves : (at : Place) (on : Value) (keys : OperandList) (key : OperandValue) (path : List Text) (fs : List (Option Inner)) → long_path at on keys key ≡ Some path → left_by_operand key (left_by_operands keys (left_by on fs)) ≡ fs
+long_leaves : (at : Place) (on : Value) (keys : OperandList) (key : OperandValue) (path : List Text) (fs : List (Option Inner)) → long_path at on keys key ≡ Some path → left_by_operand key (left_by_operands keys (left_by on fs)) ≡ fs
 long_leaves at on keys key path fs is =
     let long = long_is at on keys key path is in
     ap (λ fs. left_by_operand key (left_by_operands keys fs)) (variable_leaves on fs long.variable) ∙ ap (left_by_operand key) (fields_leave at keys fs long.fields) ∙ field_leaves at key fs long.field
@@ -84,7 +84,7 @@ path_to_leaves at (t ∷ u ∷ ts) path fs is = cc
 
 -- ---- a function that is all of the values
 
-pub function_numbered : (v : Value) (number : ℕ) → function_number v ≡ Some number → v ≡ function_value number false
+function_numbered : (v : Value) (number : ℕ) → function_number v ≡ Some number → v ≡ function_value number false
 function_numbered (function_value k false) number is = ap (λ k. function_value k false) (same_Some k number is)
 function_numbered v number is = cc
 

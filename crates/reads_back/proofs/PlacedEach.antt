@@ -10,7 +10,7 @@ use Rattle.recover_expr.specs.Situation.{Function}
 use Rattle.recover_expr.specs.declared.draft.DraftKind.{DraftKind}
 use Rattle.recover_expr.specs.declared.steps.Step.{Step}
 use Rattle.recover_expr.specs.declared.steps.StepKind.{StepKind}
-use Rattle.reads_back.specs.Written.{HasNegated}
+use Rattle.reads_back.specs.Placed.{HasNegated}
 
 -- a step that is placed of a draft
 pub record IsPlacedOf (draft : Drafted) (step : Step) : Type 0 where
@@ -80,7 +80,7 @@ pub record IsPlacedAt (drafts : List Drafted) (other : Steps) (at : ℕ) (step :
 
 module _ (f : Function) (scope : Scope) (params : List Text) (drafts : List Drafted) (other : Steps) (is : placed f scope params drafts ≡ Some other) where
   -- the parts are those of the drafts
-  pub placed_parts : other.parts ≡ map (λ (draft : Drafted). draft.part) drafts
+  placed_parts : other.parts ≡ map (λ (draft : Drafted). draft.part) drafts
   placed_parts = let all = placed_behind f scope (numbers_of f drafts) (highest_captured scope) drafts (record { params = params; steps = []; parts = [] }) other is in all.parts
 
   pub step_placed : (at : ℕ) (step : Step) → slice_get other.steps at ≡ Some step → IsPlacedAt drafts other at step

@@ -1,5 +1,5 @@
 -- The drafts of all steps of a function are placed as steps that are like those on which its statements stand.
-use Rattle.std.proofs.Common.{◌≡◌, ◌<◌, ◌≤◌, ℕ, zero, suc, ◌+◌, ◌-◌, ◌^◌, Bool, true, false, List, [], ◌∷◌, ◌++◌, length, map, append-nil, append_assoc, refl, sym, ap, ap₂, ◌∙◌, arith, subst}
+use Rattle.std.proofs.Common.{◌≡◌, ◌<◌, ◌≤◌, ℕ, zero, suc, ◌+◌, ◌-◌, Bool, true, false, List, [], ◌∷◌, ◌++◌, length, map, append-nil, append_assoc, refl, sym, ap, ap₂, ◌∙◌, arith, subst}
 use Rattle.std.proofs.lemmas.Option.{same_Some, slice_get_within}
 use Rattle.std.specs.Prelude.{Option, Some, option_and_then, option_map, slice_get}
 use Rattle.lua_num.specs.Bytes.{Text}
@@ -27,10 +27,10 @@ use Rattle.same_flow.proofs.ListedRun.{entries_last}
 use Rattle.same_flow.proofs.LocalsListed.{locals_listed}
 use Rattle.same_flow.proofs.StatementsTold.{laid_are_told}
 use Rattle.reads_back.specs.Placed.{AreDeclared, ArePlacedLike, HaveRegisters, HaveWords, IsDeclared, IsDraftAt, IsDraftKind, active_behind, innermost_of, listed_before, listed_by_step}
-use Rattle.reads_back.proofs.PlacedCaptures.{captured_known, element_there, highest_known, known_taken}
+use Rattle.reads_back.proofs.PlacedCaptures.{captured_known, highest_known, known_taken}
 use Rattle.reads_back.proofs.PlacedEnds.{length_entries, row_shared, stands_in}
 use Rattle.reads_back.proofs.PlacedInside.{GoesInside, laid_inside}
-use Rattle.reads_back.proofs.PlacedLocals.{active_listed, count_before, kind_adds, rises_before, step_makes}
+use Rattle.reads_back.proofs.PlacedLocals.{count_before, kind_adds, rises_before, step_makes}
 use Rattle.reads_back.proofs.PlacedNumbers.{number_of_step, words_rise}
 
 -- ---- one kind
@@ -294,28 +294,6 @@ module _ (code : Steps) (plain : HasPlainParts code) (params names : List Text) 
         };
         levels = all.levels;
       }
-
--- the registers have such numbers where each draft counts the locals before it by 32 bits
-pub registers_by_drafts : (code : Steps) (params names : List Text) (ahead : Ahead) (drafts : List Drafted) → length drafts ≡ length code.steps →
-    ((at : ℕ) (draft : Drafted) → slice_get drafts at ≡ Some draft → IsDraftAt code params names ahead at draft) → ((at : ℕ) (draft : Drafted) → slice_get drafts at ≡ Some draft → draft.base < 2 ^ 32) →
-    HaveRegisters code params names ahead
-registers_by_drafts code params names ahead drafts as_many are few at less =
-    let draft = element_there drafts at (omega (arith, as_many, less)) in
-    let base = (are at draft.0 draft.1).base in
-    let most = few at draft.0 draft.1 in
-    omega (arith, base, most)
-
--- and where so few locals are listed
-pub registers_by_list : (code : Steps) → HasPlainParts code → (params names : List Text) (ahead : Ahead) (block : Statements) → AreLaid code params names ahead block →
-    length (all_entries code params names ahead) < 2 ^ 32 → HaveRegisters code params names ahead
-registers_by_list code plain params names ahead block stands few at less =
-    let most = active_listed code plain params names ahead at in
-    let listed = ((locals_listed code plain params names ahead block stands).before at (omega (arith, less))).count in
-    let place = stands_in code params names ahead at less in
-    let all = ap (λ (list : List LocVar). length list) place.all in
-    let front = place.first in
-    let here = entries_where (pc_of_step code params names ahead) at (kind_at code.steps at) (part_at code at) in
-    omega (arith, few, most, listed, all, front, length_both place.front (here ++ place.rest))
 
 -- the drafts of all steps are placed
 pub all_placed : (code : Steps) → HasPlainParts code → (params names : List Text) (ahead : Ahead) (block : Statements) → AreLaid code params names ahead block → HaveWords code params names ahead →

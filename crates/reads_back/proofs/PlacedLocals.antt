@@ -188,17 +188,9 @@ rising_next low high (first ∷ second ∷ others) rising zero one next is also 
     subst (λ (x : Active). x.listed < next.listed) (same_Some first one is) (subst (λ (x : Active). first.listed < x.listed) (same_Some second next also) (omega (arith, order)))
 rising_next low high (first ∷ second ∷ others) rising (suc n) one next is also = rising_next (suc first.listed) high (second ∷ others) rising.1 n one next is also
 
--- there are no more of them than numbers
-rising_count : (low high : ℕ) (active : List Active) → Rising low active high → low + length active ≤ high
-rising_count low high [] rising = omega (arith, rising)
-rising_count low high (one ∷ others) rising =
-    let here = rising.0 in
-    let behind = rising_count (suc one.listed) high others rising.1 in
-    omega (arith, here, behind)
-
 -- ---- along the steps of a function
 
-abbrev pub Rises : Maker → Type 0
+abbrev Rises : Maker → Type 0
 Rises m = Rising 0 m.active (length m.locals)
 
 rises_added : (m made : Maker) → Adds m made → Rises m → Rises made
@@ -226,7 +218,7 @@ module _ (code : Steps) (plain : HasPlainParts code) (params names : List Text) 
       rises_added empty made (adds_both (adds_declared params empty) (adds_activated declared.value declared.after)) start
 
   -- behind so many steps
-  pub rises_to : (at : ℕ) → Rises (performed_to code (at_beginning code params names ahead) at).maker
+  rises_to : (at : ℕ) → Rises (performed_to code (at_beginning code params names ahead) at).maker
   rises_to zero = begun_rises
   rises_to (suc at) =
       let now = performed_to code (at_beginning code params names ahead) at in
@@ -237,13 +229,6 @@ module _ (code : Steps) (plain : HasPlainParts code) (params names : List Text) 
   rises_before at =
       let now = performed_to code (at_beginning code params names ahead) at in
       rises_ended (still_active at now.ends) now.maker (rises_to at)
-
-  -- no more locals are active than are listed
-  pub active_listed : (at : ℕ) → length (before_place code params names ahead at).maker.active ≤ length (before_place code params names ahead at).maker.locals
-  active_listed at =
-      let m = (before_place code params names ahead at).maker in
-      let most = rising_count 0 (length m.locals) m.active (rises_before at) in
-      omega (arith, most)
 
   -- no local goes off the list
   pub count_before : (at : ℕ) → length (before_place code params names ahead at).maker.locals ≡ length (performed_to code (at_beginning code params names ahead) at).maker.locals

@@ -1,14 +1,28 @@
 -- The numbers of steps by their pcs: where the pcs of steps rise, the number that stands at the pc of a step is its own.
-use Rattle.std.proofs.Common.{◌≡◌, ◌<◌, ◌≤◌, ℕ, zero, suc, ◌+◌, Bool, true, false, nat_lt, List, [], ◌∷◌, length, replicate, refl, sym, ap, ◌∙◌, arith, subst, if◌then◌else◌}
+use Rattle.std.proofs.Common.{◌≡◌, ◌<◌, ◌≤◌, ℕ, zero, suc, ◌+◌, Bool, true, false, nat_lt, List, [], ◌∷◌, length, replicate, refl, sym, ap, ◌∙◌, arith, subst, if◌then◌else◌, length-set, Option, Some, None, get_or-set_same, lt-ltb}
 use Rattle.std.proofs.lemmas.List.{length-replicate}
 use Rattle.std.proofs.lemmas.Bool.Decides.{nat_tests}
-use Rattle.std.specs.Prelude.{Option, None, Some, slice_get, slice_set}
+use Rattle.std.proofs.lemmas.Option.{slice_get-get_or}
+use Rattle.std.specs.Prelude.{slice_get, slice_set}
 use Rattle.recover_expr.specs.Drafts.{Drafted}
 use Rattle.recover_expr.specs.Placing.{Numbers, number_all, number_at, numbers_of, set_number, there}
 use Rattle.recover_expr.specs.Situation.{Function}
-use Rattle.reads_back.proofs.StepsPlaced.{length_set_number, number_is_set, last_number}
 
 -- ---- one number is set
+
+-- as many numbers as before
+length_set_number : (pc number : ℕ) (numbers : Numbers) → length (set_number pc number numbers) ≡ length numbers
+length_set_number pc number numbers = by (nat_lt pc (length numbers))
+  where
+    by : (inside : Bool) → length (if inside then slice_set numbers pc (Some number) else numbers) ≡ length numbers
+    by true = length-set numbers pc (Some number)
+    by false = refl
+
+-- the number is there
+number_is_set : (pc number : ℕ) (numbers : Numbers) → pc < length numbers → number_at (set_number pc number numbers) pc ≡ Some number
+number_is_set pc number numbers within =
+    ap (λ (inside : Bool). number_at (if inside then slice_set numbers pc (Some number) else numbers) pc) (lt-ltb pc (length numbers) within)
+    ∙ ap there (slice_get-get_or (slice_set numbers pc (Some number)) pc None (omega (arith, within, length-set numbers pc (Some number))) ∙ ap (λ (there : Option ℕ). Some there) (get_or-set_same numbers pc (Some number) None within))
 
 -- an element stays where another is set
 element_kept : {A : Type 0} (xs : List A) (i j : ℕ) (y : A) → (i ≡ j → ⊥) → slice_get (slice_set xs i y) j ≡ slice_get xs j
@@ -28,12 +42,22 @@ other_kept pc number at numbers apart = by (nat_lt pc (length numbers))
 
 -- ---- the numbers of drafts in a row
 
+length_number_all : (number : ℕ) (drafts : List Drafted) (numbers : Numbers) → length (number_all number drafts numbers) ≡ length numbers
+length_number_all number [] numbers = refl
+length_number_all number (draft ∷ drafts) numbers = length_number_all (suc number) drafts (set_number draft.pc number numbers) ∙ length_set_number draft.pc number numbers
+
+-- the last word of a function has the number behind all steps
+last_number : (f : Function) (drafts : List Drafted) → f.last < length f.of.code → number_at (numbers_of f drafts) f.last ≡ Some (length drafts)
+last_number f drafts within =
+    let before : Numbers = replicate (length f.of.code) None in
+    number_is_set f.last (length drafts) (number_all 0 drafts before) (omega (arith, within, length_number_all 0 drafts before, length-replicate {A = Option ℕ} (length f.of.code) None))
+
 -- drafts begin at the pcs of steps, from a step on
-abbrev pub BeginAt : (pcs : ℕ → ℕ) → (number : ℕ) → List Drafted → Type 0
+abbrev BeginAt : (pcs : ℕ → ℕ) → (number : ℕ) → List Drafted → Type 0
 BeginAt pcs number drafts = (i : ℕ) (draft : Drafted) → slice_get drafts i ≡ Some draft → draft.pc ≡ pcs (number + i)
 
 -- the pcs of the steps up to the last rise
-abbrev pub Rise : (pcs : ℕ → ℕ) → (last : ℕ) → Type 0
+abbrev Rise : (pcs : ℕ → ℕ) → (last : ℕ) → Type 0
 Rise pcs last = (one other : ℕ) → one < other → other ≤ last → pcs one < pcs other
 
 begin_next : (pcs : ℕ → ℕ) (number : ℕ) (draft : Drafted) (drafts : List Drafted) → BeginAt pcs number (draft ∷ drafts) → BeginAt pcs (suc number) drafts

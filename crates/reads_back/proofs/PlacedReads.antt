@@ -15,8 +15,7 @@ use Rattle.scheme.specs.Making.{Ahead, Maker}
 use Rattle.scheme_stands.specs.Words.{Fn}
 use Rattle.same_flow.specs.Alike.{AreStepsLike, IsKindLike, IsStepLike}
 use Rattle.same_flow.specs.Performed.{part_at}
-use Rattle.reads_back.specs.Placed.{ArePlacedLike}
-use Rattle.reads_back.specs.Written.{HasNegated}
+use Rattle.reads_back.specs.Placed.{ArePlacedLike, HasNegated}
 use Rattle.reads_back.proofs.FlowDrafts.{FlowRead}
 use Rattle.reads_back.proofs.FlowNext.{DraftRead}
 use Rattle.reads_back.proofs.FlowThere.{IsFlowFunction}

@@ -36,19 +36,19 @@ use Rattle.reads_back.proofs.Tests.{both_hold, first_of_both, not_so, second_of_
 
 -- ---- no operator in what is written is a comparison
 
-abbrev pub TargetNone : TargetValue → Type 0
+abbrev TargetNone : TargetValue → Type 0
 TargetNone (index_target on key) = NoComparison on × NoComparisonOperand key
 TargetNone t = Unit {0}
 
-abbrev pub TargetsNone : List TargetValue → Type 0
+abbrev TargetsNone : List TargetValue → Type 0
 TargetsNone [] = Unit {0}
 TargetsNone (t ∷ ts) = TargetNone t × TargetsNone ts
 
-abbrev pub LastNone : Option OperandValue → Type 0
+abbrev LastNone : Option OperandValue → Type 0
 LastNone None = Unit {0}
 LastNone (Some o) = NoComparisonOperand o
 
-abbrev pub ActNone : Acted → Type 0
+abbrev ActNone : Acted → Type 0
 ActNone (called v) = NoComparison v
 ActNone (assigned ts vs all last) = TargetsNone ts × NoComparisons vs × LastNone last
 ActNone (declared names vs all) = NoComparisons vs
@@ -220,7 +220,7 @@ module _ (at : Place) where
 
 -- ---- tests
 
-abbrev pub TestNone : TestedValue → Type 0
+abbrev TestNone : TestedValue → Type 0
 TestNone (tested_value v) = NoComparison v
 TestNone (tested_comparison c) = NoComparisonOperand c.left × NoComparisonOperand c.right
 

@@ -65,7 +65,7 @@ plain_left lefts fine made = each_plain_left 0 (lefts made) (fine made)
 
 -- ---- expressions from their parts
 
-abbrev pub IsPlainValue : Expression → Type 0
+abbrev IsPlainValue : Expression → Type 0
 IsPlainValue e = (plainness e).value ≡ true
 
 unless_plain : (bare : Bool) (w : Wording) → IsPlainValue w.words → IsPlainValue (unless bare w).words

@@ -1,7 +1,7 @@
 -- The words of a return are read as one step, which is that return.
 use Rattle.std.proofs.Common.{◌≡◌, ℕ, suc, ◌<◌, ◌≤◌, nat_le, ◌||◌, ◌&&◌, Bool, true, false, cond, List, [], ◌∷◌, length, Option, Some, None, refl, sym, ap, ap₂, ◌∙◌, subst, inr, arith, le-leb, lt-ltb, eq-eqb}
 use Rattle.std.proofs.lemmas.Bool.Decides.{nat_tests}
-use Rattle.std.specs.Prelude.{◌==◌, not, option_and_then, option_map, if◌then◌else◌, Option}
+use Rattle.std.specs.Prelude.{◌==◌, not, option_and_then, option_map, if◌then◌else◌}
 use Rattle.lua_tree.specs.Syntax.{Expression, Expressions, no_expressions, expression, return_statement}
 use Rattle.lua_tree.specs.WellFormed.{depth_of_expressions, is_call}
 use Rattle.opcode.specs.declared.op.Op.{Op}

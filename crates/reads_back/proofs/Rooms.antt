@@ -15,7 +15,7 @@ use Rattle.reads_back.specs.Acted.{is_path}
 
 -- ---- expressions
 
-pub unless_one : (folded : Option ℤ) (depth : ℕ) → 1 ≤ depth → 1 ≤ (if is_some folded then 4 else depth)
+unless_one : (folded : Option ℤ) (depth : ℕ) → 1 ≤ depth → 1 ≤ (if is_some folded then 4 else depth)
 unless_one (Some n) depth some = omega arith
 unless_one None depth some = some
 

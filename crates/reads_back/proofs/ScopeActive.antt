@@ -42,7 +42,7 @@ use Rattle.reads_back.proofs.StepsKnown.{state_before, state_to}
 
 -- ---- lists
 
-pub taken_there : {A : Type 0} (n : ℕ) (xs : List A) (i : ℕ) (x : A) → i < n → slice_get xs i ≡ Some x → slice_get (take n xs) i ≡ Some x
+taken_there : {A : Type 0} (n : ℕ) (xs : List A) (i : ℕ) (x : A) → i < n → slice_get xs i ≡ Some x → slice_get (take n xs) i ≡ Some x
 taken_there zero xs i x less there = absurd (omega (arith, less))
 taken_there (suc n) [] i x less there = there
 taken_there (suc n) (y ∷ xs) zero x less there = there
@@ -211,12 +211,6 @@ module _ (from last : ℕ) where
 -- ---- along the steps of a function
 
 module _ {f : Function} {g : Fn} {z : Maker} {lefts : ℕ → List (Option Inner)} {parts : ℕ → outline.Part} {code : Steps} {params names : List Text} {ahead : Ahead} {block : Statements} (of : IsFlowFunction f g z lefts parts code params names ahead block) where
-  -- before each step what is in scope and has a number from this one on is an active local
-  abbrev pub ScopesActive : Place → (from : ℕ) → Type 0
-  ScopesActive place from =
-      (at : ℕ) → at ≤ length code.steps → (name : Text) (b : Binding) → (state_before code (state_of place []) at).place.scope name ≡ Some b → from ≤ b.declaration
-      → (register : ℕ) × (one : Active) × (slice_get (before_at of at).active register ≡ Some one) × (one.local.declaration ≡ Some b.declaration)
-
   abbrev ends_to : ℕ → List ℕ
   ends_to at = (now_at of at).ends
 
@@ -381,24 +375,15 @@ module _ {f : Function} {g : Fn} {z : Maker} {lefts : ℕ → List (Option Inner
         let step = step_is of at (omega (arith, within)) in
         held_next at step.0 step.1 step.2 (held_before at (omega (arith, within)) (omega (arith, within, most)) (held_to at (omega (arith, within))))
 
-    pub scope_active_before : (at : ℕ) → at ≤ length code.steps → at < last → (name : Text) (b : Binding) → (state_before code first at).place.scope name ≡ Some b → from ≤ b.declaration
+    scope_active_before : (at : ℕ) → at ≤ length code.steps → at < last → (name : Text) (b : Binding) → (state_before code first at).place.scope name ≡ Some b → from ≤ b.declaration
         → (register : ℕ) × (one : Active) × (slice_get (before_at of at).active register ≡ Some one) × (one.local.declaration ≡ Some b.declaration)
     scope_active_before at within less name b is low = let held = (held_before at within less (held_to at within)).0 name b is low in (held.register, held.one, held.there, held.is)
-
-  module _ (formed : formed_statements block ≡ true) (all : List Mark) (place : Place) (rest : List Mark) (begun : (begun_of params names ahead).ahead ≡ ahead_at all place ((statements_part block place).marks ++ rest)) (from : ℕ) where
-    -- where all that is in scope at the beginning was declared before this number
-    pub scope_active : ((name : Text) (b : Binding) → place.scope name ≡ Some b → b.declaration < from) → ScopesActive place from
-    scope_active below at within =
-        scope_active_before formed all place rest begun from (suc (length code.steps)) (omega arith) (λ name b is low. let less = below name b is in absurd (omega (arith, less, low))) at within (omega (arith, within))
 
   -- what is in scope before each step, of a function with parameters
   abbrev pub ScopesActiveBefore : Place → (from : ℕ) → Type 0
   ScopesActiveBefore place from =
       (at : ℕ) → at < length code.steps → (name : Text) (b : Binding) → (state_before code (state_of place []) at).place.scope name ≡ Some b → from ≤ b.declaration
       → (register : ℕ) × (one : Active) × (slice_get (before_at of at).active register ≡ Some one) × (one.local.declaration ≡ Some b.declaration)
-
-  pub active_before : (place : Place) (from : ℕ) → ScopesActive place from → ScopesActiveBefore place from
-  active_before place from active at less = active at (omega (arith, less))
 
   -- ---- the parameters
 

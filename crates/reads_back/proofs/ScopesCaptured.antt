@@ -22,7 +22,7 @@ use Rattle.reads_back.proofs.Tests.{not_so, not_zero, or_first, or_second}
 -- ---- registers by the words alone
 
 -- a further word captures the register that it names, or an upvalue
-abbrev pub captured_as : Op → (register : ℕ) → List ℕ
+abbrev captured_as : Op → (register : ℕ) → List ℕ
 captured_as Op.Move register = register ∷ []
 captured_as op register = []
 

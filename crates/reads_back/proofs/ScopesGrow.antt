@@ -33,7 +33,7 @@ declare_enters locals (suc count) pc step scope =
     each_of (declare_enters locals count pc step mid) (λ behind more. more ∙ ap (entered_times count step) is))
 
 -- the locals that it declares are listed from this one on
-abbrev pub FirstIs : (number : ℕ) → DraftKind → Type 0
+abbrev FirstIs : (number : ℕ) → DraftKind → Type 0
 FirstIs number (DraftKind.Declaration first count) = first ≡ number
 FirstIs number (DraftKind.Head numeric foot first variables) = first ≡ number
 FirstIs number kind = Unit {0}

@@ -53,7 +53,7 @@ pub keeps_entries : (s : Situation) (entries : Entries) → NoMore s.entries ent
 keeps_entries s entries less = record { scope = refl; step = refl; pc = refl; inside = refl; base = refl; own = λ is. less }
 
 -- other functions are left
-pub keeps_left : (s : Situation) (left : List (Option Inner)) → Keeps s (record s { left = left })
+keeps_left : (s : Situation) (left : List (Option Inner)) → Keeps s (record s { left = left })
 keeps_left s left = record { scope = refl; step = refl; pc = refl; inside = refl; base = refl; own = λ is none. none }
 
 pub all_captured : (first second : List ℕ) (scope : Scope) → capture_all (first ++ second) scope ≡ capture_all second (capture_all first scope)
@@ -67,7 +67,7 @@ none_of_both register (one ∷ first) second none =
     let rest = none_of_both register first second both.1 in
     (nor (one == register) (has_register register first) both.0 rest.0, rest.1)
 
-pub captures_then : {first second : List ℕ} {s mid behind : Situation} → Captures first s mid → Captures second mid behind → Captures (first ++ second) s behind
+captures_then : {first second : List ℕ} {s mid behind : Situation} → Captures first s mid → Captures second mid behind → Captures (first ++ second) s behind
 captures_then {first} {second} {s} one more = record {
   scope = more.scope ∙ ap (capture_all second) one.scope ∙ sym (all_captured first second s.scope);
   step = more.step ∙ one.step;

@@ -96,7 +96,6 @@ record LastComes (f : Function) (Is : Value → Type 0) (s : Situation) (n first
 call_gives : {f : Function} {Is : Value → Type 0} {deep free first last : ℕ} {s : Situation} (n : ℕ) → 0 < n → free ≡ next_free s → CallComes f Is deep s Op.Call free (n + 1 + 1) first last →
     LastComes f Is s n first last
 call_gives {f} {free = free} {first = first} {last = last} {s = s} n some is call =
-    let t = behind_words call.scope call.seen call.more s in
     let behind = record s { scope = call.scope; seen = call.seen } in
     let w = word_of call.pc (Piece.Abc Op.Call free call.b (n + 1 + 1)) in
     let does : Done → Option (Turn × Situation) = option_and_then (λ p. turned f w p.1 p.0) in

@@ -1,5 +1,5 @@
 -- Each step of a function on which statements stand has the words of its part of them: the induction over the tree.
-use Rattle.std.proofs.Common.{◌≡◌, ◌≤◌, ℕ, suc, ◌+◌, Bool, false, inl, inr, List, ◌++◌, length, refl, sym, ap, ◌∙◌, subst, arith}
+use Rattle.std.proofs.Common.{◌≡◌, ◌≤◌, ℕ, suc, ◌+◌, Bool, false, inl, inr, List, ◌++◌, length, refl, sym, ap, ◌∙◌, subst, arith, true, []}
 use Rattle.std.proofs.lemmas.Option.{slice_get_within}
 use Rattle.std.specs.Prelude.{None, Option, ◌||◌}
 use Rattle.lua_num.specs.Bytes.{Text}
@@ -9,16 +9,18 @@ use Rattle.opcode.specs.declared.op.Op.{Op}
 use Rattle.recover_expr.specs.Placing.{Steps}
 use Rattle.scheme.specs.Making.{Ahead, Maker, active_count, captured_from, jump_to, new_label, place, put}
 use Rattle.scheme.specs.Scheme.{branches_made, coded, has_branch, has_otherwise, otherwise_made, statement_made, statements_made}
-use Rattle.scheme.specs.Statements.{Loop, arm_part, block_part, settle}
+use Rattle.scheme.specs.Statements.{Loop, arm_part, block_part, settle, end_block}
 use Rattle.scheme.specs.declared.making.Active.{Active}
 use Rattle.scheme.specs.declared.making.Piece.{Piece}
+use Rattle.scheme_stands.proofs.Growth.{spot}
 use Rattle.scheme_stands.proofs.Statements.{calm_branches, grow_statement, grow_statements}
+use Rattle.scheme_stands.specs.Statements.{CloseAt}
 use Rattle.scheme_stands.specs.Words.{Fn}
 use Rattle.same_flow.specs.Laid.{BodyLaid, BranchesLaid, Exit, IsBlock, OtherwiseLaid, StatementLaid, arm_begun, exit_to, for_loop_of, generic_begun, generic_valued, label_of, loop_of, numeric_begun, numeric_valued, repeat_begun, while_begun}
 use Rattle.same_flow.specs.Renaming.{StatementsRename}
 use Rattle.same_flow.specs.SameFlow.{AreLaid, HasPlainParts, begun_of}
-use Rattle.same_flow.proofs.BlocksFollowed.{Matches, outer_of, replicate_lasts}
-use Rattle.same_flow.proofs.Followed.{Follows, LastTo, Outer, Run, at_pc, followed, last_both, last_weaker, nought, pc_of, relabelled, settled}
+use Rattle.same_flow.proofs.BlocksFollowed.{Matches, outer_of, replicate_lasts, Grows}
+use Rattle.same_flow.proofs.Followed.{Follows, LastTo, Outer, Run, at_pc, followed, last_both, last_weaker, nought, pc_of, relabelled, settled, ended}
 use Rattle.same_flow.proofs.ForStatements.{for_last}
 use Rattle.same_flow.proofs.ForsFollowed.{at_begun, for_ends, hidden_to}
 use Rattle.same_flow.proofs.HeadsFollowed.{generic_head_goes, numeric_head_goes}
@@ -30,19 +32,29 @@ use Rattle.same_flow.proofs.StatementsTold.{block_follows, branches_passed, star
 use Rattle.same_flow.proofs.StepsTold.{same_active}
 use Rattle.same_flow.proofs.TestsFollowed.{test_goes}
 use Rattle.reads_back.proofs.ActsStand.{act_stands, break_stands, declaration_stands, return_stands}
-use Rattle.reads_back.proofs.BlocksStand.{block_stands}
 use Rattle.reads_back.proofs.ForLabels.{for_labels, turned_to}
 use Rattle.reads_back.proofs.ForsStand.{for_turned, generic_foot_stands, generic_head_stands, numeric_foot_stands, numeric_head_stands, variables_stand}
 use Rattle.reads_back.proofs.LabelsStand.{Owned, all_owned, owned_before, owned_ends, owned_later}
 use Rattle.reads_back.proofs.LoopLabels.{arm_labels, if_labels, repeat_labels, while_labels}
 use Rattle.reads_back.proofs.LoopsStand.{arm_ends_stand, captured_stands}
-use Rattle.reads_back.proofs.StepsStand.{Standing, jump_stands, stands_both, stands_nowhere, stands_to}
+use Rattle.reads_back.proofs.StepsStand.{Standing, jump_stands, stands_both, stands_nowhere, stands_to, close_stands}
 use Rattle.reads_back.proofs.TestsStand.{test_stands}
 use Rattle.reads_back.proofs.ThroughGeneric.{generic_laid}
 use Rattle.reads_back.proofs.ThroughLoops.{tested_by}
 use Rattle.reads_back.proofs.ThroughNumeric.{numeric_laid}
 use Rattle.reads_back.specs.Stepped.{StepStands}
 use Rattle.reads_back.specs.Through.{BodyThrough, BranchesThrough, EndsThrough, OtherwiseThrough, StatementThrough, UntilThrough, pc_of_label}
+
+-- behind the statements there is a CLOSE where a local of the block is captured
+block_stands : {g : Fn} {run : Run} {outer : List (ℕ × ℕ)} {m inside : Maker} {ends : List ℕ} {from : ℕ} (active : List Active) (n : ℕ) (b : Bool) → captured_from n inside ≡ b → length ends ≡ n →
+    (laid : ℕ → ℕ → Type 0) (to : ℕ) → Follows run nought nought m ends from → ((stop : ℕ) → stop ≤ to → laid stop stop → Grows run outer m ends stop from inside stop) →
+    ((stop : ℕ) → stop ≤ to → laid stop stop → Standing g run from stop) → EndsThrough g 1 n inside → IsBlock run.code active n b laid from to → Standing g run from to
+block_stands active n false c e laid to follows body stands at block_laid = stands to (omega arith) block_laid
+block_stands {g} {run} {inside = inside} {from = from} active n true c e laid to follows body stands at (stop, t, h, close, block_laid) =
+    let growth = body stop (omega arith) block_laid in
+    let reached = followed {outer = []} (ended n growth.new e growth.ends_by) (followed growth.goes follows) in
+    stands_to t (stands_both g run from stop (suc stop) (stands stop (omega arith) block_laid)
+    (close_stands reached close (subst (λ b. CloseAt b g n (spot inside) (spot (end_block 1 n inside))) c at)))
 
 module _ (g : Fn) (z : Maker) (run : Run) (renames : StatementsRename) (plain : HasPlainParts run.code) where
   -- where the loop around is left to

@@ -172,7 +172,7 @@ module _ {f : Function} {g : Fn} {z : Maker} {lefts : ℕ → List (Option Inner
         (behind_good count (suc at) (omega (arith, is)) (good_ended from base (suc at) said.after.place said.after.entries behind.0 behind.1 behind.2)))
 
   -- each step stands apart
-  pub step_apart : {at : ℕ} {kind : StepKind} {part : Part} → StepIs of at kind part →
+  step_apart : {at : ℕ} {kind : StepKind} {part : Part} → StepIs of at kind part →
       StandsApart (all_at of all place rest between scope at kind part) (part_said kind part) (state_before code (state_of place []) at).place (rest_at of all place rest between scope at)
   step_apart {at} {kind} {part} is =
       let less = is.within in

@@ -43,7 +43,7 @@ use Rattle.reads_back.proofs.StepsApart.{IsOutside, steps_apart}
 -- ---- at a place
 
 -- active locals are declared before it, and no other function has them in scope
-abbrev pub KnownLocals : Place → List Active → Type 0
+abbrev KnownLocals : Place → List Active → Type 0
 KnownLocals base active = (register : ℕ) (one : Active) (d : ℕ) → slice_get active register ≡ Some one → one.local.declaration ≡ Some d → (d < base.declarations) × OnlyOwn base d
 
 uses_turned : (d : ℕ) (uses : List Use) → list_any (is_local_use d) uses ≡ list_any (captured.is_local_use d) uses
@@ -55,7 +55,7 @@ uses_turned d (one ∷ uses) = ap₂ (λ here rest. here || rest) (turned one) (
     turned (upvalue_use slot) = refl
     turned global_use = refl
 
-pub catching_at : {f : Function} {g : Fn} (all : List Mark) (base : Place) (active : List Active) → IsFunction f g → Distinct active → KnownLocals base active → Catching f g (by_place all) base active
+catching_at : {f : Function} {g : Fn} (all : List Mark) (base : Place) (active : List Active) → IsFunction f g → Distinct active → KnownLocals base active → Catching f g (by_place all) base active
 catching_at all base active is_function distinct known = record {
   is_function = is_function;
   distinct = distinct;

@@ -61,7 +61,7 @@ head_grows true foot (condition_part e) m = start m
 head_grows false foot (condition_part e) m = start m
 
 -- what a step makes is added to what was made before it
-pub kind_grows : (code : Steps) (kind : StepKind) (part : Part) (m : Maker) → Settled m → Grown loose m (kind_made code kind part m)
+kind_grows : (code : Steps) (kind : StepKind) (part : Part) (m : Maker) → Settled m → Grown loose m (kind_made code kind part m)
 kind_grows code StepKind.Act part m settled = part_grows part m settled
 kind_grows code StepKind.Return part m settled = part_grows part m settled
 kind_grows code (StepKind.Declaration end captured) part m settled = part_grows part m settled

@@ -59,7 +59,7 @@ heads_tame es names = record {
     tame : (number : ℕ) → TameBy (number + length names) (both (declares 1 3 names) (both (expressions_part es) (come 3 names number)))
     tame number = tame_both (declares 1 3 names) (both (expressions_part es) (come 3 names number)) (tame_more (tame_declares 1 3 names)) (tame_both (expressions_part es) (come 3 names number) (tame_more (tame_expressions es)) (tame_come 3 names number))
 
-pub part_tame : (kind : StepKind) (part : Part) → PartFits kind part → Tame (part_said kind part)
+part_tame : (kind : StepKind) (part : Part) → PartFits kind part → Tame (part_said kind part)
 part_tame StepKind.Act (statement_part s) fits = tame_statement 1 s
 part_tame (StepKind.Declaration end captured) (statement_part s) fits = tame_statement 1 s
 part_tame StepKind.Return (values_part es) fits = tame_expressions es
@@ -144,7 +144,7 @@ module _ {f : Function} {g : Fn} {z : Maker} {lefts : ℕ → List (Option Inner
   abbrev first : State
   first = state_of place []
 
-  abbrev pub place_at : ℕ → Place
+  abbrev place_at : ℕ → Place
   place_at at = (state_before code first at).place
 
   -- the marks of the source before a step
@@ -169,7 +169,7 @@ module _ {f : Function} {g : Fn} {z : Maker} {lefts : ℕ → List (Option Inner
     pub said_marks : said.marks ≡ but_breaks walk.marks
     said_marks = ap (λ (it : Said). it.marks) said_is ∙ (says_part kind part (state_before code first at) is.fits).0
 
-    pub said_next : said.after.place ≡ walk.next
+    said_next : said.after.place ≡ walk.next
     said_next = ap (λ (it : Said). it.after.place) said_is ∙ (says_part kind part (state_before code first at) is.fits).1
 
     functions_next : (place_at (suc at)).functions ≡ walk.next.functions

@@ -116,7 +116,7 @@ module _ (all : List Mark) where
       (chain all (expressions_part values) (come 3 names place.declarations) begun mid q moves (λ place rest e. same ∙ e)) place rest e
 
   -- the words of a step pass the marks of its part
-  pub kind_moves : (g : Fn) (code : Steps) (pcs : ℕ → ℕ) (kind : StepKind) (part : Part) (before behind : Maker) (q : Spot) → PartFits kind part → IsFormed kind part →
+  kind_moves : (g : Fn) (code : Steps) (pcs : ℕ → ℕ) (kind : StepKind) (part : Part) (before behind : Maker) (q : Spot) → PartFits kind part → IsFormed kind part →
       KindAt g code pcs kind part before behind (spot (begun_by kind part before)) q → Moves all (part_said kind part) (spot before) q
   kind_moves g code pcs StepKind.Act (statement_part s) before behind q fits formed t = statement_moves all g None 1 s formed before.active behind.active (spot before) q t
   kind_moves g code pcs (StepKind.Declaration end captured) (statement_part s) before behind q fits formed t = statement_moves all g None 1 s formed before.active behind.active (spot before) q t
@@ -138,7 +138,7 @@ module _ (all : List Mark) where
 -- ---- along the steps of a function
 
 -- what is known of the source ahead where a step is made: these numbers of declarations and functions stand before it, and these marks come next
-abbrev pub IsKnown : (all : List Mark) → Steps → (params names : List Text) → Ahead → (at : ℕ) → Place → List Mark → Type 0
+abbrev IsKnown : (all : List Mark) → Steps → (params names : List Text) → Ahead → (at : ℕ) → Place → List Mark → Type 0
 IsKnown all code params names ahead at place marks = (before_step code params names ahead at).ahead ≡ ahead_at all place marks
 
 -- where the walk over the steps stands behind so many of them
@@ -182,7 +182,7 @@ module _ (all : List Mark) (g : Fn) (code : Steps) (params names : List Text) (a
       ∙ sym (numbers_stay all (suc at) said.after.place said.after.entries (others.marks ++ rest))
 
   -- before each step the marks of the steps from it on come next, where those of all steps do at the beginning
-  pub known_steps : (begun_of params names ahead).ahead ≡ ahead_at all first.place ((run code 0 (length code.steps) first).marks ++ rest) →
+  known_steps : (begun_of params names ahead).ahead ≡ ahead_at all first.place ((run code 0 (length code.steps) first).marks ++ rest) →
       (at count : ℕ) → at + count ≡ length code.steps → IsKnown all code params names ahead at (state_before code first at).place ((run code at count (state_to code first at)).marks ++ rest)
   known_steps begun zero count e =
       let same : length code.steps ≡ count = omega (arith, e) in

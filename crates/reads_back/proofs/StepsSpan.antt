@@ -40,22 +40,22 @@ each_as g (Some x) next = each_some (next x)
 
 -- ---- what a word does
 
-abbrev pub did_next : Did → ℕ
+abbrev did_next : Did → ℕ
 did_next (makes v next) = next
 did_next (goes next) = next
 did_next (ends draft) = draft.next
 
 -- the next word is this one
-pub record GoesTo (next : ℕ) (p : Did × Situation) : Type 0 where
-  pub is : did_next p.0 ≡ next
+record GoesTo (next : ℕ) (p : Did × Situation) : Type 0 where
+  is : did_next p.0 ≡ next
 
 -- it goes as far as its own words
-pub record DoneSpans (f : Function) (w : Word) (p : Did × Situation) : Type 0 where
-  pub spans : WordSpans f w (did_next p.0)
+record DoneSpans (f : Function) (w : Word) (p : Did × Situation) : Type 0 where
+  spans : WordSpans f w (did_next p.0)
 
 -- the step that it ends goes as far
-pub record EndSpans (f : Function) (pc : ℕ) (registers : List ℕ) (p : Drafted × Situation) : Type 0 where
-  pub spans : Spans f pc p.0.next registers
+record EndSpans (f : Function) (pc : ℕ) (registers : List ℕ) (p : Drafted × Situation) : Type 0 where
+  spans : Spans f pc p.0.next registers
 
 here : {next : ℕ} {p : Did × Situation} → did_next p.0 ≡ next → GoesTo next p
 here is = record { is = is }
@@ -333,12 +333,12 @@ declaration_spans f at count s = each_if (is_hidden f.of.locals (length s.scope.
 
 -- ---- turns
 
-abbrev pub turn_next : Turn → ℕ
+abbrev turn_next : Turn → ℕ
 turn_next (on next) = next
 turn_next (over draft) = draft.next
 
-pub record TurnSpans (f : Function) (pc : ℕ) (registers : List ℕ) (p : Turn × Situation) : Type 0 where
-  pub spans : Spans f pc (turn_next p.0) registers
+record TurnSpans (f : Function) (pc : ℕ) (registers : List ℕ) (p : Turn × Situation) : Type 0 where
+  spans : Spans f pc (turn_next p.0) registers
 
 did_spans : (f : Function) (w : Word) (registers : List ℕ) (behind : Situation) (did : Did) → Spans f w.pc (did_next did) registers → Each (TurnSpans f w.pc registers) (turned f w behind did)
 did_spans f w registers behind (goes next) spans = each_some (record { spans = spans })
@@ -367,7 +367,7 @@ turn_spans f pc s = by (nat_lt 0 (starting f.of.locals pc s.scope))
 -- ---- steps
 
 -- the words of a step go up to the next one, and capture what the step does
-pub words_span : (f : Function) (count pc : ℕ) (s : Situation) → Each (EndSpans f pc (captured_by_words f count pc s)) (words_from f count pc s)
+words_span : (f : Function) (count pc : ℕ) (s : Situation) → Each (EndSpans f pc (captured_by_words f count pc s)) (words_from f count pc s)
 words_span f zero pc s = each_none
 words_span f (suc count) pc s = by (λ next behind. words_span f count next behind) (turn_at f pc s) (turn_spans f pc s)
   where
@@ -385,7 +385,7 @@ words_span f (suc count) pc s = by (λ next behind. words_span f count next behi
     by rest None each = each_none
     by rest (Some p) each = go rest p.0 p.1 (each.at p refl).spans
 
-pub step_spans : (f : Function) (number pc : ℕ) (s : Situation) (draft : Drafted) (behind : Situation) → step_at f number pc s ≡ Some (draft, behind) → Spans f pc draft.next (captured_by_step f number pc s)
+step_spans : (f : Function) (number pc : ℕ) (s : Situation) (draft : Drafted) (behind : Situation) → step_at f number pc s ≡ Some (draft, behind) → Spans f pc draft.next (captured_by_step f number pc s)
 step_spans f number pc s draft behind is = ((words_span f (suc (f.last - pc)) pc (begun number pc s)).at (draft, behind) (step_of_words f number pc s draft behind is)).spans
 
 -- The registers whose locals a step captures are those that the words from its pc up to the next step capture.

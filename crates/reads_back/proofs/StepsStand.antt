@@ -23,7 +23,7 @@ use Rattle.reads_back.proofs.EachStored.{same_spot}
 use Rattle.reads_back.specs.Stepped.{KindAt, begun_by}
 
 -- a step of this kind and with this part stands there in a run
-abbrev pub KindStands : Fn → Run → (at : ℕ) → StepKind → Part → Type 0
+abbrev KindStands : Fn → Run → (at : ℕ) → StepKind → Part → Type 0
 KindStands g run at kind part =
     let now = before run at in
     let behind = kind_made run.code kind part now in

@@ -32,7 +32,7 @@ use Rattle.reads_back.proofs.UsedPlaces.{Accounts, is_lowest, part_lowest, place
 -- ---- targets
 
 -- it is taken into a part of a target, or stays in the lowest entry, where that is no part
-abbrev pub TakenOr : (taken : Bool) → Entries → (lowest : Bool) → Type 0
+abbrev TakenOr : (taken : Bool) → Entries → (lowest : Bool) → Type 0
 TakenOr taken entries lowest = (taken ≡ true) ⊎ ((first_own entries ≡ true) × (lowest ≡ false))
 
 part_own : (place : ℕ) (entries : Entries) → first_own entries ≡ true → Each (λ p. TakenOr (holds_own p.0) p.1 (is_lowest (Some place))) (part place entries)
@@ -89,7 +89,7 @@ target_taken f low (Place.Index on key) s own = each_then (each_both (held_own f
     behind p base (inl is) = each_map _ (each_there {o = held_operand f key low p.1}) (λ q there. inl (or_first (holds_own p.0) (operand_own q.0) is))
     behind p base (inr is) = each_map _ (held_operand_own f key low p.1 is.0) (λ q taken. last p q is.1 (subst (λ (base : ℕ). TakenOr (operand_own q.0) q.1.entries (part_lowest base key)) base taken))
 
-abbrev pub targets_own : List TargetValue → Bool
+abbrev targets_own : List TargetValue → Bool
 targets_own targets = list_any target_own targets
 
 targets_still : (f : Function) (low : ℕ) (stores : List Store) (sofar : List TargetValue) (s : Situation) → targets_own sofar ≡ true → Each (λ q. targets_own q.0 ≡ true) (targets_of f low stores sofar s)

@@ -17,10 +17,10 @@ pub own_of_same : (c d : Chunk) → SameButLines c d → no_lines (own c) ≡ no
 own_of_same (function f inner) (function g others) same = ap own same
 
 -- how many upvalues a function of these has
-abbrev pub upvalues_of : Functions → (number : ℕ) → Option ℕ
+abbrev upvalues_of : Functions → (number : ℕ) → Option ℕ
 upvalues_of inner number = option_map (λ c. (own c).upvalues) (function_at inner number)
 
-pub without_lines : (inner : Functions) (number : ℕ) → upvalues_of (each_of no_lines inner) number ≡ upvalues_of inner number
+without_lines : (inner : Functions) (number : ℕ) → upvalues_of (each_of no_lines inner) number ≡ upvalues_of inner number
 without_lines no_functions number = refl
 without_lines (and_function (function f inner) rest) zero = refl
 without_lines (and_function (function f inner) rest) (suc number) = without_lines rest number

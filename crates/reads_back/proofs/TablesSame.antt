@@ -72,7 +72,7 @@ abbrev keyed_from : (t done pending : ℕ) → Asks ℕ → Coded → List Entry
 keyed_from t done pending asked c others m = entries_from 1 t done pending others (freeing (keyed_item 1 t asked c) m)
 
 module _ (f : Function) (listed : List ℕ) (z : Maker) (lefts : ℕ → List (Option Inner)) (before : ℕ) where
-  abbrev pub items_wording : ℕ → ItemList → (all : Bool) → FieldWording
+  abbrev items_wording : ℕ → ItemList → (all : Bool) → FieldWording
   items_wording n items all = word_items (place f.of listed f.short) n (lefts before) items all
 
 module _ (f : Function) (g : Fn) (active : List Active) (listed : List ℕ) (z : Maker) (lefts : ℕ → List (Option Inner)) (before behind : ℕ) where

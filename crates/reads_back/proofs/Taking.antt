@@ -36,11 +36,11 @@ mutual
   operand_taken_later (constant_operand k) n m = max_swap n m (one_more k)
   operand_taken_later (value_operand v) n m = taken_later v n m
 
-  pub operands_taken_later : (operands : OperandList) (n m : ℕ) → taken_behind_operands operands (max n m) ≡ max (taken_behind_operands operands n) m
+  operands_taken_later : (operands : OperandList) (n m : ℕ) → taken_behind_operands operands (max n m) ≡ max (taken_behind_operands operands n) m
   operands_taken_later no_operands n m = refl
   operands_taken_later (and_operand o rest) n m = ap (taken_behind_operands rest) (operand_taken_later o n m) ∙ operands_taken_later rest (taken_behind_operand o n) m
 
-  pub items_taken_later : (items : ItemList) (n m : ℕ) → taken_behind_items items (max n m) ≡ max (taken_behind_items items n) m
+  items_taken_later : (items : ItemList) (n m : ℕ) → taken_behind_items items (max n m) ≡ max (taken_behind_items items n) m
   items_taken_later no_items n m = refl
   items_taken_later (and_positional v rest) n m = ap (taken_behind_items rest) (taken_later v n m) ∙ items_taken_later rest (taken_behind v n) m
   items_taken_later (and_keyed key item rest) n m =

@@ -37,15 +37,15 @@ use Rattle.reads_back.proofs.Tests.{first_of_both, not_below}
 use Rattle.reads_back.proofs.ValueWords.{place_of_next}
 use Rattle.reads_back.proofs.WordsRead.{IsFunction, IsQuiet, abc_is_read, abx_is_read, turn_there, word_of, word_there}
 
-abbrev pub behind_store : Destination → Situation → Situation
+abbrev behind_store : Destination → Situation → Situation
 behind_store d s = record s { seen = seen_with d s.seen }
 
 -- the word names an operand too
-abbrev pub behind_operand_store : Destination → (z : ℕ) → Situation → Situation
+abbrev behind_operand_store : Destination → (z : ℕ) → Situation → Situation
 behind_operand_store d z s = record s { seen = max (seen_with d s.seen) (counted z) }
 
 -- behind the stores to these targets, from the last one back
-abbrev pub behind_stores : List Destination → Situation → Situation
+abbrev behind_stores : List Destination → Situation → Situation
 behind_stores ds s = record s { seen = seen_with_all ds s.seen }
 
 -- what stands straight in the word of the store can go there

@@ -21,9 +21,8 @@ use Rattle.scheme_stands.specs.Words.{Fn}
 use Rattle.reads_back.specs.Cores.{HasCore}
 use Rattle.reads_back.specs.Ordered.{is_constant_literal}
 use Rattle.reads_back.proofs.ComparisonOrder.{HasLocal, IsNextNumber, early_second, has_local, late_first}
-use Rattle.reads_back.proofs.ComparisonsSame.{Order, order_of, ordered, other_op, tested_op, turned}
+use Rattle.reads_back.proofs.ComparisonsSame.{CanTurn, KeepsNames, Order, order_of, ordered, other_op, tested_op, turned}
 use Rattle.reads_back.proofs.FunctionsLeft.{each_by_operand}
-use Rattle.reads_back.proofs.LocalOperands.{OneConstant}
 use Rattle.reads_back.proofs.Marks.{ArePartsLeft, IsPartLeft, SamePart, both_same, exact_part, nothing_behind, operand_part, part_back, part_of_operand, part_then, same_part, word_part}
 use Rattle.reads_back.proofs.MarksSame.{ArePartsMade, literal_part, marks_of, of_operand}
 use Rattle.reads_back.proofs.NameReads.{AreListed}
@@ -128,13 +127,6 @@ module _ (at : Place) (of : ℕ → Part) where
   constant_nothing : (number : ℕ) (o : OperandValue) → o ≡ constant_operand number → SamePart (part_of_operand at of o) nothing
   constant_nothing number o is = exact_part (λ here. ap (λ o. part_of_operand at of o here) is)
 
--- where its operands are written the other way round, they are both in registers only where one of them is a number or a string
-abbrev pub KeepsNames : Fn → List Active → (n before behind : ℕ) → Expression → Type 0
-KeepsNames g active n before behind (binary_expression line op l r) =
-    is_comparison op ≡ true → (both_are : BothTested g active l r before behind) → is_swapped (length active) n (comparison_of op both_are.x both_are.y both_are.first both_are.second) ≡ not (is_turned op) →
-    HasLocal (length active) both_are.x both_are.y both_are.first both_are.second → OneConstant l r
-KeepsNames g active n before behind e = Unit {0}
-
 module _ {f : Function} {g : Fn} {active : List Active} {listed : List ℕ} (is_function : IsFunction f g) (listed_names : AreListed f g active listed) (sized : length listed ≡ length active) (of : ℕ → Part) (parts_made : ArePartsMade g active of) where
   abbrev at_place : Place
   at_place = place f.of listed f.short
@@ -146,7 +138,7 @@ module _ {f : Function} {g : Fn} {active : List Active} {listed : List ℕ} (is_
         (part_then (word_part at_place of v n left parts_left (subst (λ (tested : TestedValue). can_test at_place n left tested ≡ true) is can)) ((marks_of is_function listed_names of parts_made e has shallow).one before behind v core))
 
     both_marks : (op : BinaryOp) (l r : Expression) → is_comparison op ≡ true → HasCore l → HasCore r → depth_of_expression l ≤ 200 → depth_of_expression r ≤ 200 → (both_are : BothTested g active l r before behind) → tested ≡ tested_comparison (comparison_of op both_are.x both_are.y both_are.first both_are.second) →
-        (is_swapped (length active) n (comparison_of op both_are.x both_are.y both_are.first both_are.second) ≡ not (is_turned op) → HasLocal (length active) both_are.x both_are.y both_are.first both_are.second → OneConstant l r) →
+        (is_swapped (length active) n (comparison_of op both_are.x both_are.y both_are.first both_are.second) ≡ not (is_turned op) → CanTurn both_are) →
         SamePart (expression_part (condition_word at_place n left tested).words) (both (expression_part (one_line_expression l)) (expression_part (one_line_expression r)))
     both_marks op l r is has_l has_r shallow_l shallow_r both_are same names = part_then (exact_part (λ here. ap (λ (tested : TestedValue). expression_part (condition_word at_place n left tested).words here) same)) (by (either_order at_place n left both_are.x both_are.y both_are.first both_are.second op is))
       where
@@ -171,7 +163,7 @@ module _ {f : Function} {g : Fn} {active : List Active} {listed : List ℕ} (is_
         one_silent false true is_a is_b one = part_back (nothing_turns _ _ (silent r both_are.second second (literal r) refl is_b))
         one_silent false false is_a is_b one = cc
 
-        turn : OneIs (length active) both_are.x both_are.y both_are.first both_are.second → (HasLocal (length active) both_are.x both_are.y both_are.first both_are.second → OneConstant l r) →
+        turn : OneIs (length active) both_are.x both_are.y both_are.first both_are.second → CanTurn both_are →
             SamePart (both (part_of_operand at_place of both_are.second) (part_of_operand at_place of both_are.first)) (both (part_of_operand at_place of both_are.first) (part_of_operand at_place of both_are.second))
         turn (first_constant number constant) names = nothing_turns _ _ (constant_nothing at_place of number both_are.first constant)
         turn (second_constant number constant) names = part_back (nothing_turns _ _ (constant_nothing at_place of number both_are.second constant))

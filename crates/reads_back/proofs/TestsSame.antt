@@ -1,11 +1,10 @@
 -- What is written of the leaf of a condition makes the same test as the leaf, with `==` for `~=`, and takes the constants that the reader counts.
-use Rattle.std.proofs.Common.{◌≡◌, ℕ, ◌≤◌, Bool, true, false, not, List, length, Option, None, refl, sym, ap, ◌∙◌, subst, arith}
+use Rattle.std.proofs.Common.{◌≡◌, ℕ, ◌≤◌, Bool, true, false, List, length, Option, None, refl, sym, ap, ◌∙◌, subst, arith}
 use Rattle.lua_tree.specs.Syntax.{Expression, binary_expression, parenthesized, unary_expression}
 use Rattle.lua_tree.specs.WellFormed.{depth_of_expression}
 use Rattle.lua_tree.specs.declared.tree.BinaryOp.{BinaryOp}
 use Rattle.lua_tree.specs.declared.tree.UnaryOp.{UnaryOp}
 use Rattle.core_expr.specs.Places.{place}
-use Rattle.core_expr.specs.Targets.{is_swapped}
 use Rattle.core_expr.specs.Values.{Inner}
 use Rattle.recover_expr.specs.Situation.{Function}
 use Rattle.recover_expr.specs.Testing.{TestedValue}
@@ -16,10 +15,10 @@ use Rattle.scheme.specs.declared.making.Active.{Active}
 use Rattle.scheme_stands.proofs.Growth.{Final}
 use Rattle.scheme_stands.specs.Words.{Fn}
 use Rattle.reads_back.specs.Cores.{HasCore}
-use Rattle.reads_back.proofs.ComparisonsSame.{CanTurn, comparison_same, comparison_taken, tested_op}
+use Rattle.reads_back.proofs.ComparisonsSame.{KeepsNames, comparison_same, comparison_taken, tested_op}
 use Rattle.reads_back.proofs.Mentions.{IsAhead, mentions_in}
 use Rattle.reads_back.proofs.Rewriting.{AreAgain, IsMadeBy, code}
-use Rattle.reads_back.proofs.TestedAs.{BothTested, HasTest, HasTestBy, IsTested, IsTestedBy, IsValueTested, comparison_of, condition_word, is_turned, taken_behind_test}
+use Rattle.reads_back.proofs.TestedAs.{HasTest, HasTestBy, IsTested, IsTestedBy, IsValueTested, condition_word, taken_behind_test}
 use Rattle.reads_back.proofs.ValuesTested.{value_test_same, value_test_taken}
 use Rattle.reads_back.proofs.WrittenSame.{rewritten_all}
 
@@ -27,11 +26,6 @@ use Rattle.reads_back.proofs.WrittenSame.{rewritten_all}
 abbrev pub tested_expression : Expression → Expression
 tested_expression (binary_expression line op l r) = binary_expression line (tested_op op) l r
 tested_expression e = e
-
--- where its operands are written the other way round, they can be
-abbrev pub CanBeTurned : Fn → List Active → (n before behind : ℕ) → Expression → Type 0
-CanBeTurned g active n before behind (binary_expression line op l r) = is_comparison op ≡ true → (both : BothTested g active l r before behind) → is_swapped (length active) n (comparison_of op both.x both.y both.first both.second) ≡ not (is_turned op) → CanTurn both
-CanBeTurned g active n before behind e = Unit {0}
 
 -- one test is that of an expression, and takes the constants that are counted
 pub record SameTest (f : Function) (active : List Active) (listed : List ℕ) (lefts : ℕ → List (Option Inner)) (before : ℕ) (e : Expression) (tested : TestedValue) (truth : Bool) (label : ℕ) (m : Maker) : Type 0 where
@@ -52,7 +46,7 @@ module _ (lefts : ℕ → List (Option Inner)) {f : Function} {g : Fn} {active :
   plain_op op is = refl
 
   operator_is : (compares : Bool) (line : ℕ) (op : BinaryOp) (l r : Expression) → is_comparison op ≡ compares → HasTestBy compares l r (binary_expression line op l r) → depth_of_expression (binary_expression line op l r) ≤ 200 → IsTestedBy compares g active op l r (binary_expression line op l r) before behind tested →
-      CanBeTurned g active (length m.constants) before behind (binary_expression line op l r) → IsAhead g active before (mentions_in (binary_expression line op l r)) m → Final (length m.labels) ((code (binary_expression line (tested_op op) l r)).jump_if truth label m) z →
+      KeepsNames g active (length m.constants) before behind (binary_expression line op l r) → IsAhead g active before (mentions_in (binary_expression line op l r)) m → Final (length m.labels) ((code (binary_expression line (tested_op op) l r)).jump_if truth label m) z →
       SameTest f active listed lefts before (binary_expression line op l r) tested truth label m
   operator_is true line op l r is has few (both, same) can ahead final = record {
     same = ap (λ (tested : TestedValue). (coded (condition_word (place f.of listed f.short) (length m.constants) (lefts before) tested).words).jump_if truth label m) same
@@ -69,7 +63,7 @@ module _ (lefts : ℕ → List (Option Inner)) {f : Function} {g : Fn} {active :
         taken = ap (λ op. length ((code (binary_expression line op l r)).jump_if truth label m).constants) same_op ∙ found.1;
       }
 
-  pub test_same : (e : Expression) → HasTest e → depth_of_expression e ≤ 200 → IsTested g active e before behind tested → CanBeTurned g active (length m.constants) before behind e → IsAhead g active before (mentions_in e) m → Final (length m.labels) ((code (tested_expression e)).jump_if truth label m) z →
+  pub test_same : (e : Expression) → HasTest e → depth_of_expression e ≤ 200 → IsTested g active e before behind tested → KeepsNames g active (length m.constants) before behind e → IsAhead g active before (mentions_in e) m → Final (length m.labels) ((code (tested_expression e)).jump_if truth label m) z →
       SameTest f active listed lefts before e tested truth label m
   test_same (binary_expression line op l r) has few is can ahead final = operator_is (is_comparison op) line op l r refl has few is can ahead final
   test_same (unary_expression line UnaryOp.Not e) has few is can ahead final = absurd has

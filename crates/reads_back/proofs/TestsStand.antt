@@ -88,7 +88,6 @@ module _ (g : Fn) (z : Maker) (run : Run) where
       Between ((related g e).jump_if m.active (length m.active) sense (pc_of_label z label)) m ((coded e).jump_if sense label m) → Standing g run from (suc from)
   leaf_stands active m ends e sense label target from when levels tested follows reached l laid is pc at =
       let now = before run from in
-      let made = (coded tested).jump_if when target now in
       let one = said_stands g m.active (length m.active) (pc_of_label z label) (spot m) (spot ((coded e).jump_if sense label m)) e sense tested when is at in
       let two = subst (λ x. (related g tested).jump_if m.active (length m.active) when x (spot m) (spot ((coded e).jump_if sense label m))) pc one in
       let three = subst (λ (a : List Active). (related g tested).jump_if a (length a) when (pc_of run target) (spot m) (spot ((coded e).jump_if sense label m))) (sym (before_active follows l)) two in

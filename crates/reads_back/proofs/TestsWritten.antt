@@ -29,7 +29,7 @@ use Rattle.reads_back.proofs.WordsSame.{levels_wrapped}
 use Rattle.reads_back.proofs.WrittenSame.{rewritten_all}
 
 -- an operand that makes no function: a constant, or a local
-pub data MakesNone (o : OperandValue) : Type 0 where
+data MakesNone (o : OperandValue) : Type 0 where
   by_constant : (number : ℕ) → o ≡ constant_operand number → MakesNone o
   by_local : (r : ℕ) → o ≡ value_operand (local_value r) → MakesNone o
 
@@ -57,7 +57,7 @@ both_few at n fs op o1 o2 most first second =
     omega (arith, first, second, one, other, few_more (max (on_left op w).levels (on_right op u).levels))
 
 -- of two operands that are written the other way round one makes no function
-pub none_of : {g : Fn} {active : List Active} {l r : Expression} {before behind : ℕ} (both : BothTested g active l r before behind) → OneIs (length active) both.x both.y both.first both.second → MakesNone both.first ⊎ MakesNone both.second
+none_of : {g : Fn} {active : List Active} {l r : Expression} {before behind : ℕ} (both : BothTested g active l r before behind) → OneIs (length active) both.x both.y both.first both.second → MakesNone both.first ⊎ MakesNone both.second
 none_of both (first_constant number is) = inl (by_constant number is)
 none_of both (second_constant number is) = inr (by_constant number is)
 none_of {active = active} both (local_among (v, w, first, second, inl low)) = inl (by (subst (IsField (length active) (length active) both.x both.free1) first both.at_first))

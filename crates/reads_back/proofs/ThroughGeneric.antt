@@ -50,13 +50,13 @@ module _ (line : ℕ) (names : List Text) (es : Expressions) (block : Statements
   abbrev with_three : Maker
   with_three = adjust line (all_coded es) 3 begun_with
 
-  abbrev pub valued : Maker
+  abbrev valued : Maker
   valued = generic_valued line names es m
 
   abbrev loop_begun : (base end : ℕ) → Maker
   loop_begun base end = used (base + 6) (place (length valued.labels) (jump_to line end (with_new_labels 3 valued)))
 
-  abbrev pub generic_from : (base count end exit : ℕ) → Maker
+  abbrev generic_from : (base count end exit : ℕ) → Maker
   generic_from base count end exit =
       end_locals count (place exit (jump_to line (length valued.labels) (put line (Piece.Abc Op.TForLoop base 0 (length names)) (place end (turn line base variables (statements_made block (Some (record { exit = exit; before = count }))) (loop_begun base end))))))
 

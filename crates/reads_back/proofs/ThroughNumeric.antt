@@ -71,13 +71,13 @@ module _ (line : ℕ) (name : Text) (first last : Expression) (by : ForStep) (bl
   abbrev with_step : Maker
   with_step = scheme.step_part line (step_coded by) with_last
 
-  abbrev pub valued : Maker
+  abbrev valued : Maker
   valued = numeric_valued line name first last by m
 
   abbrev loop_begun : (end : ℕ) → Maker
   loop_begun end = place (length valued.labels) (put line (Piece.Jump Op.ForPrep m.free end) (with_new_labels 3 valued))
 
-  abbrev pub numeric_from : (end exit : ℕ) → Maker
+  abbrev numeric_from : (end exit : ℕ) → Maker
   numeric_from end exit =
       place exit (put line (Piece.Jump Op.ForLoop m.free (length valued.labels)) (place end (turn line m.free variables (statements_made block (Some (record { exit = exit; before = active_count m }))) (loop_begun end))))
 

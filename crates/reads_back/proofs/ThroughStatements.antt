@@ -66,7 +66,7 @@ module _ (all : List Mark) (rules : RulesKept all) (n : Names) (z : Maker) (sett
               (stands_onwards all n (fn_of z) (loop_at z loop) line semi s more place rest m.active o.active (spot m) (spot o) first stands (statement_at z s line loop m settled here) lifted.plain),
         )
 
-    pub statement_through : (s : Statement) (line : ℕ) (loop : Option Loop) (m : Maker) (place : Place) (rest : List Mark) → formed_statement s ≡ true → Settled m → Final (length m.labels) (statement_made s line loop m) z → is_some loop ≡ place.looped →
+    statement_through : (s : Statement) (line : ℕ) (loop : Option Loop) (m : Maker) (place : Place) (rest : List Mark) → formed_statement s ≡ true → Settled m → Final (length m.labels) (statement_made s line loop m) z → is_some loop ≡ place.looped →
         Stands all n (fn_of z) (statement_part line s) place rest m.active (spot m) → StatementThrough (asking n (fn_of z)) z line loop s m
     statement_through (do_block block) line loop m place rest formed settled final some stands = do_through all rules n z setting line block (body_through block) loop m place rest formed settled final some stands
     statement_through (while_loop e block) line loop m place rest formed settled final some stands = while_through all rules n z setting line e block (body_through block) loop m place rest formed settled final stands

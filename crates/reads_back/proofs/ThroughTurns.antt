@@ -105,7 +105,7 @@ module _ (all : List Mark) (n : Names) (f : Fn) (line : ℕ) (names : List Text)
 
 -- ---- a turn that is made
 
-abbrev pub turn_begun : List Local → Maker → Maker
+abbrev turn_begun : List Local → Maker → Maker
 turn_begun variables m = take_registers (length variables) (activate variables m)
 
 pub turn_settled : (variables : List Local) (m : Maker) → Settled m → Settled (turn_begun variables m)

@@ -32,7 +32,7 @@ entry_next entry s r is =
     ap (λ place. option_map with_entries (if is_place place count then Some (s.entries ++ entry ∷ []) else None)) (place_of_next s.base count r is)
     ∙ ap (λ same. option_map with_entries (if same then Some (s.entries ++ entry ∷ []) else None)) (eq-eqb count count refl)
 
-pub value_turn : (f : Function) (w : Word) (v : Value) (next : ℕ) (s : Situation) → w.instr.a ≡ next_free s → turned f w s (makes v next) ≡ Some (on next, and_value v s)
+value_turn : (f : Function) (w : Word) (v : Value) (next : ℕ) (s : Situation) → w.instr.a ≡ next_free s → turned f w s (makes v next) ≡ Some (on next, and_value v s)
 value_turn f w v next s is = ap (value_to f w v next s) (place_of_next s.base (length s.entries) w.instr.a is) ∙ ap (option_map (λ behind. (on next, behind))) (entry_next (value_entry v) s w.instr.a is)
 
 pub makes_turn : (f : Function) (w : Word) (v : Value) (next : ℕ) (s t : Situation) → read_word f w (see w.instr s) ≡ Some (makes v next, t) → w.instr.a ≡ next_free t → turn_of f s w ≡ Some (on next, and_value v t)

@@ -46,7 +46,7 @@ IsTestedWhole (constructor line items) = line ≡ 1
 IsTestedWhole e = ⊥
 
 -- the test of what is in a register
-abbrev pub tested_from : (free : ℕ) → (truth : Bool) → (label : ℕ) → Got ℕ → Maker
+abbrev tested_from : (free : ℕ) → (truth : Bool) → (label : ℕ) → Got ℕ → Maker
 tested_from free truth label x = free_from free (jump_to 1 label (put 1 (Piece.Abc Op.Test x.value 0 (truth_field truth)) x.after))
 
 -- so a value is coded, but for what is made of it as a whole
@@ -73,7 +73,7 @@ binary_tests op left right plain none truth label m =
     ap (λ compares. cond compares (λ truth label. freeing (compare 1 op (coded left) (coded right) truth label)) value.jump_if truth label m) plain
     ∙ no_literal (literal e) (alone e (load_or (fold e) 1 (binary_made 1 op (coded left) (coded right)))) truth label m (literal_none (fold e) none)
 
-pub tests_whole : (x : Expression) → IsTestedWhole x → fold x ≡ None → (truth : Bool) (label : ℕ) (m : Maker) → (coded x).jump_if truth label m ≡ tested_from m.free truth label (operand (coded x) m)
+tests_whole : (x : Expression) → IsTestedWhole x → fold x ≡ None → (truth : Bool) (label : ℕ) (m : Maker) → (coded x).jump_if truth label m ≡ tested_from m.free truth label (operand (coded x) m)
 tests_whole (vararg_expression line) is none truth label m = subst (λ (line : ℕ). (coded (vararg_expression line)).jump_if truth label m ≡ tested_from m.free truth label (operand (coded (vararg_expression line)) m)) (sym is) refl
 tests_whole (name_expression line text) is none truth label m = subst (λ (line : ℕ). (coded (name_expression line text)).jump_if truth label m ≡ tested_from m.free truth label (operand (coded (name_expression line text)) m)) (sym is) (name_tests text truth label m)
 tests_whole (function_expression line body) is none truth label m = subst (λ (line : ℕ). (coded (function_expression line body)).jump_if truth label m ≡ tested_from m.free truth label (operand (coded (function_expression line body)) m)) (sym is) refl
@@ -97,7 +97,7 @@ pub no_fold : (folded : Option ℤ) (plain : Option Constant) → number_or fold
 no_fold (Some n) plain none = cc
 no_fold None plain none = refl
 
-pub source_whole : (e : Expression) → HasTest e → HasCore e → literal e ≡ None → IsTestedWhole (one_line_expression e)
+source_whole : (e : Expression) → HasTest e → HasCore e → literal e ≡ None → IsTestedWhole (one_line_expression e)
 source_whole (nil_literal line) test has none = cc
 source_whole (true_literal line) test has none = cc
 source_whole (false_literal line) test has none = cc
@@ -234,7 +234,7 @@ module _ (g : Fn) (active : List Active) (at : Place) (left : List (Option Inner
 
 module _ {f : Function} {g : Fn} {active : List Active} {listed : List ℕ} {z : Maker} {lefts : ℕ → List (Option Inner)} {before behind : ℕ} (e : Expression) (v : Value) (test : HasTest e) (has : HasCore e) (none : literal e ≡ None) (is : IsCore g active e before behind v)
     (rewritten : Rewritten f g active listed z lefts before behind e v) (truth : Bool) (label : ℕ) (m : Maker) (ahead : IsAhead g active before (mentions_in e) m) where
-  pub source_tests : (code e).jump_if truth label m ≡ tested_from m.free truth label (operand (code e) m)
+  source_tests : (code e).jump_if truth label m ≡ tested_from m.free truth label (operand (code e) m)
   source_tests = tests_whole (one_line_expression e) (source_whole e test has none) (same_fold e ∙ no_fold (fold e) (plain_literal e) none) truth label m
 
   -- what is final behind the test is so behind its operand

@@ -47,7 +47,7 @@ method_free on name args all = over_free _ (λ n. method_value on name args all 
 
 -- ---- registers that are set next
 
-pub register_kept : (register : ℕ) (entry : EntryValue) (s : Situation) → is_own_function entry ≡ false → Each (Keeps s) (with_register register entry s)
+register_kept : (register : ℕ) (entry : EntryValue) (s : Situation) → is_own_function entry ≡ false → Each (Keeps s) (with_register register entry s)
 register_kept register entry s is = each_map _ (set_next_none s.base register entry s.entries is) (λ entries less. keeps_entries s entries less)
 
 more_kept : (count : ℕ) (entry : EntryValue) (s : Situation) → is_own_function entry ≡ false → Keeps s (with_more (more count entry) s)
@@ -132,9 +132,9 @@ vararg_kept w s =
 -- ---- calls
 
 -- a value is taken off that captures nothing
-pub record Taken (s : Situation) (p : Value × Situation) : Type 0 where
-  pub kept : Keeps s p.1
-  pub free : IsFree p.0
+record Taken (s : Situation) (p : Value × Situation) : Type 0 where
+  kept : Keeps s p.1
+  free : IsFree p.0
 
 call_kept : (w : Word) (place : ℕ) (s : Situation) → Each (Taken s) (plain_call w place s)
 call_kept w place s = each_then (take_list_none (place + 1) w.instr.b s.entries) (λ args less. each_then (take_at_none place args.1) (λ on fewer.

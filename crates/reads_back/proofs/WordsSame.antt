@@ -38,7 +38,7 @@ same_fold (unary_expression line op e) = ap (fold_unary op) (same_fold e)
 same_fold (binary_expression line op left right) = ap₂ (fold_binary (arith_op op)) (same_fold left) (same_fold right)
 same_fold e = refl
 
-pub same_plain : (e : Expression) → plain_literal (one_line_expression e) ≡ plain_literal e
+same_plain : (e : Expression) → plain_literal (one_line_expression e) ≡ plain_literal e
 same_plain (nil_literal line) = refl
 same_plain e = refl
 
@@ -65,7 +65,7 @@ pub operand_final : {j : ℕ} {z : Maker} (x : Expression) (m : Maker) → local
 operand_final {j} {z} x m none final = before_take 1 ((coded x).to_reg m.free m) (subst (λ (got : Got ℕ). Final j got.after z) (operand_next x m none) final)
 
 -- what is a name is a local where the name that comes next is one
-pub same_local : (x y : Expression) (m : Maker) → is_name x ≡ is_name y → local_register x m ≡ local_register y m
+same_local : (x y : Expression) (m : Maker) → is_name x ≡ is_name y → local_register x m ≡ local_register y m
 same_local x y m named = ap (λ named. cond named (register_of (next_name m)) None) named
 
 -- what is no name is no local
@@ -98,7 +98,7 @@ rk_is : (x : Expression) (m : Maker) → rk (coded x) m ≡ rk_by (literal x) (c
 rk_is x m = ap (λ x'. rk_by (literal x') (coded x) m) (coded_is x)
 
 -- two expressions with the same literal, or none, and the same operand
-pub rk_alike : (x y : Expression) (m : Maker) → literal x ≡ literal y → operand (coded x) m ≡ operand (coded y) m → rk (coded x) m ≡ rk (coded y) m
+rk_alike : (x y : Expression) (m : Maker) → literal x ≡ literal y → operand (coded x) m ≡ operand (coded y) m → rk (coded x) m ≡ rk (coded y) m
 rk_alike x y m literals operands = rk_is x m ∙ rk_by_alike (literal x) x y m operands ∙ ap (λ k. rk_by k (coded y) m) literals ∙ sym (rk_is y m)
 
 -- what is no small constant is an operand
@@ -117,13 +117,13 @@ operand_by_parens : (local : Option ℕ) (x : Expression) (m : Maker) → operan
 operand_by_parens (Some r) x m = refl
 operand_by_parens None x m = refl
 
-pub operand_in_parentheses : (x : Expression) (m : Maker) → operand (coded (parenthesized 1 x)) m ≡ operand (coded x) m
+operand_in_parentheses : (x : Expression) (m : Maker) → operand (coded (parenthesized 1 x)) m ≡ operand (coded x) m
 operand_in_parentheses x m = operand_by_parens (local_register x m) x m ∙ sym (operand_is x m)
 
 literal_by : (folded : Option ℤ) (plain : Option Constant) → plain ≡ None → number_or folded None ≡ number_or folded plain
 literal_by folded plain is = ap (number_or folded) (sym is)
 
-pub rk_in_parentheses : (x : Expression) (m : Maker) → plain_literal x ≡ None → rk (coded (parenthesized 1 x)) m ≡ rk (coded x) m
+rk_in_parentheses : (x : Expression) (m : Maker) → plain_literal x ≡ None → rk (coded (parenthesized 1 x)) m ≡ rk (coded x) m
 rk_in_parentheses x m plain = rk_alike (parenthesized 1 x) x m (literal_by (fold x) (plain_literal x) plain) (operand_in_parentheses x m)
 
 -- ---- in parentheses or not
@@ -139,7 +139,7 @@ pub operand_wrapped : (bare : Bool) (w : Wording) (m : Maker) → operand (coded
 operand_wrapped true w m = refl
 operand_wrapped false w m = operand_in_parentheses w.words m
 
-pub rk_wrapped : (bare : Bool) (w : Wording) (m : Maker) → (bare ≡ false → plain_literal w.words ≡ None) → rk (coded (unless bare w).words) m ≡ rk (coded w.words) m
+rk_wrapped : (bare : Bool) (w : Wording) (m : Maker) → (bare ≡ false → plain_literal w.words ≡ None) → rk (coded (unless bare w).words) m ≡ rk (coded w.words) m
 rk_wrapped true w m plain = refl
 rk_wrapped false w m plain = rk_in_parentheses w.words m (plain refl)
 

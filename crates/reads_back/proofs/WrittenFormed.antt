@@ -1,5 +1,5 @@
--- What is written of a value is well formed, and no deeper than its levels tell, where the functions that are left are so.
-use Rattle.std.proofs.Common.{◌≡◌, ℕ, ◌≤◌, Bool, true, false, not, ◌&&◌, ◌||◌, List, [], ◌∷◌, Option, Some, None, is_some, refl, sym, ap, ◌∙◌, subst, arith, le-leb}
+-- What is written of a value or of a test is well formed, and no deeper than its levels tell, where the functions that are left are so.
+use Rattle.std.proofs.Common.{◌≡◌, ℕ, ◌≤◌, Bool, true, false, not, ◌&&◌, ◌||◌, List, [], ◌∷◌, Option, Some, None, is_some, refl, sym, ap, ◌∙◌, subst, arith, le-leb, length}
 use Rattle.std.specs.Prelude.{ℤ, pos, negsuc, ◌==◌, ◌-◌, ◌^◌, suc, slice_get, if◌then◌else◌}
 use Rattle.std.proofs.lemmas.Bool.{leb-true}
 use Rattle.std.proofs.lemmas.Option.{same_Some}
@@ -15,10 +15,13 @@ use Rattle.proto.specs.declared.parts.Constant.{Constant}
 use Rattle.core_expr.specs.Counting.{left_by, left_by_operand, taken_behind, taken_behind_operand, with_constant}
 use Rattle.proto.specs.declared.parts.LocVar.{LocVar}
 use Rattle.core_expr.specs.Places.{Place, as_name, constant_at, constant_name, field_name, field_number, local_name, name_of_entry, name_of_local, name_of_number, text_at, upvalue_name}
+use Rattle.core_expr.specs.Targets.{can_write_both, is_swapped, mirrored, word_both}
 use Rattle.core_expr.specs.Values.{Inner, ItemList, OperandList, OperandValue, Value, Values, and_keyed, and_operand, and_positional, and_value, binary_value, bool_value, call_value, concat_value, constant_operand, constant_value, function_value, global_value, index_value, local_value, method_value, nil_value, no_items, no_operands, no_values, table_value, unary_value, upvalue_value, value_operand, vararg_value}
 use Rattle.core_expr.specs.Writing.{function_left, function_word, ArgumentWording, FieldWording, Wording, Wordings, and_item, and_keyed_item, and_wording, applied, as_arguments, as_list, as_prefix, as_text_argument, can_write, can_write_items, can_write_operand, can_write_operands, can_write_values, chained, constant_word, ends_items, ends_values, in_parentheses, is_bare, is_multiple, is_power, joined, literal, name_word, number_word, numeral, on_left, on_right, separator_before, single, text_or_empty, truth, unless, with_arguments, with_binary, with_field, with_index, with_items, with_key, with_method, with_unary, word, word_each, word_items, word_keys, word_only, word_operand, word_short, word_values}
+use Rattle.recover_expr.specs.Testing.{TestedValue, tested_comparison, tested_value}
 use Rattle.scheme.specs.Shapes.{plain_body}
 use Rattle.reads_back.proofs.FunctionsLeft.{EachLeft, each_by, each_by_operand, left_there}
+use Rattle.reads_back.proofs.TestedAs.{can_test, condition_word}
 use Rattle.reads_back.proofs.Tests.{both_hold, first_of_both, given_is, not_so, second_of_both, test_holds}
 
 -- ---- functions that are left
@@ -133,7 +136,7 @@ binary_fine op l r left right first second = record {
   shallow = λ few. let low = first.shallow (omega (arith, few)) in let high = second.shallow (omega (arith, few)) in omega (arith, low, high, few);
 }
 
-pub joined_fine : (op : BinaryOp) (l r : Wording) → IsFine l → IsFine r → IsFine (joined op l r)
+joined_fine : (op : BinaryOp) (l r : Wording) → IsFine l → IsFine r → IsFine (joined op l r)
 joined_fine op l r first second =
     binary_fine op (on_left op l) (on_right op r) (left_is op l) (right_is op r) (unless_fine (left_binds (level_of_op op) (is_right_associative op) l.words) l first) (unless_fine (right_binds (level_of_op op) (is_power op) r.words) r second)
 
@@ -377,3 +380,20 @@ module _ (at : Place) where
         let fields = items_fine items all n fs fine_left can in
         subst AreGiven (same_Some _ args is) (record { formed = fields.formed; on_line = refl; shallow = fields.shallow })
     only_fine v n fs fine_left can args is = cc
+
+-- ---- tests
+
+module _ (at : Place) (n : ℕ) (left : List (Option Inner)) (fine_left : AreFineLeft left) where
+  both_fine : (op : BinaryOp) (first second : OperandValue) → can_write_both at left first second ≡ true → IsFine (word_both at n left op first second)
+  both_fine op first second can =
+      joined_fine op (word_operand at n left first) (word_operand at (taken_behind_operand first n) (left_by_operand first left) second) (operand_fine at first n left fine_left (first_of_both _ _ can))
+      (operand_fine at second (taken_behind_operand first n) (left_by_operand first left) (each_by_operand _ first left fine_left) (second_of_both (can_write_operand at left first) _ can))
+
+  pub condition_fine : (tested : TestedValue) → can_test at n left tested ≡ true → IsFine (condition_word at n left tested)
+  condition_fine (tested_value v) can = word_fine at v n left fine_left can
+  condition_fine (tested_comparison c) can = by (is_swapped (length at.entries) n c) can
+    where
+      by : (swapped : Bool) → (if swapped then can_write_both at left c.right c.left else can_write_both at left c.left c.right) ≡ true →
+          IsFine (if swapped then word_both at n left (mirrored c.op) c.right c.left else word_both at n left c.op c.left c.right)
+      by true can = both_fine (mirrored c.op) c.right c.left can
+      by false can = both_fine c.op c.left c.right can

@@ -8,5 +8,5 @@ pub mod Cores
 pub mod Acted
 pub mod ReadAs
 pub mod Through
-pub mod Written
 pub mod Assignments
+pub mod Owned

@@ -82,3 +82,18 @@ pub record ArePlacedLike (code : Steps) (params : List Text) (f : Function) (sco
   pub is : placed f scope params drafts ≡ Some (record { params = params; steps = steps; parts = map (λ (draft : Drafted). draft.part) drafts })
   pub like : AreStepsLike code.steps steps
   pub levels : map (λ (step : Step). step.levels) steps ≡ map (λ (draft : Drafted). draft.levels) drafts
+
+-- ---- the levels of steps
+
+-- the step that is placed of a test has the levels of the draft for where it is negated
+abbrev pub HasNegated : DraftKind → StepKind → Type 0
+HasNegated (DraftKind.Test when pc levels) (StepKind.Test sense target negated) = negated ≡ levels
+HasNegated draft kind = Unit {0}
+
+-- a step has a level at least, and a test where it is negated no fewer, and two more at most
+abbrev pub IsLevelled : (levels : ℕ) → StepKind → Type 0
+IsLevelled levels (StepKind.Test when target negated) = (1 ≤ levels) × (levels ≤ negated) × (negated ≤ levels + 2)
+IsLevelled levels kind = 1 ≤ levels
+
+abbrev pub AreLevelled : Steps → Type 0
+AreLevelled code = (at : ℕ) (step : Step) → slice_get code.steps at ≡ Some step → IsLevelled step.levels step.kind

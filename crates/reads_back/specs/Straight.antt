@@ -1,11 +1,10 @@
--- To be believed. Straight sources: calls, assignments, function statements, local functions and declarations of locals, one after the other, and maybe a return at the end; and so in each function that stands in one.
-use Rattle.std.specs.Prelude.{◌≡◌, ◌≤◌, ℕ, zero, suc, Bool, true, length, false}
+-- To be believed. Straight statements: calls, assignments, function statements, local functions, declarations of locals and returns, of values in which no operator is `and`, `or` or a comparison; where the functions in them are such.
+use Rattle.std.specs.Prelude.{◌≡◌, ◌≤◌, Bool, true, length, false}
 use Rattle.lua_tree.specs.Names.{are_some_names, is_name}
 use Rattle.lua_tree.specs.Syntax as syntax
 use Rattle.lua_tree.specs.Syntax.{FunctionBody, function_body, Expression, Expressions, no_expressions, Source, Statement, Statements, Arguments, argument_list, text_argument, table_argument, Fields, no_fields, positional, named, keyed, nil_literal, true_literal, false_literal, vararg_expression, number_literal, text_literal, name_expression, function_expression, index_expression, field_expression, call_expression, method_call, binary_expression, unary_expression, constructor, parenthesized, assignment, call_statement, function_statement, local_function, local_statement, no_statements, return_statement}
 use Rattle.lua_tree.specs.WellFormed.{has_expressions, is_call, is_numeral_value}
 use Rattle.scheme.specs.Expressions.{is_comparison}
-use Rattle.scheme.specs.Shapes.{Room}
 
 -- ---- expressions: no `and`, `or` and comparisons
 
@@ -72,6 +71,11 @@ IsActBy P (local_function text body) = (is_name text ≡ true) × P body
 IsActBy P (return_statement es) = AllHaveCoresBy P es
 IsActBy P statement = ⊥
 
+-- or it gives a function to a path of at most so many names
+abbrev pub IsStraightStatementBy : (FunctionBody → Type 0) → Statement → Type 0
+IsStraightStatementBy P (function_statement path method body) = (length path ≤ 198) × P body
+IsStraightStatementBy P s = IsActBy P s
+
 -- a constructor, in parentheses or not
 abbrev pub is_constructor : Expression → Bool
 is_constructor (constructor line items) = true
@@ -91,26 +95,3 @@ AllIndexNoTables (syntax.expression e es) = IndexesNoTable e × AllIndexNoTables
 abbrev pub StatementIndexesNoTable : Statement → Type 0
 StatementIndexesNoTable (assignment targets es) = AllIndexNoTables targets
 StatementIndexesNoTable statement = Unit {0}
-
--- ---- blocks, functions and sources
-
--- or it gives a function to a path of at most so many names
-abbrev pub IsStraightStatementBy : (FunctionBody → Type 0) → Statement → Type 0
-IsStraightStatementBy P (function_statement path method body) = (length path ≤ 198) × P body
-IsStraightStatementBy P s = IsActBy P s
-
--- each is such, and none stores to an element of a constructor, where the functions in them are such
-abbrev pub AreStraightBy : (FunctionBody → Type 0) → Statements → Type 0
-AreStraightBy P no_statements = Unit {0}
-AreStraightBy P (syntax.statement line semi s rest) = (IsStraightStatementBy P s × StatementIndexesNoTable s) × AreStraightBy P rest
-
--- a function with a straight block, where no more than so many stand in one another
-abbrev pub IsStraightBody : (deep : ℕ) → FunctionBody → Type 0
-IsStraightBody zero body = ⊥
-IsStraightBody (suc deep) (function_body params vararg block first last) = AreStraightBy (IsStraightBody deep) block
-
--- with room: numerals and folded expressions count for four levels
-pub record Straight (source : Source) : Type 0 where
-  pub deep : ℕ
-  pub acts : AreStraightBy (IsStraightBody deep) source.body
-  pub room : Room source

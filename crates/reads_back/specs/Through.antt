@@ -61,10 +61,6 @@ abbrev pub JumpThrough : Fn → (z : Maker) → (more : Bool) → (line label : 
 JumpThrough g z true line label m = WordThrough g z Op.Jmp 0 label line m
 JumpThrough g z false line label m = Unit {0}
 
--- behind the condition of a `repeat` whose body has captured locals
-abbrev pub closing_at : (line n : ℕ) → Maker → Maker
-closing_at line n m = close_from line n m
-
 -- the test sees the locals of the body; `again` is the label of the second CLOSE, if there is one
 abbrev pub UntilThrough : Fn → (z : Maker) → (captured : Bool) → Expression → (line start exit n : ℕ) → Maker → Type 0
 UntilThrough g z false e line start exit n m = TestThrough g z e false start m

@@ -1,10 +1,10 @@
--- A value in which no operator is `and`, `or` or a comparison is plain, and so is an act, where the functions in them are; and each straight function is.
-use Rattle.std.proofs.Common.{◌≡◌, ℕ, zero, suc, true, ◌&&◌, refl, ap, ◌∙◌}
+-- A value in which no operator is `and`, `or` or a comparison is plain, and so is an act, where the functions in them are.
+use Rattle.std.proofs.Common.{◌≡◌, true, ◌&&◌, refl, ap, ◌∙◌}
 use Rattle.lua_tree.specs.Syntax as syntax
 use Rattle.lua_tree.specs.Syntax.{Statements, no_statements, Statement, assignment, call_statement, function_statement, local_function, local_statement, return_statement, FunctionBody, function_body, Expressions, no_expressions, Expression, nil_literal, true_literal, false_literal, vararg_expression, number_literal, text_literal, name_expression, function_expression, index_expression, field_expression, call_expression, method_call, binary_expression, unary_expression, constructor, parenthesized, Arguments, argument_list, text_argument, table_argument, Fields, no_fields, positional, named, keyed}
 use Rattle.lua_tree.specs.declared.tree.UnaryOp.{UnaryOp}
-use Rattle.scheme.specs.Shapes.{plain_arguments, plain_body, plain_comparison, plain_fields, plain_statement, plain_statements, plain_values, plainness}
-use Rattle.reads_back.specs.Straight.{AllHaveCoresBy, AreStraightBy, HasCoreBy, HaveCoresBy, HaveItemsBy, IsActBy, IsStraightBody, IsStraightStatementBy}
+use Rattle.scheme.specs.Shapes.{plain_arguments, plain_body, plain_comparison, plain_fields, plain_statement, plain_values, plainness}
+use Rattle.reads_back.specs.Straight.{AllHaveCoresBy, HasCoreBy, HaveCoresBy, HaveItemsBy, IsActBy, IsStraightStatementBy}
 use Rattle.reads_back.proofs.OneLineActs.{targets_have_cores}
 use Rattle.reads_back.proofs.Tests.{both_hold}
 
@@ -61,13 +61,3 @@ module _ {P : FunctionBody → Type 0} (plain : (body : FunctionBody) → P body
   pub straight_statement_plain : (s : Statement) → IsStraightStatementBy P s → plain_statement s ≡ true
   straight_statement_plain (function_statement path method body) is = plain body is.1
   straight_statement_plain s is = act_plain s is
-
-  block_plain : (block : Statements) → AreStraightBy P block → plain_statements block ≡ true
-  block_plain no_statements are = refl
-  block_plain (syntax.statement line semi s rest) are = both_hold _ _ (straight_statement_plain s are.0.0) (block_plain rest are.1)
-
--- ---- functions
-
-pub straight_plain : (deep : ℕ) (body : FunctionBody) → IsStraightBody deep body → plain_body body ≡ true
-straight_plain zero body none = absurd none
-straight_plain (suc deep) (function_body params vararg block first last) straight = block_plain (straight_plain deep) block straight

@@ -36,7 +36,7 @@ module _ (mine : Own) (functions : Functions) (lists : HasShortLists mine) where
 -- ---- at every depth
 
 mutual
-  pub ever_found : FlowLaws → (short : Bool) (chunk : Chunk) → IsShort chunk → IsEverFound short chunk
+  ever_found : FlowLaws → (short : Bool) (chunk : Chunk) → IsShort chunk → IsEverFound short chunk
   ever_found laws short (function mine functions) lists = body_found mine functions lists.0 laws short (each_found laws short functions lists.2)
 
   pub each_found : FlowLaws → (short : Bool) (functions : Functions) → AreShort functions → EachOf (IsEverFound short) functions
@@ -45,7 +45,7 @@ mutual
   each_found laws short (and_function d rest) lists (suc number) c is = each_found laws short rest lists.1 number c is
 
 mutual
-  pub never_lost : FlowLaws → (chunk : Chunk) → IsShort chunk → IsNeverLost chunk
+  never_lost : FlowLaws → (chunk : Chunk) → IsShort chunk → IsNeverLost chunk
   never_lost laws (function mine functions) lists =
       body_not_lost mine functions lists.0 laws (each_found laws true functions lists.2) (each_never_lost laws functions lists.2)
 
@@ -55,7 +55,7 @@ mutual
   each_never_lost laws (and_function d rest) lists (suc number) c is = each_never_lost laws rest lists.1 number c is
 
 mutual
-  pub ever_told : (chunk : Chunk) → IsShort chunk → IsEverTold chunk
+  ever_told : (chunk : Chunk) → IsShort chunk → IsEverTold chunk
   ever_told (function mine functions) lists = body_told mine functions lists.0 (each_told functions lists.2)
 
   pub each_told : (functions : Functions) → AreShort functions → EachOf IsEverTold functions

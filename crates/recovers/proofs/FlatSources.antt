@@ -1,5 +1,6 @@
 -- Flat sources are such as come back: their statements are calls and assignments of one value that begin with a name, and they have room.
-use Rattle.std.proofs.Common.{◌≡◌, ℕ, suc, ◌+◌, ◌≤◌, true, false, refl, ap, arith, if◌then◌else◌}
+use Rattle.std.proofs.Common.{List, [], ◌≡◌, ℕ, suc, ◌+◌, ◌≤◌, true, false, refl, ap, arith, if◌then◌else◌}
+use Rattle.lua_num.specs.Bytes.{Text}
 use Rattle.lua_tree.specs.Syntax as syntax
 use Rattle.lua_tree.specs.Syntax.{Expression, Expressions, Statement, Statements, argument_list, assignment, call_expression, call_statement, false_literal, name_expression, nil_literal, no_expressions, no_statements, number_literal, text_literal, true_literal}
 use Rattle.lua_tree.specs.WellFormed.{formed_expression, formed_expressions, formed_statement, formed_statements}
@@ -8,6 +9,7 @@ use Rattle.same_flow.specs.Blocks.{StatementHolds, StatementsHold}
 use Rattle.same_flow.specs.Never.{nevers_of_statements}
 use Rattle.same_flow.specs.Space.{around_body, has_block, has_blocks, space_of_expression, space_of_expressions, space_of_statement, space_of_statements}
 use Rattle.reads_back.specs.Flows.{IsFlowBody, IsFlowPartBy}
+use Rattle.reads_back.specs.Owned.{own_names}
 use Rattle.reads_back.specs.Straight.{AllHaveCoresBy, HasCoreBy}
 use Rattle.reads_back.proofs.Tests.{first_of_both, not_so, second_of_both}
 use Rattle.recovers.specs.Found.{FlatSourcesAreFlow}
@@ -45,14 +47,14 @@ all_room (syntax.expression e rest) simple = omega (arith, simple_room e (first_
 
 -- a call or an assignment of one value, with room
 record IsLowAct (s : Statement) : Type 0 where
-  holds : StatementHolds (IsFlowPartBy (IsFlowBody 0)) false s
+  holds : (own : List Text) → StatementHolds (IsFlowPartBy own (IsFlowBody 0)) false s
   room : space_of_statement s ≤ 5
   alone : has_block s ≡ false
 
 call_is_low : (line on_line : ℕ) (on : Expression) (es : Expressions) → is_bare_name on ≡ true → are_simple es ≡ true → formed_statement (call_statement (call_expression line on (argument_list es) on_line)) ≡ true →
     IsLowAct (call_statement (call_expression line on (argument_list es) on_line))
 call_is_low line on_line (name_expression at text) es named simple formed = record {
-  holds = ((refl, (first_of_both _ _ formed, all_have_cores es simple (second_of_both _ _ (second_of_both _ _ formed)))), tt);
+  holds = λ own. ((refl, (first_of_both _ _ formed, all_have_cores es simple (second_of_both _ _ (second_of_both _ _ formed)))), tt);
   room = omega (arith, all_room es simple);
   alone = refl;
 }
@@ -61,7 +63,7 @@ call_is_low line on_line on es named simple formed = not_so named
 assignment_is_low : (target e : Expression) → is_bare_name target ≡ true → is_simple e ≡ true → formed_statement (assignment (syntax.expression target no_expressions) (syntax.expression e no_expressions)) ≡ true →
     IsLowAct (assignment (syntax.expression target no_expressions) (syntax.expression e no_expressions))
 assignment_is_low (name_expression line text) e named simple formed = record {
-  holds = (record { some = refl; targets = (first_of_both _ _ (first_of_both _ _ formed), tt); given = refl; values = (simple_has_core e simple (first_of_both _ _ (second_of_both _ _ formed)), tt) }, (tt, tt));
+  holds = λ own. (record { some = refl; targets = (first_of_both _ _ (first_of_both _ _ formed), tt); given = refl; values = (simple_has_core e simple (first_of_both _ _ (second_of_both _ _ formed)), tt) }, (tt, tt));
   room = omega (arith, simple_room e simple);
   alone = refl;
 }
@@ -75,17 +77,17 @@ flat_is_low s flat formed = not_so flat
 -- ---- blocks
 
 record IsLowBlock (block : Statements) : Type 0 where
-  holds : StatementsHold (IsFlowPartBy (IsFlowBody 0)) false block
+  holds : (own : List Text) → StatementsHold (IsFlowPartBy own (IsFlowBody 0)) false block
   room : space_of_statements block ≤ 6
   alone : has_blocks block ≡ false
 
 block_is_low : (block : Statements) → are_flat block ≡ true → formed_statements block ≡ true → IsLowBlock block
-block_is_low no_statements flat formed = record { holds = tt; room = omega arith; alone = refl }
+block_is_low no_statements flat formed = record { holds = λ own. tt; room = omega arith; alone = refl }
 block_is_low (syntax.statement line semi s rest) flat formed =
     let low = flat_is_low s (first_of_both _ _ flat) (first_of_both _ _ formed) in
     let behind = block_is_low rest (second_of_both _ _ flat) (second_of_both _ _ (second_of_both _ _ formed)) in
     record {
-      holds = (low.holds, behind.holds);
+      holds = λ own. (low.holds own, behind.holds own);
       room = omega (arith, low.room, behind.room);
       alone = cc (low.alone, behind.alone);
     }
@@ -95,4 +97,4 @@ flat_are_flow source well flat =
     let low = block_is_low source.body flat well.formed in
     let levels = space_of_statements source.body in
     let around : around_body source.body levels ≡ levels = ap (λ has. if has then suc (levels + nevers_of_statements source.body) else levels) low.alone in
-    (low.holds, omega (arith, low.room, around))
+    (low.holds (own_names [] source.body), omega (arith, low.room, around))

@@ -35,15 +35,16 @@ use Rattle.reads_back.specs.Through.{BodyThrough}
 use Rattle.reads_back.proofs.FlowWhole.{tree_of, whole_of}
 use Rattle.reads_back.proofs.InnerNames.{AreKnown}
 use Rattle.reads_back.proofs.InnerReads.{AreNamedBy}
+use Rattle.reads_back.proofs.MadeWhole.{IsMadeWhole}
 use Rattle.reads_back.proofs.StatementsStand.{laid_stand}
-use Rattle.reads_back.proofs.StraightBlocks.{IsMadeWhole}
 use Rattle.reads_back.proofs.StraightFunctions.{as_many_lines, as_many_upvalues, own_of_same, takes_further}
 use Rattle.reads_back.proofs.WordsRead.{IsFunction}
+use Rattle.reads_back.specs.Owned.{own_names}
 use Rattle.recovers.specs.Joined.{IsJoined, IsJoinedPart}
 
 -- a function with these parameters and this block, on one line, whose upvalues have these names; its chunk is what is made but for the numbers of lines
 pub record IsFlowHere (n : Names) (heading : Heading) (params : List Text) (block : Statements) (names : List Text) (ahead : Ahead) (chunk : Chunk) : Type 0 where
-  pub joined : IsJoined block
+  pub joined : IsJoined params block
   pub good : are_names params ≡ true
   pub known : AreKnown n
   pub named : AreNamedBy n (whole_of params names ahead block).upvalue_names
@@ -116,13 +117,13 @@ module _ {n : Names} {heading : Heading} {params : List Text} {block : Statement
 
   -- ---- its steps
 
-  abbrev pub Joined : Part → Type 0
-  Joined part = IsJoinedPart (space_of_statements block) part
+  abbrev Joined : Part → Type 0
+  Joined part = IsJoinedPart (space_of_statements block) (own_names params block) part
 
   abbrev pub steps_there : (code : Steps) × (code.params ≡ params) × AreLaid code params names ahead block × ((at : ℕ) (part : Part) → part_at code at ≡ Some part → Joined part) × (length code.parts ≡ length code.steps)
-  steps_there = blocks_are_laid Joined (record { plain = tt; flow = tt; formed = tt; ordered = tt; roomy = tt }) params names ahead block of.joined.again of.joined.parts
+  steps_there = blocks_are_laid Joined (record { plain = tt; flow = tt; formed = tt; ordered = tt; declares = λ text none. cc; roomy = tt }) params names ahead block of.joined.again of.joined.parts
 
-  abbrev pub named_there : (steps : List Step) × AreStepsLoose steps_there.0.steps steps × ClosesTell (record steps_there.0 { steps = steps }) params names ahead
+  abbrev named_there : (steps : List Step) × AreStepsLoose steps_there.0.steps steps × ClosesTell (record steps_there.0 { steps = steps }) params names ahead
   named_there = closes_may_tell steps_there.0 params names ahead
 
   abbrev pub code : Steps

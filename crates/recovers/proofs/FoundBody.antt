@@ -92,7 +92,7 @@ like_fine params vararg {written = written} good like found is shallow = record 
 -- ---- what is found
 
 -- no body that stands needs fewer levels
-abbrev pub IsOfFewest : {chunk : Chunk} {left : List (Option Inner)} {short : Bool} {found : Inner} → IsFunctionFound chunk left short found → Type 0
+abbrev IsOfFewest : {chunk : Chunk} {left : List (Option Inner)} {short : Bool} {found : Inner} → IsFunctionFound chunk left short found → Type 0
 IsOfFewest {found = found} is = (plans : Plans) → BodyStands is.steps.steps (whole_body is.steps.steps) plans → found.levels ≤ body_levels is.steps.steps plans
 
 module _ {short : Bool} {chunk : Chunk} {left : List (Option Inner)} {names : List Text} {before : Ahead} (params : List Text) (vararg : Bool) (block : Statements) (method : Bool) (good : are_names (all_params method params) ≡ true)

@@ -47,7 +47,7 @@ module _ (all : List Mark) (method : Bool) (params : List Text) (vararg : Bool) 
   abbrev inside : Place
   inside = in_function vararg place
 
-  abbrev pub entered : Place
+  abbrev entered : Place
   entered = entered_by texts first inside
 
   -- its own marks capture what those of its statements capture

@@ -23,7 +23,7 @@ use Rattle.reads_back.proofs.FlowPlaced.{AreCapturedLike}
 use Rattle.reads_back.proofs.FlowWhole.{whole_of}
 use Rattle.reads_back.proofs.InnerNames.{placed_known}
 use Rattle.reads_back.proofs.InnerReads.{AreNamedBy}
-use Rattle.reads_back.proofs.SameFunctions.{good_params}
+use Rattle.reads_back.proofs.SomeNames.{good_params}
 use Rattle.reads_back.proofs.Tests.{first_of_both, second_of_both}
 use Rattle.reads_back.proofs.ThroughFunctions.{function_through}
 use Rattle.recovers.specs.EverFound.{IsEverFound, StandsAs}
@@ -65,7 +65,7 @@ module _ {mine : Own} {functions : Functions} (lists : HasShortLists mine)
 
   pub inner_here : IsFlowHere n heading texts block names before (function mine functions)
   inner_here = record {
-    joined = plain_are_joined params vararg block stands.plain stands.shallow;
+    joined = plain_are_joined method params vararg block stands.plain stands.shallow;
     good = good_params method params (first_of_both _ _ stands.plain.formed);
     known = placed_known (body_part method body) n before stands.at.placed;
     named = subst (AreNamedBy n) (ap (λ (made : Chunk). (own made).upvalue_names) made_is) stands.named;

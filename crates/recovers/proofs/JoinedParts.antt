@@ -30,9 +30,11 @@ use Rattle.reads_back.proofs.Rooms.{inside_room, left_room}
 use Rattle.reads_back.proofs.TestedAs.{HasTest}
 use Rattle.reads_back.proofs.Tests.{both_hold, first_of_both, second_of_both}
 use Rattle.reads_back.proofs.WordsSame.{same_literal}
-use Rattle.recovers.specs.Joined.{IsJoinedPart}
+use Rattle.reads_back.specs.Owned.{names_of_part}
+use Rattle.recovers.specs.Joined.{AllAmong, IsJoinedPart}
 use Rattle.recovers.proofs.CoresPlain.{core_plain, cores_plain, straight_statement_plain}
-use Rattle.recovers.proofs.FlowOnLine.{flow_stays, flow_with_self, keeps_on_line, tested_on_line}
+use Rattle.recovers.proofs.FlowOnLine.{flow_stays, keeps_on_line, tested_on_line}
+use Rattle.recovers.proofs.OwnMore.{flow_with_self}
 use Rattle.recovers.proofs.FlowPlain.{flow_plain}
 use Rattle.recovers.proofs.OneLineBlocks.{expression_again, expression_as_deep, expression_as_roomy, expression_formed, expressions_again, expressions_as_deep, expressions_as_roomy, expressions_formed, statement_again, statement_as_deep, statement_as_roomy, statement_formed}
 
@@ -48,7 +50,7 @@ assignment_line s = refl
 -- ---- what a leaf is tested as
 
 -- what is tested as a whole
-abbrev pub IsLeaf : Expression → Type 0
+abbrev IsLeaf : Expression → Type 0
 IsLeaf (and_expression line left right) = ⊥
 IsLeaf (or_expression line left right) = ⊥
 IsLeaf (unary_expression line UnaryOp.Not e) = ⊥
@@ -85,7 +87,7 @@ binary_tested : (op : BinaryOp) (left right : Expression) → (plainness left).v
 binary_tested BinaryOp.Ne left right first second = both_hold _ _ first second
 binary_tested op left right first second = both_hold _ _ first second
 
-module _ (most : ℕ) (few : most ≤ 200) (deep : ℕ) where
+module _ (most : ℕ) (few : most ≤ 200) (own : List Text) (deep : ℕ) where
   -- ---- values
 
   core_joined : (e : Expression) → HasCoreBy (IsFlowBody deep) e → formed_expression e ≡ true → space_of_expression e ≤ 200 → HasCore (one_line_expression e)
@@ -118,28 +120,31 @@ module _ (most : ℕ) (few : most ≤ 200) (deep : ℕ) where
   }
 
   pub act_joined : (s : Statement) → IsOneStep (one_line_statement s) → ends_block (one_line_statement s) ≡ false → IsStraightStatementBy (IsFlowBody deep) s × StatementIndexesNoTable s →
-      formed_statement s ≡ true → depth_of_statement s ≤ 199 → space_of_statement s < most → IsJoinedPart most (statement_part (one_line_statement s))
-  act_joined s one goes_on is formed shallow roomy = record {
+      formed_statement s ≡ true → depth_of_statement s ≤ 199 → space_of_statement s < most → AllAmong (names_of_part (statement_part (one_line_statement s))) own →
+      IsJoinedPart most own (statement_part (one_line_statement s))
+  act_joined s one goes_on is formed shallow roomy declares = record {
     plain = (one, straight_statement_plain (flow_plain deep) (one_line_statement s) (straight_statement_on_line (flow_stays deep) s is.0));
     flow = flow_statement s is.0 is.1 formed shallow (omega (arith, few, roomy));
     formed = (statement_formed s formed, goes_on);
     ordered = tt;
+    declares = declares;
     roomy = subst (λ (room : ℕ). room < most) (sym (statement_as_roomy s)) roomy;
   }
 
   pub values_joined : (es : Expressions) → AllHaveCoresBy (IsFlowBody deep) es →
-      formed_expressions es ≡ true → depth_of_expressions es ≤ 199 → space_of_expressions es < most → IsJoinedPart most (values_part (one_line_expressions es))
+      formed_expressions es ≡ true → depth_of_expressions es ≤ 199 → space_of_expressions es < most → IsJoinedPart most own (values_part (one_line_expressions es))
   values_joined es have formed shallow roomy = record {
     plain = cores_plain (flow_plain deep) (one_line_expressions es) (cores_on_line (flow_stays deep) es have);
     flow = flow_act (return_statement es) have tt formed shallow (omega (arith, few, roomy));
     formed = expressions_formed es formed;
     ordered = tt;
+    declares = λ text none. cc;
     roomy = subst (λ (room : ℕ). room < most) (sym (expressions_as_roomy es)) roomy;
   }
 
   pub head_joined : (es : Expressions) (names : List Text) → AllHaveCoresBy (IsFlowBody deep) es → has_expressions es ≡ true → are_some_names names ≡ true →
-      formed_expressions es ≡ true → depth_of_expressions es ≤ 200 → space_of_expressions es < most → IsJoinedPart most (head_part (one_line_expressions es) names)
-  head_joined es names have some good formed shallow roomy =
+      formed_expressions es ≡ true → depth_of_expressions es ≤ 200 → space_of_expressions es < most → AllAmong names own → IsJoinedPart most own (head_part (one_line_expressions es) names)
+  head_joined es names have some good formed shallow roomy declares =
       let some_there : has_expressions (one_line_expressions es) ≡ true = same_some es ∙ some in
       record {
         plain = cores_plain (flow_plain deep) (one_line_expressions es) (cores_on_line (flow_stays deep) es have);
@@ -152,12 +157,13 @@ module _ (most : ℕ) (few : most ≤ 200) (deep : ℕ) where
         };
         formed = (good, some_there, expressions_formed es formed);
         ordered = tt;
+        declares = declares;
         roomy = subst (λ (room : ℕ). room < most) (sym (expressions_as_roomy es)) roomy;
       }
 
   -- ---- conditions
 
-  pub operands_have : (line : ℕ) (op : BinaryOp) (left right : Expression) → IsFlowLeafBy (IsFlowBody deep) (tested_as (binary_expression line op left right)) →
+  operands_have : (line : ℕ) (op : BinaryOp) (left right : Expression) → IsFlowLeafBy (IsFlowBody deep) (tested_as (binary_expression line op left right)) →
       HasCoreBy (IsFlowBody deep) left × HasCoreBy (IsFlowBody deep) right
   operands_have line BinaryOp.Ne left right are = are
   operands_have line op left right are = are
@@ -188,8 +194,8 @@ module _ (most : ℕ) (few : most ≤ 200) (deep : ℕ) where
   leaf_has (parenthesized line e) leaf none is formed roomy = absurd leaf
   leaf_has e leaf none is formed roomy = (core_joined e is formed roomy, same_literal e ∙ none)
 
-  leaf_joined : (e : Expression) → IsLeaf e → literal e ≡ None → IsFlowPartBy (IsFlowBody deep) (condition_part (tested_as e)) →
-      formed_expression e ≡ true → depth_of_expression e ≤ 200 → space_of_expression e < most → IsJoinedPart most (condition_part (tested_as (one_line_expression e)))
+  leaf_joined : (e : Expression) → IsLeaf e → literal e ≡ None → IsFlowPartBy own (IsFlowBody deep) (condition_part (tested_as e)) →
+      formed_expression e ≡ true → depth_of_expression e ≤ 200 → space_of_expression e < most → IsJoinedPart most own (condition_part (tested_as (one_line_expression e)))
   leaf_joined e leaf none is formed shallow roomy =
       let line = one_line_expression e in
       record {
@@ -201,21 +207,22 @@ module _ (most : ℕ) (few : most ≤ 200) (deep : ℕ) where
           tested = tested_again line;
         };
         formed = tested_formed line ∙ expression_formed e formed;
-        ordered = ap keeps_names (sym (tested_on_line e)) ∙ keeps_on_line (tested_as e) ∙ is.1;
+        ordered = ap (keeps_names own) (sym (tested_on_line e)) ∙ keeps_on_line own (tested_as e) ∙ is.1;
+        declares = λ text none. cc;
         roomy = subst (λ (room : ℕ). room < most) (sym (tested_as_roomy line ∙ expression_as_roomy e)) roomy;
       }
 
-  alone_joined : (e : Expression) → IsLeaf e → (k : Option Constant) → literal e ≡ k → AloneHolds (IsFlowPartBy (IsFlowBody deep)) k e →
-      formed_expression e ≡ true → depth_of_expression e ≤ 200 → space_of_expression e < most → AloneHolds (IsJoinedPart most) (literal (one_line_expression e)) (one_line_expression e)
-  alone_joined e leaf k is holds formed shallow roomy = subst (λ (k : Option Constant). AloneHolds (IsJoinedPart most) k (one_line_expression e)) (sym (same_literal e ∙ is)) (by k is holds)
+  alone_joined : (e : Expression) → IsLeaf e → (k : Option Constant) → literal e ≡ k → AloneHolds (IsFlowPartBy own (IsFlowBody deep)) k e →
+      formed_expression e ≡ true → depth_of_expression e ≤ 200 → space_of_expression e < most → AloneHolds (IsJoinedPart most own) (literal (one_line_expression e)) (one_line_expression e)
+  alone_joined e leaf k is holds formed shallow roomy = subst (λ (k : Option Constant). AloneHolds (IsJoinedPart most own) k (one_line_expression e)) (sym (same_literal e ∙ is)) (by k is holds)
     where
-      by : (k : Option Constant) → literal e ≡ k → AloneHolds (IsFlowPartBy (IsFlowBody deep)) k e → AloneHolds (IsJoinedPart most) k (one_line_expression e)
+      by : (k : Option Constant) → literal e ≡ k → AloneHolds (IsFlowPartBy own (IsFlowBody deep)) k e → AloneHolds (IsJoinedPart most own) k (one_line_expression e)
       by (Some k) is holds = tt
       by None is holds = leaf_joined e leaf is holds formed shallow roomy
 
   -- the leaves of a condition
-  pub test_joined : (e : Expression) → TestHolds (IsFlowPartBy (IsFlowBody deep)) e →
-      formed_expression e ≡ true → depth_of_expression e ≤ 200 → space_of_expression e < most → TestHolds (IsJoinedPart most) (one_line_expression e)
+  pub test_joined : (e : Expression) → TestHolds (IsFlowPartBy own (IsFlowBody deep)) e →
+      formed_expression e ≡ true → depth_of_expression e ≤ 200 → space_of_expression e < most → TestHolds (IsJoinedPart most own) (one_line_expression e)
   test_joined (and_expression line left right) holds formed shallow roomy =
       let parts = second_of_both (right_binds 2 false right) _ (second_of_both (left_binds 2 false left) _ formed) in (
         test_joined left holds.0 (first_of_both _ _ parts) (omega (arith, shallow)) (omega (arith, roomy)),

@@ -1,4 +1,3 @@
-pub mod ActsLevels
 pub mod Blockless
 pub mod CoresPlain
 pub mod EverFound
@@ -17,6 +16,7 @@ pub mod JoinedBlocks
 pub mod JoinedParts
 pub mod MainFlow
 pub mod OneLineBlocks
+pub mod OwnMore
 pub mod PlainBuilt
 pub mod ReadHere
 pub mod SmallSource

@@ -163,7 +163,7 @@ same_sum : {one many other more : ℕ} → one ≡ many → other ≡ more → o
 same_sum is also = ap₂ (λ (one other : ℕ). one + other) is also
 
 mutual
-  pub block_as_never : (block : Statements) → nevers_of_statements (one_line_statements block) ≡ nevers_of_statements block
+  block_as_never : (block : Statements) → nevers_of_statements (one_line_statements block) ≡ nevers_of_statements block
   block_as_never no_statements = refl
   block_as_never (syntax.statement line semi s rest) = same_sum (statement_as_never s) (block_as_never rest)
 
@@ -201,14 +201,14 @@ same_counts : (branches : Branches) → branch_count (one_line_branches branches
 same_counts no_branches = refl
 same_counts (branch e block rest) = ap₂ (λ (one others : ℕ). one + others) (same_count e) (same_counts rest)
 
-pub same_most : {one many other more : ℕ} → one ≡ many → other ≡ more → max one other ≡ max many more
+same_most : {one many other more : ℕ} → one ≡ many → other ≡ more → max one other ≡ max many more
 same_most is also = ap₂ (λ (one other : ℕ). max one other) is also
 
-pub one_more : {one many : ℕ} → one ≡ many → 1 + one ≡ 1 + many
+one_more : {one many : ℕ} → one ≡ many → 1 + one ≡ 1 + many
 one_more is = ap (λ (one : ℕ). 1 + one) is
 
 -- with the conditions of a statement
-pub counted_most : {count counts one many other more : ℕ} → count ≡ counts → one ≡ many → other ≡ more → 2 * count + max one other ≡ 2 * counts + max many more
+counted_most : {count counts one many other more : ℕ} → count ≡ counts → one ≡ many → other ≡ more → 2 * count + max one other ≡ 2 * counts + max many more
 counted_most counted is also = ap₂ (λ (count most : ℕ). 2 * count + most) counted (same_most is also)
 
 same_block : (s : Statement) → has_block (one_line_statement s) ≡ has_block s

@@ -31,7 +31,7 @@ others_capture declaration (leave line looped ∷ marks) others = others_capture
 others_capture declaration (opened outer ∷ marks) others = others_capture declaration marks others
 
 -- what is declared in a part that brings nothing into scope, only its own marks capture
-pub captures_alone : {all : List Mark} {part : outline.Part} {place : Place} {rest : List Mark} → StandsApart all part place rest → (part place).next.scope ≡ place.scope → CapturesOwnAlone all part place
+captures_alone : {all : List Mark} {part : outline.Part} {place : Place} {rest : List Mark} → StandsApart all part place rest → (part place).next.scope ≡ place.scope → CapturesOwnAlone all part place
 captures_alone {all} {part} {place} {rest} there same declaration low high =
     let marks = (part place).marks in
     let next = (part place).next in

@@ -1,4 +1,4 @@
--- Serves the laws. The room that a source needs, where a function whose statements have blocks needs one level more, and one for each further arm of an `if` whose condition never fails.
+-- To be believed. The room that a source needs, where a function whose statements have blocks needs one level more, and one for each further arm of an `if` whose condition never fails.
 use Rattle.std.specs.Prelude.{ℕ, suc, ◌+◌, ◌*◌, max, Bool, true, false, ◌||◌, if◌then◌else◌}
 use Rattle.lua_tree.specs.Syntax.{Statements, no_statements, statement, Statement, assignment, call_statement, do_block, while_loop, repeat_loop, if_statement, numeric_for, generic_for, function_statement, local_function, local_statement, return_statement, break_statement, Branches, no_branches, branch, Otherwise, no_otherwise, otherwise, ForStep, no_step, by_step, FunctionBody, function_body, Expressions, no_expressions, expression, Expression, number_literal, function_expression, index_expression, field_expression, call_expression, method_call, and_expression, or_expression, binary_expression, unary_expression, constructor, parenthesized, Arguments, argument_list, text_argument, table_argument, Fields, no_fields, positional, named, keyed}
 use Rattle.scheme.specs.Shapes.{logic_count, branch_count, unless_folded}
