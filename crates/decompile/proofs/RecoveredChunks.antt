@@ -12,6 +12,7 @@ use Rattle.recover_flow.specs.Debug.{LacksDebug}
 use Rattle.recover_flow.specs.Recovering.{IsLostOnlyWhere, IsSourceFound, IsSourceless}
 use Rattle.recover_flow.specs.declared.lost.Lost.{Lost}
 use Rattle.recovers.specs.FlowSources.{IsFlowChunk}
+use Rattle.recovers.specs.PlainSources.{PlainSourcesAreFlow}
 use Rattle.recovers.specs.Found.{FlatSourcesAreFlow, FlowSourcesAreRecovered, IsSourceRecovered}
 use Rattle.scheme.specs.Scheme.{scheme, Fits}
 use Rattle.decompile.specs.Recoverable.{IsFlatChunk, IsGiven, IsRecoverable}
@@ -68,6 +69,7 @@ module _ {chunk : Chunk} (known : IsKnown chunk) where
 -- those that a recoverable chunk needs
 pub record RecoveryLaws : Type 0 where
   pub flat : FlatSourcesAreFlow
+  pub plain : PlainSourcesAreFlow
   pub flow : FlowSourcesAreRecovered
 
 module _ (laws : RecoveryLaws) (chunk : Chunk) (short : IsShort chunk) where
@@ -82,7 +84,7 @@ module _ (laws : RecoveryLaws) (chunk : Chunk) (short : IsShort chunk) where
 
   is_known : IsRecoverable chunk → IsKnown chunk
   is_known (inl flat) = flow_known (flat_as_flow flat)
-  is_known (inr of) = flow_known of
+  is_known (inr plain) = flow_known (laws.plain chunk plain)
 
   -- what is recovered of it is a tree of it
   pub recovered_given : IsRecoverable chunk → (tree : Source) → WellFormed tree → IsSourceFound chunk tree → IsTreeFor chunk tree

@@ -8,7 +8,7 @@ use Rattle.lua_tree.specs.WellFormed.{WellFormed}
 use Rattle.proto.specs.Chunk.{Chunk, SameButLines}
 use Rattle.scheme.specs.Scheme.{scheme, Fits}
 use Rattle.scheme.specs.Shapes.{Flat}
-use Rattle.recovers.specs.FlowSources.{IsFlowChunk}
+use Rattle.recovers.specs.PlainSources.{IsPlainChunk}
 use Rattle.decompile.specs.declared.refused.Refused.{Refused}
 
 -- the chunk of a flat source that keeps every rule, under some name, but for the numbers of lines
@@ -21,9 +21,9 @@ pub record IsFlatChunk (chunk : Chunk) : Type 0 where
   pub flat : Flat source
   pub same : SameButLines chunk (scheme source name)
 
--- the chunk of a flat source, or of one whose functions may have blocks
+-- the chunk of a flat source, or of a plain one
 abbrev pub IsRecoverable : Chunk → Type 0
-IsRecoverable chunk = IsFlatChunk chunk ⊎ IsFlowChunk chunk
+IsRecoverable chunk = IsFlatChunk chunk ⊎ IsPlainChunk chunk
 
 -- a text, or want of memory
 abbrev pub IsGiven : Result ByteText Refused → Type 0

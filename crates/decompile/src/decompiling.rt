@@ -23,7 +23,7 @@ use std::alloc::Global;
 
 /// The text of a source of a chunk: an accepted source whose chunk, under the chunk's own source name, is this one but for the numbers of lines. It is recovered and printed, and then
 /// compiled again and compared, so what it gives is a source of the chunk whatever the chunk is. Its refusals say why none was found; a chunk that no source has is always refused. The chunk of a source is always given one, where
-/// memory does not run out, if the source has what `IsFlowChunk` asks: its functions may have statements of every kind at any depth, `and`, `or` and comparisons stand in conditions alone, and there is some room. So are those of flat sources. The time is about linear in a chunk of ordinary code.
+/// memory does not run out, if the source has what `IsPlainChunk` asks: its functions may have statements of every kind at any depth, `and`, `or` and comparisons stand in conditions alone, and there is room. So are those of flat sources. The time is about linear in a chunk of ordinary code.
 pub fn decompile(alloc: Global, proto: &Proto) -> Result<ByteText, Refused>
     requires short { IsShort (view_proto proto.now) }
     ensures text { IfOk result (IsSourceOf (view_proto proto.now)) }
@@ -31,6 +31,7 @@ pub fn decompile(alloc: Global, proto: &Proto) -> Result<ByteText, Refused>
     ensures recoverable { IsRecoverable (view_proto proto.now) → IsGiven result }
 {
     recovers::flat_sources_are_flow();
+    recovers::plain_sources_are_flow();
     recovers::flow_sources_are_recovered();
     let tree = recover(alloc, proto)?;
     printed(alloc, proto, &tree)

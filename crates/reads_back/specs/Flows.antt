@@ -1,4 +1,4 @@
--- To be believed. Functions whose statements may have blocks, and so in each function that stands in one.
+-- Serves the laws. Functions whose statements may have blocks, and so in each function that stands in one.
 use Rattle.std.specs.Prelude.{◌≡◌, ℕ, zero, suc, true, false, List}
 use Rattle.lua_num.specs.Bytes.{Text}
 use Rattle.lua_tree.specs.Syntax.{FunctionBody, function_body, Expression, binary_expression}

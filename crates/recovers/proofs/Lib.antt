@@ -1,4 +1,8 @@
 pub mod Blockless
+pub mod BreaksInLoops
+pub mod ClearGives
+pub mod ClearSources
+pub mod ClearValues
 pub mod CoresPlain
 pub mod EverFound
 pub mod FlatSources
@@ -18,7 +22,9 @@ pub mod MainFlow
 pub mod OneLineBlocks
 pub mod OwnMore
 pub mod PlainBuilt
+pub mod PlainSources
 pub mod ReadHere
 pub mod SmallSource
 pub mod SourceRecovered
 pub mod StandsApart
+pub mod TurnedRoom

@@ -201,14 +201,14 @@ same_counts : (branches : Branches) → branch_count (one_line_branches branches
 same_counts no_branches = refl
 same_counts (branch e block rest) = ap₂ (λ (one others : ℕ). one + others) (same_count e) (same_counts rest)
 
-same_most : {one many other more : ℕ} → one ≡ many → other ≡ more → max one other ≡ max many more
+pub same_most : {one many other more : ℕ} → one ≡ many → other ≡ more → max one other ≡ max many more
 same_most is also = ap₂ (λ (one other : ℕ). max one other) is also
 
-one_more : {one many : ℕ} → one ≡ many → 1 + one ≡ 1 + many
+pub one_more : {one many : ℕ} → one ≡ many → 1 + one ≡ 1 + many
 one_more is = ap (λ (one : ℕ). 1 + one) is
 
 -- with the conditions of a statement
-counted_most : {count counts one many other more : ℕ} → count ≡ counts → one ≡ many → other ≡ more → 2 * count + max one other ≡ 2 * counts + max many more
+pub counted_most : {count counts one many other more : ℕ} → count ≡ counts → one ≡ many → other ≡ more → 2 * count + max one other ≡ 2 * counts + max many more
 counted_most counted is also = ap₂ (λ (count most : ℕ). 2 * count + most) counted (same_most is also)
 
 same_block : (s : Statement) → has_block (one_line_statement s) ≡ has_block s

@@ -1,4 +1,4 @@
--- To be believed. Sources that come back from their chunks: statements with blocks stand in them, and in the functions in them, at any depth.
+-- Serves the laws. Sources that come back from their chunks, part by part: statements with blocks stand in them, and in the functions in them, at any depth.
 use Rattle.std.specs.Prelude.{◌≤◌, ℕ, false, []}
 use Rattle.lua_num.specs.Bytes.{Text}
 use Rattle.lua_tree.specs.Scoping.{Scoped}

@@ -1,8 +1,8 @@
 //! What is recovered of the chunk of a source.
 #![tactic(auto)]
 
-ghost use Rattle.recovers.specs.FlowSources.{IsFlowChunk};
 ghost use Rattle.recovers.specs.Found.{FlatSourcesAreFlow, FlowSourcesAreRecovered};
+ghost use Rattle.recovers.specs.PlainSources.{IsPlainChunk, PlainSourcesAreFlow};
 ghost use Rattle.recovers.specs.Rows.{small_chunk};
 
 /// Law: what is recovered of the chunk of a source is a well-formed tree that is alike to the source, whichever body the search takes of those that stand, for each function at any depth; and in the forms of fewest levels nothing is lost. In
@@ -23,6 +23,13 @@ pub fn flow_sources_are_recovered()
     built_flow::what_is_built_stands();
 }
 
+/// Law: plain sources are such, with their comparisons of locals turned.
+pub fn plain_sources_are_flow()
+    ensures { PlainSourcesAreFlow }
+{
+    scheme_order::turned_sources_are_alike();
+}
+
 /// Law: flat sources are such.
 pub fn flat_sources_are_flow()
     ensures { FlatSourcesAreFlow }
@@ -30,5 +37,5 @@ pub fn flat_sources_are_flow()
 
 /// The chunk of a small source with a function that has a loop and an `if` in it is one of those, by computing.
 pub fn small_source_has_blocks()
-    ensures { IsFlowChunk small_chunk }
+    ensures { IsPlainChunk small_chunk }
 {}

@@ -1,0 +1,125 @@
+-- A source that is formed, scoped, plain and clear has such statements, and such functions in them at any depth, as come back from its chunk.
+use Rattle.std.proofs.Common.{◌≡◌, ℕ, zero, suc, Bool, true, false, List, [], ◌∷◌, length, refl, sym, ◌∙◌, arith}
+use Rattle.std.specs.Prelude.{is_some, not}
+use Rattle.std.proofs.lemmas.Bool.{and_parts, false≢true, leb-true}
+use Rattle.lua_num.specs.Bytes.{Text}
+use Rattle.lua_tree.specs.Names.{are_names}
+use Rattle.lua_tree.specs.Outline.{Place, beginning, statements_part, statement_part, branches_part, otherwise_part, step_part, path_part, declares, all_params, in_function, with_locals}
+use Rattle.lua_tree.specs.Scoping.{Scoped}
+use Rattle.lua_tree.specs.Syntax as syntax
+use Rattle.lua_tree.specs.Syntax.{Statements, no_statements, Statement, assignment, call_statement, do_block, while_loop, repeat_loop, if_statement, numeric_for, generic_for, function_statement, local_function, local_statement, return_statement, break_statement, Branches, no_branches, branch, Otherwise, no_otherwise, otherwise, ForStep, no_step, by_step, FunctionBody, function_body, Expressions, no_expressions, Expression, index_expression, field_expression, Source}
+use Rattle.lua_tree.specs.WellFormed.{depth_of_statements, depth_of_statement, depth_of_branches, depth_of_otherwise, depth_of_step, formed_statements, formed_statement, formed_branches, formed_otherwise, formed_step, WellFormed}
+use Rattle.scheme.specs.Shapes.{plain_statements, plain_statement, plain_branches, plain_otherwise, plain_step, Plain}
+use Rattle.scheme_stands.proofs.Counting.{statement_counted, branches_closed, expression_closed}
+use Rattle.same_flow.specs.Blocks.{BranchesHold, OtherwiseHolds, StatementHolds, StatementsHold}
+use Rattle.same_flow.specs.Laid.{head_values}
+use Rattle.reads_back.specs.Flows.{IsFlowBody, IsFlowPartBy}
+use Rattle.reads_back.specs.Owned.{own_names}
+use Rattle.reads_back.specs.Straight.{AllHaveCoresBy, AllIndexNoTables, HasCoreBy, IndexesNoTable, is_constructor}
+use Rattle.recovers.specs.Clear.{indexes_no_table, all_index_no_tables, clear_statements, clear_statement, clear_branches, clear_otherwise, clear_step, IsClear}
+use Rattle.recovers.proofs.BreaksInLoops.{breaks_in_loops}
+use Rattle.recovers.proofs.ClearGives.{Gives, at_once, ◌and◌, so, deeper, also, keeping, knowing, clearing, later, earlier, in_turn, headed}
+use Rattle.recovers.proofs.ClearValues.{Known, value_clear, values_clear, targets_clear, test_clear}
+
+-- ---- targets
+
+-- what is tested not to be is not
+not_so : (b : Bool) → not b ≡ true → b ≡ false
+not_so true is = absurd (false≢true is)
+not_so false is = refl
+
+-- what a target indexes, and what several do
+no_table : (e : Expression) → indexes_no_table e ≡ true → IndexesNoTable e
+no_table (index_expression line on key) is = not_so (is_constructor on) is
+no_table (field_expression line on text) is = not_so (is_constructor on) is
+no_table e is = tt
+
+no_tables : (es : Expressions) → all_index_no_tables es ≡ true → AllIndexNoTables es
+no_tables no_expressions are = tt
+no_tables (syntax.expression e rest) are = let both = and_parts (indexes_no_table e) (all_index_no_tables rest) are in (no_table e both.0, no_tables rest both.1)
+
+module _ {P : FunctionBody → Type 0} {limit : ℕ} (known : Known P limit) (own : List Text) where
+  -- ---- statements
+
+  -- the step of a loop that counts, if there is one
+  abbrev HasStep : ForStep → Type 0
+  HasStep no_step = Unit {0}
+  HasStep (by_step e) = HasCoreBy P e
+
+  step_clear : (by : ForStep) (place : Place) → Gives limit (depth_of_step by) (formed_step by) (plain_step by) (clear_step by) (step_part by place).marks (HasStep by)
+  step_clear no_step place = at_once tt
+  step_clear (by_step e) place = value_clear known [] e place
+
+  -- the values of such a loop
+  heads_have : (first last : Expression) (by : ForStep) → HasCoreBy P first × HasCoreBy P last × HasStep by → AllHaveCoresBy P (head_values first last by)
+  heads_have first last no_step have = (have.0, (have.1, tt))
+  heads_have first last (by_step e) have = (have.0, (have.1, (have.2, tt)))
+
+  mutual
+    -- at a place that is in a loop, or is not
+    pub block_clear : (block : Statements) (looped : Bool) (place : Place) → place.looped ≡ looped →
+        Gives limit (depth_of_statements block) (formed_statements block) (plain_statements block) (clear_statements own block) (statements_part block place).marks
+        (StatementsHold (IsFlowPartBy own P) looped block)
+    block_clear no_statements looped place same = at_once tt
+    block_clear (syntax.statement line semi s rest) looped place same =
+        deeper (statement_clear line s looped place same) and also _ (block_clear rest looped (statement_part line s place).next ((statement_counted line s place).looped ∙ same))
+
+    statement_clear : (line : ℕ) (s : Statement) (looped : Bool) (place : Place) → place.looped ≡ looped →
+        Gives limit (depth_of_statement s) (formed_statement s) (plain_statement s) (clear_statement own s) (statement_part line s place).marks
+        (StatementHolds (IsFlowPartBy own P) looped s)
+    statement_clear line (assignment targets es) looped place same =
+        so (λ is. (record { some = is.0.0; targets = is.0.1.0; given = is.0.1.1.0; values = is.0.1.1.1 }, no_tables targets is.1))
+        (clearing (keeping (knowing (λ are. targets_clear known targets place are and keeping (values_clear known es _)))))
+    statement_clear line (call_statement e) looped place same = so (λ is. (is, tt)) (keeping (value_clear known own e place))
+    statement_clear line (do_block block) looped place same = block_clear block looped place same
+    statement_clear line (while_loop e block) looped place same = test_clear known own e place and block_clear block true _ refl
+    statement_clear line (repeat_loop block e) looped place same = block_clear block true _ refl and test_clear known own e _
+    statement_clear line (if_statement branches last) looped place same =
+        also _ (branches_clear branches looped place same and otherwise_clear last looped (branches_part branches place).next ((branches_closed branches place).counted.looped ∙ same))
+    statement_clear line (numeric_for name first last by block) looped place same =
+        later (declares line 3 (name ∷ []) place).marks (also _ (so (λ is. (heads_have first last by is.0, is.1))
+        (headed (value_clear known own first _) (value_clear known own last _) (step_clear by _) (block_clear block true _ refl))))
+    statement_clear line (generic_for names es block) looped place same =
+        later (declares line 3 names place).marks (also _ (also _ (values_clear known es _ and block_clear block true _ refl)))
+    statement_clear line (function_statement path method body) looped place same =
+        later (path_part line path place).marks (so (λ is. ((leb-true (length path) 198 is.1, is.0), tt)) (also _ (also _ (clearing (known (is_some method) body _)))))
+    statement_clear line (local_function name body) looped place same = later (declares line 0 (name ∷ []) place).marks (so (λ is. (is, tt)) (keeping (known false body _)))
+    statement_clear line (local_statement names es) looped place same = later (declares line 0 names place).marks (so (λ is. (is, tt)) (keeping (earlier [] (values_clear known es _))))
+    statement_clear line (return_statement es) looped place same = values_clear known es place
+    statement_clear line break_statement looped place same = record { holds = λ shallow f p c breaks. sym same ∙ breaks.0 }
+
+    branches_clear : (branches : Branches) (looped : Bool) (place : Place) → place.looped ≡ looped →
+        Gives limit (depth_of_branches branches) (formed_branches branches) (plain_branches branches) (clear_branches own branches) (branches_part branches place).marks
+        (BranchesHold (IsFlowPartBy own P) looped branches)
+    branches_clear no_branches looped place same = at_once tt
+    branches_clear (branch e block rest) looped place same =
+        let behind = (expression_closed e place).counted.looped ∙ same in
+        in_turn (test_clear known own e place) (block_clear block looped _ behind) (branches_clear rest looped _ behind)
+
+    otherwise_clear : (last : Otherwise) (looped : Bool) (place : Place) → place.looped ≡ looped →
+        Gives limit (depth_of_otherwise last) (formed_otherwise last) (plain_otherwise last) (clear_otherwise own last) (otherwise_part last place).marks
+        (OtherwiseHolds (IsFlowPartBy own P) looped last)
+    otherwise_clear no_otherwise looped place same = at_once tt
+    otherwise_clear (otherwise block) looped place same = block_clear block looped place same
+
+-- ---- functions
+
+-- those that lie less deep than so many levels
+bodies_clear : (deep : ℕ) → Known (IsFlowBody deep) deep
+bodies_clear zero method body place = record { holds = λ shallow f p c breaks. absurd (omega arith) }
+bodies_clear (suc deep) method (function_body params vararg block first last) place = record {
+  holds = λ shallow f p c breaks.
+      let names = all_params method params in
+      let inside = in_function vararg place in
+      let begun = declares first 0 names inside in
+      let place' = with_locals 0 names inside.declarations begun.next in
+      (later begun.marks (also (are_names params) (block_clear (bodies_clear deep) (own_names params block) block false place' refl))).holds (omega arith) f p c breaks;
+}
+
+-- ---- sources
+
+-- the whole, in which no function lies deeper than the levels that it has at most
+pub clear_holds : (source : Source) → WellFormed source → Scoped source → Plain source → IsClear source →
+    StatementsHold (IsFlowPartBy (own_names [] source.body) (IsFlowBody 200)) false source.body
+clear_holds source well scoped plain clear =
+    (block_clear (bodies_clear 200) (own_names [] source.body) source.body false beginning refl).holds well.shallow well.formed plain clear (breaks_in_loops source scoped)
