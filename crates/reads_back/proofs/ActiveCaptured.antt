@@ -1,5 +1,5 @@
 -- The steps of a function capture only active locals of it, which have bindings of the function and numbers of their own.
-use Rattle.std.proofs.Common.{◌≡◌, ◌<◌, ◌≤◌, ◌⊎◌, inl, inr, ℕ, zero, suc, ◌+◌, Bool, true, false, nat_lt, List, [], ◌∷◌, ◌++◌, length, refl, sym, ap, ap₂, ◌∙◌, arith, subst, if◌then◌else◌}
+use Rattle.std.proofs.Common.{◌≡◌, ◌<◌, ◌≤◌, ◌⊎◌, inl, inr, ℕ, zero, suc, ◌+◌, true, false, List, [], ◌∷◌, ◌++◌, length, refl, sym, ap, ap₂, ◌∙◌, arith, subst}
 use Rattle.std.proofs.lemmas.Option.{none-some, same_Some}
 use Rattle.std.specs.Prelude.{Option, Some, slice_get}
 use Rattle.lua_num.specs.Bytes.{Text}
@@ -22,17 +22,17 @@ use Rattle.scheme_stands.specs.Words.{Fn}
 use Rattle.scheme_stands.proofs.KnownMarks.{Leads, both_lead, come_leads, declares_leads, expression_leads, expressions_lead, nothing_leads, statement_leads}
 use Rattle.same_flow.specs.SameFlow.{begun_of}
 use Rattle.same_flow.specs.Told.{PartFits}
-use Rattle.same_flow.proofs.Walks.{Entry, Said, State, back_to, ended_in, said_at, says, says_at, state_of}
+use Rattle.same_flow.proofs.Walks.{Entry, Said, State, ended_in, said_at, says, says_at, state_of}
 use Rattle.reads_back.proofs.CapturedInEnd.{CapturesActive}
 use Rattle.reads_back.proofs.CapturedMarks.{InScope, OnlyOwn, captured_in_scope}
 use Rattle.reads_back.proofs.FlowThere.{IsFlowFunction, before_at, step_is}
 use Rattle.reads_back.proofs.FunctionLocals.{locals_to, sound_to, stand_before, stand_to}
 use Rattle.reads_back.proofs.LocalsBrought.{names_by}
-use Rattle.reads_back.proofs.MarksCaptured.{captured_unbroken}
+use Rattle.reads_back.proofs.MarksCaptured.{captured_unbroken, around_ended}
 use Rattle.reads_back.proofs.NamesCome.{Comes, Stays, names_mean, step_scoped}
 use Rattle.reads_back.proofs.PlacedLocals.{Rising, rises_before}
 use Rattle.reads_back.proofs.ScopeActive.{ScopesActiveBefore, scope_active_params}
-use Rattle.reads_back.proofs.StepsKnown.{part_said, says_part, state_before}
+use Rattle.reads_back.proofs.StepsKnown.{part_said, says_part, state_before, ended_keeps}
 
 -- ---- what a step captures is in scope
 
@@ -71,15 +71,6 @@ part_around (StepKind.Close from step) part place fits = refl
 part_around (StepKind.Foot numeric target) part place fits = refl
 part_around kind part place fits = absurd fits
 
-pub around_ended : (at : ℕ) (place : Place) (entries : List Entry) → (ended_in at place entries).place.around ≡ place.around
-around_ended at place [] = refl
-around_ended at place (entry ∷ entries) = by (nat_lt at entry.end) (around_ended at (back_to entry place) entries)
-  where
-    by : (test : Bool) → (ended_in at (back_to entry place) entries).place.around ≡ place.around →
-        (if test then record { place = place; entries = entry ∷ entries } else ended_in at (back_to entry place) entries).place.around ≡ place.around
-    by true rest = refl
-    by false rest = rest
-
 -- ---- homes
 
 module _ (from home : ℕ) where
@@ -99,12 +90,7 @@ module _ (from home : ℕ) where
   StateHome state = AllHome state.place.scope × EntriesHome state.entries
 
   home_ended : (at : ℕ) (place : Place) (entries : List Entry) → AllHome place.scope → EntriesHome entries → StateHome (ended_in at place entries)
-  home_ended at place [] here are = (here, tt)
-  home_ended at place (entry ∷ entries) here are = by (nat_lt at entry.end) (home_ended at (back_to entry place) entries are.0 are.1)
-    where
-      by : (test : Bool) → StateHome (ended_in at (back_to entry place) entries) → StateHome (if test then record { place = place; entries = entry ∷ entries } else ended_in at (back_to entry place) entries)
-      by true rest = (here, are)
-      by false rest = rest
+  home_ended at place entries here are = ended_keeps StateHome (λ entry entries place both. both.1) at place entries (here, are)
 
   pub names_home : (names : List Text) (number : ℕ) (scope : Scope) → AllHome scope → AllHome (with_names names number home scope)
   names_home names number scope here name b is low = by (names_mean names number home scope name b is)

@@ -90,7 +90,7 @@ abbrev pub after_act : Acted → Situation → Situation
 after_act acted s = with_left (left_by_act acted s.left) s
 
 -- the last word of the step ends it
-ends_turn : (f : Function) (w : Word) (draft : Drafted) (s behind : Situation) → read_word f w (see w.instr s) ≡ Some (ends draft, behind) → turn_of f s w ≡ Some (over draft, behind)
+pub ends_turn : (f : Function) (w : Word) (draft : Drafted) (s behind : Situation) → read_word f w (see w.instr s) ≡ Some (ends draft, behind) → turn_of f s w ≡ Some (over draft, behind)
 ends_turn f w draft s behind does = ap (option_and_then (λ p. turned f w p.1 p.0)) does
 
 -- ---- calls

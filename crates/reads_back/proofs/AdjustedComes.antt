@@ -2,8 +2,9 @@
 use Rattle.std.proofs.Common.{◌≡◌, ℕ, zero, suc, ◌+◌, ◌-◌, ◌<◌, ◌≤◌, nat_lt, nat_le, Bool, true, false, List, [], ◌∷◌, ◌++◌, append_assoc, length, length-append, Option, Some, None, refl, sym, ap, ◌∙◌, subst, arith, le-leb, eq-eqb}
 use Rattle.std.proofs.lemmas.Bool.{ltb-false, ltb-true, ne_eqb}
 use Rattle.std.specs.Prelude.{option_and_then, option_map, if◌then◌else◌}
-use Rattle.lua_tree.specs.Syntax.{Expressions}
-use Rattle.lua_tree.specs.WellFormed.{depth_of_expressions}
+use Rattle.lua_tree.specs.Syntax as syntax
+use Rattle.lua_tree.specs.Syntax.{Expressions, no_expressions}
+use Rattle.lua_tree.specs.WellFormed.{depth_of_expressions, has_expressions}
 use Rattle.opcode.specs.declared.op.Op.{Op}
 use Rattle.core_expr.specs.Counting.{taken_behind_values}
 use Rattle.core_expr.specs.Values.{Values, nil_value}
@@ -223,3 +224,8 @@ module _ {f : Function} {g : Fn} {active : List Active} {listed : List ℕ} (is_
 
   pub adjusted_comes : IsWanted f s q.pc → AdjustAt g rels count active free p q → ComeHere
   adjusted_comes wanted at = by_adjust wanted (nat_lt (length rels) count) refl at
+
+-- where there are expressions, there are some
+pub some_related : (g : Fn) (es : Expressions) → has_expressions es ≡ true → 0 < length (all_related g es)
+some_related g no_expressions some = absurd cc
+some_related g (syntax.expression e es) some = omega arith

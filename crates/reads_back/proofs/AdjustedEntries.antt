@@ -18,7 +18,7 @@ use Rattle.reads_back.proofs.Comes.{AreEntries}
 use Rattle.reads_back.proofs.DeclaredValues.{nil_last}
 use Rattle.reads_back.proofs.TableItems.{single_is}
 use Rattle.reads_back.proofs.TakenEntries.{before_some, count_of_entries, more_entries}
-use Rattle.reads_back.proofs.Tests.{and_not, both_hold, first_of_both, given_is, not_more, not_so, second_of_both}
+use Rattle.reads_back.proofs.Tests.{and_not, both_hold, first_of_both, given_is, not_more, not_so, second_of_both, nor}
 
 -- ---- single values one by one
 
@@ -286,10 +286,6 @@ with_left_out true vs ends plain = subst AreNotOwn (nil_last vs (ends refl)) (an
     and_last (and_value w ws) plain = (plain.0, and_last ws plain.1)
 with_left_out false vs ends plain = plain
 
-or_so : (a b : Bool) → a ≡ false → b ≡ false → (a || b) ≡ false
-or_so true b first second = cc
-or_so false b first second = second
-
 own_same : (entry : EntryValue) (v : Value) → single_of entry ≡ Some v → is_own_function entry ≡ is_own_function (value_entry v)
 own_same = test_same is_own_function (λ items all depth. refl)
 
@@ -297,8 +293,8 @@ pub not_own : (entries : Entries) (vs : Values) → AreSingles entries vs → Ar
 not_own [] no_values are plain behind none = none
 not_own [] (and_value v vs) are plain behind none = absurd are
 not_own (entry ∷ entries) no_values are plain behind none = absurd are
-not_own (entry ∷ entries) (and_value v vs) are plain behind none = or_so _ _ (own_same entry v are.0 ∙ plain.0) (not_own entries vs are.1 plain.1 behind none)
+not_own (entry ∷ entries) (and_value v vs) are plain behind none = nor _ _ (own_same entry v are.0 ∙ plain.0) (not_own entries vs are.1 plain.1 behind none)
 
 pub none_more : (entry : EntryValue) → is_own_function entry ≡ false → (n : ℕ) → captures_itself (more n entry) ≡ false
 none_more entry other zero = refl
-none_more entry other (suc n) = or_so _ _ other (none_more entry other n)
+none_more entry other (suc n) = nor _ _ other (none_more entry other n)

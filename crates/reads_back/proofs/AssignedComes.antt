@@ -2,8 +2,7 @@
 use Rattle.std.proofs.Common.{◌≡◌, ◌≢◌, ℕ, suc, ◌<◌, ◌≤◌, nat_lt, Bool, true, false, ◌&&◌, List, length, Option, Some, None, refl, sym, ap, ap₂, ◌∙◌, subst, subst₂, arith, lt-ltb, eq-eqb}
 use Rattle.std.proofs.lemmas.Bool.{le-ltb, ne_eqb}
 use Rattle.std.specs.Prelude.{◌==◌, not, if◌then◌else◌}
-use Rattle.lua_tree.specs.Syntax as syntax
-use Rattle.lua_tree.specs.Syntax.{Expressions, no_expressions}
+use Rattle.lua_tree.specs.Syntax.{Expressions}
 use Rattle.lua_tree.specs.WellFormed.{depth_of_expressions, has_expressions}
 use Rattle.core_expr.specs.Counting.{taken_behind_values}
 use Rattle.core_expr.specs.Targets.{TargetValue, index_target, local_target}
@@ -18,7 +17,7 @@ use Rattle.scheme_stands.specs.Relation.{all_related}
 use Rattle.scheme_stands.specs.Words.{Fn, Spot}
 use Rattle.reads_back.specs.Acted.{Assigned, some_missing, taken_behind_last, values_assigned, with_last_nil}
 use Rattle.reads_back.specs.Cores.{AllHaveCores, AreCores, ends_open}
-use Rattle.reads_back.proofs.AdjustedComes.{AdjustedComes, AdjustedForm, adjusted_comes, as_many, each_entry, enough_entries, further_behind, missing_behind, nil_behind}
+use Rattle.reads_back.proofs.AdjustedComes.{AdjustedComes, AdjustedForm, adjusted_comes, as_many, each_entry, enough_entries, further_behind, missing_behind, nil_behind, some_related}
 use Rattle.reads_back.proofs.AdjustedEntries.{count_last, taken_end}
 use Rattle.reads_back.proofs.AssignedValues.{further_written, last_written, missing_written, more_written, nil_written, singles_written}
 use Rattle.reads_back.proofs.BehindWords.{HasLocals, SameLocals, behind_words}
@@ -26,7 +25,7 @@ use Rattle.reads_back.proofs.Comes.{AreEntries, IsWanted}
 use Rattle.reads_back.proofs.NameReads.{AreListed}
 use Rattle.reads_back.proofs.Reaches.{Reaches}
 use Rattle.reads_back.proofs.StoredTargets.{Destination, WritesValues, target_to, to_local, to_part}
-use Rattle.reads_back.proofs.Tests.{and_not, not_so}
+use Rattle.reads_back.proofs.Tests.{and_not}
 use Rattle.reads_back.proofs.ValueWords.{next_free}
 use Rattle.reads_back.proofs.WordsRead.{IsFunction, IsQuiet}
 
@@ -66,10 +65,6 @@ module _ (count : ℕ) (target : Option TargetValue) (from : Values) where
       ap (λ is_open. written_by (not is_open && nat_lt (value_count from) count) (suc (value_count from) == count)) closed ∙ ap₂ written_by (lt-ltb (value_count from) count fewer) is
 
 -- ---- by what comes
-
-pub some_related : (g : Fn) (es : Expressions) → has_expressions es ≡ true → 0 < length (all_related g es)
-some_related g no_expressions given = not_so given
-some_related g (syntax.expression e es) given = omega arith
 
 -- a nil takes no constant
 nil_taken : (target : Option TargetValue) (vs : Values) (n : ℕ) → let to = with_last_nil target vs in taken_behind_last to.last (taken_behind_values to.values n) ≡ taken_behind_values vs n

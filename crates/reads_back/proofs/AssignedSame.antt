@@ -25,7 +25,7 @@ use Rattle.scheme_stands.proofs.Lines.{grows_adjust}
 use Rattle.scheme_stands.proofs.Parts.{AllGrow, grow_all}
 use Rattle.scheme_stands.specs.Words.{Fn}
 use Rattle.same_flow.specs.Space.{space_of_expressions, space_of_statement, space_of_expression}
-use Rattle.reads_back.specs.Acted.{AreActTargets, AreAssigned, AreTargets, AreValues, AreWithOperand, Assigned, EndWithOperand, Assigns, IsActTarget, IsTarget, all_named_behind, assigned, can_write_last, is_part, last_target, left_by_last, left_by_targets, some_missing, taken_behind_last, taken_behind_targets, with_last_nil, words_assigned, words_targets, can_act, named_by, lean_assignment, function_in}
+use Rattle.reads_back.specs.Acted.{AreActTargets, AreAssigned, AreTargets, AreValues, AreWithOperand, Assigned, EndWithOperand, Assigns, IsActTarget, IsTarget, all_named_behind, assigned, can_write_last, is_part, last_target, left_by_last, left_by_targets, some_missing, taken_behind_targets, with_last_nil, words_assigned, words_targets, can_act, named_by, lean_assignment, function_in}
 use Rattle.reads_back.specs.Cores.{AllHaveCores, AreCores, IsCore, ends_open}
 use Rattle.reads_back.proofs.AdjustedEntries.{count_last}
 use Rattle.reads_back.proofs.DeclaredSame.{Adjusts, adjust_closed, closed_written, more_written, nil_written, nils_one, open_written}
@@ -37,6 +37,7 @@ use Rattle.reads_back.proofs.NamedSame.{lean_room_alone, lean_room_values, lean_
 use Rattle.reads_back.proofs.Rewriting.{IsMadeBy, Rewritten, RewrittenAct}
 use Rattle.reads_back.proofs.TargetsSame.{ArePlaces, TargetSame, TargetsSame, copies_constants, copies_grow, copies_places, field_same, index_same, more_same, name_same, none_same, targets_grow, written_count}
 use Rattle.reads_back.proofs.Rooms.{lean_room_assignment, some_room}
+use Rattle.reads_back.proofs.Taking.{taken_by}
 use Rattle.reads_back.proofs.Tests.{both_hold, not_so, first_of_both, second_of_both}
 use Rattle.reads_back.proofs.WordsSame.{levels_wrapped}
 
@@ -89,9 +90,6 @@ adjust_final {z = z} {k = k} placed es other m final = before_stored m.free (pla
 -- what is written of the values
 abbrev assigned_coded : Place → ℕ → List (Option Inner) → Assigned → List Coded
 assigned_coded at n fs to = all_coded (words_assigned at n fs to.values to.all to.last).words
-
-abbrev taken_by : Assigned → ℕ → ℕ
-taken_by to n = taken_behind_last to.last (taken_behind_values to.values n)
 
 module _ (f : Function) (g : Fn) (active : List Active) (listed : List ℕ) (z : Maker) (before : ℕ) where
   -- what is written of the values, where so many constants are taken, goes to these places as the expressions do

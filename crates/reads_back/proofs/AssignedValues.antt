@@ -2,6 +2,7 @@
 use Rattle.std.proofs.Common.{◌≡◌, ℕ, suc, ◌+◌, ◌<◌, nat_lt, Bool, true, false, ◌&&◌, List, ◌++◌, length, Option, Some, None, refl, sym, ap, ap₂, ◌∙◌, arith, lt-ltb, eq-eqb}
 use Rattle.std.proofs.lemmas.Bool.{ltb-true, ne_eqb}
 use Rattle.std.specs.Prelude.{option_and_then, option_map, if◌then◌else◌}
+use Rattle.std.proofs.Math.Bool.{and-true}
 use Rattle.lua_tree.specs.Joins.{join_expressions}
 use Rattle.lua_tree.specs.Syntax as syntax
 use Rattle.lua_tree.specs.Syntax.{no_expressions}
@@ -19,7 +20,7 @@ use Rattle.recover_expr.specs.declared.stores.Store.{Store}
 use Rattle.reads_back.specs.Acted.{Assigned, is_part}
 use Rattle.reads_back.proofs.AdjustedEntries.{all_lead, count_last, further_adjusted, last_split, length_more, missing_adjusted, others_follow, taken_end}
 use Rattle.reads_back.proofs.Comes.{AreEntries}
-use Rattle.reads_back.proofs.ListsSame.{and_true, can_end, left_end}
+use Rattle.reads_back.proofs.ListsSame.{can_end, left_end}
 use Rattle.reads_back.proofs.StoredTargets.{Destination, WritesValues, assigned_written, place_to, target_to, to_local, to_part}
 use Rattle.reads_back.proofs.TakenEntries.{count_of_entries}
 use Rattle.reads_back.proofs.Tests.{not_more, not_so}
@@ -54,7 +55,7 @@ words_end at n fs (and_value u rest) v =
 abbrev values_alone : Listed → Assigned
 values_alone list = record { values = list.values; all = list.all; last = None }
 
-abbrev with_operand : Values → OperandValue → Assigned
+abbrev pub with_operand : Values → OperandValue → Assigned
 with_operand front o = record { values = front; all = true; last = Some o }
 
 module _ (f : Function) (n : ℕ) (s : Situation) where
@@ -66,7 +67,7 @@ module _ (f : Function) (n : ℕ) (s : Situation) where
 
   alone_is : (list : Listed) → list_written f n list s ≡ assigned_written f n (values_alone list) s
   alone_is list =
-      ap (λ can. wrote can (word_values at n s.left list.values list.all) (taken_behind_values list.values n) (left_by_values list.values s.left)) (sym (and_true (can_write_values at s.left list.values)))
+      ap (λ can. wrote can (word_values at n s.left list.values list.all) (taken_behind_values list.values n) (left_by_values list.values s.left)) (sym (and-true (can_write_values at s.left list.values)))
 
   module _ (front : Values) where
     abbrev words : Wordings

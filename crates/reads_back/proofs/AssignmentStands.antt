@@ -31,9 +31,10 @@ use Rattle.scheme_stands.specs.Words.{Fn, Spot, Stretch, WordAt, instr_by}
 use Rattle.reads_back.specs.Acted.{Acted, AreActTargets, AreTargets, AreValues, AreWithOperand, Assigned, Assigns, EndWithOperand, IsActTarget, IsActed, all_named_behind, assigned, can_act, is_part, last_target, some_missing, taken_behind_act, taken_behind_last, taken_behind_targets, values_assigned, function_in}
 use Rattle.reads_back.specs.Cores.{AllHaveCores, AreCores, Counted, HasCore, ends_open}
 use Rattle.reads_back.proofs.ActsRead.{ActRead, CanAct, can_now}
+use Rattle.reads_back.proofs.AdjustedComes.{some_related}
 use Rattle.reads_back.proofs.AdjustedEntries.{count_last}
 use Rattle.reads_back.proofs.AdjustedWords.{adjust_begins, adjust_fits, adjust_forward, next_fit}
-use Rattle.reads_back.proofs.AssignedComes.{AssignedComes, assigned_come, some_related}
+use Rattle.reads_back.proofs.AssignedComes.{AssignedComes, assigned_come}
 use Rattle.reads_back.proofs.AssignmentsRead.{turn_acts}
 use Rattle.reads_back.proofs.BehindWords.{HasLocals, behind_words, quiet_same, same_then, locals_then}
 use Rattle.reads_back.proofs.Comes.{Begins, IsWanted, ReadsCore}

@@ -1,15 +1,38 @@
 -- Two operands one behind the other, and the constants that a word names: what both take.
-use Rattle.std.proofs.Common.{◌≡◌, ℕ, ◌-◌, max, nat_le, true, false, Bool, ◌++◌, length-append, Some, refl, sym, ap, ◌∙◌, arith}
+use Rattle.std.proofs.Common.{◌≡◌, ℕ, ◌-◌, max, nat_le, true, false, Bool, ◌++◌, length-append, Some, refl, sym, ap, ◌∙◌, arith, ◌≤◌, ◌<◌}
 use Rattle.std.proofs.Math.Nat.{max-zero}
-use Rattle.std.specs.Prelude.{if◌then◌else◌}
+use Rattle.std.specs.Prelude.{if◌then◌else◌, ◌||◌}
+use Rattle.std.proofs.lemmas.Bool.Decides.{nat_tests}
 use Rattle.core_expr.specs.Counting.{one_more, taken_behind_operand}
-use Rattle.core_expr.specs.Values.{OperandValue}
+use Rattle.core_expr.specs.Values.{Value, OperandValue, constant_operand, value_operand}
 use Rattle.recover_expr.specs.Situation.{Function, Situation, pop_operand, see_constant, see_operand}
+use Rattle.recover_expr.specs.Effects.{is_from}
 use Rattle.reads_back.proofs.BehindWords.{behind_words}
 use Rattle.reads_back.proofs.Comes.{OperandComes}
 use Rattle.reads_back.proofs.Reaches.{Reaches, reaches_then}
 use Rattle.reads_back.proofs.Taking.{max_swap, operand_taken_later}
 use Rattle.reads_back.proofs.ValueWords.{next_free}
+
+-- ---- values and constants as operands
+
+-- a value as an operand
+abbrev pub as_operand : (Value × Situation) → OperandValue × Situation
+as_operand p = (value_operand p.0, p.1)
+
+-- a constant as an operand
+abbrev pub with_constant : Situation → ℕ → OperandValue × Situation
+with_constant t k = (constant_operand k, t)
+
+-- no two values are one operand
+pub same_value : (v w : Value) → value_operand v ≡ value_operand w → v ≡ w
+same_value v w is = cc
+
+-- a register in one of both fields is read
+pub first_is_read : (base x y : ℕ) → base ≤ x → x < 256 → (is_from x base || is_from y base) ≡ true
+first_is_read base x y above small = grind (arith, nat_tests)
+
+pub second_is_read : (base x y : ℕ) → base ≤ y → y < 256 → (is_from x base || is_from y base) ≡ true
+second_is_read base x y above small = grind (arith, nat_tests)
 
 -- ---- constants that operands name
 

@@ -18,7 +18,7 @@ use Rattle.scheme.specs.declared.making.Active.{Active}
 use Rattle.scheme_stands.specs.Expressions.{Rel}
 use Rattle.scheme_stands.specs.Lists.{GivenRel, CallAt}
 use Rattle.scheme_stands.specs.Words.{Fn, Spot, WordAt, instr_by}
-use Rattle.reads_back.proofs.Comes.{Begins, Comes, IsCallWord, IsWanted, Reads, comes_next, CallComes, ReadsCall, GivenComes, ReadsGiven}
+use Rattle.reads_back.proofs.Comes.{Begins, Comes, IsCallWord, IsWanted, Reads, comes_next, CallComes, ReadsCall, GivenComes, ReadsGiven, behind_one}
 use Rattle.reads_back.proofs.BehindWords.{HasLocals, same_then, quiet_same, behind_words, locals_then}
 use Rattle.reads_back.proofs.Reaches.{Reaches, reaches_on, reaches_then}
 use Rattle.reads_back.proofs.TakenEntries.{at_place, top_taken}
@@ -132,10 +132,6 @@ call_wants : {f : Function} {g : Fn} {p q : Spot} (op : Op) (a b c : ℕ) (s : S
 call_wants {p = p} op a b c s is_function by above at = word_wants s is_function at (abc_is_read is_function at) (call_reads_from op p.pc a b c s.base by above)
 
 -- ---- a function and its arguments
-
--- what is known behind a function
-abbrev behind_one : {f : Function} {Is : Value → Type 0} {deep first last : ℕ} {s : Situation} → Comes f Is deep s first last → Situation
-behind_one {s = s} one = behind_words one.scope one.seen (one.entry ∷ []) s
 
 -- and behind its arguments
 abbrev behind_both : {f : Function} {On : Value → Type 0} {Given : Values → Bool → Type 0} {deep first mid last : ℕ} {count : Want} {s : Situation} (one : Comes f On deep s first mid) →

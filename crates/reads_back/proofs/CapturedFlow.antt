@@ -1,7 +1,7 @@
 -- Each step of a function captures what its marks do, where these come next at its place.
-use Rattle.std.proofs.Common.{◌≡◌, ◌<◌, ℕ, suc, ◌-◌, Bool, true, List, [], ◌∷◌, length, Some, refl, sym, ap, ap₂, ◌∙◌, subst, arith}
+use Rattle.std.proofs.Common.{◌≡◌, ◌<◌, ℕ, suc, ◌-◌, Bool, true, List, [], length, Some, refl, sym, ap, ap₂, ◌∙◌, subst, arith}
 use Rattle.std.proofs.lemmas.Option.{same_Some}
-use Rattle.std.specs.Prelude.{◌==◌, ◌&&◌, ◌||◌, Option, not, option_map}
+use Rattle.std.specs.Prelude.{Option, option_map}
 use Rattle.lua_num.specs.Bytes.{Text}
 use Rattle.lua_tree.specs.Outline as outline
 use Rattle.lua_tree.specs.Outline.{Mark, Place, dots, hidden_local, innermost, leave, local_name, mention, opened, statements_part}
@@ -20,7 +20,6 @@ use Rattle.scheme.specs.Making.{Ahead, Maker}
 use Rattle.scheme_stands.specs.Words.{Fn}
 use Rattle.scheme_stands.proofs.Growth.{spot}
 use Rattle.scheme_stands.proofs.Walks.{and_right}
-use Rattle.same_flow.specs.SameMarks.{but_breaks}
 use Rattle.same_flow.proofs.ListedRun.{step_there}
 use Rattle.same_flow.proofs.Walks.{Said, said_at, says_at, state_of}
 use Rattle.reads_back.proofs.CapturedSteps.{KindCatching, kind_caught, own_captured}
@@ -32,17 +31,11 @@ use Rattle.reads_back.proofs.FlowRead.{Begins, as_many, last_is, within_last}
 use Rattle.reads_back.proofs.FlowSteps.{kind_step_read, later_at}
 use Rattle.reads_back.proofs.FlowThere.{IsFlowFunction, StepIs, before_at, made_at, pcs, step_is}
 use Rattle.reads_back.proofs.FormedSteps.{IsFormed, laid_formed}
+use Rattle.reads_back.proofs.MarksCaptured.{captured_unbroken}
 use Rattle.reads_back.proofs.ScopesRead.{has_register}
 use Rattle.reads_back.proofs.StepsExact.{captured_by_step, step_of_words}
 use Rattle.reads_back.proofs.StepsKnown.{part_said, says_part, state_before}
 use Rattle.reads_back.proofs.StepsSpan.{step_captures_between}
-
--- breaks capture nothing
-unbroken_captured : (d : ℕ) (marks : List Mark) → is_captured d (but_breaks marks) ≡ is_captured d marks
-unbroken_captured d [] = refl
-unbroken_captured d (mention line name (Some binding) around ∷ marks) = ap (λ rest. ((binding.declaration == d) && not (binding.home == innermost around)) || rest) (unbroken_captured d marks)
-unbroken_captured d (leave line true ∷ marks) = unbroken_captured d marks
-unbroken_captured d (mark ∷ marks) = unbroken_captured d marks
 
 module _ {f : Function} {g : Fn} {z : Maker} {lefts : ℕ → List (Option Inner)} {parts : ℕ → outline.Part} {code : Steps} {params names : List Text} {ahead : Ahead} {block : Statements} (of : IsFlowFunction f g z lefts parts code params names ahead block) where
   pub begins_again : {at : ℕ} {now : Situation} → Begins of at now → Begins of at (begun at (pcs of at) now)
@@ -85,7 +78,7 @@ module _ {f : Function} {g : Fn} {z : Maker} {lefts : ℕ → List (Option Inner
         let said = says_part kind part state is.fits in
         ap (λ (it : Said). is_captured d it.marks) (ap₂ (λ kind part. says_at kind part state) is.there is.part_there)
         ∙ ap (is_captured d) said.0
-        ∙ unbroken_captured d (part_said kind part (place_at at)).marks
+        ∙ captured_unbroken d (part_said kind part (place_at at)).marks
 
     formed_at : formed_statements block ≡ true → {at : ℕ} {kind : StepKind} {part : Part} → StepIs of at kind part → IsFormed kind part
     formed_at formed {at} {kind} {part} is =

@@ -48,7 +48,7 @@ use Rattle.reads_back.proofs.ScopesRead.{has_register, is_local_function}
 use Rattle.reads_back.proofs.StepsExact.{captured_by_step}
 use Rattle.reads_back.proofs.StepsGrow.{pcs_grow}
 use Rattle.reads_back.proofs.StepsKnown.{state_before}
-use Rattle.reads_back.proofs.Tests.{not_below, or_first, or_second}
+use Rattle.reads_back.proofs.Tests.{not_below, or_first, or_second, same_truth}
 
 -- ---- what is said of the marks
 
@@ -87,12 +87,6 @@ CapturedInside all place block declarations =
     (declaration : ℕ) → declarations ≤ declaration → declaration < (statements_part block place).next.declarations → is_captured declaration all ≡ is_captured declaration (statements_part block place).marks
 
 -- ---- tests
-
-alike : (a b : Bool) → (a ≡ true → b ≡ true) → (b ≡ true → a ≡ true) → a ≡ b
-alike true true to back = refl
-alike false false to back = refl
-alike true false to back = sym (to refl)
-alike false true to back = back refl
 
 has_more : (register : ℕ) (first : ℕ) (registers : List ℕ) → has_register register registers ≡ true → has_register register (first ∷ registers) ≡ true
 has_more register first registers has = or_second (first == register) (has_register register registers) has
@@ -212,12 +206,12 @@ module _ {f : Function} {g : Fn} {z : Maker} {lefts : ℕ → List (Option Inner
 
           by : (declaration : Option ℕ) → one.declaration ≡ declaration → stands_in now.scope.active registers entry ≡ captured_in declaration said
           by None is =
-              alike (stands_in now.scope.active registers entry) false
+              same_truth (stands_in now.scope.active registers entry) false
               (λ stands. let it = found stands in
               sym (no_hidden at (begun at (pcs of at) now) read.behind draft less begins read.reads it.0 it.1 it.3 (ap (λ (local : Local). local.declaration) it.4 ∙ is)) ∙ it.2)
               (λ is. cc)
           by (Some declaration) is =
-              alike (stands_in now.scope.active registers entry) (is_captured declaration said)
+              same_truth (stands_in now.scope.active registers entry) (is_captured declaration said)
               (λ stands. let it = found stands in sym (register_like it.0 it.1 declaration it.3 (ap (λ (local : Local). local.declaration) it.4 ∙ is)) ∙ it.2)
               (λ captures.
               let below = (sound at within).high_of entry one declaration listed is in

@@ -6,6 +6,7 @@ use Rattle.std.proofs.lemmas.Option.{none-some}
 use Rattle.std.specs.List.{list_any}
 use Rattle.std.specs.Option.{option_eq}
 use Rattle.std.specs.Prelude.{◌==◌, ◌||◌, nat_eq, slice_get}
+use Rattle.std.proofs.Math.Bool.{or-false}
 use Rattle.lua_num.specs.Bytes.{Text}
 use Rattle.lua_tree.specs.Outline.{Place, body_part, expression_part, mentions}
 use Rattle.lua_tree.specs.Scoping.{Use, global_use, local_use, upvalue_use}
@@ -27,11 +28,13 @@ use Rattle.scheme_stands.proofs.Here.{tame_body, tame_expression, tame_path}
 use Rattle.scheme_stands.proofs.Moving.{passed_moves}
 use Rattle.scheme_stands.proofs.Scopes.{function_moves}
 use Rattle.scheme_stands.proofs.Walks.{closure_moves}
-use Rattle.reads_back.proofs.CapturedStretches.{Onward, Catches, Catching, Distinct, Shown, Still, is_local_use, piece_there, same_spans, shown_both, shown_none}
+use Rattle.reads_back.proofs.CapturedMarks.{is_local_use}
+use Rattle.reads_back.proofs.CapturedStretches.{Onward, Catches, Catching, Distinct, Shown, Still, piece_there, same_spans, shown_both, shown_none}
 use Rattle.reads_back.proofs.CapturedWords.{Spans, word_spans}
 use Rattle.reads_back.proofs.ClosureReads.{are_further}
 use Rattle.reads_back.proofs.ScopesCaptured.{captured_by, captured_from}
 use Rattle.reads_back.proofs.ScopesRead.{has_register}
+use Rattle.reads_back.proofs.Tests.{same_truth}
 use Rattle.reads_back.proofs.WordsRead.{IsFunction, abx_is_read, further_is_there}
 
 -- ---- the registers of locals that are upvalues
@@ -72,31 +75,22 @@ found_there d (one ∷ others) (suc r) x there declared = by (option_eq nat_eq o
     by true further = (one, refl)
     by false further = further
 
-same_tests : (a b : Bool) → (a ≡ true → b ≡ true) → (b ≡ true → a ≡ true) → a ≡ b
-same_tests true b one other = sym (one refl)
-same_tests false true one other = other refl
-same_tests false false one other = refl
-
 -- the register of a use is that of a declared local just where it is a use of that
 use_like : (active : List Active) → Distinct active → (one : Use) (r d : ℕ) (x : Active) → slice_get active r ≡ Some x → x.local.declaration ≡ Some d → has_register r (register_as (where_is one active)) ≡ is_local_use d one
-use_like active distinct (local_use e) r d x there declared = or_none (register_among e active == r) ∙ same_tests (register_among e active == r) (e == d) one other
+use_like active distinct (local_use e) r d x there declared = or-false (register_among e active == r) ∙ same_truth (register_among e active == r) (d == e) one other
   where
-    or_none : (a : Bool) → (a || false) ≡ a
-    or_none true = refl
-    or_none false = refl
-
     same_number : (m n : ℕ) → ◌≡◌ {A = Option ℕ} (Some m) (Some n) → m ≡ n
     same_number m n is = cc
 
-    one : (register_among e active == r) ≡ true → (e == d) ≡ true
+    one : (register_among e active == r) ≡ true → (d == e) ≡ true
     one is =
         let same = eqb-true (register_among e active) r is in
         let found = found_declared e active x (ap (slice_get active) same ∙ there) in
-        eq-eqb e d (same_number e d (sym found ∙ declared))
+        eq-eqb d e (same_number d e (sym declared ∙ found))
 
-    other : (e == d) ≡ true → (register_among e active == r) ≡ true
+    other : (d == e) ≡ true → (register_among e active == r) ≡ true
     other is =
-        let same = eqb-true e d is in
+        let same = sym (eqb-true d e is) in
         let found = found_there d active r x there declared in
         let register = distinct (register_among d active) r found.0 x d found.1 there (found_declared d active found.0 found.1) declared in
         eq-eqb (register_among e active) r (ap (λ e. register_among e active) same ∙ register)

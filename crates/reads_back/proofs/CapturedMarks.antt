@@ -1,6 +1,5 @@
 -- What the marks of a part capture of what was declared before it: only what is in scope there, and of a function's body what the sources of its upvalues say.
 use Rattle.std.proofs.Common.{◌≡◌, ◌≤◌, ◌<◌, inl, inr, ℕ, suc, Bool, true, false, not, ◌&&◌, ◌||◌, List, [], ◌∷◌, ◌++◌, Option, Some, None, refl, sym, ap, ap₂, ◌∙◌, subst, arith, if◌then◌else◌}
-use Rattle.std.proofs.Math.Bool.{or_assoc}
 use Rattle.std.proofs.lemmas.Bool.{eqb-true, eq-eqb}
 use Rattle.std.specs.List.{list_any}
 use Rattle.std.specs.Prelude.{◌==◌}
@@ -16,34 +15,16 @@ use Rattle.scheme_stands.proofs.KnownMarks.{Leads, MeansFrom, expressions_lead, 
 use Rattle.scheme_stands.proofs.Names.{sources_are}
 use Rattle.scheme_stands.proofs.Origins.{all_more, entered, inside_walked}
 use Rattle.scheme_stands.proofs.Upvalues.{AllBindings, Knows, captured_among, differ, knows_all, mentions_back, mentions_front, mentions_two, upvalues_all, upvalues_seen}
-use Rattle.reads_back.proofs.Tests.{or_second}
+use Rattle.reads_back.proofs.Tests.{or_second, same_truth, first_of_both}
 
 -- ---- lists of marks
-
-pub captured_both : (declaration : ℕ) (marks others : List Mark) → is_captured declaration (marks ++ others) ≡ (is_captured declaration marks || is_captured declaration others)
-captured_both d [] others = refl
-captured_both d (mention line name (Some b) around ∷ marks) others =
-    let here = (b.declaration == d) && not (b.home == innermost around) in
-    ap (λ rest. here || rest) (captured_both d marks others) ∙ sym (or_assoc here (is_captured d marks) (is_captured d others))
-captured_both d (mention line name None around ∷ marks) others = captured_both d marks others
-captured_both d (local_name line reached ∷ marks) others = captured_both d marks others
-captured_both d (hidden_local line reached ∷ marks) others = captured_both d marks others
-captured_both d (dots line vararg ∷ marks) others = captured_both d marks others
-captured_both d (leave line looped ∷ marks) others = captured_both d marks others
-captured_both d (opened outer ∷ marks) others = captured_both d marks others
 
 -- a mention that captures a declaration, of which so much is known
 record Capturing (P : Option Binding → List ℕ → Type 0) (declaration : ℕ) : Type 0 where
   binding : Binding
   around : List ℕ
   same : binding.declaration ≡ declaration
-  elsewhere : (binding.home == innermost around) ≡ false
   known : P (Some binding) around
-
-both_known : (a b : Bool) → (a && not b) ≡ true → (a ≡ true) × (b ≡ false)
-both_known true true h = cc
-both_known true false h = (refl, refl)
-both_known false b h = cc
 
 capturing : (P : Option Binding → List ℕ → Type 0) (d : ℕ) (marks : List Mark) → Mentions P marks → is_captured d marks ≡ true → Capturing P d
 capturing P d [] each h = cc
@@ -51,8 +32,7 @@ capturing P d (mention line name (Some b) around ∷ marks) each h = by ((b.decl
   where
     by : (here : Bool) → ((b.declaration == d) && not (b.home == innermost around)) ≡ here → (here || is_captured d marks) ≡ true → (is_captured d marks ≡ true → Capturing P d) → Capturing P d
     by true e h later =
-        let k = both_known (b.declaration == d) (b.home == innermost around) e in
-        record { binding = b; around = around; same = eqb-true b.declaration d k.0; elsewhere = k.1; known = each.0 }
+        record { binding = b; around = around; same = eqb-true b.declaration d (first_of_both (b.declaration == d) (not (b.home == innermost around)) e); known = each.0 }
     by false e h later = later h
 capturing P d (mention line name None around ∷ marks) each h = capturing P d marks each.1 h
 capturing P d (local_name line reached ∷ marks) each h = capturing P d marks each h
@@ -125,11 +105,6 @@ known_one d Q (b ∷ bs) each h = by (d == b.declaration) refl h (known_one d Q 
     by : (here : Bool) → (d == b.declaration) ≡ here → (here || is_known d bs) ≡ true → (is_known d bs ≡ true → (b : Binding) × (b.declaration ≡ d) × Q b) → (b : Binding) × (b.declaration ≡ d) × Q b
     by true e h later = (b, sym (eqb-true d b.declaration e), each.0)
     by false e h later = later h
-
-same_truth : (a b : Bool) → (a ≡ true → b ≡ true) → (b ≡ true → a ≡ true) → a ≡ b
-same_truth true b f g = sym (f refl)
-same_truth false true f g = g refl
-same_truth false false f g = refl
 
 module _ (all : List Mark) (method : Bool) (params : List Text) (vararg : Bool) (block : Statements) (first last : ℕ) (place : Place) (rest : List Mark) (p : Spot) (h : Here all (body_part method (function_body params vararg block first last)) place rest p)
     (d : ℕ) (before : d < place.declarations) (own : OnlyOwn place d) where

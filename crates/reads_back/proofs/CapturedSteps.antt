@@ -35,11 +35,12 @@ use Rattle.reads_back.specs.Stepped.{CountedAt, KindAt, begun_by}
 use Rattle.reads_back.proofs.CapturedExpressions.{RelCatches, field_all, name_all, operand_caught}
 use Rattle.reads_back.proofs.CapturedLeaves.{function_caught}
 use Rattle.reads_back.proofs.CapturedLists.{AllCaught, ExpressionCaught, adjust_caught, alone_caught, assign_caught, assign_one, open_caught}
-use Rattle.reads_back.proofs.CapturedStretches.{Catches, Catching, Fine, Onward, abc_still, abx_still, captured_both, caught_none, caught_on, caught_then, fine_here, fine_second, jump_still, like_both, like_none, Shown, shown_both, shown_none, same_spans, still_then, fine_first_by}
+use Rattle.reads_back.proofs.CapturedStretches.{Catches, Catching, Fine, Onward, abc_still, abx_still, caught_none, caught_on, caught_then, fine_here, fine_second, jump_still, like_both, like_none, Shown, shown_both, shown_none, same_spans, still_then, fine_first_by}
 use Rattle.reads_back.proofs.CapturedTrees.{all_caught, expression_caught}
 use Rattle.reads_back.proofs.CapturedWords.{Spans, captured_between, spans_between, spans_none, spans_then}
 use Rattle.reads_back.proofs.CapturesLike.{CapturesLike}
 use Rattle.reads_back.proofs.FormedSteps.{IsFormed}
+use Rattle.reads_back.proofs.MarksCaptured.{captured_both}
 use Rattle.reads_back.proofs.PartsUsed.{get_front}
 use Rattle.reads_back.proofs.StatementsMeant.{own_active}
 use Rattle.reads_back.proofs.StepsKnown.{part_said}

@@ -1,6 +1,5 @@
 -- What words capture in a stretch of the code scheme is what its marks capture.
 use Rattle.std.proofs.Common.{◌≡◌, ℕ, suc, ◌≤◌, Bool, true, false, List, [], ◌∷◌, ◌++◌, Option, Some, None, refl, sym, ap, ap₂, ◌∙◌, subst, arith}
-use Rattle.std.proofs.Math.Bool.{or_assoc}
 use Rattle.std.proofs.lemmas.Bool.{eq-eqb, eqb-true}
 use Rattle.std.proofs.lemmas.List.Folds.{list_any-append}
 use Rattle.std.specs.List.{list_any}
@@ -8,7 +7,7 @@ use Rattle.std.specs.Prelude.{◌==◌, ◌||◌, ◌&&◌, not, option_and_then
 use Rattle.lua_num.specs.Bytes.{Text}
 use Rattle.lua_tree.specs.Outline as outline
 use Rattle.lua_tree.specs.Outline.{Binding, Mark, Place, body_part, both, declares, innermost, mention, mentions, nothing, local_name, hidden_local, dots, leave, opened}
-use Rattle.lua_tree.specs.Scoping.{Use, global_use, is_captured, local_use, upvalue_use}
+use Rattle.lua_tree.specs.Scoping.{is_captured}
 use Rattle.lua_tree.specs.Syntax.{FunctionBody, local_function}
 use Rattle.opcode.specs.Reading.{instr_of}
 use Rattle.opcode.specs.declared.op.Op.{Op}
@@ -26,8 +25,10 @@ use Rattle.scheme_stands.proofs.Counting.{closed_row, closed_still}
 use Rattle.scheme_stands.proofs.Entering.{behind_name}
 use Rattle.scheme_stands.proofs.Here.{Tame, here_as, here_at, here_behind, here_local_function, tame_both, tame_nothing, TameBy, here_first_by}
 use Rattle.scheme_stands.proofs.Moving.{ahead_of, behind, chain, still_as}
+use Rattle.reads_back.proofs.CapturedMarks.{is_local_use}
 use Rattle.reads_back.proofs.CapturedWords.{Spans, skips_as, spans_none, spans_on, spans_then, word_spans}
 use Rattle.reads_back.proofs.CapturesLike.{CapturesLike}
+use Rattle.reads_back.proofs.MarksCaptured.{captured_both}
 use Rattle.reads_back.proofs.ScopesCaptured.{registers_as}
 use Rattle.reads_back.proofs.ScopesRead.{has_register}
 use Rattle.reads_back.proofs.TestsEnd.{jump_is_read}
@@ -91,18 +92,6 @@ module _ {f : Function} where
     jump_still quiet at = read_still at (jump_is_read is_function at) quiet
 
 -- ---- what marks capture
-
-pub captured_both : (declaration : ℕ) (marks others : List Mark) → is_captured declaration (marks ++ others) ≡ (is_captured declaration marks || is_captured declaration others)
-captured_both d [] others = refl
-captured_both d (mention line name (Some binding) around ∷ marks) others =
-    let here = (binding.declaration == d) && not (binding.home == innermost around) in
-    ap (λ rest. here || rest) (captured_both d marks others) ∙ sym (or_assoc here (is_captured d marks) (is_captured d others))
-captured_both d (mention line name None around ∷ marks) others = captured_both d marks others
-captured_both d (local_name line reached ∷ marks) others = captured_both d marks others
-captured_both d (hidden_local line reached ∷ marks) others = captured_both d marks others
-captured_both d (dots line vararg ∷ marks) others = captured_both d marks others
-captured_both d (leave line looped ∷ marks) others = captured_both d marks others
-captured_both d (opened outer ∷ marks) others = captured_both d marks others
 
 pub like_none : (active : List Active) → CapturesLike [] active []
 like_none active register declaration one there declared = refl
@@ -168,11 +157,6 @@ abbrev Unmentioned : Onward → Place → List Active → Type 0
 Unmentioned all base active =
     (line : ℕ) (text : Text) (p : Spot) (place : Place) (rest : List Mark) → Fine all base (mentions line text) p place rest →
     (register declaration : ℕ) (one : Active) → slice_get active register ≡ Some one → one.local.declaration ≡ Some declaration → is_captured declaration (mentions line text place).marks ≡ false
-
-abbrev pub is_local_use : (declaration : ℕ) → Use → Bool
-is_local_use declaration (local_use other) = other == declaration
-is_local_use declaration (upvalue_use slot) = false
-is_local_use declaration global_use = false
 
 -- the upvalues of a function that are locals around it are those that its marks capture
 abbrev Opened : Fn → Onward → Place → List Active → Type 0

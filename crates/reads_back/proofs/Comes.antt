@@ -264,3 +264,7 @@ pub record ReadsGiven (f : Function) (g : Fn) (active : List Active) (listed : L
   pub forward : (free : ℕ) (p q : Spot) → given.part active free p q → p.pc ≤ q.pc
   pub begins : (free : ℕ) (p q : Spot) → q.pc ≤ f.last → given.part active free p q → (p.pc ≡ q.pc) ⊎ Begins f free p.pc
   pub comes : (free : ℕ) (p q : Spot) (s : Situation) → HasLocals active listed s → free ≡ next_free s → IsQuiet f s.scope p.pc q.pc → 0 < length s.entries → given.part active free p q → GivenComes f (Are p.functions q.functions) deep s given.count p.pc q.pc
+
+-- what is known behind one value
+abbrev pub behind_one : {f : Function} {Is : Value → Type 0} {deep first last : ℕ} {s : Situation} → Comes f Is deep s first last → Situation
+behind_one {s = s} one = behind_words one.scope one.seen (one.entry ∷ []) s

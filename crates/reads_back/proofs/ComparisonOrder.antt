@@ -2,6 +2,7 @@
 use Rattle.std.proofs.Common.{◌≡◌, ℕ, ◌+◌, ◌-◌, ◌<◌, ◌≤◌, ◌⊎◌, inl, inr, max, nat_lt, ◌&&◌, ◌||◌, Bool, true, false, not, refl, sym, ap, ap₂, ◌∙◌, arith, le-leb}
 use Rattle.std.proofs.lemmas.Bool.Decides.{nat_tests}
 use Rattle.std.specs.Prelude.{◌==◌}
+use Rattle.std.proofs.lemmas.Bool.{eqb-true}
 use Rattle.core_expr.specs.Counting.{taken_behind, taken_behind_operand}
 use Rattle.core_expr.specs.Targets.{is_constant_field, swapped_fields}
 use Rattle.core_expr.specs.Values.{OperandValue, Value, constant_operand, value_operand}
@@ -40,9 +41,6 @@ less_than a b is = grind (arith, nat_tests)
 not_less : (a b : ℕ) → nat_lt a b ≡ false → b ≤ a
 not_less a b is = grind (arith, nat_tests)
 
-same_number : (a b : ℕ) → (a == b) ≡ true → a ≡ b
-same_number a b is = grind (arith, nat_tests)
-
 other_number : (a b : ℕ) → (a == b) ≡ false → a ≡ b → ⊥
 other_number a b is same = grind (arith, nat_tests)
 
@@ -62,7 +60,7 @@ late i n t low is = by (i == n) (n == 255) (t == n) refl refl refl is
   where
     by : (a b c : Bool) → (i == n) ≡ a → (n == 255) ≡ b → (t == n) ≡ c → (not a || (not b && c)) ≡ true → (i < n) ⊎ ((t ≡ n) × (n ≡ 255 → ⊥))
     by false b c is_a is_b is_c is = inl (below_it i n low is_a)
-    by true false true is_a is_b is_c is = inr (same_number t n is_c, other_number n 255 is_b)
+    by true false true is_a is_b is_c is = inr (eqb-true t n is_c, other_number n 255 is_b)
     by true false false is_a is_b is_c is = cc
     by true true c is_a is_b is_c is = cc
 
@@ -80,7 +78,7 @@ early : (j n : ℕ) (more : Bool) → (not (j == n) || more) ≡ false → j ≡
 early j n more is = by (j == n) refl is
   where
     by : (a : Bool) → (j == n) ≡ a → (not a || more) ≡ false → j ≡ n
-    by true is_a is = same_number j n is_a
+    by true is_a is = eqb-true j n is_a
     by false is_a is = cc
 
 -- so it is where the second of two constants is written first, or the first one is taken already
@@ -89,7 +87,7 @@ early_of_both i j n low is = by (nat_lt n i) (j == n) refl refl is
   where
     by : (a b : Bool) → nat_lt n i ≡ a → (j == n) ≡ b → (a || (b && nat_lt i n)) ≡ true → j ≡ n
     by true b is_a is_b is = let above = less_than n i is_a in absurd (omega (arith, low, above))
-    by false true is_a is_b is = same_number j n is_b
+    by false true is_a is_b is = eqb-true j n is_b
     by false false is_a is_b is = cc
 
 late_or_early : (i j n : ℕ) → i ≤ n → (nat_lt n j || ((i == n) && nat_lt j n)) ≡ false → (i < n) ⊎ (j ≡ n)
@@ -154,7 +152,7 @@ module _ (count n x y free1 free2 : ℕ) (few : count ≤ 250) where
       by : (is : Bool) → ((y - 256 == n) && ((n == 255) || nat_lt n (taken_behind v n))) ≡ is →
           (swapped_fields count n x y (value_operand v) (constant_operand j) (is_constant_field x) (is_constant_field y) ≡ false) ⊎ ((swapped_fields count n x y (value_operand v) (constant_operand j) (is_constant_field x) (is_constant_field y) ≡ true) × MayTurn count n x y (value_operand v) (constant_operand j))
       by false is = inl (fields ∙ is)
-      by true is = inr (fields ∙ is, early_second (j, refl, sym minus ∙ same_number (y - 256) n (first_of_both (y - 256 == n) _ is)))
+      by true is = inr (fields ∙ is, early_second (j, refl, sym minus ∙ eqb-true (y - 256) n (first_of_both (y - 256 == n) _ is)))
   plain_order (value_operand v) (value_operand w) at_x at_y next =
       inl (fields_are x y (value_operand v) (value_operand w) false false (register_field x v at_x) (register_field y w at_y) ∙ by at_x)
     where

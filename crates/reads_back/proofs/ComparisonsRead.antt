@@ -25,15 +25,16 @@ use Rattle.scheme_stands.specs.Relation.{related}
 use Rattle.scheme_stands.specs.Words.{Fn, IsRead, Seq, Spot, Stretch, WordAt, instr_by}
 use Rattle.reads_back.specs.Cores.{IsOperand}
 use Rattle.reads_back.proofs.BehindWords.{HasLocals, SameLocals, behind_words, locals_then, quiet_same, same_then}
-use Rattle.reads_back.proofs.BothOperands.{counted, seen_with_both}
+use Rattle.reads_back.proofs.BothOperands.{counted, seen_with_both, as_operand, first_is_read, second_is_read}
 use Rattle.reads_back.proofs.Comes.{Begins, IsOperandWanted, IsWanted, ReadsCore}
 use Rattle.reads_back.proofs.HeldOperands.{IsTaken, Kept, ReadsHeld, StandsIn, entries_in, in_local, in_next, in_word, operand_of, rk_held}
 use Rattle.reads_back.proofs.NameReads.{AreListed}
+use Rattle.reads_back.proofs.OperandReads.{register_popped}
 use Rattle.reads_back.proofs.StoresRead.{IsInStep, local_there, no_place}
 use Rattle.reads_back.proofs.Reaches.{Reaches, reaches_then}
 use Rattle.reads_back.proofs.TakenEntries.{top_taken}
 use Rattle.reads_back.proofs.Taking.{max_swap, operand_taken_later}
-use Rattle.reads_back.proofs.Tests.{both_hold, not_below}
+use Rattle.reads_back.proofs.Tests.{both_hold}
 use Rattle.reads_back.proofs.TestedAs.{IsCompared, IsField, comparison_by, comparison_of, is_turned, taken_behind_test, word_op}
 use Rattle.reads_back.proofs.TestsEnd.{flag_is}
 use Rattle.reads_back.proofs.TestsRead.{CanTest, TestComes, TestRead, test_ends}
@@ -47,12 +48,6 @@ use Rattle.reads_back.proofs.WordsRead.{IsFunction, IsQuiet, abc_is_read, quiet_
 abbrev IsOnTop : (count : ℕ) → Entries → (x : ℕ) → Kept → Type 0
 IsOnTop count before x (in_next entry v) = x ≡ count + length before
 IsOnTop count before x kept = Unit {0}
-
-abbrev as_operand : (Value × Situation) → OperandValue × Situation
-as_operand p = (value_operand p.0, p.1)
-
-register_popped : (f : Function) (x : ℕ) (t : Situation) → x < 256 → pop_operand f x t ≡ option_map as_operand (pop f x t)
-register_popped f x t small = ap (λ far. if far then option_map (λ k. (constant_operand k, t)) (constant_in f (x - 256)) else option_map as_operand (pop f x t)) (not_below x 256 small)
 
 kept_popped : (f : Function) (count free x free1 : ℕ) (listed : List ℕ) (kept : Kept) (t : Situation) (before : Entries) → IsInStep f count listed t → t.entries ≡ before ++ entries_in kept → IsOnTop count before x kept → StandsIn f count listed free x free1 kept →
     pop_operand f x t ≡ Some (operand_of kept, record t { entries = before })
@@ -286,12 +281,6 @@ record IsCompareWord (code : Op) (op : BinaryOp) : Type 0 where
   reads : (f : Function) (pc a b c : ℕ) (t : Situation) → read_word f (word_of pc (Piece.Abc code a b c)) t ≡ option_map as_end (test f (word_of pc (Piece.Abc code a b c)) t)
   when : (pc a b c : ℕ) → when_of code (word_of pc (Piece.Abc code a b c)) ≡ (a == 1)
 
-first_is_read : (base x y : ℕ) → base ≤ x → x < 256 → (is_from x base || is_from y base) ≡ true
-first_is_read base x y above small = grind (arith, nat_tests)
-
-second_is_read : (base x y : ℕ) → base ≤ y → y < 256 → (is_from x base || is_from y base) ≡ true
-second_is_read base x y above small = grind (arith, nat_tests)
-
 plain_fields : {g : Fn} {code : Op} {op : BinaryOp} (a : ℕ) → IsCompareWord code op → ReadsFields g (λ x y. Piece.Abc code a x y)
 plain_fields a as_word = record {
   first = λ pc x y base above small. as_word.wants pc a x y base ∙ first_is_read base x y above small;
@@ -340,27 +329,27 @@ module _ {f : Function} {g : Fn} {active : List Active} {listed : List ℕ} {lef
   )
 
   module _ {code : Op} (as_word : IsCompareWord code (word_op op)) where
-    plain_read : (label : ℕ) (when : Bool) (p q : Spot) (s : Situation) → is_turned op ≡ false → HasLocals active listed s → s.left ≡ lefts p.functions → s.entries ≡ [] → label ≤ f.last → IsQuiet f s.scope p.pc q.pc →
-        TwoAt (RkAt g active (related g left)) (RkAt g active (related g right)) (length active) (λ x y. Seq (WordAt g (Piece.Abc code (truth_field when) x y)) (WordAt g (Piece.Jump Op.Jmp 0 label))) p q →
+    -- the operands stand in the fields of the word in their order or turned about
+    either_read : (way : Bool) → is_turned op ≡ way → (label : ℕ) (when : Bool) (x y b c : ℕ) (p last mid q : Spot) (s : Situation) → HasLocals active listed s → s.left ≡ lefts p.functions → s.entries ≡ [] → label ≤ f.last → IsQuiet f s.scope p.pc q.pc →
+        (come : BothCome f g active listed left right p.functions last.functions s x y p.pc last.pc) → WordAt g (Piece.Abc code (truth_field when) b c) last mid → WordAt g (Piece.Jump Op.Jmp 0 label) mid q →
+        max (max come.seen (counted b)) (counted c) ≡ taken_behind_test (tested_comparison (comparison_by way (word_op op) x y (operand_of come.one) (operand_of come.two))) s.seen →
+        ((t : Situation) → IsInStep f (length active) listed t → t.entries ≡ entries_in come.one ++ entries_in come.two →
+        comparison f (word_of last.pc (Piece.Abc code (truth_field when) b c)) (word_op op) t ≡ Some (tested_comparison (comparison_by way (word_op op) x y (operand_of come.one) (operand_of come.two)), record t { entries = [] })) →
         TestRead f (IsCompared g active op left right p.functions q.functions) s when label p.pc q.pc
-    plain_read label when p q s turned locals left_is empty within quiet at =
+    either_read way turned label when x y b c p last mid q s locals left_is empty within quiet come word jump counts takes =
         let a = truth_field when in
-        let is : length active ≡ next_free s = omega (arith, locals.base, ap length empty) in
-        let come = both_come left right label (λ x y. Piece.Abc code a x y) is_function (rk_held is_function all left left_read) (rk_held is_function all right right_read) (plain_fields a as_word) p q s locals is quiet at in
-        let word = at.words_at.first_at in
-        let jump = at.words_at.second_at in
         let first = operand_of come.one in
         let second = operand_of come.two in
-        let tested = tested_comparison (comparison_of op at.x at.y first second) in
+        let tested = tested_comparison (comparison_of op x y first second) in
         let entries = entries_in come.one ++ entries_in come.two in
-        let w = word_of at.last.pc (Piece.Abc code a at.x at.y) in
+        let w = word_of last.pc (Piece.Abc code a b c) in
         let t = behind_words come.scope come.seen entries s in
-        let n = max (max come.seen (counted at.x)) (counted at.y) in
+        let n = max (max come.seen (counted b)) (counted c) in
         let u = record s { scope = come.scope; seen = n } in
         let step : IsInStep f (length active) listed (record u { entries = entries }) = record { base = locals.base; places = come.same.active ∙ locals.places } in
-        let is_plain : comparison_of op at.x at.y first second ≡ comparison_by false (word_op op) at.x at.y first second = ap (λ turned. comparison_by turned (word_op op) at.x at.y first second) turned in
-        let counts : n ≡ taken_behind_test (tested_comparison (comparison_of op at.x at.y first second)) s.seen = come.taken ∙ ap (λ (c : Comparison). taken_behind_operand c.right (taken_behind_operand c.left s.seen)) (sym is_plain) in
-        let test_come : TestComes f (IsCompared g active op left right p.functions at.last.functions) s p.pc at.last.pc w = record {
+        let in_way : comparison_of op x y first second ≡ comparison_by way (word_op op) x y first second = ap (λ turned. comparison_by turned (word_op op) x y first second) turned in
+        let all_counted : n ≡ taken_behind_test tested s.seen = counts ∙ ap (λ (c : Comparison). taken_behind_operand c.right (taken_behind_operand c.left s.seen)) (sym in_way) in
+        let test_come : TestComes f (IsCompared g active op left right p.functions last.functions) s p.pc last.pc w = record {
           tested = tested;
           is = compared_by come;
           scope = come.scope;
@@ -369,59 +358,36 @@ module _ {f : Function} {g : Fn} {active : List Active} {listed : List ℕ} {lef
           more = entries;
           reaches = come.reaches;
           takes =
-              ap (tested_by f w) (as_word.sees at.last.pc a at.x at.y t ∙ seen_with_both at.x at.y t)
-              ∙ as_word.tests f at.last.pc a at.x at.y (record t { seen = n })
+              ap (tested_by f w) (as_word.sees last.pc a b c t ∙ seen_with_both b c t)
+              ∙ as_word.tests f last.pc a b c (record t { seen = n })
               ∙ ap (λ (es : Entries). comparison f w (word_op op) (record u { entries = es ++ entries })) empty
-              ∙ plain_taken come.stand (record u { entries = entries }) step refl at.last.pc a code (word_op op)
-              ∙ ap (λ (c : Comparison). Some (tested_comparison c, record u { entries = [] })) (sym is_plain)
+              ∙ takes (record u { entries = entries }) step refl
+              ∙ ap (λ (c : Comparison). Some (tested_comparison c, record u { entries = [] })) (sym in_way)
               ∙ ap (λ (es : Entries). Some (tested, record u { entries = es })) (sym empty)
-              ∙ ap (λ (n : ℕ). Some (tested, record u { seen = n })) counts;
+              ∙ ap (λ (n : ℕ). Some (tested, record u { seen = n })) all_counted;
         } in
-        let made : q.functions ≡ at.last.functions = jump.functions ∙ word.functions in
-        subst (λ (when : Bool). TestRead f (IsCompared g active op left right p.functions q.functions) s when label p.pc q.pc) (as_word.when at.last.pc a at.x at.y ∙ flag_is when)
-        (test_ends is_function can s locals.places left_is empty within quiet (subst (λ (behind : ℕ). TestComes f (IsCompared g active op left right p.functions behind) s p.pc at.last.pc w) (sym made) test_come) word jump (λ t. as_word.reads f at.last.pc a at.x at.y t))
+        let made : q.functions ≡ last.functions = jump.functions ∙ word.functions in
+        subst (λ (when : Bool). TestRead f (IsCompared g active op left right p.functions q.functions) s when label p.pc q.pc) (as_word.when last.pc a b c ∙ flag_is when)
+        (test_ends is_function can s locals.places left_is empty within quiet (subst (λ (behind : ℕ). TestComes f (IsCompared g active op left right p.functions behind) s p.pc last.pc w) (sym made) test_come) word jump (λ t. as_word.reads f last.pc a b c t))
+
+    plain_read : (label : ℕ) (when : Bool) (p q : Spot) (s : Situation) → is_turned op ≡ false → HasLocals active listed s → s.left ≡ lefts p.functions → s.entries ≡ [] → label ≤ f.last → IsQuiet f s.scope p.pc q.pc →
+        TwoAt (RkAt g active (related g left)) (RkAt g active (related g right)) (length active) (λ x y. Seq (WordAt g (Piece.Abc code (truth_field when) x y)) (WordAt g (Piece.Jump Op.Jmp 0 label))) p q →
+        TestRead f (IsCompared g active op left right p.functions q.functions) s when label p.pc q.pc
+    plain_read label when p q s turned locals left_is empty within quiet at =
+        let is : length active ≡ next_free s = omega (arith, locals.base, ap length empty) in
+        let come = both_come left right label (λ x y. Piece.Abc code (truth_field when) x y) is_function (rk_held is_function all left left_read) (rk_held is_function all right right_read) (plain_fields (truth_field when) as_word) p q s locals is quiet at in
+        either_read false turned label when at.x at.y at.x at.y p at.last _ q s locals left_is empty within quiet come at.words_at.first_at at.words_at.second_at come.taken
+        (λ t step entries. plain_taken come.stand t step entries at.last.pc (truth_field when) code (word_op op))
 
     turned_read : (label : ℕ) (when : Bool) (p q : Spot) (s : Situation) → is_turned op ≡ true → HasLocals active listed s → s.left ≡ lefts p.functions → s.entries ≡ [] → label ≤ f.last → IsQuiet f s.scope p.pc q.pc →
         TwoAt (RkAt g active (related g left)) (RkAt g active (related g right)) (length active) (λ x y. Seq (WordAt g (Piece.Abc code (truth_field when) y x)) (WordAt g (Piece.Jump Op.Jmp 0 label))) p q →
         TestRead f (IsCompared g active op left right p.functions q.functions) s when label p.pc q.pc
     turned_read label when p q s turned locals left_is empty within quiet at =
-        let a = truth_field when in
         let is : length active ≡ next_free s = omega (arith, locals.base, ap length empty) in
-        let come = both_come left right label (λ x y. Piece.Abc code a y x) is_function (rk_held is_function all left left_read) (rk_held is_function all right right_read) (turned_fields a as_word) p q s locals is quiet at in
-        let word = at.words_at.first_at in
-        let jump = at.words_at.second_at in
-        let first = operand_of come.one in
-        let second = operand_of come.two in
-        let tested = tested_comparison (comparison_of op at.x at.y first second) in
-        let entries = entries_in come.one ++ entries_in come.two in
-        let w = word_of at.last.pc (Piece.Abc code a at.y at.x) in
-        let t = behind_words come.scope come.seen entries s in
-        let n = max (max come.seen (counted at.y)) (counted at.x) in
-        let u = record s { scope = come.scope; seen = n } in
-        let step : IsInStep f (length active) listed (record u { entries = entries }) = record { base = locals.base; places = come.same.active ∙ locals.places } in
-        let is_turn : comparison_of op at.x at.y first second ≡ comparison_by true (word_op op) at.x at.y first second = ap (λ turned. comparison_by turned (word_op op) at.x at.y first second) turned in
-        let counts : n ≡ taken_behind_test (tested_comparison (comparison_of op at.x at.y first second)) s.seen =
-        max_swap come.seen (counted at.y) (counted at.x) ∙ come.taken ∙ taken_either second first s.seen ∙ ap (λ (c : Comparison). taken_behind_operand c.right (taken_behind_operand c.left s.seen)) (sym is_turn) in
-        let test_come : TestComes f (IsCompared g active op left right p.functions at.last.functions) s p.pc at.last.pc w = record {
-          tested = tested;
-          is = compared_by come;
-          scope = come.scope;
-          same = come.same;
-          seen = come.seen;
-          more = entries;
-          reaches = come.reaches;
-          takes =
-              ap (tested_by f w) (as_word.sees at.last.pc a at.y at.x t ∙ seen_with_both at.y at.x t)
-              ∙ as_word.tests f at.last.pc a at.y at.x (record t { seen = n })
-              ∙ ap (λ (es : Entries). comparison f w (word_op op) (record u { entries = es ++ entries })) empty
-              ∙ turned_taken come.stand (record u { entries = entries }) step refl at.last.pc a code (word_op op)
-              ∙ ap (λ (c : Comparison). Some (tested_comparison c, record u { entries = [] })) (sym is_turn)
-              ∙ ap (λ (es : Entries). Some (tested, record u { entries = es })) (sym empty)
-              ∙ ap (λ (n : ℕ). Some (tested, record u { seen = n })) counts;
-        } in
-        let made : q.functions ≡ at.last.functions = jump.functions ∙ word.functions in
-        subst (λ (when : Bool). TestRead f (IsCompared g active op left right p.functions q.functions) s when label p.pc q.pc) (as_word.when at.last.pc a at.y at.x ∙ flag_is when)
-        (test_ends is_function can s locals.places left_is empty within quiet (subst (λ (behind : ℕ). TestComes f (IsCompared g active op left right p.functions behind) s p.pc at.last.pc w) (sym made) test_come) word jump (λ t. as_word.reads f at.last.pc a at.y at.x t))
+        let come = both_come left right label (λ x y. Piece.Abc code (truth_field when) y x) is_function (rk_held is_function all left left_read) (rk_held is_function all right right_read) (turned_fields (truth_field when) as_word) p q s locals is quiet at in
+        either_read true turned label when at.x at.y at.y at.x p at.last _ q s locals left_is empty within quiet come at.words_at.first_at at.words_at.second_at
+        (max_swap come.seen (counted at.y) (counted at.x) ∙ come.taken ∙ taken_either (operand_of come.two) (operand_of come.one) s.seen)
+        (λ t step entries. turned_taken come.stand t step entries at.last.pc (truth_field when) code (word_op op))
 
 equal_word : IsCompareWord Op.Eq BinaryOp.Eq
 equal_word = record { wants = λ pc a b c base. refl; sees = λ pc a b c t. refl; tests = λ f pc a b c t. refl; reads = λ f pc a b c t. refl; when = λ pc a b c. refl }

@@ -2,6 +2,7 @@
 use Rattle.std.proofs.Common.{◌≡◌, ℕ, suc, max, nat_le, ◌<◌, ◌≤◌, ◌⊎◌, inl, inr, Bool, true, false, not, ◌&&◌, List, ◌++◌, length, Option, refl, sym, ap, ◌∙◌, subst, arith}
 use Rattle.std.specs.List.{list_any}
 use Rattle.std.specs.Prelude.{if◌then◌else◌}
+use Rattle.std.proofs.lemmas.Bool.Decides.{nat_tests}
 use Rattle.lua_tree.specs.OneLine.{one_line_expression}
 use Rattle.lua_tree.specs.Precedence.{is_right_associative, left_binds, level_of_op, right_binds}
 use Rattle.lua_tree.specs.Syntax.{Expression, and_expression, binary_expression, or_expression}
@@ -96,34 +97,24 @@ tested_compares op is = is
 
 -- ---- values stand without parentheses on both sides
 
+binds_more : (op : BinaryOp) → is_comparison op ≡ false → nat_le 4 (level_of_op op) ≡ true
+binds_more BinaryOp.Concat is = refl
+binds_more BinaryOp.Add is = refl
+binds_more BinaryOp.Sub is = refl
+binds_more BinaryOp.Mul is = refl
+binds_more BinaryOp.Div is = refl
+binds_more BinaryOp.Rem is = refl
+binds_more BinaryOp.Pow is = refl
+binds_more op is = cc
+
 bare_left : (e : Expression) → HasCore e → left_binds 3 false e ≡ true
-bare_left (binary_expression line op l r) has = by op has.0
-  where
-    by : (op : BinaryOp) → is_comparison op ≡ false → nat_le 3 (level_of_op op) ≡ true
-    by BinaryOp.Concat is = refl
-    by BinaryOp.Add is = refl
-    by BinaryOp.Sub is = refl
-    by BinaryOp.Mul is = refl
-    by BinaryOp.Div is = refl
-    by BinaryOp.Rem is = refl
-    by BinaryOp.Pow is = refl
-    by op is = cc
+bare_left (binary_expression line op l r) has = let more = binds_more op has.0 in let less : nat_le 3 (level_of_op op) ≡ true = grind (arith, nat_tests, more) in less
 bare_left (and_expression line l r) has = absurd has
 bare_left (or_expression line l r) has = absurd has
 bare_left e has = refl
 
 bare_right : (e : Expression) → HasCore e → right_binds 3 false e ≡ true
-bare_right (binary_expression line op l r) has = by op has.0
-  where
-    by : (op : BinaryOp) → is_comparison op ≡ false → nat_le 4 (level_of_op op) ≡ true
-    by BinaryOp.Concat is = refl
-    by BinaryOp.Add is = refl
-    by BinaryOp.Sub is = refl
-    by BinaryOp.Mul is = refl
-    by BinaryOp.Div is = refl
-    by BinaryOp.Rem is = refl
-    by BinaryOp.Pow is = refl
-    by op is = cc
+bare_right (binary_expression line op l r) has = binds_more op has.0
 bare_right (and_expression line l r) has = absurd has
 bare_right (or_expression line l r) has = absurd has
 bare_right e has = refl

@@ -18,7 +18,7 @@ use Rattle.scheme.specs.declared.making.Active.{Active}
 use Rattle.scheme_stands.specs.Expressions.{Rel, NextAt, SpineAt, ConcatAt}
 use Rattle.scheme_stands.specs.Words.{Fn, Spot, Stretch, WordAt}
 use Rattle.reads_back.specs.Cores.{IsConcat, IsFirst, IsOnly, Counted, only, first_and, concat_by}
-use Rattle.reads_back.proofs.Comes.{AreEntries, Begins, Comes, Made, Reads, ReadsSpine, SpineComes, comes_next}
+use Rattle.reads_back.proofs.Comes.{AreEntries, Begins, Comes, Made, Reads, ReadsSpine, SpineComes, comes_next, behind_one}
 use Rattle.reads_back.proofs.BehindWords.{HasLocals, behind_words, quiet_same, same_then, locals_then}
 use Rattle.reads_back.proofs.Reaches.{Reaches, reaches_on, reaches_then}
 use Rattle.reads_back.proofs.TakenEntries.{behind_taken, count_of_entries, more_entries}
@@ -29,10 +29,6 @@ use Rattle.reads_back.proofs.WordsRead.{IsFunction, IsQuiet, abc_is_read, quiet_
 use Rattle.reads_back.proofs.Deeper.{spine_so, made_so}
 
 -- ---- a value alone, and with others behind it
-
--- what is known behind one value
-abbrev behind_value : {f : Function} {Is : Value → Type 0} {deep first last : ℕ} {s : Situation} → Comes f Is deep s first last → Situation
-behind_value {s = s} one = behind_words one.scope one.seen (one.entry ∷ []) s
 
 -- the last operand
 alone_comes : {f : Function} {Is : Value → Type 0} {deep free free1 first last : ℕ} {s : Situation} → free1 ≡ free + 1 → Comes f Is deep s first last → SpineComes f (IsOnly Is) deep s free free1 first last
@@ -51,14 +47,14 @@ alone_comes counts one = record {
   reaches = one.reaches;
 }
 
-values_reached : {f : Function} {First : Value → Type 0} {Rest : Values → Type 0} {deep free free1 first mid last : ℕ} {s : Situation} (one : Comes f First deep s first mid) (rest : SpineComes f Rest deep (behind_value one) free free1 mid last) →
+values_reached : {f : Function} {First : Value → Type 0} {Rest : Values → Type 0} {deep free free1 first mid last : ℕ} {s : Situation} (one : Comes f First deep s first mid) (rest : SpineComes f Rest deep (behind_one one) free free1 mid last) →
     Reaches f first s last (behind_words rest.scope rest.seen (one.entry ∷ rest.entries) s)
 values_reached {f} {mid = mid} {last = last} {s = s} one rest =
     reaches_then one.reaches
-    (subst (λ (entries : Entries). Reaches f mid (behind_value one) last (record s { scope = rest.scope; entries = entries; seen = rest.seen })) (append_assoc s.entries (one.entry ∷ []) rest.entries) rest.reaches)
+    (subst (λ (entries : Entries). Reaches f mid (behind_one one) last (record s { scope = rest.scope; entries = entries; seen = rest.seen })) (append_assoc s.entries (one.entry ∷ []) rest.entries) rest.reaches)
 
 -- an operand, and those along the spine behind it
-first_comes : {f : Function} {First : Value → Type 0} {Rest : Values → Type 0} {deep free free1 first mid last : ℕ} {s : Situation} (one : Comes f First deep s first mid) → SpineComes f Rest deep (behind_value one) (free + 1) free1 mid last →
+first_comes : {f : Function} {First : Value → Type 0} {Rest : Values → Type 0} {deep free free1 first mid last : ℕ} {s : Situation} (one : Comes f First deep s first mid) → SpineComes f Rest deep (behind_one one) (free + 1) free1 mid last →
     SpineComes f (IsFirst First Rest) deep s free free1 first last
 first_comes one rest = record {
   values = values.and_value one.value rest.values;
@@ -110,7 +106,7 @@ joined_to w s before operands more next joins is = joined w s before operands mo
 
 -- the words of the operands, and the word
 operands_joined : {f : Function} {g : Fn} {First : Value → Type 0} {Rest : Values → Type 0} {deep mid : ℕ} → IsFunction f g → deep < 200 → (free free1 r : ℕ) (p last q : Spot) (s : Situation) → free ≡ next_free s → IsQuiet f s.scope p.pc q.pc →
-    WordAt g (Piece.Abc Op.Concat r free (free1 - 1)) last q → (one : Comes f First deep s p.pc mid) → SpineComes f Rest deep (behind_value one) (free + 1) free1 mid last.pc → Made f (IsConcat (IsFirst First Rest)) (suc deep) s r p.pc q.pc
+    WordAt g (Piece.Abc Op.Concat r free (free1 - 1)) last q → (one : Comes f First deep s p.pc mid) → SpineComes f Rest deep (behind_one one) (free + 1) free1 mid last.pc → Made f (IsConcat (IsFirst First Rest)) (suc deep) s r p.pc q.pc
 unfolding first_comes
 operands_joined is_function few free free1 r p last q s is quiet at one rest =
     let w = word_of last.pc (Piece.Abc Op.Concat r free (free1 - 1)) in
@@ -169,9 +165,9 @@ module _ {f : Function} {g : Fn} {active : List Active} {listed : List ℕ} wher
         comes_next first free p at.mid s locals is (quiet_before at.mid.pc back quiet) wanted at.first
 
     rest_of : (free free1 : ℕ) (p q : Spot) (s : Situation) → HasLocals active listed s → free ≡ next_free s → IsQuiet f s.scope p.pc q.pc → (at : SpineAt g left right active free free1 p q) → (one : Comes f (First p.functions at.mid.functions) deep s p.pc at.mid.pc) →
-        SpineComes f (Rest at.mid.functions q.functions) deep (behind_value one) (free + 1) free1 at.mid.pc q.pc
+        SpineComes f (Rest at.mid.functions q.functions) deep (behind_one one) (free + 1) free1 at.mid.pc q.pc
     rest_of free free1 p q s locals is quiet at one =
-        let behind = behind_value one in
+        let behind = behind_one one in
         let there : HasLocals active listed behind = locals_then one.same locals in
         let next : free + 1 ≡ next_free behind = omega (arith, is, length-append s.entries (one.entry ∷ [])) in
         let some : 0 < length behind.entries = omega (arith, length-append s.entries (one.entry ∷ [])) in

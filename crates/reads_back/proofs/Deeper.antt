@@ -61,7 +61,7 @@ arrives_so deeper less (inr (inr moved)) = inr (inr (moved_so deeper less moved)
 
 -- ---- operands, the operands of a `..`, calls, and lists
 
-operand_so : {f : Function} {Is Less : OperandValue → Type 0} {deep more : ℕ} {s : Situation} {free x free1 first last : ℕ} → deep ≤ more → ((o : OperandValue) → Is o → Less o) → OperandComes f Is deep s free x free1 first last →
+pub operand_so : {f : Function} {Is Less : OperandValue → Type 0} {deep more : ℕ} {s : Situation} {free x free1 first last : ℕ} → deep ≤ more → ((o : OperandValue) → Is o → Less o) → OperandComes f Is deep s free x free1 first last →
     OperandComes f Less more s free x free1 first last
 operand_so deeper less one = record {
   operand = one.operand;

@@ -1,5 +1,5 @@
 -- The words of an act, of a declaration of locals and of a return are read as one step, with what is written of it.
-use Rattle.std.proofs.Common.{◌≡◌, ◌<◌, ℕ, zero, suc, Bool, true, List, [], ◌∷◌, ◌++◌, length, length-append, None, refl, sym, ap, ap₂, ◌∙◌, arith, subst}
+use Rattle.std.proofs.Common.{◌≡◌, ◌<◌, ℕ, zero, suc, Bool, true, List, [], ◌∷◌, ◌++◌, length, length-append, None, refl, sym, ap, ap₂, ◌∙◌, arith, subst, false}
 use Rattle.std.proofs.lemmas.Option.{none-some, same_Some, slice_get-map}
 use Rattle.std.specs.Prelude.{Option, Some, option_map, slice_get}
 use Rattle.lua_num.specs.Bytes.{Text}
@@ -26,12 +26,13 @@ use Rattle.same_flow.specs.Told.{IsActPart, IsDeclarationPart}
 use Rattle.reads_back.specs.Acted.{Acted, IsAct, IsActed, act_levels, act_statement, assigned, called, declared, declared_function, left_by_act, returned, taken_behind_act}
 use Rattle.reads_back.specs.Assignments.{as_assignment}
 use Rattle.reads_back.specs.Coming.{declared_local}
-use Rattle.reads_back.specs.Placed.{listed_before}
+use Rattle.reads_back.specs.Placed.{listed_before, IsDraftKind}
 use Rattle.reads_back.specs.ReadAs.{part_of}
+use Rattle.lua_tree.specs.WellFormed.{ends_block}
 use Rattle.reads_back.proofs.ActiveNames.{IsGood, NamedIn, named_both, texts_in}
 use Rattle.reads_back.proofs.ActsRead.{ActRead, Declares, kind_of_act, locals_of}
 use Rattle.reads_back.proofs.DeclarationsRead.{StartHere}
-use Rattle.reads_back.proofs.FlowRead.{ActPart, Begins, KindRead, as_many, final_here, has_locals, last_is, upvalues_here, within_last}
+use Rattle.reads_back.proofs.FlowRead.{ActPart, Begins, KindRead, as_many, final_here, has_locals, last_is, upvalues_here, within_last, PartRead, kind_in}
 use Rattle.reads_back.proofs.FlowStarts.{declaration_starts, few_behind, from_at, quiet_to, row_from}
 use Rattle.reads_back.proofs.FlowThere.{IsFlowAct, IsFlowBy, IsFlowFunction, StepIs, are_listed, before_at, made_at, made_before, named_before, pcs}
 use Rattle.reads_back.proofs.LocalsLeave.{listed_of}
@@ -43,9 +44,9 @@ use Rattle.reads_back.proofs.SameStatements.{assigned_makes, assigned_stands}
 use Rattle.reads_back.proofs.SomeNames.{some_names}
 use Rattle.reads_back.proofs.StartingLocals.{StartFrom, start_later}
 use Rattle.reads_back.proofs.StatementsMeant.{statement_meant}
-use Rattle.reads_back.proofs.StraightActs.{StartsWith, act_read, written}
+use Rattle.reads_back.proofs.ActsKnown.{StartsWith, act_read, written}
 use Rattle.reads_back.proofs.TakenEntries.{at_place}
-use Rattle.reads_back.proofs.Tests.{both_hold}
+use Rattle.reads_back.proofs.Tests.{both_hold, not_so}
 use Rattle.reads_back.proofs.WordsRead.{IsQuiet}
 
 only_named : (texts : List Text) (y : Active) → slice_get texts y.listed ≡ Some y.local.name → IsGood y.local → NamedIn texts (y ∷ [])
@@ -192,6 +193,23 @@ module _ {f : Function} {g : Fn} {z : Maker} {lefts : ℕ → List (Option Inner
         act_later : pcs of at < pcs of (suc at)
         act_later = let later = act.later in omega (arith, later, last_is of is)
 
+        -- so the step is read
+        act_step : IsDraftKind (pcs of) (listed_before code params names ahead at) (length (entries_by (pcs of) at kind part)) (kind_in now.scope kind) act.draft.kind → StartFrom (suc (pcs of at)) (entries_by (pcs of) at kind part) →
+            PartRead f g lefts m (pcs of) kind part (length made.functions) act.draft → KindRead of at kind part now
+        act_step kind_is own_later part_read = record {
+          draft = act.draft;
+          behind = act.behind;
+          reads = λ n few. act.reads n (omega (arith, few, last_is of is));
+          kind_is = kind_is;
+          next = act.next ∙ sym (last_is of is);
+          declares = act_declares;
+          left = act_left;
+          seen = act_seen;
+          later = act_later;
+          own_later = own_later;
+          part_read = part_read;
+        }
+
   -- ---- acts and returns
 
   pub act_step_read : {at : ℕ} {s : Statement} → StepIs of at StepKind.Act (statement_part s) → (now : Situation) → Begins of at now → StartFrom (suc (pcs of (suc at))) (from_at of (suc at)) → KindRead of at StepKind.Act (statement_part s) now
@@ -206,19 +224,7 @@ module _ {f : Function} {g : Fn} {z : Maker} {lefts : ℕ → List (Option Inner
       let read = act is other flow makes stands none now begins rest tt (act_starts s is.fits now (length made.items)) in
       let counts = act_is g m.active (length now.scope.declared) (length m.functions) (length made.functions) s is.fits read.acted read.is in
       let count : 0 ≡ locals_of read.acted = sym counts.1 in
-      record {
-        draft = read.draft;
-        behind = read.behind;
-        reads = λ n few. read.reads n (omega (arith, few, last_is of is));
-        kind_is = read.kind ∙ counts.0;
-        next = read.next ∙ sym (last_is of is);
-        declares = act_declares is other flow makes stands none now begins rest tt _ count;
-        left = act_left is other flow makes stands none now begins rest tt _ count;
-        seen = act_seen is other flow makes stands none now begins rest tt _ count;
-        later = act_later is other flow makes stands none now begins rest tt _ count;
-        own_later = tt;
-        part_read = act_part is other flow makes stands none now begins rest tt _ count;
-      }
+      act_step is other flow makes stands none now begins rest tt _ count (read.kind ∙ counts.0) tt (act_part is other flow makes stands none now begins rest tt _ count)
     where
       act_starts : (s : Statement) → IsActPart s → (now : Situation) (last : ℕ) → StartsWith f (as_assignment s) now last
       act_starts (call_statement e) fits now last = tt
@@ -232,19 +238,7 @@ module _ {f : Function} {g : Fn} {z : Maker} {lefts : ℕ → List (Option Inner
       let read = act is s is.flow refl is.stands tt now begins rest tt tt in
       let counts = return_is g (before_at of at).active (length now.scope.declared) (length (before_at of at).functions) (length (made_at of at StepKind.Return (values_part es)).functions) es read.acted read.is in
       let count : 0 ≡ locals_of read.acted = sym counts.1 in
-      record {
-        draft = read.draft;
-        behind = read.behind;
-        reads = λ n few. read.reads n (omega (arith, few, last_is of is));
-        kind_is = read.kind ∙ counts.0;
-        next = read.next ∙ sym (last_is of is);
-        declares = act_declares is s is.flow refl is.stands tt now begins rest tt tt count;
-        left = act_left is s is.flow refl is.stands tt now begins rest tt tt count;
-        seen = act_seen is s is.flow refl is.stands tt now begins rest tt tt count;
-        later = act_later is s is.flow refl is.stands tt now begins rest tt tt count;
-        own_later = tt;
-        part_read = act_part is s is.flow refl is.stands tt now begins rest tt tt count;
-      }
+      act_step is s is.flow refl is.stands tt now begins rest tt tt count (read.kind ∙ counts.0) tt (act_part is s is.flow refl is.stands tt now begins rest tt tt count)
 
   -- ---- declarations
 
@@ -281,16 +275,22 @@ module _ {f : Function} {g : Fn} {z : Maker} {lefts : ℕ → List (Option Inner
       let count : length (entries_by (pcs of) at kind (statement_part s)) ≡ locals_of read.acted = listed ∙ sym counts.1 in
       let some = some_names texts (some_declared s is.fits flow.is) in
       let later = act_later is other flow makes stands own now begins rest from starts count in
-      record {
-        draft = read.draft;
-        behind = read.behind;
-        reads = λ n few. read.reads n (omega (arith, few, last_is of is));
-        kind_is = (read.kind ∙ counts.0 ∙ ap₂ DraftKind.Declaration begins.declared (sym listed), omega (arith, some, listed));
-        next = read.next ∙ sym (last_is of is);
-        declares = act_declares is other flow makes stands own now begins rest from starts count;
-        left = act_left is other flow makes stands own now begins rest from starts count;
-        seen = act_seen is other flow makes stands own now begins rest from starts count;
-        later = later;
-        own_later = row_from (suc (pcs of at)) (pcs of (suc at)) (pcs of end) texts (omega (arith, later));
-        part_read = act_part is other flow makes stands own now begins rest from starts count;
-      }
+      act_step is other flow makes stands own now begins rest from starts count (read.kind ∙ counts.0 ∙ ap₂ DraftKind.Declaration begins.declared (sym listed), omega (arith, some, listed)) (row_from (suc (pcs of at)) (pcs of (suc at)) (pcs of end) texts (omega (arith, later))) (act_part is other flow makes stands own now begins rest from starts count)
+
+-- ---- what ends no block
+
+pub act_goes_on : (s : Statement) → IsActPart s → ends_block s ≡ false
+act_goes_on (call_statement e) fits = refl
+act_goes_on (assignment targets es) fits = refl
+act_goes_on (function_statement path method body) fits = refl
+act_goes_on s fits = absurd fits
+
+pub declaration_goes_on : (s : Statement) → IsDeclarationPart s → ends_block s ≡ false
+declaration_goes_on (local_statement names es) fits = refl
+declaration_goes_on (local_function text body) fits = refl
+declaration_goes_on s fits = absurd fits
+
+-- it stands in its step as it is
+pub part_stays : (s : Statement) → ends_block s ≡ false → part_of s ≡ statement_part s
+part_stays (return_statement es) goes_on = not_so (sym goes_on)
+part_stays s goes_on = refl

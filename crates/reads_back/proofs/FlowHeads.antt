@@ -40,7 +40,7 @@ use Rattle.reads_back.proofs.MentionsMeant.{Meant, adjust_meant, each_meant, mea
 use Rattle.reads_back.proofs.Rewriting.{IsMadeBy}
 use Rattle.reads_back.proofs.SomeNames.{some_names}
 use Rattle.reads_back.proofs.StartingLocals.{StartFrom, start_later}
-use Rattle.reads_back.proofs.StraightActs.{all_written}
+use Rattle.reads_back.proofs.ActsKnown.{all_written}
 use Rattle.reads_back.proofs.WordsRead.{IsQuiet}
 
 -- ---- what the values of a head mean

@@ -37,7 +37,7 @@ use Rattle.reads_back.proofs.ParametersRead.{begins_with}
 use Rattle.reads_back.proofs.Rewriting.{OwnListed}
 use Rattle.reads_back.proofs.Rooms.{lean_room, left_room}
 use Rattle.reads_back.proofs.StatementsMeant.{statement_meant}
-use Rattle.reads_back.proofs.StraightActs.{lean_low}
+use Rattle.reads_back.proofs.ActsKnown.{lean_low}
 use Rattle.reads_back.proofs.TestedAs.{HasTest, HasTestBy}
 use Rattle.reads_back.proofs.TestsMeant.{test_meant}
 

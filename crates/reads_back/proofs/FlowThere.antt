@@ -48,7 +48,7 @@ use Rattle.reads_back.proofs.PlacedInside.{GoesInside, laid_inside}
 use Rattle.reads_back.proofs.PlacedLocals.{kind_adds, step_makes}
 use Rattle.reads_back.proofs.Rewriting.{IsMadeBy}
 use Rattle.reads_back.proofs.SomeNames.{good_names}
-use Rattle.reads_back.proofs.StraightActs.{AreLeft}
+use Rattle.reads_back.proofs.ActsKnown.{AreLeft}
 use Rattle.reads_back.proofs.TestedAs.{HasTest}
 use Rattle.reads_back.proofs.Tests.{both_hold, first_of_both, second_of_both}
 

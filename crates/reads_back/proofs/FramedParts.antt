@@ -52,7 +52,7 @@ further_apart : (uses : List Use) (a : Maker) (constants : List Constant) → fu
 further_apart [] a constants = refl
 further_apart (one ∷ uses) a constants = further_apart uses (put 1 (further_word (where_is one a.active)) a) constants
 
-further_same : (uses : List Use) (a : Maker) → (further_words 1 uses a).constants ≡ a.constants
+pub further_same : (uses : List Use) (a : Maker) → (further_words 1 uses a).constants ≡ a.constants
 further_same [] a = refl
 further_same (one ∷ uses) a = further_same uses (put 1 (further_word (where_is one a.active)) a)
 

@@ -18,10 +18,10 @@ use Rattle.scheme_stands.specs.Functions.{Activated, Declared}
 use Rattle.scheme_stands.specs.Relation.{BranchesAt, FunctionOf, OtherwiseAt, StatementAt, StatementsAt, StepAt, given_rel, related}
 use Rattle.scheme_stands.specs.Statements.{LoopAt, UntilBy}
 use Rattle.scheme_stands.specs.Words.{Fn, Names, asking, fn, is_among, own_register}
-use Rattle.reads_back.proofs.FreeFound.{EachFinds, Finds, IsCapturedInside, IsOutside, ItemsFind, UsesFind, adjust_finds, binary_finds, call_finds, closed_uses, constructor_finds, field_finds, function_finds, function_uses, index_finds, is_not, logic_finds, method_finds, name_finds, of_either, open_finds, parenthesized_finds, table_finds, unary_finds}
+use Rattle.reads_back.proofs.FreeFound.{EachFinds, Finds, IsCapturedInside, IsOutside, ItemsFind, UsesFind, adjust_finds, binary_finds, call_finds, closed_uses, constructor_finds, field_finds, function_finds, function_uses, index_finds, is_not, logic_finds, method_finds, name_finds, open_finds, parenthesized_finds, table_finds, unary_finds}
 use Rattle.reads_back.proofs.FreeNames.{brings, brings_in_block, free_in, free_in_all, free_in_block, free_in_body, free_in_branches, free_in_given, free_in_statement, free_in_step, free_otherwise}
 use Rattle.reads_back.proofs.FreeStatements.{AreApart, assignment_finds, block_keeps_none, declared_apart, function_statement_finds, none_activated, return_finds, statement_keeps_none}
-use Rattle.reads_back.proofs.Tests.{first_of_both, not_so, second_of_both}
+use Rattle.reads_back.proofs.Tests.{first_of_both, not_so, second_of_both, of_either}
 
 -- ---- where the name is none of the locals that become active
 

@@ -26,14 +26,9 @@ use Rattle.scheme_stands.specs.Relation.{FunctionOf, ItemsAt, all_related, relat
 use Rattle.scheme_stands.specs.Words.{CapturedBy, Fn, IsCaptured, MeansBy, Names, Spot, Stretch, asking, is_among, is_named, meaning, names_in, onto, own_register, register_in}
 use Rattle.reads_back.proofs.FreeNames.{free_in, free_in_all, free_in_body, free_in_fields}
 use Rattle.reads_back.proofs.Rooms.{folded_both, folded_one}
-use Rattle.reads_back.proofs.Tests.{not_so, or_first, or_second}
+use Rattle.reads_back.proofs.Tests.{not_so, or_first, or_second, of_either}
 
 -- ---- tests
-
--- what follows from each of two tests follows where one of them holds
-pub of_either : {A : Type 0} (a b : Bool) → (a || b) ≡ true → (a ≡ true → A) → (b ≡ true → A) → A
-of_either true b is first second = first refl
-of_either false b is first second = second is
 
 -- a test that is denied fails
 pub is_not : (a : Bool) → not a ≡ true → a ≡ false
@@ -54,7 +49,7 @@ among_at text (name ∷ names) zero there = let same : text ≡ name = cc in or_
 among_at text (name ∷ names) (suc slot) there = or_second (bytes_eq text name) _ (among_at text names slot there)
 
 -- the last one stands first where they are turned about
-onto_end : {A : Type 0} (xs : List A) (y : A) (zs : List A) → onto (xs ++ y ∷ []) zs ≡ y ∷ onto xs zs
+pub onto_end : {A : Type 0} (xs : List A) (y : A) (zs : List A) → onto (xs ++ y ∷ []) zs ≡ y ∷ onto xs zs
 onto_end [] y zs = refl
 onto_end (x ∷ xs) y zs = onto_end xs y (x ∷ zs)
 

@@ -17,11 +17,11 @@ use Rattle.scheme_stands.specs.Relation.{FunctionOf, StatementAt, StatementsAt, 
 use Rattle.scheme_stands.specs.Statements.{AssignAt, EachStoredAt, LoopAt, ReturnAt, ReturnBy, StoreAt, StoreNameAt, StoresBy, TargetsAt, no_path, rel_method, rel_path}
 use Rattle.scheme_stands.specs.Words.{Fn, Names, Spot, asking, is_among, own_register}
 use Rattle.reads_back.specs.Assignments.{fields_behind, path_target, with_method_name, with_self}
-use Rattle.reads_back.proofs.FreeFound.{EachFinds, Finds, IsCapturedInside, IsOutside, UsesFind, adjust_finds, field_finds, name_finds, none_then, of_either, open_finds, operand_finds, operand_found, rk_finds, function_uses}
+use Rattle.reads_back.proofs.FreeFound.{EachFinds, Finds, IsCapturedInside, IsOutside, UsesFind, adjust_finds, field_finds, name_finds, none_then, open_finds, operand_finds, operand_found, rk_finds, function_uses}
 use Rattle.reads_back.proofs.FreeNames.{begins_with, brings, brings_in_block, free_in, free_in_all, free_in_body}
 use Rattle.reads_back.proofs.SameStatements.{path_related, self_related}
 use Rattle.reads_back.proofs.TargetsStand.{copies_stand, targets_count}
-use Rattle.reads_back.proofs.Tests.{not_so, or_first, or_second}
+use Rattle.reads_back.proofs.Tests.{not_so, or_first, or_second, of_either}
 
 -- ---- active locals of which none has the name
 

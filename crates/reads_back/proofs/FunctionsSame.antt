@@ -2,7 +2,6 @@
 use Rattle.std.proofs.Common.{◌≡◌, ◌≤◌, ℕ, suc, false, List, [], ◌∷◌, length, Option, Some, None, is_some, refl, sym, ap, ap₂, ◌∙◌, subst, subst₂, arith, true, inr}
 use Rattle.std.specs.Prelude.{slice_set}
 use Rattle.lua_num.specs.Bytes.{Text}
-use Rattle.lua_tree.specs.Scoping.{Use}
 use Rattle.lua_tree.specs.Syntax.{FunctionBody, function_expression}
 use Rattle.lua_tree.specs.WellFormed.{depth_of_body}
 use Rattle.opcode.specs.declared.op.Op.{Op}
@@ -10,14 +9,15 @@ use Rattle.core_expr.specs.Values.{Value, function_value, Inner}
 use Rattle.core_expr.specs.Writing.{Wording, function_left, function_word, over}
 use Rattle.recover_expr.specs.Situation.{Function}
 use Rattle.scheme.specs.Expressions.{fold, is_multiple, is_name}
-use Rattle.scheme.specs.Functions.{Finished, further_word, further_words, next_sources, source_names, with_function, without_sources}
-use Rattle.scheme.specs.Making.{Maker, free_from, put, where_is}
+use Rattle.scheme.specs.Functions.{Finished, further_words, next_sources, source_names, with_function, without_sources}
+use Rattle.scheme.specs.Making.{Maker, free_from, put}
 use Rattle.scheme.specs.Scheme.{coded, inner}
 use Rattle.scheme.specs.declared.making.Active.{Active}
 use Rattle.scheme.specs.declared.making.Piece.{Piece}
 use Rattle.scheme_stands.specs.Words.{Fn}
 use Rattle.reads_back.specs.Coming.{Coming, IsMadeNext, captured_names}
 use Rattle.reads_back.specs.Cores.{IsClosure, IsPlainBody}
+use Rattle.reads_back.proofs.FramedParts.{further_same}
 use Rattle.reads_back.proofs.Mentions.{IsAhead, coming, function_mention}
 use Rattle.reads_back.proofs.OperatorsSame.{few_more}
 use Rattle.reads_back.proofs.PassedMentions.{sources_named}
@@ -26,11 +26,6 @@ use Rattle.reads_back.proofs.Rewriting.{AreAgain, IsAgain, IsMadeBy, Rewritten, 
 use Rattle.reads_back.proofs.WordsSame.{no_local}
 
 -- ---- the words of a closure
-
--- the further words take no constant
-further_constants : (uses : List Use) (m : Maker) → (further_words 1 uses m).constants ≡ m.constants
-further_constants [] m = refl
-further_constants (one ∷ uses) m = further_constants uses (put 1 (further_word (where_is one m.active)) m)
 
 -- a function, in its register
 abbrev behind_function : (r : ℕ) → Maker → Finished → Maker
@@ -91,7 +86,7 @@ module _ {f : Function} {g : Fn} {active : List Active} {listed : List ℕ} {z :
     keys = omega arith;
     as_local = λ n r m ahead local. no_local (function_expression line body) r m refl local;
     to_reg = λ r m ahead final. function_same line body before r m plain low ahead;
-    taken = λ r m ahead final. ap (λ (n : Maker). length n.constants) (code_is line body r m plain) ∙ ap (λ ks. length ks) (further_constants (next_sources m) _);
+    taken = λ r m ahead final. ap (λ (n : Maker). length n.constants) (code_is line body r m plain) ∙ ap (λ ks. length ks) (further_same (next_sources m) _);
     multi = λ several. cc;
     multi_taken = λ several. cc;
   })

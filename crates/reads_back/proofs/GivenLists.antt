@@ -22,7 +22,7 @@ use Rattle.scheme_stands.specs.Lists.{AllNextAt, AllMultiAt, OpenBy, TableAt, re
 use Rattle.scheme_stands.specs.Relation.{all_related, given_rel, ItemsAt}
 use Rattle.scheme_stands.specs.Words.{Fn, Spot, ConstantWord}
 use Rattle.reads_back.specs.Cores.{IsOnly, IsConstant, AreCores, AreGiven, AreItems, ends_open, Counted, IsCore, still, first_and}
-use Rattle.reads_back.proofs.Comes.{AreEntries, Begins, IsElementRead, IsWanted, Comes, Reads, ReadsTable, comes_next, GivenComes, ReadsGiven}
+use Rattle.reads_back.proofs.Comes.{AreEntries, Begins, IsElementRead, IsWanted, Comes, Reads, ReadsTable, comes_next, GivenComes, ReadsGiven, behind_one}
 use Rattle.reads_back.proofs.BehindWords.{HasLocals, SameLocals, same_locals, same_then, quiet_same, behind_words, locals_then}
 use Rattle.reads_back.proofs.LiteralReads.{constant_reads}
 use Rattle.reads_back.proofs.Reaches.{Reaches, here, reaches_then}
@@ -60,9 +60,6 @@ open_list_taken before entries vs v first field are is counts =
     ∙ ap (option_map (listed_to v)) (singles_taken before entries vs first are is)
 
 -- ---- one value, and others behind it
-
-abbrev pub behind_one : {f : Function} {Is : Value → Type 0} {deep first last : ℕ} {s : Situation} → Comes f Is deep s first last → Situation
-behind_one {s = s} one = behind_words one.scope one.seen (one.entry ∷ []) s
 
 comes_then : {f : Function} {Is : Value → Type 0} {deep first mid last : ℕ} {s : Situation} (one : Comes f Is deep s first mid) (scope : Scope) (seen : ℕ) (more : Entries) →
     Reaches f mid (behind_one one) last (behind_words scope seen more (behind_one one)) → Reaches f first s last (behind_words scope seen (one.entry ∷ more) s)

@@ -21,11 +21,11 @@ use Rattle.scheme_stands.specs.Words.{Fn, Seq, Spot}
 use Rattle.reads_back.specs.Acted.{with_nil}
 use Rattle.reads_back.specs.Cores.{AllHaveCores, AreCores, Counted, IsCore, ends_open}
 use Rattle.reads_back.specs.Stepped.{CountedAt}
-use Rattle.reads_back.proofs.AdjustedComes.{AdjustedComes, AdjustedForm, adjusted_comes, as_many, enough_entries, further_behind, missing_behind, nil_behind}
+use Rattle.reads_back.proofs.AdjustedComes.{AdjustedComes, AdjustedForm, adjusted_comes, as_many, enough_entries, further_behind, missing_behind, nil_behind, some_related}
 use Rattle.reads_back.proofs.AdjustedEntries.{further_adjusted, missing_adjusted, singles_adjusted, taken_with}
 use Rattle.reads_back.proofs.BehindWords.{HasLocals, SameLocals, behind_words, locals_then, quiet_same}
-use Rattle.reads_back.proofs.Comes.{IsWanted, comes_next}
-use Rattle.reads_back.proofs.GivenLists.{AllCome, AllRead, behind_one, more_come, next_behind, none_come, some_behind}
+use Rattle.reads_back.proofs.Comes.{IsWanted, comes_next, behind_one}
+use Rattle.reads_back.proofs.GivenLists.{AllCome, AllRead, more_come, next_behind, none_come, some_behind}
 use Rattle.reads_back.proofs.NameReads.{AreListed}
 use Rattle.reads_back.proofs.Reaches.{Reaches}
 use Rattle.reads_back.proofs.TakenEntries.{count_of_entries}
@@ -169,10 +169,6 @@ three_head come =
       listed = singles_adjusted 3 false come.entries come.values come.singles (omega (arith, size, come.counts));
       three = λ is. (omega (arith, size, come.counts), come.counts);
     }
-
-some_related : (g : Fn) (es : Expressions) → has_expressions es ≡ true → 0 < length (all_related g es)
-some_related g no_expressions some = not_so some
-some_related g (syntax.expression e es) some = omega arith
 
 module _ {f : Function} {g : Fn} {active : List Active} {listed : List ℕ} (is_function : IsFunction f g) (all : AreListed f g active listed) (es : Expressions) (p q : Spot) (s : Situation)
     (locals : HasLocals active listed s) (quiet : IsQuiet f s.scope p.pc q.pc) where

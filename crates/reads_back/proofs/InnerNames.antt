@@ -12,6 +12,7 @@ use Rattle.scheme.specs.declared.making.Active.{Active}
 use Rattle.scheme_stands.specs.Placed.{FindsBy, FindsIn, IsPlaced, names_of_seen}
 use Rattle.scheme_stands.specs.Places.{CapturesAre}
 use Rattle.scheme_stands.specs.Words.{Names, is_among, names_in, onto, register_in}
+use Rattle.reads_back.proofs.Tests.{or_first, or_second}
 
 -- what is known of the names of any function
 pub record AreKnown (n : Names) : Type 0 where
@@ -111,19 +112,11 @@ among_names text (x ∷ active) = by (is_some x.local.declaration) (among_names 
     by true is = named (bytes_eq text x.local.name) is
     by false is = is
 
-pub first_or : (one other : Bool) → one ≡ true → one || other ≡ true
-first_or true other is = refl
-first_or false other is = cc
-
-pub second_or : (one other : Bool) → other ≡ true → one || other ≡ true
-second_or true other is = refl
-second_or false other is = is
-
 -- what is in scope there is among the names around the function
 found_around : (all : List Mark) (home : ℕ) (n : Names) (active : List Active) (text : Text) (b : Binding) (own : Bool) → FindsIn all home n active text b own → is_among text (names_in (onto active []) ++ n.around) ≡ true
 found_around all home n active text b true found =
-    among_both text (names_in (onto active [])) n.around ∙ first_or _ _ (among_names text (onto active []) ∙ ap is_some found.is)
-found_around all home n active text b false found = among_both text (names_in (onto active [])) n.around ∙ second_or _ _ found.among
+    among_both text (names_in (onto active [])) n.around ∙ or_first _ _ (among_names text (onto active []) ∙ ap is_some found.is)
+found_around all home n active text b false found = among_both text (names_in (onto active [])) n.around ∙ or_second _ _ found.among
 
 pub placed_known : (part : outline.Part) (n : Names) (before : Ahead) → IsPlaced part n before → AreKnown n
 placed_known part n before placed = subst AreKnown (sym placed.inside_is) (record {

@@ -24,7 +24,7 @@ use Rattle.scheme_stands.specs.Words.{Fn, Spot, Stretch, WordAt}
 use Rattle.reads_back.specs.Acted.{Assigned, function_in, is_part, taken_behind_last}
 use Rattle.reads_back.specs.Cores.{Counted, IsCore, IsOperand}
 use Rattle.reads_back.proofs.AdjustedEntries.{count_last, last_split, taken_end}
-use Rattle.reads_back.proofs.AssignedValues.{last_written, local_written, operand_written, singles_written, straight_written}
+use Rattle.reads_back.proofs.AssignedValues.{last_written, local_written, operand_written, singles_written, straight_written, with_operand}
 use Rattle.reads_back.proofs.BehindWords.{HasLocals, SameLocals, behind_words, quiet_same, same_then, locals_then}
 use Rattle.reads_back.proofs.BothOperands.{counted}
 use Rattle.reads_back.proofs.Comes.{Arrives, IsOperandWanted, Made, Moved, ReadsCore}
@@ -40,7 +40,7 @@ use Rattle.reads_back.proofs.StoredTargets.{Destination, IsThere, StoreWordAt, W
 use Rattle.reads_back.proofs.StoresRead.{IsInStep, IsValueKept, is_value_kept, only_entry, straight_of}
 use Rattle.reads_back.proofs.TableWords.{and_last_entry}
 use Rattle.reads_back.proofs.TakenEntries.{count_of_entries}
-use Rattle.reads_back.proofs.Taking.{max_swap}
+use Rattle.reads_back.proofs.Taking.{max_swap, taken_by}
 use Rattle.reads_back.proofs.TargetsCome.{Fits, IsSaid}
 use Rattle.reads_back.proofs.TargetsStored.{CanTake, IsNoItem, moved_turn, operand_turn, register_turn, store_keeps, straight_turn}
 use Rattle.reads_back.proofs.Tests.{both_hold, not_so, or_second}
@@ -134,13 +134,6 @@ only_part (and_value w ws) o none = absurd (omega (arith, none))
 
 abbrev to_name : Values → Value → Assigned
 to_name front v = record { values = and_last_value front v; all = true; last = None }
-
-abbrev with_operand : Values → OperandValue → Assigned
-with_operand front o = record { values = front; all = true; last = Some o }
-
--- so many constants are taken behind all values
-abbrev taken_by : Assigned → ℕ → ℕ
-taken_by to n = taken_behind_last to.last (taken_behind_values to.values n)
 
 -- ---- the first store
 

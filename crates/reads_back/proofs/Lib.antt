@@ -1,6 +1,7 @@
 pub mod ActiveCaptured
 pub mod ActiveNames
 pub mod ActsFormed
+pub mod ActsKnown
 pub mod ActsMarks
 pub mod ActsRead
 pub mod ActsRewritten
@@ -96,8 +97,8 @@ pub mod HeadsSame
 pub mod HeldOperands
 pub mod InRoom
 pub mod IndexSame
+pub mod InnerChunks
 pub mod InnerNames
-pub mod InnerReads
 pub mod KnownBeginnings
 pub mod LabelsStand
 pub mod LastOfList
@@ -186,6 +187,7 @@ pub mod ReturnsRead
 pub mod ReturnsSame
 pub mod Rewriting
 pub mod Rooms
+pub mod SameChunks
 pub mod SameStatements
 pub mod ScopeActive
 pub mod ScopesCaptured
@@ -211,8 +213,6 @@ pub mod StoredTargets
 pub mod StoresKept
 pub mod StoresRead
 pub mod StoresRefused
-pub mod StraightActs
-pub mod StraightFunctions
 pub mod TableItems
 pub mod TableReads
 pub mod TableValues

@@ -2,6 +2,7 @@
 use Rattle.reads_back.proofs.InRoom.{levels_in, closed_in}
 use Rattle.std.proofs.Common.{◌≡◌, ℕ, suc, ◌+◌, ◌*◌, ◌≤◌, Bool, true, false, List, [], ◌++◌, length, Option, refl, sym, ap, ◌∙◌, subst, arith, inr}
 use Rattle.std.specs.Prelude.{◌&&◌, not}
+use Rattle.std.proofs.Math.Bool.{and-true}
 use Rattle.lua_tree.specs.OneLine.{one_line_expression, one_line_expressions}
 use Rattle.lua_tree.specs.Syntax as syntax
 use Rattle.lua_tree.specs.Syntax.{Expressions, no_expressions, Expression, nil_literal}
@@ -108,10 +109,6 @@ stays_bare false b = refl
 
 -- ---- one more behind them
 
-pub and_true : (a : Bool) → (a && true) ≡ a
-and_true true = refl
-and_true false = refl
-
 both_then : (a b c : Bool) → (a && (b && c)) ≡ ((a && b) && c)
 both_then true b c = refl
 both_then false b c = refl
@@ -126,12 +123,12 @@ left_last vs fs = left_end vs nil_value fs
 
 module _ (at : Place) where
   pub can_end : (fs : List (Option Inner)) (front : Values) (v : Value) → can_write_values at fs (and_last_value front v) ≡ (can_write_values at fs front && can_write at (left_by_values front fs) v)
-  can_end fs no_values v = and_true (can_write at fs v)
+  can_end fs no_values v = and-true (can_write at fs v)
   can_end fs (and_value u rest) v = ap (λ can. can_write at fs u && can) (can_end (left_by u fs) rest v) ∙ both_then (can_write at fs u) _ _
 
   -- a nil can be written
   pub can_last : (fs : List (Option Inner)) (vs : Values) → can_write_values at fs (and_last_value vs nil_value) ≡ can_write_values at fs vs
-  can_last fs vs = can_end fs vs nil_value ∙ and_true (can_write_values at fs vs)
+  can_last fs vs = can_end fs vs nil_value ∙ and-true (can_write_values at fs vs)
 
   -- each goes to the next register, in parentheses or not
   pub nil_next : (n : ℕ) (fs : List (Option Inner)) (vs : Values) (all : Bool) (m : Maker) → all_next (values_coded at n fs (and_last_value vs nil_value) all) m ≡ next_reg (coded (nil_literal 1)) (all_next (values_coded at n fs vs all) m)

@@ -23,12 +23,13 @@ use Rattle.reads_back.specs.Coming.{Coming, IsOwnNext, inside_local}
 use Rattle.reads_back.specs.Cores.{IsPlainBody}
 use Rattle.reads_back.proofs.FreeCaptured.{captured_wherever_free}
 use Rattle.reads_back.proofs.FreeNames.{free_in_body}
-use Rattle.reads_back.proofs.InnerNames.{among_both, among_names, first_or, second_or}
+use Rattle.reads_back.proofs.InnerNames.{among_both, among_names}
 use Rattle.reads_back.proofs.Marks.{SamePart, both_same, exact_part, part_back, part_then, same_part}
 use Rattle.reads_back.proofs.NamesInside.{named_inside}
 use Rattle.reads_back.proofs.OwnLocals.{own_found}
 use Rattle.reads_back.proofs.MarksSame.{OwnPartsMade}
 use Rattle.reads_back.proofs.Rewriting.{OwnListed}
+use Rattle.reads_back.proofs.Tests.{or_first, or_second}
 use Rattle.reads_back.proofs.UnfreeParts.{unfree_part}
 use Rattle.reads_back.proofs.WordsRead.{IsFunction}
 
@@ -44,12 +45,12 @@ among_slot text (name ∷ names) is = by (bytes_eq text name) refl (among_slot t
 
 slot_among : (text : Text) (names : List Text) (slot : ℕ) → as_name (slice_get names slot) ≡ Some text → is_among text names ≡ true
 slot_among text [] slot is = cc
-slot_among text (name ∷ names) zero is = first_or (bytes_eq text name) (is_among text names) ((bytes_eq-Decides text name).1 (by (is_name name) is))
+slot_among text (name ∷ names) zero is = or_first (bytes_eq text name) (is_among text names) ((bytes_eq-Decides text name).1 (by (is_name name) is))
   where
     by : (good : Bool) → (if good then Some name else None) ≡ Some text → text ≡ name
     by true is = sym (same_Some name text is)
     by false is = cc
-slot_among text (name ∷ names) (suc slot) is = second_or (bytes_eq text name) (is_among text names) (slot_among text names slot is)
+slot_among text (name ∷ names) (suc slot) is = or_second (bytes_eq text name) (is_among text names) (slot_among text names slot is)
 
 module _ {f : Function} {g : Fn} {active : List Active} (is_function : IsFunction f g) (of : ℕ → Part) (text : Text) (body : FunctionBody) (listed : OwnListed f g active (local_function text body)) (parts : OwnPartsMade g active of (local_function text body)) (plain : IsPlainBody body) (low : depth_of_body body ≤ 199) where
   module _ (c : Coming) (next : IsOwnNext g active text body c) where
@@ -63,7 +64,7 @@ module _ {f : Function} {g : Fn} {active : List Active} (is_function : IsFunctio
         let inside : Names = record { around = names_in (onto (active ++ x ∷ []) []) ++ n.around; upvalues = next.next.names } in
         let among : is_among text inside.around ≡ true =
         among_both text (names_in (onto (active ++ x ∷ []) [])) n.around
-        ∙ first_or _ _ (among_names text (onto (active ++ x ∷ []) []) ∙ ap is_some (own_found text c.ahead x next.is_local active)) in
+        ∙ or_first _ _ (among_names text (onto (active ++ x ∷ []) []) ∙ ap is_some (own_found text c.ahead x next.is_local active)) in
         let made = subst (λ (law : Law). FunctionOf body false (law_inside law (active ++ x ∷ []) next.next.names) (without_sources (inside_local text c).ahead) next.next.behind next.next.chunk) is_function.law next.next.made_at in
         let upvalue = captured_wherever_free body false text inside (without_sources (inside_local text c).ahead) next.next.behind next.next.chunk made among free in
         let slot = among_slot text next.next.names upvalue in

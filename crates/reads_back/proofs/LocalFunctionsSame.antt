@@ -4,7 +4,7 @@ use Rattle.std.proofs.Math.Seq.{get_or-append_seam, set-append_seam}
 use Rattle.std.proofs.lemmas.Bool.{cases_lt}
 use Rattle.std.proofs.lemmas.Option.{same_Some, slice_get_within}
 use Rattle.std.proofs.lemmas.Slice.Eq.{bytes_eq-Decides}
-use Rattle.std.specs.Prelude.{set, slice_set, ◌&&◌, ◌||◌}
+use Rattle.std.specs.Prelude.{set, slice_set, ◌&&◌}
 use Rattle.std.specs.Str.{bytes_eq}
 use Rattle.lua_num.specs.Bytes.{Text}
 use Rattle.lua_tree.specs.OneLine.{one_line_statement}
@@ -36,6 +36,7 @@ use Rattle.reads_back.proofs.Mentions.{captured_same, IsAhead, coming, own_menti
 use Rattle.reads_back.proofs.OperatorsSame.{few_more}
 use Rattle.reads_back.proofs.PassedMentions.{sources_named}
 use Rattle.reads_back.proofs.Rewriting.{AreAgain, IsAgain, IsMadeBy, OwnListed, RewrittenAct}
+use Rattle.reads_back.proofs.Tests.{neither}
 
 -- ---- what is captured besides the last local
 
@@ -80,10 +81,6 @@ IsBeside active x names one = (where_is one (active ++ x ∷ []) ≡ where_is on
 abbrev AreBeside : List Active → Active → (upvalue_names : List Text) → List Use → Type 0
 AreBeside active x names [] = Unit {0}
 AreBeside active x names (one ∷ uses) = IsBeside active x names one × AreBeside active x names uses
-
-neither : (one other : Bool) → (one || other) ≡ false → (one ≡ false) × (other ≡ false)
-neither true other none = cc
-neither false other none = (refl, none)
 
 use_beside : (n : Names) (active : List Active) (x : Active) (names : List Text) (text : Text) (one : Use) → IsCaptured n (active ++ x ∷ []) text (where_is one (active ++ x ∷ [])) → bytes_eq x.local.name (captured_name (active ++ x ∷ []) names one) ≡ false → IsBeside active x names one
 use_beside n active x names text (local_use declaration) captured other = by (cases_lt r (length active))

@@ -82,6 +82,13 @@ name_no_literal (name_expression line text) named = refl
 name_no_literal (parenthesized line e) named = ap (λ folded. number_or folded None) (name_unfolded e named)
 name_no_literal e named = cc
 
+pub literal_no_name : (e : Expression) (k : Constant) → literal e ≡ Some k → is_name e ≡ false
+literal_no_name e k is = by (is_name e) refl
+  where
+    by : (named : Bool) → is_name e ≡ named → named ≡ false
+    by true named = let none = name_no_literal e named in cc
+    by false named = refl
+
 name_still : (g : Fn) (active : List Active) (e : Expression) → is_name e ≡ true → (before behind : ℕ) (v : Value) → IsCore g active e before behind v → behind ≡ before
 name_still g active (name_expression line text) named before behind v is = is.0
 name_still g active (parenthesized line e) named before behind v is = name_still g active e named before behind v is

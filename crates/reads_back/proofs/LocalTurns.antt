@@ -19,10 +19,10 @@ use Rattle.scheme_stands.specs.Words.{Fn}
 use Rattle.reads_back.specs.Cores.{HasCore, IsCore, IsVariable}
 use Rattle.reads_back.specs.Ordered.{is_constant_literal}
 use Rattle.reads_back.proofs.ComparesSame.{Turns, ahead_left, ahead_right, front, x_got, y_got}
-use Rattle.reads_back.proofs.ConstantsSame.{large_there, loads, number_loads, number_no_name}
+use Rattle.reads_back.proofs.ConstantsSame.{large_there, loads, number_loads}
 use Rattle.reads_back.proofs.InRoom.{IsOperandInRoom}
 use Rattle.reads_back.proofs.LeavesSame.{next_means}
-use Rattle.reads_back.proofs.LocalOperands.{LiteralOperand, LocalOperand, name_no_literal}
+use Rattle.reads_back.proofs.LocalOperands.{LiteralOperand, LocalOperand, name_no_literal, literal_no_name}
 use Rattle.reads_back.proofs.Mentions.{AreMeant, IsAhead, Mention, coming, mentions_in}
 use Rattle.reads_back.proofs.MentionsMeant.{literal_nameless}
 use Rattle.reads_back.proofs.Rewriting.{IsMadeBy, RewrittenOperand, code}
@@ -46,15 +46,6 @@ module _ {f : Function} {g : Fn} {active : List Active} {listed : List ℕ} {z :
   rk_local {before} {behind} e local n m ahead =
       rk_plain (one_line_expression e) m (same_literal e ∙ name_no_literal e local.named)
       ∙ operand_local (one_line_expression e) local.register m (local_there e local.named local.register before behind local.inside n m ahead)
-
-literal_no_name : (e : Expression) (k : Constant) → literal e ≡ Some k → is_name e ≡ false
-literal_no_name (parenthesized line e) k is = by (fold e) refl is
-  where
-    by : (folded : Option ℤ) → fold e ≡ folded → number_or folded None ≡ Some k → is_name e ≡ false
-    by (Some n) known is = number_no_name e n known
-    by None known is = cc
-literal_no_name (name_expression line text) k is = cc
-literal_no_name e k is = refl
 
 -- a number or a string is loaded
 literal_loads : (e : Expression) (k : Constant) → literal e ≡ Some k → is_constant_literal (Some k) ≡ true → (r : ℕ) (m : Maker) → (code e).to_reg r m ≡ loads r k m

@@ -122,7 +122,7 @@ module _ (at : Place) (of : ℕ → Part) where
 
 -- ---- what is written
 
-unless_part : (b : Bool) (w : Wording) → SamePart (expression_part (unless b w).words) (expression_part w.words)
+pub unless_part : (b : Bool) (w : Wording) → SamePart (expression_part (unless b w).words) (expression_part w.words)
 unless_part true w = same_part _
 unless_part false w = same_part _
 

@@ -1,5 +1,5 @@
 -- The marks of steps that follow one another capture what one of them captures, and all steps of a function say what its statements do.
-use Rattle.std.proofs.Common.{◌≡◌, ℕ, zero, suc, ◌+◌, ◌&&◌, Bool, true, false, not, nat_lt, List, [], ◌∷◌, ◌++◌, append_assoc, append-nil, length, refl, sym, ap, ◌∙◌, arith, if◌then◌else◌}
+use Rattle.std.proofs.Common.{◌≡◌, ℕ, zero, suc, ◌+◌, ◌&&◌, Bool, true, false, not, List, [], ◌∷◌, ◌++◌, append_assoc, append-nil, length, refl, sym, ap, ◌∙◌, arith}
 use Rattle.std.proofs.Math.Bool.{or_assoc}
 use Rattle.std.specs.Prelude.{◌==◌, ◌||◌, None, Option, Some}
 use Rattle.lua_num.specs.Bytes.{Text}
@@ -11,8 +11,8 @@ use Rattle.scheme.specs.Making.{Ahead}
 use Rattle.same_flow.specs.SameFlow.{AreLaid}
 use Rattle.same_flow.specs.SameMarks.{but_breaks}
 use Rattle.same_flow.proofs.MarksSame.{whole_walk}
-use Rattle.same_flow.proofs.Walks.{Entry, Said, State, back_to, ended_in, run, said_at, state_of}
-use Rattle.reads_back.proofs.StepsKnown.{state_before, state_to}
+use Rattle.same_flow.proofs.Walks.{Entry, Said, State, ended_in, run, said_at, state_of}
+use Rattle.reads_back.proofs.StepsKnown.{state_before, state_to, ended_keeps}
 
 -- ---- marks one behind the other
 
@@ -34,13 +34,8 @@ pub captured_unbroken : (declaration : ℕ) (marks : List Mark) → is_captured 
 captured_unbroken declaration [] = refl
 captured_unbroken declaration (mention line name (Some b) around ∷ marks) =
     ap (λ rest. ((b.declaration == declaration) && not (b.home == innermost around)) || rest) (captured_unbroken declaration marks)
-captured_unbroken declaration (mention line name None around ∷ marks) = captured_unbroken declaration marks
-captured_unbroken declaration (local_name line reached ∷ marks) = captured_unbroken declaration marks
-captured_unbroken declaration (hidden_local line reached ∷ marks) = captured_unbroken declaration marks
-captured_unbroken declaration (dots line vararg ∷ marks) = captured_unbroken declaration marks
 captured_unbroken declaration (leave line true ∷ marks) = captured_unbroken declaration marks
-captured_unbroken declaration (leave line false ∷ marks) = captured_unbroken declaration marks
-captured_unbroken declaration (opened outer ∷ marks) = captured_unbroken declaration marks
+captured_unbroken declaration (mark ∷ marks) = captured_unbroken declaration marks
 
 -- a local is captured where its declaration is; a hidden one has none
 abbrev pub captured_in : Option ℕ → List Mark → Bool
@@ -71,15 +66,15 @@ pub run_place : (code : Steps) (first : State) (count at : ℕ) → (run code at
 run_place code first zero at = ap (state_before code first) (let same : at ≡ at + 0 = omega arith in same)
 run_place code first (suc count) at = run_place code first count (suc at) ∙ ap (state_before code first) (let same : suc at + count ≡ at + suc count = omega arith in same)
 
--- where locals leave, as many declarations stand before
+-- where locals leave, all but what is in scope stands as before
 pub declarations_stay : (at : ℕ) (place : Place) (entries : List Entry) → (ended_in at place entries).place.declarations ≡ place.declarations
-declarations_stay at place [] = refl
-declarations_stay at place (entry ∷ entries) = by (nat_lt at entry.end) (declarations_stay at (back_to entry place) entries)
-  where
-    by : (test : Bool) → (ended_in at (back_to entry place) entries).place.declarations ≡ place.declarations →
-        (if test then record { place = place; entries = entry ∷ entries } else ended_in at (back_to entry place) entries).place.declarations ≡ place.declarations
-    by true rest = refl
-    by false rest = rest
+declarations_stay at place entries = ended_keeps (λ (state : State). state.place.declarations ≡ place.declarations) (λ entry entries place is. is) at place entries refl
+
+pub functions_stay : (at : ℕ) (place : Place) (entries : List Entry) → (ended_in at place entries).place.functions ≡ place.functions
+functions_stay at place entries = ended_keeps (λ (state : State). state.place.functions ≡ place.functions) (λ entry entries place is. is) at place entries refl
+
+pub around_ended : (at : ℕ) (place : Place) (entries : List Entry) → (ended_in at place entries).place.around ≡ place.around
+around_ended at place entries = ended_keeps (λ (state : State). state.place.around ≡ place.around) (λ entry entries place is. is) at place entries refl
 
 -- ---- all steps of a function
 

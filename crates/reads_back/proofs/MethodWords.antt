@@ -23,6 +23,7 @@ use Rattle.scheme_stands.specs.Words.{Fn, Spot, WordAt}
 use Rattle.reads_back.proofs.CallWords.{method_of, method_is_made, method_called}
 use Rattle.reads_back.proofs.Comes.{Begins, IsWanted, CallComes, ReadsCall, GivenComes, ReadsGiven, OperandComes, ReadsOperand}
 use Rattle.reads_back.proofs.BehindWords.{HasLocals, SameLocals, same_then, quiet_same, behind_words, locals_then}
+use Rattle.reads_back.proofs.BothOperands.{same_value}
 use Rattle.reads_back.proofs.OperandReads.{text_forward}
 use Rattle.reads_back.proofs.Operators.{on_is_read}
 use Rattle.reads_back.proofs.Reaches.{Reaches, here, word, reaches_on, reaches_then}
@@ -50,9 +51,6 @@ record OnComes (f : Function) (On : Value → Type 0) (deep : ℕ) (s : Situatio
 
 both_same : (one other : OperandValue × Situation) → Some one ≡ Some other → (one.0 ≡ other.0) × (one.1 ≡ other.1)
 both_same one other is = let same : one ≡ other = cc in (ap (λ (p : OperandValue × Situation). p.0) same, ap (λ (p : OperandValue × Situation). p.1) same)
-
-same_value : (v w : Value) → value_operand v ≡ value_operand w → v ≡ w
-same_value v w is = cc
 
 -- what is taken off as a value is no constant
 popped_by : (far : Bool) (constant : Option ℕ) (there : Option (Value × Situation)) (t behind : Situation) (v : Value) →

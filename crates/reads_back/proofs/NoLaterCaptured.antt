@@ -1,5 +1,5 @@
 -- Where all that is in scope at the beginning of a function was declared before it, no step captures what is declared behind it; and the declarations of the function are among those of the source.
-use Rattle.std.proofs.Common.{◌≡◌, ◌≤◌, ℕ, zero, suc, ◌+◌, Bool, true, false, nat_lt, List, [], ◌∷◌, ◌++◌, length, ap, ap₂, ◌∙◌, arith, subst, sym, if◌then◌else◌}
+use Rattle.std.proofs.Common.{◌≡◌, ◌≤◌, ℕ, zero, suc, ◌+◌, true, false, List, [], ◌∷◌, ◌++◌, length, ap, ap₂, ◌∙◌, arith, subst, sym}
 use Rattle.std.specs.Prelude.{Option}
 use Rattle.lua_num.specs.Bytes.{Text}
 use Rattle.lua_tree.specs.Outline as outline
@@ -19,11 +19,11 @@ use Rattle.scheme_stands.specs.Places.{LowAt, Reached}
 use Rattle.scheme_stands.specs.Words.{Fn}
 use Rattle.scheme_stands.proofs.LowMentions.{StaysLow, low_captures, low_expression, low_expressions, low_heads, low_more, low_statement}
 use Rattle.same_flow.specs.Told.{PartFits}
-use Rattle.same_flow.proofs.Walks.{Entry, Said, State, back_to, ended_in, said_at, says, says_at, state_of}
+use Rattle.same_flow.proofs.Walks.{Entry, Said, State, ended_in, said_at, says, says_at, state_of}
 use Rattle.reads_back.proofs.CapturedInEnd.{CapturesNoLater}
 use Rattle.reads_back.proofs.FlowThere.{IsFlowFunction, step_is}
 use Rattle.reads_back.proofs.MarksCaptured.{captured_unbroken, declarations_stay}
-use Rattle.reads_back.proofs.StepsKnown.{part_said, says_part, state_before}
+use Rattle.reads_back.proofs.StepsKnown.{part_said, says_part, state_before, ended_keeps}
 
 -- ---- what is in scope along the steps
 
@@ -40,12 +40,7 @@ abbrev pub IsLow : State → Type 0
 IsLow state = LowAt state.place × LowEntries state.place.declarations state.entries
 
 low_ended : (at : ℕ) (place : Place) (entries : List Entry) → LowAt place → LowEntries place.declarations entries → IsLow (ended_in at place entries)
-low_ended at place [] low are = (low, tt)
-low_ended at place (entry ∷ entries) low are = by (nat_lt at entry.end) (low_ended at (back_to entry place) entries are.0 are.1)
-  where
-    by : (test : Bool) → IsLow (ended_in at (back_to entry place) entries) → IsLow (if test then record { place = place; entries = entry ∷ entries } else ended_in at (back_to entry place) entries)
-    by true rest = (low, are)
-    by false rest = rest
+low_ended at place entries low are = ended_keeps IsLow (λ entry entries place both. both.1) at place entries (low, are)
 
 -- ---- a step
 

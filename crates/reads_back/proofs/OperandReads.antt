@@ -21,7 +21,8 @@ use Rattle.scheme_stands.specs.Words.{Fn, Spot}
 use Rattle.reads_back.specs.Cores.{IsCore, IsKey, IsOperand, IsOperandBy, IsSmall, IsValueOperand, valued}
 use Rattle.reads_back.proofs.Comes.{Begins, Comes, IsOperandWanted, OperandComes, ReadsCore, ReadsOperand, comes_next}
 use Rattle.reads_back.proofs.BehindWords.{HasLocals, behind_words, same_locals}
-use Rattle.reads_back.proofs.Deeper.{some_depth}
+use Rattle.reads_back.proofs.BothOperands.{as_operand}
+use Rattle.reads_back.proofs.Deeper.{some_depth, operand_so}
 use Rattle.reads_back.proofs.LiteralReads.{constant_reads, constant_there}
 use Rattle.reads_back.proofs.NameReads.{AreListed, IsLocal, entry_named, local_operand}
 use Rattle.reads_back.proofs.Reaches.{Reaches, here}
@@ -30,25 +31,6 @@ use Rattle.reads_back.proofs.Tests.{not_below}
 use Rattle.reads_back.proofs.ValueWords.{next_free, place_of_next}
 use Rattle.reads_back.proofs.WordsBegin.{word_begins}
 use Rattle.reads_back.proofs.WordsRead.{IsFunction, IsQuiet, abx_is_read}
-
--- ---- no expression is without depth
-
--- what is known of an operand may be less
-comes_less : {f : Function} {Is Less : OperandValue → Type 0} {deep more free x free1 first last : ℕ} {s : Situation} → ((o : OperandValue) → Is o → Less o) → deep ≤ more → OperandComes f Is deep s free x free1 first last → OperandComes f Less more s free x free1 first last
-comes_less less deeper comes = record {
-  operand = comes.operand;
-  is = less comes.operand comes.is;
-  shallow = omega (arith, comes.shallow, deeper);
-  scope = comes.scope;
-  same = comes.same;
-  seen = comes.seen;
-  more = comes.more;
-  counts = comes.counts;
-  taken = comes.taken;
-  reaches = comes.reaches;
-  popped = comes.popped;
-  kept = comes.kept;
-}
 
 -- ---- no words
 
@@ -59,10 +41,6 @@ stays {f} p q s same =
     (subst (λ (entries : Entries). Reaches f p.pc s p.pc (record s { entries = entries })) (sym (append-nil s.entries)) here)
 
 -- ---- constants
-
--- a value as an operand
-abbrev as_operand : (Value × Situation) → OperandValue × Situation
-as_operand p = (value_operand p.0, p.1)
 
 sees_constant : (number : ℕ) (s t : Situation) → t.seen ≡ s.seen → (see_operand (number + 256) t).seen ≡ taken_behind_operand (constant_operand number) s.seen
 sees_constant number s t same =
@@ -102,7 +80,7 @@ small_comes {f} {g} {p} {q} k s free x free1 is_function at = record {
 
 -- ---- a value in the next register
 
-register_popped : (f : Function) (x : ℕ) (t : Situation) → x < 256 → pop_operand f x t ≡ option_map as_operand (pop f x t)
+pub register_popped : (f : Function) (x : ℕ) (t : Situation) → x < 256 → pop_operand f x t ≡ option_map as_operand (pop f x t)
 register_popped f x t small = ap (λ far. if far then option_map (λ k. (constant_operand k, t)) (constant_in f (x - 256)) else option_map as_operand (pop f x t)) (not_below x 256 small)
 
 sees_nothing : (x : ℕ) (t : Situation) → x < 256 → see_operand x t ≡ t
@@ -200,8 +178,8 @@ module _ {f : Function} {g : Fn} {active : List Active} {listed : List ℕ} (is_
 
   rk_by_comes : (o : Option Constant) (free x free1 : ℕ) (p q : Spot) (s : Situation) → HasLocals active listed s → free ≡ next_free s → IsQuiet f s.scope p.pc q.pc → IsOperandWanted f s free x free1 q.pc → RkBy o g active (related g e) free x free1 p q →
       OperandComes f (IsOperandBy o g (IsCore g active e) p.functions q.functions) (depth_of_expression e) s free x free1 p.pc q.pc
-  rk_by_comes (Some k) free x free1 p q s locals next quiet wanted (inl at) = comes_less (λ o is. inl (at.same.functions, is)) (some_depth e) (small_comes k s free x free1 is_function at)
-  rk_by_comes (Some k) free x free1 p q s locals next quiet wanted (inr (large, at)) = comes_less (λ o is. inr (large, is)) (omega arith) (operand_reads.comes free x free1 p q s locals next quiet wanted at)
+  rk_by_comes (Some k) free x free1 p q s locals next quiet wanted (inl at) = operand_so (some_depth e) (λ o is. inl (at.same.functions, is)) (small_comes k s free x free1 is_function at)
+  rk_by_comes (Some k) free x free1 p q s locals next quiet wanted (inr (large, at)) = operand_so (omega arith) (λ o is. inr (large, is)) (operand_reads.comes free x free1 p q s locals next quiet wanted at)
   rk_by_comes None free x free1 p q s locals next quiet wanted at = operand_reads.comes free x free1 p q s locals next quiet wanted at
 
   -- a literal is a constant where its number is small
@@ -225,9 +203,9 @@ text_begins text free x free1 p q is_function (inr (large, at)) = let w = at.val
 
 module _ {f : Function} {g : Fn} {active : List Active} {listed : List ℕ} (is_function : IsFunction f g) (text : Text) where
   text_comes : (free x free1 : ℕ) (p q : Spot) (s : Situation) → HasLocals active listed s → free ≡ next_free s → IsQuiet f s.scope p.pc q.pc → IsOperandWanted f s free x free1 q.pc → RkTextAt g text free x free1 p q → OperandComes f (IsKey g text p.functions q.functions) 1 s free x free1 p.pc q.pc
-  text_comes free x free1 p q s locals next quiet wanted (inl at) = comes_less (λ o is. inl (at.same.functions, is)) (omega arith) (small_comes (Constant.Text text) s free x free1 is_function at)
+  text_comes free x free1 p q s locals next quiet wanted (inl at) = operand_so (omega arith) (λ o is. inl (at.same.functions, is)) (small_comes (Constant.Text text) s free x free1 is_function at)
   text_comes free x free1 p q s locals next quiet wanted (inr (large, at)) =
-      comes_less (λ o is. inr (large, is)) (omega arith)
+      operand_so (omega arith) (λ o is. inr (large, is))
       (next_comes free x free1 at.at_x (omega (arith, at.room, is_function.few)) at.at_free
       (comes_next (constant_reads {active = active} {listed = listed} is_function (Constant.Text text)) free p q s locals next quiet (wanted at.at_x at.at_free) at.value_at))
 

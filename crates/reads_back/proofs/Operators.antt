@@ -25,7 +25,7 @@ use Rattle.scheme_stands.specs.Words.{Fn, Spot, Stretch, WordAt, instr_by}
 use Rattle.reads_back.specs.Cores.{IsArithmetic, IsIndexed, IsUnary, IsValueOperand, Counted, arithmetic_by, valued, unary_by, indexed_by}
 use Rattle.reads_back.proofs.Comes.{Begins, IsOperandWanted, IsWanted, Made, OperandComes, Reads, ReadsOperand}
 use Rattle.reads_back.proofs.BehindWords.{SameLocals, behind_words, quiet_same, same_then, locals_then}
-use Rattle.reads_back.proofs.BothOperands.{behind_operand, both_reach, both_taken, constants_taken, counted, first_popped, next_behind, second_popped, seen_with, seen_with_both, with_seen}
+use Rattle.reads_back.proofs.BothOperands.{behind_operand, both_reach, both_taken, constants_taken, counted, first_popped, next_behind, second_popped, seen_with, seen_with_both, with_seen, as_operand, with_constant, first_is_read, second_is_read}
 use Rattle.reads_back.proofs.Reaches.{Reaches, reaches_on}
 use Rattle.reads_back.proofs.ValueWords.{next_free}
 use Rattle.reads_back.proofs.WordsBegin.{begins_wants, word_begins, word_wants}
@@ -34,19 +34,13 @@ use Rattle.reads_back.proofs.Deeper.{made_so}
 
 -- ---- operands that are values
 
-abbrev constant_popped : Situation → ℕ → OperandValue × Situation
-constant_popped t k = (constant_operand k, t)
-
-abbrev as_operand : (Value × Situation) → OperandValue × Situation
-as_operand p = (value_operand p.0, p.1)
-
 abbrev value_in : (OperandValue × Situation) → Option (Value × Situation)
 value_in (value_operand v, t) = Some (v, t)
 value_in (constant_operand k, t) = None
 
 -- no constant is taken for it
 value_by : (is_constant : Bool) (number : Option ℕ) (taken : Option (Value × Situation)) (v : Value) (t behind : Situation) →
-    (if is_constant then option_map (constant_popped t) number else option_map as_operand taken) ≡ Some (value_operand v, behind) → (is_constant ≡ false) × (taken ≡ Some (v, behind))
+    (if is_constant then option_map (with_constant t) number else option_map as_operand taken) ≡ Some (value_operand v, behind) → (is_constant ≡ false) × (taken ≡ Some (v, behind))
 value_by true None taken v t behind is = absurd cc
 value_by true (Some number) taken v t behind is = let never = ap (option_and_then value_in) is in absurd cc
 value_by false number None v t behind is = absurd cc
@@ -238,12 +232,6 @@ arithmetic_comes {r = r} {op = op} {p = p} as_word is_function few is quiet one 
     let fits : max (depth_of_operand one.operand) (depth_of_operand two.operand) < 400 = omega (arith, shallow, few) in
     word_made (behind_operand two) is_function quiet (same_then one.same two.same) (both_reach one two) at
     (as_word.plain, one.operand, two.operand, one.is, two.is, binary_made op one.operand two.operand fits) (omega (arith, shallow)) (arithmetic_does as_word p.pc r one two is fits)
-
-first_is_read : (base x y : ℕ) → base ≤ x → x < 256 → (is_from x base || is_from y base) ≡ true
-first_is_read base x y above small = grind (arith, nat_tests)
-
-second_is_read : (base x y : ℕ) → base ≤ y → y < 256 → (is_from x base || is_from y base) ≡ true
-second_is_read base x y above small = grind (arith, nat_tests)
 
 arithmetic_both : {op : BinaryOp} {code : Op} → IsArithmeticWord op code → ReadsBoth code
 arithmetic_both as_word = record {

@@ -14,6 +14,7 @@ use Rattle.reads_back.proofs.ComparisonOrder.{HasLocal, fields_are, register_fie
 use Rattle.reads_back.proofs.ComparisonsSame.{CanTurn, KeepsNames}
 use Rattle.reads_back.proofs.LocalOperands.{IsNameOf, LocalOperand, OneConstant, some_local}
 use Rattle.reads_back.proofs.TestedAs.{BothTested, IsField, comparison_of, is_turned}
+use Rattle.reads_back.proofs.Tests.{of_either}
 
 -- ---- operands that keep their order
 
@@ -21,10 +22,6 @@ both_false : (a b : Bool) → not (a || b) ≡ true → (a ≡ false) × (b ≡ 
 both_false false false is = (refl, refl)
 both_false true b is = cc
 both_false false true is = cc
-
-either_true : {A : Type 0} (a b : Bool) → (a || b) ≡ true → (a ≡ true → A) → (b ≡ true → A) → A
-either_true true b is one other = one refl
-either_true false b is one other = other is
 
 -- the names of the locals that are active are among these
 abbrev pub AreOwn : (own : List Text) → List Active → Type 0
@@ -41,7 +38,7 @@ module _ {g : Fn} {active : List Active} (few_locals : length active ≤ 250) {l
   count = length active
 
   names_kept : (names : Names) → g.law ≡ Some names → (own : List Text) → AreOwn own active → names_stay own l r ≡ true → HasLocal count both.x both.y both.first both.second → OneConstant l r
-  names_kept names law own named keeps locals = either_true (not (is_own own l || is_own own r)) _ keeps (λ none. absurd (no_local none (some_local both locals))) (λ one. one)
+  names_kept names law own named keeps locals = of_either (not (is_own own l || is_own own r)) _ keeps (λ none. absurd (no_local none (some_local both locals))) (λ one. one)
     where
       local_own : {e : Expression} {one other : ℕ} {o : OperandValue} → LocalOperand g active e one other o → is_own own e ≡ true
       local_own {e} local = name_own own active named local.register e (local.means names law)

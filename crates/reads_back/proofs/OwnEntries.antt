@@ -1,23 +1,16 @@
 -- What takes entries off, sets or holds them brings no function that captures its own register.
-use Rattle.std.proofs.Common.{◌≡◌, ℕ, zero, suc, ◌+◌, ◌-◌, ◌&&◌, Bool, true, false, nat_le, [], ◌∷◌, ◌++◌, length, Option, Some, None, refl}
-use Rattle.std.specs.Prelude.{◌==◌, ◌||◌, slice_get, slice_set, take}
+use Rattle.std.proofs.Common.{◌≡◌, ℕ, zero, suc, ◌+◌, ◌-◌, ◌&&◌, true, false, nat_le, [], ◌∷◌, ◌++◌, length, Option, Some, None, refl}
+use Rattle.std.specs.Prelude.{◌==◌, slice_get, slice_set, take}
 use Rattle.core_expr.specs.Values.{ItemList, OperandValue, and_keyed, and_positional, local_value, no_items}
 use Rattle.recover_expr.specs.Constructors.{hold_from, hold_items, hold_next, list_items, with_keyed}
 use Rattle.recover_expr.specs.Declaring.{captures_itself, is_own_function}
 use Rattle.recover_expr.specs.Entries.{EntryValue, Entries, value_entry, maker_entry, held_entry, behind_held, held_at, hold, is_place, join_items, more, opened, opened_at, part, part_at, place_in, set_next, take_at, take_from, take_list, take_method, take_open, take_singles, with_items, with_items_at}
 use Rattle.reads_back.proofs.EachSome.{Each, each_if, each_map, each_none, each_of, each_some, each_then, each_there, each_where}
+use Rattle.reads_back.proofs.Tests.{nor, neither}
 
 -- if none of these captures its own register, none of those does
 abbrev pub NoMore : Entries → Entries → Type 0
 NoMore before behind = captures_itself before ≡ false → captures_itself behind ≡ false
-
-pub neither : (one other : Bool) → (one || other) ≡ false → (one ≡ false) × (other ≡ false)
-neither true other is = absurd cc
-neither false other is = (refl, is)
-
-pub nor : (one other : Bool) → one ≡ false → other ≡ false → (one || other) ≡ false
-nor true other first second = first
-nor false other first second = second
 
 pub none_appended : (before behind : Entries) → captures_itself behind ≡ false → NoMore before (before ++ behind)
 none_appended [] behind is none = is

@@ -17,6 +17,7 @@ use Rattle.scheme_stands.proofs.Growth.{kept_end}
 use Rattle.scheme_stands.specs.Functions.{captured_name}
 use Rattle.scheme_stands.specs.Words.{CapturedBy, Fn, IsCaptured, Law, Means, MeansBy, Names, is_marked, is_named, onto, own_register, register_in}
 use Rattle.reads_back.specs.Coming.{declared_local}
+use Rattle.reads_back.proofs.FreeFound.{onto_end}
 use Rattle.reads_back.proofs.ListedLocals.{own_named}
 use Rattle.reads_back.proofs.NameReads.{AreListed, IsListed}
 use Rattle.reads_back.proofs.NamesInside.{declared_name, is_name_of}
@@ -24,15 +25,11 @@ use Rattle.reads_back.proofs.Tests.{second_of_both}
 
 -- ---- the register of the last local
 
-onto_last : {A : Type 0} (xs : List A) (y : A) (zs : List A) → onto (xs ++ y ∷ []) zs ≡ y ∷ onto xs zs
-onto_last [] y zs = refl
-onto_last (x ∷ xs) y zs = onto_last xs y (x ∷ zs)
-
 -- it hides others of its name
 own_last : (text : Text) (active : List Active) (x : Active) → own_register text (active ++ x ∷ []) ≡ (if is_named text x then Some (length active) else own_register text active)
 own_last text active x =
     let size : length (onto active []) ≡ length active = omega (arith, onto_length active []) in
-    ap (register_in text) (onto_last active x []) ∙ ap (λ r. if is_named text x then Some r else own_register text active) size
+    ap (register_in text) (onto_end active x []) ∙ ap (λ r. if is_named text x then Some r else own_register text active) size
 
 own_by : (text : Text) (active : List Active) (x : Active) (named : Bool) → is_named text x ≡ named → own_register text (active ++ x ∷ []) ≡ (if named then Some (length active) else own_register text active)
 own_by text active x named is = own_last text active x ∙ ap (λ named. if named then Some (length active) else own_register text active) is

@@ -4,7 +4,7 @@ use Rattle.std.specs.Prelude.{Option}
 use Rattle.lua_num.specs.Bytes.{Text}
 use Rattle.lua_tree.specs.OneLine.{one_line_expressions, one_line_statement}
 use Rattle.lua_tree.specs.Outline as outline
-use Rattle.lua_tree.specs.Syntax.{Expression, Expressions, Statement, Statements, assignment, call_statement, function_statement, local_function, local_statement, return_statement}
+use Rattle.lua_tree.specs.Syntax.{Expression, Expressions, Statement, Statements, return_statement}
 use Rattle.lua_tree.specs.WellFormed.{ends_block}
 use Rattle.core_expr.specs.Values.{Inner}
 use Rattle.recover_expr.specs.Drafts.{Drafted, Part, condition_part, head_part, statement_part, values_part}
@@ -17,9 +17,8 @@ use Rattle.scheme_stands.proofs.Growth.{Final, spot}
 use Rattle.scheme_stands.specs.Relation.{StatementAt}
 use Rattle.scheme_stands.specs.Words.{Fn}
 use Rattle.same_flow.specs.Performed.{kind_made}
-use Rattle.same_flow.specs.Told.{IsActPart, IsDeclarationPart}
 use Rattle.reads_back.specs.Assignments.{as_assignment}
-use Rattle.reads_back.proofs.FlowActs.{act_own, act_stands, comes, declaration_stands, final, own_listed}
+use Rattle.reads_back.proofs.FlowActs.{act_own, act_stands, comes, declaration_stands, final, own_listed, act_goes_on, declaration_goes_on}
 use Rattle.reads_back.proofs.FlowHeads.{comes as head_comes, of_head}
 use Rattle.reads_back.proofs.FlowRead.{ActPart, HeadPart, LonePart, PartRead, TestPart, as_many, final_here, upvalues_here}
 use Rattle.reads_back.proofs.FlowTests.{tested_is}
@@ -30,7 +29,7 @@ use Rattle.reads_back.proofs.LocalsLeave.{listed_of}
 use Rattle.reads_back.proofs.Mentions.{IsAhead, mentions_in}
 use Rattle.reads_back.proofs.Rewriting.{IsMadeBy, OwnListed, RewrittenAct, code as code_of, mentions_of_statement}
 use Rattle.reads_back.proofs.SameStatements.{assigned_makes}
-use Rattle.reads_back.proofs.StraightActs.{all_written, written}
+use Rattle.reads_back.proofs.ActsKnown.{all_written, written}
 use Rattle.reads_back.proofs.TestsMeant.{test_meant}
 use Rattle.reads_back.proofs.TestsSame.{tested_expression}
 use Rattle.reads_back.proofs.TestsWritten.{WritesTest, test_writes}
@@ -50,17 +49,6 @@ IsLoneKind (StepKind.Close from declared) = Unit {0}
 IsLoneKind (StepKind.Foot numeric target) = Unit {0}
 IsLoneKind kind = ⊥
 
-act_goes_on : (s : Statement) → IsActPart s → ends_block s ≡ false
-act_goes_on (call_statement e) fits = refl
-act_goes_on (assignment targets es) fits = refl
-act_goes_on (function_statement path method body) fits = refl
-act_goes_on s fits = absurd fits
-
-declaration_goes_on : (s : Statement) → IsDeclarationPart s → ends_block s ≡ false
-declaration_goes_on (local_statement names es) fits = refl
-declaration_goes_on (local_function text body) fits = refl
-declaration_goes_on s fits = absurd fits
-
 module _ {f : Function} {g : Fn} {z : Maker} {lefts : ℕ → List (Option Inner)} {parts : ℕ → outline.Part} {code : Steps} {params names : List Text} {ahead : Ahead} {block : Statements} (of : IsFlowFunction f g z lefts parts code params names ahead block) where
   -- ---- what is known of each
 
@@ -77,7 +65,6 @@ module _ {f : Function} {g : Fn} {z : Maker} {lefts : ℕ → List (Option Inner
   -- a test
   pub record TestThere (at target negated : ℕ) (when : Bool) (e : Expression) (behind : ℕ) (draft : Drafted) : Type 0 where
     pub is : StepIs of at (StepKind.Test when target negated) (condition_part e)
-    pub behind_is : behind ≡ length (made_at of at (StepKind.Test when target negated) (condition_part e)).functions
     pub flow : IsFlowTest e
     pub made : IsMadeBy f g (before_at of at).active (listed_of (before_at of at).active) z
     pub comes : IsAhead g (before_at of at).active (length (before_at of at).functions) (mentions_in e) (before_at of at)
@@ -123,7 +110,6 @@ module _ {f : Function} {g : Fn} {z : Maker} {lefts : ℕ → List (Option Inner
       let same : (code_of (tested_expression e)).jump_if when target m ≡ made = ap (λ e. (code_of e).jump_if when target m) (tested_is e flow.tested) ∙ ap (λ e. (coded e).jump_if when target m) flow.on_line in
       record {
         is = is;
-        behind_is = refl;
         flow = flow;
         made = here;
         comes = record { active_are = refl; upvalues_are = upvalues_here of is; made_are = refl; meant = (test_meant g m.active (length m.active) when (pcs of target) e flow.has (spot m) (spot made) is.stands).meant };

@@ -23,14 +23,15 @@ use Rattle.reads_back.specs.Assignments.{as_assignment}
 use Rattle.reads_back.specs.Placed.{AreLevelled, HasNegated, IsLevelled}
 use Rattle.reads_back.specs.ReadAs.{part_of}
 use Rattle.reads_back.proofs.Deeper.{some_depth}
+use Rattle.reads_back.proofs.FlowActs.{part_stays}
 use Rattle.reads_back.proofs.FlowRead.{PartRead, writing}
 use Rattle.reads_back.proofs.FlowThere.{IsFlowFunction, StepIs, before_at, made_at, pcs}
 use Rattle.reads_back.proofs.HeadValues.{head_wording}
 use Rattle.reads_back.proofs.HeadsFormed.{head_shallow}
 use Rattle.reads_back.proofs.PartsCases.{ActThere, Cases, HeadThere, IsActKind, IsLoneKind, TestThere, by_cases}
-use Rattle.reads_back.proofs.PartsFormed.{part_stays, returned_holds}
+use Rattle.reads_back.proofs.PartsFormed.{returned_holds}
 use Rattle.reads_back.proofs.PlacedReads.{ArePlaced, placed_read}
-use Rattle.reads_back.proofs.StraightActs.{written_ends, written_shallow}
+use Rattle.reads_back.proofs.ActsKnown.{written_ends, written_shallow}
 use Rattle.reads_back.proofs.TestedAs.{condition_word}
 use Rattle.reads_back.proofs.WrittenFormed.{condition_fine}
 

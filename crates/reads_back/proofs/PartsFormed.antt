@@ -8,7 +8,7 @@ use Rattle.lua_tree.specs.Syntax.{Expression, Expressions, Statement, Statements
 use Rattle.lua_tree.specs.WellFormed.{ends_block, formed_statement, has_expressions}
 use Rattle.core_expr.specs.Places.{Place}
 use Rattle.core_expr.specs.Values.{Inner}
-use Rattle.recover_expr.specs.Drafts.{Drafted, Part, statement_part}
+use Rattle.recover_expr.specs.Drafts.{Drafted, Part}
 use Rattle.recover_expr.specs.Placing.{Steps}
 use Rattle.recover_expr.specs.Situation.{Function}
 use Rattle.recover_expr.specs.declared.steps.StepKind.{StepKind}
@@ -19,6 +19,7 @@ use Rattle.same_flow.specs.Written.{ArePartsFormed, IsPartFormed}
 use Rattle.reads_back.specs.Acted.{Acted, IsActed, act_statement, returned}
 use Rattle.reads_back.specs.Assignments.{as_assignment}
 use Rattle.reads_back.specs.ReadAs.{part_of}
+use Rattle.reads_back.proofs.FlowActs.{part_stays}
 use Rattle.reads_back.proofs.FlowRead.{PartRead, writing}
 use Rattle.reads_back.proofs.FlowThere.{IsFlowFunction, StepIs, before_at, made_at, pcs}
 use Rattle.reads_back.proofs.HeadValues.{head_wording}
@@ -27,16 +28,10 @@ use Rattle.reads_back.proofs.HeadsSame.{AreCounted, AreOfHead}
 use Rattle.reads_back.proofs.PartsCases.{ActThere, Cases, HeadThere, TestThere, by_cases}
 use Rattle.reads_back.proofs.PlacedEach.{part_placed}
 use Rattle.reads_back.proofs.PlacedReads.{ArePlaced}
-use Rattle.reads_back.proofs.StraightActs.{written_ends, written_formed}
-use Rattle.reads_back.proofs.Tests.{not_so}
+use Rattle.reads_back.proofs.ActsKnown.{written_ends, written_formed}
 use Rattle.reads_back.proofs.WrittenFormed.{condition_fine}
 
 -- ---- statements as parts
-
--- what ends no block stands in its step as it is
-pub part_stays : (s : Statement) → ends_block s ≡ false → part_of s ≡ statement_part s
-part_stays (return_statement es) goes_on = not_so (sym goes_on)
-part_stays s goes_on = refl
 
 -- a return, and what holds of its values
 pub returned_holds : (Holds : Statement → Type 0) (at : Place) (n : ℕ) (fs : List (Option Inner)) (g : Fn) (active : List Active) (es : Expressions) (before behind : ℕ) (acted : Acted) → IsActed g active (return_statement es) before behind acted →

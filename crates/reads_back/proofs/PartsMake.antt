@@ -36,7 +36,7 @@ use Rattle.reads_back.proofs.HeadsSame.{head_same}
 use Rattle.reads_back.proofs.PlacedInside.{GoesBack, laid_back}
 use Rattle.reads_back.proofs.Rewriting.{OwnListed}
 use Rattle.reads_back.proofs.SameStatements.{assigned_makes}
-use Rattle.reads_back.proofs.StraightActs.{written}
+use Rattle.reads_back.proofs.ActsKnown.{written}
 use Rattle.reads_back.proofs.TestsSame.{test_same}
 
 -- each head of a loop over other things has as many variables among other steps
@@ -77,7 +77,7 @@ module _ {f : Function} {g : Fn} {z : Maker} {lefts : ℕ → List (Option Inner
       let m = before_at of at in
       let made = made_at of at (StepKind.Test when target negated) (condition_part e) in
       let same = test_same lefts (tests.here of is) of.left.again (as_many of at) (length m.functions) (length made.functions) read.tested when target m e is.flow.has is.flow.shallow read.is turns (tests.comes of is) (test_final of is) in
-      ap (λ part. tested_made when target part m) read.part ∙ same.same ∙ same_test_made of is
+      ap (λ part. tested_made when target part m) read.part ∙ same ∙ same_test_made of is
 
   head_made_same : {at foot end variables_end : ℕ} {captured : Bool} {es : Expressions} {texts : List Text} (numeric : Bool) (is : StepIs of at (StepKind.Head numeric foot end variables_end captured) (head_part es texts)) →
       (draft : Drafted) → HeadPart f g lefts (before_at of at) numeric es texts (length (made_at of at (StepKind.Head numeric foot end variables_end captured) (head_part es texts)).functions) draft →

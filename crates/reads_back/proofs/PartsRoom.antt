@@ -56,33 +56,20 @@ lean_in_room : (levels : ℕ) (kind : StepKind) (part : Part) → IsPartFormed p
 lean_in_room levels kind (statement_part s) formed low = statement_room levels kind s (omega (arith, low, assigned_roomy s formed.0))
 lean_in_room levels kind part formed low = low
 
+nothing_room : (levels : ℕ) (kind : StepKind) → KindInRoom levels kind nothing_part
+nothing_room levels (StepKind.Test when target negated) = tt
+nothing_room levels kind = tt
+
 -- what has nothing written of it needs one level
 lone_room : (levels : ℕ) (kind other : StepKind) (part : Part) → IsLoneKind kind → IsKindLike kind other → levels ≡ 1 → KindInRoom levels other part
-lone_room levels (StepKind.Jump target) other part is like one = subst (λ kind. KindInRoom levels kind part) (sym like) (by part)
-  where
-    by : (part : Part) → KindInRoom levels (StepKind.Jump target) part
-    by (statement_part s) = omega (arith, one)
-    by (values_part es) = omega (arith, one)
-    by (head_part es names) = omega (arith, one)
-    by (condition_part e) = tt
-    by nothing_part = tt
-lone_room levels (StepKind.Close from declared) other part is like one = subst (λ kind. KindInRoom levels kind part) (sym like) (by part)
-  where
-    by : (part : Part) → KindInRoom levels (StepKind.Close from declared) part
-    by (statement_part s) = omega (arith, one)
-    by (values_part es) = omega (arith, one)
-    by (head_part es names) = omega (arith, one)
-    by (condition_part e) = tt
-    by nothing_part = tt
-lone_room levels (StepKind.Foot numeric target) other part is like one = subst (λ kind. KindInRoom levels kind part) (sym like) (by part)
-  where
-    by : (part : Part) → KindInRoom levels (StepKind.Foot numeric target) part
-    by (statement_part s) = omega (arith, one)
-    by (values_part es) = omega (arith, one)
-    by (head_part es names) = omega (arith, one)
-    by (condition_part e) = tt
-    by nothing_part = tt
-lone_room levels kind other part is like one = absurd is
+lone_room levels kind other (statement_part s) is like one = statement_room levels other s (omega (arith, one))
+lone_room levels kind other (values_part es) is like one = return_room levels other es (omega (arith, one))
+lone_room levels kind other (head_part es names) is like one = head_room levels other es names (omega (arith, one))
+lone_room levels kind other nothing_part is like one = nothing_room levels other
+lone_room levels (StepKind.Jump target) other (condition_part e) is like one = subst (λ kind. KindInRoom levels kind (condition_part e)) (sym like) tt
+lone_room levels (StepKind.Close from declared) other (condition_part e) is like one = subst (λ kind. KindInRoom levels kind (condition_part e)) (sym like) tt
+lone_room levels (StepKind.Foot numeric target) other (condition_part e) is like one = subst (λ kind. KindInRoom levels kind (condition_part e)) (sym like) tt
+lone_room levels kind other (condition_part e) is like one = absurd is
 
 lone_lean : (levels : ℕ) (kind other : StepKind) (part : Part) → IsLoneKind kind → IsKindLike kind other → levels ≡ 1 → KindInLeanRoom levels other part
 lone_lean levels kind other (statement_part s) is like one = omega (arith, one)

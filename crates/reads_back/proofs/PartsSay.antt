@@ -4,7 +4,7 @@ use Rattle.std.specs.Prelude.{None, Option}
 use Rattle.lua_num.specs.Bytes.{Text}
 use Rattle.lua_tree.specs.Outline as outline
 use Rattle.lua_tree.specs.Outline.{Walk, both, come, declares, expression_part, expressions_part}
-use Rattle.lua_tree.specs.Syntax.{Expression, Expressions, Statement, Statements, assignment, call_statement, function_statement, local_function, local_statement, return_statement}
+use Rattle.lua_tree.specs.Syntax.{Expression, Expressions, Statement, Statements, return_statement}
 use Rattle.lua_tree.specs.WellFormed.{ends_block, formed_statement}
 use Rattle.core_expr.specs.Values.{Inner}
 use Rattle.recover_expr.specs.Drafts.{Drafted, Part, condition_part, head_part, statement_part, values_part}
@@ -18,13 +18,12 @@ use Rattle.scheme_stands.specs.Relation.{StatementAt}
 use Rattle.scheme_stands.specs.Words.{Fn}
 use Rattle.same_flow.specs.Alike.{SayLike, SaysLike}
 use Rattle.same_flow.specs.SameMarks.{but_breaks}
-use Rattle.same_flow.specs.Told.{IsActPart, IsDeclarationPart}
 use Rattle.reads_back.specs.Acted.{Acted, IsActed, act_statement, returned}
 use Rattle.reads_back.specs.Assignments.{as_assignment}
 use Rattle.reads_back.specs.ReadAs.{part_of}
 use Rattle.reads_back.proofs.ComparisonsSame.{KeepsNames}
 use Rattle.reads_back.proofs.FlowActs as acts
-use Rattle.reads_back.proofs.FlowActs.{act_own, act_stands, declaration_stands, own_listed}
+use Rattle.reads_back.proofs.FlowActs.{act_own, act_stands, declaration_stands, own_listed, act_goes_on, declaration_goes_on, part_stays}
 use Rattle.reads_back.proofs.FlowHeads as of_heads
 use Rattle.reads_back.proofs.FlowHeads.{rewritten}
 use Rattle.reads_back.proofs.FlowRead.{ActPart, HeadPart, PartRead, TestPart, as_many, left, taken, writing}
@@ -38,7 +37,7 @@ use Rattle.reads_back.proofs.Marks.{SamePart, both_same, exact_part, part_back, 
 use Rattle.reads_back.proofs.PartsMake.{TestTurns}
 use Rattle.reads_back.proofs.Rewriting.{OwnListed}
 use Rattle.reads_back.proofs.SameStatements.{assigned_makes, statement_part_same}
-use Rattle.reads_back.proofs.StraightActs.{written_ends, written_marks}
+use Rattle.reads_back.proofs.ActsKnown.{written_ends, written_marks}
 use Rattle.reads_back.proofs.TestsMarks.{test_marks}
 use Rattle.reads_back.proofs.TestsWritten.{test_writes}
 
@@ -52,22 +51,6 @@ assigned_says s formed {other} says = record {
   marks = λ place. ap (λ (walk : Walk). but_breaks walk.marks) (sym (statement_part_same 1 s formed refl place)) ∙ says.marks place;
   next = λ place. ap (λ (walk : Walk). walk.next) (sym (statement_part_same 1 s formed refl place)) ∙ says.next place;
 }
-
--- a statement that ends no block is a part by itself
-goes_on_part : (s : Statement) → ends_block s ≡ false → part_of s ≡ statement_part s
-goes_on_part (return_statement es) is = cc
-goes_on_part s is = refl
-
-act_goes_on : (s : Statement) → IsActPart s → ends_block s ≡ false
-act_goes_on (call_statement e) fits = refl
-act_goes_on (assignment targets es) fits = refl
-act_goes_on (function_statement path method body) fits = refl
-act_goes_on s fits = absurd fits
-
-declaration_goes_on : (s : Statement) → IsDeclarationPart s → ends_block s ≡ false
-declaration_goes_on (local_statement names es) fits = refl
-declaration_goes_on (local_function text body) fits = refl
-declaration_goes_on s fits = absurd fits
 
 module _ {f : Function} {g : Fn} {z : Maker} {lefts : ℕ → List (Option Inner)} {parts : ℕ → outline.Part} {code : Steps} {params names : List Text} {ahead : Ahead} {block : Statements} (of : IsFlowFunction f g z lefts parts code params names ahead block) where
   module _ {at : ℕ} {kind : StepKind} {part : Part} (is : StepIs of at kind part) (s : Statement) (flow : IsFlowAct s) (makes : made_at of at kind part ≡ statement_made s 1 None (before_at of at))
@@ -85,7 +68,7 @@ module _ {f : Function} {g : Fn} {z : Maker} {lefts : ℕ → List (Option Inner
     act_part : ends_block s ≡ false → draft.part ≡ statement_part statement
     act_part goes_on =
         let m = before_at of at in
-        read.part ∙ goes_on_part statement (written_ends (acts.here of is s flow makes stands own) of.left s flow.is flow.shallow own (length m.functions) (length (made_at of at kind part).functions) read.acted (length m.constants) read.is ∙ goes_on)
+        read.part ∙ part_stays statement (written_ends (acts.here of is s flow makes stands own) of.left s flow.is flow.shallow own (length m.functions) (length (made_at of at kind part).functions) read.acted (length m.constants) read.is ∙ goes_on)
 
   -- what is written of a return is one
   return_says : {at : ℕ} {es : Expressions} (is : StepIs of at StepKind.Return (values_part es)) (draft : Drafted) → ActPart f g lefts (before_at of at) (return_statement es) (length (made_at of at StepKind.Return (values_part es)).functions) draft → SayLike StepKind.Return (values_part es) draft.part

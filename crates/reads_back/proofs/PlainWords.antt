@@ -78,12 +78,12 @@ pub data IsShown (g : Fn) (at : Place) (left : List (Option Inner)) (v : Value) 
   is_constant : (k : Constant) (number : ℕ) → IsLoadable k → HasNumber g k number → v ≡ constant_value number → IsShown g at left v
   is_no_literal : ((n : ℕ) → plain_literal (word at n left v).words ≡ None) → IsShown g at left v
 
-record HasFirst (row : Values) : Type 0 where
-  first : Value
-  rest : Values
-  is : row ≡ and_value first rest
+pub record HasFirst (row : Values) : Type 0 where
+  pub first : Value
+  pub rest : Values
+  pub is : row ≡ and_value first rest
 
-spine_is_some : (g : Fn) (active : List Active) (e : Expression) (before behind : ℕ) (row : Values) → (core g active e).spine before behind row → HasFirst row
+pub spine_is_some : (g : Fn) (active : List Active) (e : Expression) (before behind : ℕ) (row : Values) → (core g active e).spine before behind row → HasFirst row
 spine_is_some g active (binary_expression line BinaryOp.Concat left right) before behind row is = let parts = is.1 in record { first = parts.0; rest = parts.1; is = parts.4 }
 spine_is_some g active (binary_expression line op left right) before behind row is = record { first = is.0; rest = no_values; is = is.2 }
 spine_is_some g active e before behind row is = record { first = is.0; rest = no_values; is = is.2 }

@@ -48,14 +48,10 @@ taken_there (suc n) [] i x less there = there
 taken_there (suc n) (y ∷ xs) zero x less there = there
 taken_there (suc n) (y ∷ xs) (suc i) x less there = taken_there n xs i x (omega (arith, less)) there
 
--- of falling ends a later one is no greater
-ends_by : (p : ℕ) (ends : List ℕ) (i end : ℕ) → EndBy p ends → slice_get ends i ≡ Some end → end ≤ p
-ends_by p ends i end gone there = gone_there p ends i end gone there
-
 falls_to : (ends : List ℕ) (i j one other : ℕ) → Falling ends → i < j → slice_get ends i ≡ Some one → slice_get ends j ≡ Some other → other ≤ one
 falls_to [] i j one other falls less is also = absurd (none-some one is)
 falls_to (end ∷ ends) zero zero one other falls less is also = absurd (omega (arith, less))
-falls_to (end ∷ ends) zero (suc j) one other falls less is also = let same = same_Some end one is in let most = ends_by end ends j other falls.0 also in omega (arith, same, most)
+falls_to (end ∷ ends) zero (suc j) one other falls less is also = let same = same_Some end one is in let most = gone_there end ends j other falls.0 also in omega (arith, same, most)
 falls_to (end ∷ ends) (suc i) zero one other falls less is also = absurd (omega (arith, less))
 falls_to (end ∷ ends) (suc i) (suc j) one other falls less is also = falls_to ends i j one other falls.1 (omega (arith, less)) is also
 

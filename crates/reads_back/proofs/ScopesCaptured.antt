@@ -1,10 +1,10 @@
 -- A CLOSURE captures the locals in the registers that its further words name, and no others.
 use Rattle.std.proofs.Common.{◌≡◌, ℕ, zero, suc, ◌+◌, ◌-◌, ◌&&◌, Bool, true, false, nat_le, List, [], ◌∷◌, ◌++◌, length, Option, Some, None, refl, sym, ap, ◌∙◌, subst, arith, is_some, option_and_then, if◌then◌else◌}
 use Rattle.std.proofs.Math.Bool.{or_comm}
-use Rattle.std.proofs.lemmas.Bool.Decides.{nat_tests}
 use Rattle.std.proofs.lemmas.List.Folds.{list_any-append}
 use Rattle.std.proofs.lemmas.Option.{none-some, slice_get_past}
 use Rattle.std.specs.Prelude.{◌==◌, ◌||◌, slice_get}
+use Rattle.std.proofs.lemmas.Bool.{eqb-true}
 use Rattle.opcode.specs.declared.op.Op.{Op}
 use Rattle.opcode.specs.declared.word.Instr.{Instr}
 use Rattle.core_expr.specs.Values.{function_value}
@@ -15,9 +15,8 @@ use Rattle.recover_expr.specs.Locals.{Scope, capture_some, or_zero}
 use Rattle.recover_expr.specs.Situation.{Function, Situation, instr_at, upvalues_in}
 use Rattle.recover_expr.specs.declared.function.Word.{Word}
 use Rattle.reads_back.proofs.EachSome.{Each, each_map, each_none, each_of, each_some, each_then, each_where}
-use Rattle.reads_back.proofs.OwnEntries.{nor}
 use Rattle.reads_back.proofs.ScopesRead.{Captures, DoneAs, all_captured, capture_all, captures_same, has_register, none_of_both}
-use Rattle.reads_back.proofs.Tests.{not_so, not_zero, or_first, or_second}
+use Rattle.reads_back.proofs.Tests.{not_so, not_zero, or_first, or_second, nor}
 
 -- ---- registers by the words alone
 
@@ -41,9 +40,6 @@ registers_as Op.Closure f w = captured_from f (or_zero (upvalues_in f w.instr.bx
 registers_as op f w = []
 
 -- ---- further words
-
-same_register : (one other : ℕ) → (one == other) ≡ true → one ≡ other
-same_register one other is = grind (arith, nat_tests)
 
 -- The locals in these registers are marked, and nothing else is changed. The function captures its own register where it did before, or where one of these is the next free one before the step and nothing stands there yet, and only there.
 pub record MarksAs (registers : List ℕ) (before : Bool) (s : Situation) (p : Bool × Situation) : Type 0 where
@@ -94,7 +90,7 @@ register_marks w register s = each_of (by (slice_get s.scope.active register) re
 
     listed : (entry : ℕ) → slice_get s.scope.active register ≡ Some entry → Itself false
     listed entry is base has =
-        let same : register ≡ s.base = same_register register s.base (or_comm false (register == s.base) ∙ has) in
+        let same : register ≡ s.base = eqb-true register s.base (or_comm false (register == s.base) ∙ has) in
         absurd (none-some entry (sym (slice_get_past s.scope.active register (omega (arith, same, base))) ∙ is))
 
     by : (there : Option ℕ) → slice_get s.scope.active register ≡ there → Each (IsMarked there) (if is_some there then Some (false, record s { scope = capture_some there s.scope }) else if (register == w.instr.a) && ((register == s.base) && (length s.entries == 0)) then Some (true, s) else None)

@@ -18,7 +18,8 @@ use Rattle.recover_expr.specs.declared.draft.DraftKind.{DraftKind}
 use Rattle.reads_back.proofs.BehindWords.{SameLocals, same_locals, same_then}
 use Rattle.reads_back.proofs.ClosureReads.{capture_same}
 use Rattle.reads_back.proofs.EachSome.{Each, each_if, each_map, each_none, each_some, each_there, each_where}
-use Rattle.reads_back.proofs.OwnEntries.{NoMore, neither, nor, take_at_none}
+use Rattle.reads_back.proofs.OwnEntries.{NoMore, take_at_none}
+use Rattle.reads_back.proofs.Tests.{nor, neither}
 
 -- the locals in these registers are captured, one after the other, where there are such
 abbrev pub capture_all : List ℕ → Scope → Scope

@@ -1,6 +1,5 @@
 -- What the step that words are read as does to the listed locals.
-use Rattle.std.proofs.Common.{◌≡◌, ℕ, zero, suc, ◌<◌, ◌&&◌, Bool, true, false, nat_le, nat_lt, List, [], ◌++◌, append-nil, length, Option, Some, None, option_and_then, option_map, refl, sym, ap, ◌∙◌, subst, arith, if◌then◌else◌}
-use Rattle.std.proofs.lemmas.Bool.Decides.{nat_tests}
+use Rattle.std.proofs.Common.{◌≡◌, ℕ, zero, suc, ◌&&◌, Bool, true, false, nat_le, nat_lt, List, [], ◌++◌, append-nil, length, Option, Some, None, option_and_then, option_map, refl, sym, ap, ◌∙◌, subst, if◌then◌else◌, ltb-true}
 use Rattle.std.specs.Prelude.{◌==◌}
 use Rattle.opcode.specs.declared.op.Op.{Op}
 use Rattle.recover_expr.specs.Assigning.{assignment_from}
@@ -21,9 +20,6 @@ use Rattle.reads_back.proofs.ScopesGrow.{EndsAs, declaration_grows, ends_behind,
 use Rattle.reads_back.proofs.ScopesRead.{Captures, DeclaresNone, DidAs, DoneAs, EndsKept, IsOfStep, IsPlain, done_then, ended_kept, keeps_same, made_kept, sees_kept}
 use Rattle.reads_back.proofs.StoresKept.{assignment_kept, value_assignment_kept}
 use Rattle.reads_back.proofs.WordsKept.{IsFree, call_word_kept, constant_kept, get_table_kept, item_kept, new_table_kept, nil_kept, operator_kept, returned_kept, self_word_kept, set_list_kept, tail_kept, test_kept, vararg_kept}
-
-some_of : (count : ℕ) → nat_lt 0 count ≡ true → 0 < count
-some_of count is = grind (arith, nat_tests)
 
 -- ---- words
 
@@ -143,7 +139,7 @@ turn_captures f pc s = by (nat_lt 0 (starting f.of.locals pc s.scope)) refl
 
     by : (starts : Bool) → nat_lt 0 (starting f.of.locals pc s.scope) ≡ starts → Each (TurnAs (if starts then [] else registers_of f (word_at f pc)) s)
         (if starts then option_map as_over (declaration f pc (starting f.of.locals pc s.scope) s) else if nat_le f.last pc then None else option_and_then (turn_of f s) (word_at f pc))
-    by true is = each_map _ (declaration_grows f pc (starting f.of.locals pc s.scope) s (some_of (starting f.of.locals pc s.scope) is)) (λ p grows. record { turned = grows })
+    by true is = each_map _ (declaration_grows f pc (starting f.of.locals pc s.scope) s (ltb-true 0 (starting f.of.locals pc s.scope) is)) (λ p grows. record { turned = grows })
     by false is = each_if (nat_le f.last pc) each_none (word (word_at f pc))
 
 -- ---- all words of the step

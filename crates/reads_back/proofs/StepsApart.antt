@@ -1,5 +1,5 @@
 -- Where what stands before and behind a function mentions nothing that is declared in it, the part of each of its steps stands apart among the marks of the source.
-use Rattle.std.proofs.Common.{◌≡◌, ◌∙◌, ◌<◌, ◌≤◌, ◌⊎◌, inl, inr, ℕ, zero, suc, ◌+◌, ◌-◌, Bool, true, false, nat_lt, List, [], ◌∷◌, ◌++◌, append-nil, append_assoc, length, Some, refl, sym, ap, subst, arith, if◌then◌else◌}
+use Rattle.std.proofs.Common.{◌≡◌, ◌∙◌, ◌<◌, ◌≤◌, ◌⊎◌, inl, inr, ℕ, zero, suc, ◌+◌, ◌-◌, Bool, List, [], ◌∷◌, ◌++◌, append-nil, append_assoc, length, Some, refl, sym, ap, subst, arith}
 use Rattle.std.proofs.lemmas.List.{append_cancel_right}
 use Rattle.std.specs.Prelude.{Option}
 use Rattle.lua_num.specs.Bytes.{Text}
@@ -20,7 +20,7 @@ use Rattle.scheme_stands.proofs.KnownMarks.{Later, MeansFrom}
 use Rattle.scheme_stands.proofs.LowMentions.{StaysLow, under_more}
 use Rattle.same_flow.specs.SameMarks.{but_breaks}
 use Rattle.same_flow.specs.Told.{PartFits}
-use Rattle.same_flow.proofs.Walks.{Entry, Said, State, back_to, ended_in, said_at, says, state_of}
+use Rattle.same_flow.proofs.Walks.{Entry, Said, State, ended_in, said_at, says, state_of}
 use Rattle.reads_back.proofs.ActiveCaptured.{part_leads}
 use Rattle.reads_back.proofs.FlowThere.{IsFlowFunction, StepIs, step_is}
 use Rattle.reads_back.proofs.MarksCaptured.{all_declarations}
@@ -28,7 +28,7 @@ use Rattle.reads_back.proofs.MarksUnbroken.{mentions_unbroken}
 use Rattle.reads_back.proofs.NamesCome.{Comes, Stays, step_scoped}
 use Rattle.reads_back.proofs.NoLaterCaptured.{IsLow, LowEntries, low_before, part_low}
 use Rattle.reads_back.proofs.StepsHere.{all_at, declarations_next, marks_before, marks_from, marks_next, rest_at, said_is, said_marks}
-use Rattle.reads_back.proofs.StepsKnown.{part_said, says_part, state_before}
+use Rattle.reads_back.proofs.StepsKnown.{part_said, says_part, state_before, ended_keeps}
 
 -- what is declared before a number or from another on
 abbrev pub IsOutside : (low high : ℕ) → Option Binding → List ℕ → Type 0
@@ -51,12 +51,7 @@ module _ (from : ℕ) (base : Place) where
   StateGood state = AreGood state.place.scope × EntriesGood state.entries × (base.declarations ≤ state.place.declarations)
 
   good_ended : (at : ℕ) (place : Place) (entries : List Entry) → AreGood place.scope → EntriesGood entries → base.declarations ≤ place.declarations → StateGood (ended_in at place entries)
-  good_ended at place [] here are more = (here, tt, more)
-  good_ended at place (entry ∷ entries) here are more = by (nat_lt at entry.end) (good_ended at (back_to entry place) entries are.0 are.1 more)
-    where
-      by : (test : Bool) → StateGood (ended_in at (back_to entry place) entries) → StateGood (if test then record { place = place; entries = entry ∷ entries } else ended_in at (back_to entry place) entries)
-      by true rest = (here, are, more)
-      by false rest = rest
+  good_ended at place entries here are more = ended_keeps StateGood (λ entry entries place good. (good.1.0, good.1.1, good.2)) at place entries (here, are, more)
 
   low_good : (entries : List Entry) → LowEntries from entries → EntriesGood entries
   low_good [] low = tt

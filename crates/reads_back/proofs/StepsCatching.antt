@@ -1,14 +1,11 @@
 -- At each step of a function so much is known of its locals that its words capture what its marks do.
-use Rattle.std.proofs.Common.{◌≡◌, ◌<◌, ◌≤◌, ◌⊎◌, inl, inr, ℕ, zero, suc, ◌+◌, Bool, true, List, [], ◌∷◌, ◌++◌, length, refl, sym, ap, ap₂, ◌∙◌, subst, arith}
-use Rattle.std.proofs.lemmas.Bool.Decides.{nat_tests}
+use Rattle.std.proofs.Common.{◌≡◌, ◌<◌, ◌≤◌, ◌⊎◌, inl, inr, ℕ, zero, suc, ◌+◌, Bool, true, List, [], ◌∷◌, ◌++◌, length, refl, sym, ap, ◌∙◌, subst, arith}
 use Rattle.std.proofs.lemmas.Option.{none-some, same_Some}
-use Rattle.std.specs.List.{list_any}
-use Rattle.std.specs.Prelude.{◌==◌, ◌||◌, Option, Some, slice_get}
+use Rattle.std.specs.Prelude.{Option, Some, slice_get}
 use Rattle.lua_num.specs.Bytes.{Text}
 use Rattle.lua_tree.specs.Outline as outline
 use Rattle.lua_tree.specs.Outline.{Binding, Mark, Place, Scope, innermost, statements_part}
 use Rattle.lua_tree.specs.Resolved.{declarations_in}
-use Rattle.lua_tree.specs.Scoping.{Use, global_use, local_use, upvalue_use}
 use Rattle.lua_tree.specs.Syntax.{FunctionBody, Statements, local_function}
 use Rattle.lua_tree.specs.WellFormed.{formed_statements}
 use Rattle.core_expr.specs.Values.{Inner}
@@ -16,7 +13,7 @@ use Rattle.recover_expr.specs.Drafts.{Part, statement_part}
 use Rattle.recover_expr.specs.Placing.{Steps}
 use Rattle.recover_expr.specs.Situation.{Function}
 use Rattle.recover_expr.specs.declared.steps.StepKind.{StepKind}
-use Rattle.scheme.specs.Making.{Ahead, Maker, head_or}
+use Rattle.scheme.specs.Making.{Ahead, Maker}
 use Rattle.scheme.specs.declared.making.Active.{Active}
 use Rattle.scheme.specs.declared.making.Local.{Local}
 use Rattle.scheme_stands.specs.Places.{Between, ScopeAt, ahead_at, ahead_by, StandsApart, Mentions}
@@ -26,10 +23,9 @@ use Rattle.same_flow.specs.SameFlow.{begun_of}
 use Rattle.same_flow.proofs.Walks.{state_of}
 use Rattle.reads_back.proofs.ActiveCaptured.{AllHome, distinct_active, only_own_before}
 use Rattle.reads_back.proofs.CapturedFlow.{StepComes}
-use Rattle.reads_back.proofs.CapturedMarks as captured
 use Rattle.reads_back.proofs.CapturedMarks.{OnlyOwn, opened_captures}
 use Rattle.reads_back.proofs.CapturedSteps.{KindCatching}
-use Rattle.reads_back.proofs.CapturedStretches.{Catching, Distinct, by_place, is_local_use, unmentioned_at}
+use Rattle.reads_back.proofs.CapturedStretches.{Catching, Distinct, by_place, unmentioned_at}
 use Rattle.reads_back.proofs.FlowThere.{IsFlowFunction, StepIs, before_at, made_at}
 use Rattle.reads_back.proofs.FunctionLocals.{number_at, sound_to, stand_before, stand_to}
 use Rattle.reads_back.proofs.LocalsBrought.{either_part}
@@ -46,15 +42,6 @@ use Rattle.reads_back.proofs.StepsApart.{IsOutside, steps_apart}
 abbrev KnownLocals : Place → List Active → Type 0
 KnownLocals base active = (register : ℕ) (one : Active) (d : ℕ) → slice_get active register ≡ Some one → one.local.declaration ≡ Some d → (d < base.declarations) × OnlyOwn base d
 
-uses_turned : (d : ℕ) (uses : List Use) → list_any (is_local_use d) uses ≡ list_any (captured.is_local_use d) uses
-uses_turned d [] = refl
-uses_turned d (one ∷ uses) = ap₂ (λ here rest. here || rest) (turned one) (uses_turned d uses)
-  where
-    turned : (one : Use) → is_local_use d one ≡ captured.is_local_use d one
-    turned (local_use other) = let same : (other == d) ≡ (d == other) = grind (arith, nat_tests) in same
-    turned (upvalue_use slot) = refl
-    turned global_use = refl
-
 catching_at : {f : Function} {g : Fn} (all : List Mark) (base : Place) (active : List Active) → IsFunction f g → Distinct active → KnownLocals base active → Catching f g (by_place all) base active
 catching_at all base active is_function distinct known = record {
   is_function = is_function;
@@ -65,7 +52,7 @@ catching_at all base active is_function distinct known = record {
       let below = is.0 in
       let later = fine.later in
       let own : OnlyOwn place declaration = λ name b means same. is.1 name b (ap (λ (scope : Scope). scope name) (sym fine.scope) ∙ means) same ∙ ap innermost (sym fine.around) in
-      uses_turned declaration (head_or [] p.ahead.sources) ∙ sym (opened_captures all method body place rest p fine.here declaration (omega (arith, below, later)) own);
+      sym (opened_captures all method body place rest p fine.here declaration (omega (arith, below, later)) own);
 }
 
 -- ---- behind the name of a local function

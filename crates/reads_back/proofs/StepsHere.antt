@@ -1,5 +1,5 @@
 -- Before each step of a function all is known of its marks, which come next at its place among those of the other steps without breaks.
-use Rattle.std.proofs.Common.{◌≡◌, ◌<◌, ◌≤◌, ◌⊎◌, inl, inr, ℕ, zero, suc, ◌+◌, ◌-◌, Bool, true, false, nat_lt, List, [], ◌∷◌, ◌++◌, append-nil, append_assoc, length, refl, sym, ap, ap₂, ◌∙◌, subst, arith, if◌then◌else◌}
+use Rattle.std.proofs.Common.{◌≡◌, ◌<◌, ◌≤◌, ◌⊎◌, inl, inr, ℕ, zero, suc, ◌+◌, ◌-◌, true, false, List, [], ◌∷◌, ◌++◌, append-nil, append_assoc, length, refl, sym, ap, ap₂, ◌∙◌, subst, arith}
 use Rattle.std.proofs.lemmas.Bool.{eq-eqb}
 use Rattle.std.specs.Prelude.{◌||◌, Option, Some}
 use Rattle.lua_num.specs.Bytes.{Text}
@@ -30,15 +30,15 @@ use Rattle.same_flow.specs.SameMarks.{but_breaks}
 use Rattle.same_flow.specs.Told.{PartFits}
 use Rattle.same_flow.proofs.Breaks.{breaks_append}
 use Rattle.same_flow.proofs.MarksSame.{whole_walk}
-use Rattle.same_flow.proofs.Walks.{Entry, Said, State, back_to, ended_in, run, said_at, says, says_at, state_of}
-use Rattle.reads_back.proofs.ActiveCaptured.{around_ended, around_stays}
+use Rattle.same_flow.proofs.Walks.{Entry, Said, State, ended_in, run, said_at, says, says_at, state_of}
+use Rattle.reads_back.proofs.ActiveCaptured.{around_stays}
 use Rattle.reads_back.proofs.FlowThere.{IsFlowFunction, StepIs, before_at, step_is}
 use Rattle.reads_back.proofs.LocalsBrought.{names_by}
-use Rattle.reads_back.proofs.MarksCaptured.{all_marks, declarations_stay, marks_to, run_marks, run_place}
+use Rattle.reads_back.proofs.MarksCaptured.{all_marks, declarations_stay, marks_to, run_marks, run_place, functions_stay, around_ended}
 use Rattle.reads_back.proofs.MarksUnbroken.{ahead_between, declarations_unbroken, functions_unbroken, mentions_unbroken, part_ahead}
 use Rattle.reads_back.proofs.NamesCome.{Comes, Stays, names_mean, step_scoped}
 use Rattle.reads_back.proofs.NoLaterCaptured.{low_before}
-use Rattle.reads_back.proofs.StepsKnown.{known_laid, part_said, says_part, state_before, state_to}
+use Rattle.reads_back.proofs.StepsKnown.{known_laid, part_said, says_part, state_before, state_to, ended_keeps}
 
 -- ---- parts of steps
 
@@ -82,16 +82,6 @@ behind_earlier earlier later same most means around is =
     one g (inl is) = inl (sym (ap (is_one_of g) same) ∙ is)
     one g (inr is) = inr (omega (arith, is, most))
 
--- where locals leave, as many functions stand before
-functions_stay : (at : ℕ) (place : Place) (entries : List Entry) → (ended_in at place entries).place.functions ≡ place.functions
-functions_stay at place [] = refl
-functions_stay at place (entry ∷ entries) = by (nat_lt at entry.end) (functions_stay at (back_to entry place) entries)
-  where
-    by : (test : Bool) → (ended_in at (back_to entry place) entries).place.functions ≡ place.functions →
-        (if test then record { place = place; entries = entry ∷ entries } else ended_in at (back_to entry place) entries).place.functions ≡ place.functions
-    by true rest = refl
-    by false rest = rest
-
 -- ---- homes
 
 -- what is in scope is of one of these functions
@@ -106,12 +96,7 @@ abbrev StateHomes : (around : List ℕ) → State → Type 0
 StateHomes around state = Homes around state.place.scope × EntriesHomes around state.entries
 
 homes_ended : (around : List ℕ) (at : ℕ) (place : Place) (entries : List Entry) → Homes around place.scope → EntriesHomes around entries → StateHomes around (ended_in at place entries)
-homes_ended around at place [] here are = (here, tt)
-homes_ended around at place (entry ∷ entries) here are = by (nat_lt at entry.end) (homes_ended around at (back_to entry place) entries are.0 are.1)
-  where
-    by : (test : Bool) → StateHomes around (ended_in at (back_to entry place) entries) → StateHomes around (if test then record { place = place; entries = entry ∷ entries } else ended_in at (back_to entry place) entries)
-    by true rest = (here, are)
-    by false rest = rest
+homes_ended around at place entries here are = ended_keeps (StateHomes around) (λ entry entries place both. both.1) at place entries (here, are)
 
 names_homes : (around : List ℕ) (home : ℕ) → is_one_of home around ≡ true → (names : List Text) (number : ℕ) (scope : Scope) → Homes around scope → Homes around (with_names names number home scope)
 names_homes around home own names number scope here name b is = by (names_mean names number home scope name b is)

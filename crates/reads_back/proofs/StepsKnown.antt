@@ -59,6 +59,16 @@ says_part (StepKind.Close from step) part state fits = (refl, refl)
 says_part (StepKind.Foot numeric target) part state fits = (refl, refl)
 says_part kind part state fits = absurd fits
 
+-- what holds of a state, and goes on to hold where a local leaves, holds where all that have ended have left
+pub ended_keeps : (Holds : State → Type 0) → ((entry : Entry) (entries : List Entry) (place : Place) → Holds (record { place = place; entries = entry ∷ entries }) → Holds (record { place = back_to entry place; entries = entries })) →
+    (at : ℕ) (place : Place) (entries : List Entry) → Holds (record { place = place; entries = entries }) → Holds (ended_in at place entries)
+ended_keeps Holds leaves at place [] holds = holds
+ended_keeps Holds leaves at place (entry ∷ entries) holds = by (nat_lt at entry.end) (ended_keeps Holds leaves at (back_to entry place) entries (leaves entry entries place holds))
+  where
+    by : (test : Bool) → Holds (ended_in at (back_to entry place) entries) → Holds (if test then record { place = place; entries = entry ∷ entries } else ended_in at (back_to entry place) entries)
+    by true rest = holds
+    by false rest = rest
+
 module _ (all : List Mark) where
   -- breaks mention nothing
   unbroken : (marks rest : List Mark) → uses_among all (but_breaks marks ++ rest) ≡ uses_among all (marks ++ rest)
@@ -80,13 +90,7 @@ module _ (all : List Mark) where
 
   -- where locals leave, nothing more is passed
   numbers_stay : (at : ℕ) (place : Place) (entries : List Entry) (marks : List Mark) → ahead_at all (ended_in at place entries).place marks ≡ ahead_at all place marks
-  numbers_stay at place [] marks = refl
-  numbers_stay at place (entry ∷ entries) marks = by (nat_lt at entry.end) (numbers_stay at (back_to entry place) entries marks)
-    where
-      by : (test : Bool) → ahead_at all (ended_in at (back_to entry place) entries).place marks ≡ ahead_at all place marks →
-          ahead_at all (if test then record { place = place; entries = entry ∷ entries } else ended_in at (back_to entry place) entries).place marks ≡ ahead_at all place marks
-      by true rest = refl
-      by false rest = rest
+  numbers_stay at place entries marks = ended_keeps (λ (state : State). ahead_at all state.place marks ≡ ahead_at all place marks) (λ entry entries place is. is) at place entries refl
 
   -- ---- the words of a step
 

@@ -2,6 +2,7 @@
 use Rattle.std.proofs.Common.{◌≡◌, ◌<◌, ◌≤◌, ℕ, zero, suc, ◌+◌, ◌-◌, ◌&&◌, Bool, true, false, List, [], ◌∷◌, ◌++◌, length, refl, sym, ap, ap₂, ◌∙◌, subst, arith}
 use Rattle.std.proofs.lemmas.Option.{same_Some}
 use Rattle.std.specs.Prelude.{◌==◌, ◌||◌, Option, Some, slice_get}
+use Rattle.std.proofs.Math.Bool.{and-true}
 use Rattle.lua_num.specs.Bytes.{Text}
 use Rattle.lua_tree.specs.Outline as outline
 use Rattle.lua_tree.specs.Outline.{Binding, Place, declares, expressions_part}
@@ -25,12 +26,13 @@ use Rattle.reads_back.specs.Acted.{Acted, IsActed, act_statement, declared}
 use Rattle.reads_back.specs.ReadAs.{part_of}
 use Rattle.reads_back.proofs.CapturedFlow.{StepComes, begins_again, own_captures_like, said_captures, step_registers}
 use Rattle.reads_back.proofs.CapturedInEnd.{CapturesOwn}
-use Rattle.reads_back.proofs.CapturedMarks.{InScope, captured_both, expressions_captured}
+use Rattle.reads_back.proofs.CapturedMarks.{InScope, expressions_captured}
 use Rattle.reads_back.proofs.CapturedSteps.{declares_silent}
 use Rattle.reads_back.proofs.FlowRead.{Begins, PartRead, as_many, within_last}
 use Rattle.reads_back.proofs.FlowSteps.{kind_step_read, later_at}
 use Rattle.reads_back.proofs.FlowThere.{IsFlowFunction, StepIs, before_at, made_at, pcs, step_is}
 use Rattle.reads_back.proofs.LocalsBrought.{names_by}
+use Rattle.reads_back.proofs.MarksCaptured.{captured_both}
 use Rattle.reads_back.proofs.NoLaterCaptured.{low_before}
 use Rattle.reads_back.proofs.PlacedCaptures.{element_right}
 use Rattle.reads_back.proofs.ScopesRead.{has_register, is_local_function}
@@ -66,10 +68,6 @@ declared_plain : (g : Fn) (active : List Active) (names : List Text) (es : Expre
     is_local_function (part_of (act_statement writing n left acted)) ≡ false
 declared_plain g active names es before behind writing n left (declared others vs all) is = refl
 declared_plain g active names es before behind writing n left acted is = absurd is
-
-and_nothing : (a : Bool) → (a && true) ≡ a
-and_nothing true = refl
-and_nothing false = refl
 
 -- ---- along the steps of a function
 
@@ -112,7 +110,7 @@ module _ {f : Function} {g : Fn} {z : Maker} {lefts : ℕ → List (Option Inner
     own_names : (kind : StepKind) (part : Part) → StepIs of at kind part → LowAt (place_at at) → (i : ℕ) → i < length (names_by kind part) → is_captured ((place_at at).declarations + i) (part_said kind part (place_at at)).marks ≡ (is_local_function draft.part && (0 == i))
     own_names (StepKind.Declaration end captured) (statement_part (local_function text body)) is low_at zero few =
         ap (λ d. is_captured d (outline.statement_part 1 (local_function text body) (place_at at)).marks) (let same : (place_at at).declarations + 0 ≡ (place_at at).declarations = omega arith in same)
-        ∙ own_function is ∙ sym (and_nothing (is_local_function draft.part))
+        ∙ own_function is ∙ sym (and-true (is_local_function draft.part))
     own_names (StepKind.Declaration end captured) (statement_part (local_function text body)) is low_at (suc i) few = absurd (omega (arith, few))
     own_names (StepKind.Declaration end captured) (statement_part (local_statement names es)) is low_at i few =
         let read = part_is_read is in

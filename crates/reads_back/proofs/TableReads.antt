@@ -1,5 +1,5 @@
 -- A constructor comes to the next free register, where each part of its items is read.
-use Rattle.std.proofs.Common.{◌≡◌, ◌⊎◌, ℕ, suc, ◌+◌, ◌-◌, ◌/◌, ◌<◌, ◌≤◌, nat_lt, nat_le, Bool, true, false, cond, List, [], ◌∷◌, ◌++◌, length, length-append, append_assoc, Some, None, refl, sym, ap, ◌∙◌, subst, arith, lt-ltb, inl, inr, ◌*◌}
+use Rattle.std.proofs.Common.{◌≡◌, ◌⊎◌, ℕ, suc, ◌+◌, ◌-◌, ◌/◌, ◌<◌, ◌≤◌, nat_lt, nat_le, Bool, true, false, cond, List, [], ◌∷◌, ◌++◌, length, length-append, append_assoc, Some, None, refl, sym, ap, ◌∙◌, subst, arith, lt-ltb, inl, inr, ◌*◌, ltb-true}
 use Rattle.std.proofs.Math.Nat.{max-le}
 use Rattle.std.specs.Prelude.{if◌then◌else◌, ◌==◌, ◌&&◌}
 use Rattle.lua_tree.specs.Syntax.{Expression, Fields, no_fields, positional, named, keyed}
@@ -24,7 +24,7 @@ use Rattle.reads_back.proofs.BothOperands.{behind_operand, both_reach, next_behi
 use Rattle.reads_back.proofs.Comes.{Begins, Comes, IsElementRead, OpenComes, OperandComes, ReadsOperand, ReadsTable, comes_next}
 use Rattle.reads_back.proofs.Reaches.{Reaches, here, word, reaches_then}
 use Rattle.reads_back.proofs.TableItems.{Ahead, begins_value, adds_item, ends_here, IsWantedAt, join_assoc, join_none, keyed_held, open_listed, positional_items, some_listed, with_maker, held_count}
-use Rattle.reads_back.proofs.TableWords.{Making, ItemsCome, turn_is, new_table_turn, with_entries, list_reached, list_keeps, list_if_keeps, list_later, list_if_forward, list_ahead, IsBounded, no_words, begins_lower, begins_at, keyed_turn, behind_keyed, some_pending, no_pending, is_full, making_next, wanted_same, none_pending, making_more, making_held, rk_small, text_small}
+use Rattle.reads_back.proofs.TableWords.{Making, ItemsCome, turn_is, new_table_turn, with_entries, list_reached, list_keeps, list_if_keeps, list_later, list_if_forward, list_ahead, IsBounded, no_words, begins_lower, begins_at, keyed_turn, behind_keyed, no_pending, is_full, making_next, wanted_same, none_pending, making_more, making_held, rk_small, text_small}
 use Rattle.reads_back.proofs.Tests.{second_of_both}
 use Rattle.reads_back.proofs.ValueWords.{and_entry}
 use Rattle.reads_back.proofs.WordsBegin.{instr_is, word_begins, wanted_above}
@@ -85,7 +85,7 @@ module _ {f : Function} {g : Fn} (active : List Active) (listed : List ℕ) (is_
     taken = refl;
     reaches =
         subst (λ (given : ItemList). Reaches f p.pc s q.pc (with_entries (before ++ maker_entry given false ∷ []) s)) (sym (join_none given))
-        (all_listed n done p q s before given making (some_pending n is) quiet at);
+        (all_listed n done p q s before given making (ltb-true 0 n is) quiet at);
   }
   last_comes false deep t n done p q s before given is making quiet at = record {
     items = no_items;

@@ -194,9 +194,6 @@ behind_keyed {s = s} one two before given held =
 
 -- ---- the situation between items
 
-pub some_pending : (n : ℕ) → nat_lt 0 n ≡ true → 0 < n
-some_pending n is = grind (arith, nat_tests)
-
 pub no_pending : (n : ℕ) → nat_lt 0 n ≡ false → n ≡ 0
 no_pending n is = grind (arith, nat_tests)
 

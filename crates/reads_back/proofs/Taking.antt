@@ -2,6 +2,7 @@
 use Rattle.std.proofs.Common.{◌≡◌, ℕ, max, refl, ap, ◌∙◌, arith}
 use Rattle.core_expr.specs.Counting.{one_more, taken_behind, taken_behind_values, taken_behind_operand, taken_behind_operands, taken_behind_items}
 use Rattle.core_expr.specs.Values.{Value, nil_value, vararg_value, bool_value, constant_value, local_value, upvalue_value, global_value, index_value, binary_value, unary_value, concat_value, call_value, method_value, table_value, function_value, Values, no_values, and_value, OperandValue, constant_operand, value_operand, OperandList, no_operands, and_operand, ItemList, no_items, and_positional, and_keyed}
+use Rattle.reads_back.specs.Acted.{Assigned, taken_behind_last}
 
 pub max_swap : (n m c : ℕ) → max (max n m) c ≡ max (max n c) m
 max_swap n m c = omega arith
@@ -47,3 +48,7 @@ mutual
       ap (λ there. taken_behind_items rest (taken_behind_operand item there)) (operand_taken_later key n m)
       ∙ ap (taken_behind_items rest) (operand_taken_later item (taken_behind_operand key n) m)
       ∙ items_taken_later rest (taken_behind_operand item (taken_behind_operand key n)) m
+
+-- so many constants are taken behind all values that are assigned
+abbrev pub taken_by : Assigned → ℕ → ℕ
+taken_by to n = taken_behind_last to.last (taken_behind_values to.values n)

@@ -14,7 +14,7 @@ use Rattle.core_expr.specs.Targets.{TargetValue, index_target, can_write_target,
 use Rattle.core_expr.specs.Values.{Value, global_value, local_value, upvalue_value, OperandValue, value_operand, Inner}
 use Rattle.core_expr.specs.Writing.{Wording, as_prefix, can_write_operand, constant_word, is_bare, literal as literal_word, single as single_word, with_key, word_operand}
 use Rattle.recover_expr.specs.Situation.{Function}
-use Rattle.scheme.specs.Expressions.{Coded, Target, name_target, part_target, fold, is_name, literal, number_or, operand, plain_literal, register_of, rk, rk_text}
+use Rattle.scheme.specs.Expressions.{Coded, Target, name_target, part_target, is_name, literal, operand, register_of, rk, rk_text}
 use Rattle.scheme.specs.Making.{Asks, Got, Maker, Where, answer, in_globals, in_register, in_upvalue, next_name}
 use Rattle.scheme.specs.Scheme.{all_coded, coded}
 use Rattle.scheme.specs.Statements.{all_targets, clashes, copied, copies, is_among, renamed, with_copy}
@@ -30,6 +30,7 @@ use Rattle.reads_back.proofs.Deeper.{some_depth}
 use Rattle.reads_back.proofs.IndexSame.{KeySame, IsIndexing, field_indexing, index_indexing, expression_key, key_asks, key_asks_same, key_few, named_key, text_key}
 use Rattle.reads_back.proofs.LeavesSame.{next_means, text_rewritten, variable_written}
 use Rattle.reads_back.proofs.ListsSame.{codes_of}
+use Rattle.reads_back.proofs.LocalOperands.{literal_no_name}
 use Rattle.reads_back.proofs.Mentions.{AskingPasses, IsAhead, Passed, ahead_behind, ahead_front, mentions_in, mentions_in_all, passed_none, passed_then, Mention, made_behind, made_both}
 use Rattle.reads_back.proofs.OperandsSame.{key_rewritten, operand_rewritten}
 use Rattle.reads_back.proofs.PassedMentions.{PassesMentions, mentions_passed, operand_passes, pass_passes}
@@ -85,24 +86,6 @@ copies_constants zero to m = refl
 copies_constants (suc x) to m = let earlier = copies 1 x to m in copied_constants (clashes x to) x earlier.value earlier.after ∙ copies_constants x to m
 
 -- ---- whether a key is a name
-
--- what is a name is no literal
-name_unfolded : (e : Expression) → is_name e ≡ true → fold e ≡ None
-name_unfolded (parenthesized line e) is = name_unfolded e is
-name_unfolded (name_expression line text) is = refl
-name_unfolded e is = cc
-
-name_not_plain : (e : Expression) → is_name e ≡ true → plain_literal e ≡ None
-name_not_plain (parenthesized line e) is = refl
-name_not_plain (name_expression line text) is = refl
-name_not_plain e is = cc
-
-literal_no_name : (e : Expression) (k : Constant) → literal e ≡ Some k → is_name e ≡ false
-literal_no_name e k is = by (is_name e) refl
-  where
-    by : (named : Bool) → is_name e ≡ named → named ≡ false
-    by true named = let none = ap₂ number_or (name_unfolded e named) (name_not_plain e named) in cc
-    by false named = refl
 
 literal_plain : (k : Constant) → is_name (literal_word k).words ≡ false
 literal_plain Constant.Nil = refl

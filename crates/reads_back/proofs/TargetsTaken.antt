@@ -9,7 +9,7 @@ use Rattle.lua_tree.specs.Syntax.{Expressions, no_expressions, expression, Expre
 use Rattle.core_expr.specs.Counting.{left_by_values, taken_behind_values}
 use Rattle.core_expr.specs.Held.{wordings_with}
 use Rattle.core_expr.specs.Targets.{TargetValue, can_write_target, index_target, left_by_target, taken_behind_target, word_target}
-use Rattle.core_expr.specs.Values.{Value, OperandValue, constant_operand, local_value, value_operand}
+use Rattle.core_expr.specs.Values.{Value, constant_operand, local_value, value_operand}
 use Rattle.core_expr.specs.Writing.{Wording, Wordings, and_wording, no_wordings}
 use Rattle.recover_expr.specs.Assigning.{as_statement, assignment_ended, assignment_step, held, held_at, held_operand, index_to, named_as, no_targets, target_of, targets, targets_of, targets_written}
 use Rattle.recover_expr.specs.Drafts.{Drafted}
@@ -20,6 +20,7 @@ use Rattle.recover_expr.specs.Writing.{WroteList}
 use Rattle.recover_expr.specs.declared.stores.Store.{Store}
 use Rattle.reads_back.specs.Acted.{Assigned, assigned, can_act, can_write_targets, left_by_last, left_by_targets, taken_behind_last, taken_behind_targets, words_assigned, words_targets, function_in, named_by}
 use Rattle.reads_back.proofs.ActsRead.{act_draft, after_act}
+use Rattle.reads_back.proofs.BothOperands.{as_operand, with_constant}
 use Rattle.reads_back.proofs.FunctionSteps.{assignment_step_is, function_ends, one_named, several_named}
 use Rattle.reads_back.proofs.HeldOperands.{Kept, in_next, in_word, in_local, operand_of}
 use Rattle.reads_back.proofs.PartsRead.{left_of, value_of}
@@ -42,12 +43,6 @@ count_stores pc (d ∷ ds) = omega (arith, length-append (stores_back pc ds) (st
 
 abbrev with_parts : (parts values : Entries) → Situation → Situation
 with_parts parts values s = record s { entries = parts ++ values }
-
-abbrev with_constant : Situation → ℕ → OperandValue × Situation
-with_constant t k = (constant_operand k, t)
-
-abbrev as_operand : (Value × Situation) → OperandValue × Situation
-as_operand p = (value_operand p.0, p.1)
 
 abbrev with_rest : Entries → Value → Value × Entries
 with_rest rest v = (v, rest)

@@ -1,5 +1,5 @@
 -- Tests that hold together.
-use Rattle.std.proofs.Common.{◌≡◌, ℕ, suc, ◌<◌, nat_lt, nat_le, Bool, true, false, Some, None, refl, arith}
+use Rattle.std.proofs.Common.{◌≡◌, ℕ, suc, ◌<◌, nat_lt, nat_le, Bool, true, false, Some, None, sym, refl, arith}
 use Rattle.std.proofs.lemmas.Bool.Decides.{nat_tests}
 use Rattle.std.proofs.lemmas.Option.{same_Some}
 use Rattle.std.specs.Prelude.{◌==◌, ◌||◌, ◌&&◌, if◌then◌else◌}
@@ -35,6 +35,26 @@ or_first false b is = cc
 pub or_second : (a b : Bool) → b ≡ true → (a || b) ≡ true
 or_second true b is = refl
 or_second false b is = is
+
+-- neither of both holds
+pub nor : (one other : Bool) → one ≡ false → other ≡ false → (one || other) ≡ false
+nor true other first second = first
+nor false other first second = second
+
+pub neither : (one other : Bool) → (one || other) ≡ false → (one ≡ false) × (other ≡ false)
+neither true other is = absurd cc
+neither false other is = (refl, is)
+
+-- what follows from each of two tests follows where one of them holds
+pub of_either : {A : Type 0} (a b : Bool) → (a || b) ≡ true → (a ≡ true → A) → (b ≡ true → A) → A
+of_either true b is first second = first refl
+of_either false b is first second = second is
+
+-- tests that follow from one another
+pub same_truth : (a b : Bool) → (a ≡ true → b ≡ true) → (b ≡ true → a ≡ true) → a ≡ b
+same_truth true b one other = sym (one refl)
+same_truth false true one other = other refl
+same_truth false false one other = refl
 
 pub and_not : (a : Bool) → (a && false) ≡ false
 and_not true = refl

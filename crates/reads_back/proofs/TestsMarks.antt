@@ -12,7 +12,7 @@ use Rattle.core_expr.specs.Counting.{left_by_operand, taken_behind_operand}
 use Rattle.core_expr.specs.Places.{Place, place}
 use Rattle.core_expr.specs.Targets.{Comparison, can_write_both, can_write_comparison, is_swapped, left_by_comparison, mirrored, word_both, word_comparison}
 use Rattle.core_expr.specs.Values.{Inner, OperandValue, Value, constant_operand, value_operand}
-use Rattle.core_expr.specs.Writing.{Wording, unless, word_operand}
+use Rattle.core_expr.specs.Writing.{Wording, word_operand}
 use Rattle.recover_expr.specs.Situation.{Function}
 use Rattle.recover_expr.specs.Testing.{TestedValue, tested_comparison}
 use Rattle.scheme.specs.Expressions.{is_comparison, literal}
@@ -23,7 +23,7 @@ use Rattle.reads_back.specs.Ordered.{is_constant_literal}
 use Rattle.reads_back.proofs.ComparisonOrder.{HasLocal, IsNextNumber, early_second, has_local, late_first}
 use Rattle.reads_back.proofs.ComparisonsSame.{CanTurn, KeepsNames, Order, order_of, ordered, other_op, tested_op, turned}
 use Rattle.reads_back.proofs.FunctionsLeft.{each_by_operand}
-use Rattle.reads_back.proofs.Marks.{ArePartsLeft, IsPartLeft, SamePart, both_same, exact_part, nothing_behind, operand_part, part_back, part_of_operand, part_then, same_part, word_part}
+use Rattle.reads_back.proofs.Marks.{ArePartsLeft, IsPartLeft, SamePart, both_same, exact_part, nothing_behind, operand_part, part_back, part_of_operand, part_then, same_part, word_part, unless_part}
 use Rattle.reads_back.proofs.MarksSame.{ArePartsMade, literal_part, marks_of, of_operand}
 use Rattle.reads_back.proofs.NameReads.{AreListed}
 use Rattle.reads_back.proofs.TestedAs.{BothTested, HasTest, HasTestBy, IsTested, IsTestedBy, IsValueTested, can_test, comparison_of, condition_word, is_turned}
@@ -109,10 +109,6 @@ module _ {g : Fn} {active : List Active} {l r : Expression} {before behind : ℕ
           value_no_constant v number same = cc
 
 -- ---- what is mentioned
-
-unless_part : (bare : Bool) (w : Wording) → SamePart (expression_part (unless bare w).words) (expression_part w.words)
-unless_part true w = same_part (expression_part w.words)
-unless_part false w = same_part (expression_part w.words)
 
 -- nothing has no place
 nothing_turns : (a b : Part) → SamePart a nothing → SamePart (both b a) (both a b)

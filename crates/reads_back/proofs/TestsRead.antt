@@ -1,7 +1,7 @@
 -- The words of a test are read as one step: a value, or a comparison, with the truth at which it jumps and where to.
 use Rattle.std.proofs.Common.{◌≡◌, ℕ, suc, ◌+◌, ◌<◌, ◌≤◌, max, Bool, true, List, [], ◌∷◌, ◌++◌, length, Option, Some, refl, sym, ap, ◌∙◌, subst, arith, le-leb}
 use Rattle.std.proofs.Math.Nat.{max-zero}
-use Rattle.std.specs.Prelude.{option_and_then, option_map}
+use Rattle.std.specs.Prelude.{option_map}
 use Rattle.lua_tree.specs.Syntax.{Expression}
 use Rattle.opcode.specs.declared.op.Op.{Op}
 use Rattle.opcode.specs.Word.{truth_field}
@@ -11,7 +11,7 @@ use Rattle.core_expr.specs.Values.{Inner, Value, local_value, value_operand}
 use Rattle.recover_expr.specs.Drafts.{Drafted, condition_part, ends}
 use Rattle.recover_expr.specs.Entries.{Entries}
 use Rattle.recover_expr.specs.Locals.{Scope}
-use Rattle.recover_expr.specs.Reading.{over, read_word, turned, turn_of, words_from}
+use Rattle.recover_expr.specs.Reading.{read_word, words_from}
 use Rattle.recover_expr.specs.Situation.{Function, Situation, place_in_step, pop, pop_at, see, with_entries}
 use Rattle.recover_expr.specs.Testing.{TestedValue, negated_levels, test, tested_by, tested_value, when_of}
 use Rattle.recover_expr.specs.Words.{as_end}
@@ -23,8 +23,9 @@ use Rattle.scheme_stands.specs.Expressions.{TestAt}
 use Rattle.scheme_stands.specs.Relation.{related}
 use Rattle.scheme_stands.specs.Words.{Fn, Spot, WordAt}
 use Rattle.reads_back.specs.Cores.{Counted, IsCore}
-use Rattle.reads_back.proofs.ActsRead.{Declares, same_declares}
+use Rattle.reads_back.proofs.ActsRead.{Declares, same_declares, ends_turn}
 use Rattle.reads_back.proofs.BehindWords.{HasLocals, SameLocals, behind_words, quiet_same}
+use Rattle.reads_back.proofs.BothOperands.{same_value}
 use Rattle.reads_back.proofs.Comes.{ReadsCore}
 use Rattle.reads_back.proofs.HeldOperands.{Kept, StandsIn, counts_none, entries_in, in_local, in_next, in_word, operand_held, operand_of}
 use Rattle.reads_back.proofs.NameReads.{AreListed}
@@ -60,10 +61,6 @@ pub record CanTest (f : Function) (Is : Counted TestedValue) (listed : List ℕ)
   pub can : (n before behind : ℕ) (tested : TestedValue) → Is before behind tested → can_test (place f.of listed f.short) n (lefts before) tested ≡ true
 
 -- ---- the step
-
--- the last word of the step ends it
-ends_turn : (f : Function) (w : Word) (draft : Drafted) (s behind : Situation) → read_word f w (see w.instr s) ≡ Some (ends draft, behind) → turn_of f s w ≡ Some (over draft, behind)
-ends_turn f w draft s behind does = ap (option_and_then (λ p. turned f w p.1 p.0)) does
 
 -- Words come to these entries more, which the word of the test takes off again.
 pub record TestComes (f : Function) (Is : TestedValue → Type 0) (s : Situation) (first last : ℕ) (w : Word) : Type 0 where
@@ -134,9 +131,6 @@ in_register : (f : Function) (count free x free1 : ℕ) (listed : List ℕ) (kep
 in_register f count free x free1 listed (in_word number) value stands = absurd value
 in_register f count free x free1 listed (in_local r) value stands = omega (arith, stands.0, stands.1, stands.2)
 in_register f count free x free1 listed (in_next entry v) value stands = omega (arith, stands.0, stands.1)
-
-same_value : (v w : Value) → value_operand v ≡ value_operand w → v ≡ w
-same_value v w is = cc
 
 module _ {f : Function} {g : Fn} {active : List Active} {listed : List ℕ} {lefts : ℕ → List (Option Inner)} (is_function : IsFunction f g) (all : AreListed f g active listed) (e : Expression) (reads : ReadsCore f g active listed e) (can : CanTest f (IsValueTested g active e) listed lefts) where
   pub value_test_read : (free label : ℕ) (sense : Bool) (p q : Spot) (s : Situation) → HasLocals active listed s → s.left ≡ lefts p.functions → s.entries ≡ [] → free ≡ length active → label ≤ f.last → IsQuiet f s.scope p.pc q.pc → TestAt g active (related g e) free sense label p q →

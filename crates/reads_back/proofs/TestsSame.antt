@@ -27,19 +27,22 @@ abbrev pub tested_expression : Expression → Expression
 tested_expression (binary_expression line op l r) = binary_expression line (tested_op op) l r
 tested_expression e = e
 
--- one test is that of an expression, and takes the constants that are counted
-pub record SameTest (f : Function) (active : List Active) (listed : List ℕ) (lefts : ℕ → List (Option Inner)) (before : ℕ) (e : Expression) (tested : TestedValue) (truth : Bool) (label : ℕ) (m : Maker) : Type 0 where
-  pub same : (coded (condition_word (place f.of listed f.short) (length m.constants) (lefts before) tested).words).jump_if truth label m ≡ (code (tested_expression e)).jump_if truth label m
-  pub taken : length ((code (tested_expression e)).jump_if truth label m).constants ≡ taken_behind_test tested (length m.constants)
-
 module _ (lefts : ℕ → List (Option Inner)) {f : Function} {g : Fn} {active : List Active} {listed : List ℕ} {z : Maker} (made : IsMadeBy f g active listed z) (again : AreAgain f g lefts) (sized : length listed ≡ length active) (before behind : ℕ) (tested : TestedValue) (truth : Bool) (label : ℕ) (m : Maker) where
-  value_is : (e : Expression) → HasTest e → HasCore e → literal e ≡ None → depth_of_expression e ≤ 200 → IsValueTested g active e before behind tested → IsAhead g active before (mentions_in e) m → Final (length m.labels) ((code e).jump_if truth label m) z →
-      ((coded (condition_word (place f.of listed f.short) (length m.constants) (lefts before) tested).words).jump_if truth label m ≡ (code e).jump_if truth label m) × (length ((code e).jump_if truth label m).constants ≡ taken_behind_test tested (length m.constants))
-  value_is e test has none few (v, core, is) ahead final =
-      let rewritten = (rewritten_all lefts made again e has few).value before behind v core in (
-        ap (λ (tested : TestedValue). (coded (condition_word (place f.of listed f.short) (length m.constants) (lefts before) tested).words).jump_if truth label m) is ∙ value_test_same e v test has none core rewritten truth label m ahead final,
-        value_test_taken e v test has none core rewritten truth label m ahead final ∙ ap (λ (tested : TestedValue). taken_behind_test tested (length m.constants)) (sym is),
-      )
+  -- one test is that of an expression
+  abbrev SameTest : Expression → Type 0
+  SameTest e = (coded (condition_word (place f.of listed f.short) (length m.constants) (lefts before) tested).words).jump_if truth label m ≡ (code (tested_expression e)).jump_if truth label m
+
+  value_same : (e : Expression) → HasTest e → HasCore e → literal e ≡ None → depth_of_expression e ≤ 200 → IsValueTested g active e before behind tested → IsAhead g active before (mentions_in e) m → Final (length m.labels) ((code e).jump_if truth label m) z →
+      (coded (condition_word (place f.of listed f.short) (length m.constants) (lefts before) tested).words).jump_if truth label m ≡ (code e).jump_if truth label m
+  value_same e test has none few (v, core, is) ahead final =
+      let rewritten = (rewritten_all lefts made again e has few).value before behind v core in
+      ap (λ (tested : TestedValue). (coded (condition_word (place f.of listed f.short) (length m.constants) (lefts before) tested).words).jump_if truth label m) is ∙ value_test_same e v test has none core rewritten truth label m ahead final
+
+  value_taken : (e : Expression) → HasTest e → HasCore e → literal e ≡ None → depth_of_expression e ≤ 200 → IsValueTested g active e before behind tested → IsAhead g active before (mentions_in e) m → Final (length m.labels) ((code e).jump_if truth label m) z →
+      length ((code e).jump_if truth label m).constants ≡ taken_behind_test tested (length m.constants)
+  value_taken e test has none few (v, core, is) ahead final =
+      let rewritten = (rewritten_all lefts made again e has few).value before behind v core in
+      value_test_taken e v test has none core rewritten truth label m ahead final ∙ ap (λ (tested : TestedValue). taken_behind_test tested (length m.constants)) (sym is)
 
   pub plain_op : (op : BinaryOp) → is_comparison op ≡ false → tested_op op ≡ op
   plain_op BinaryOp.Ne is = cc
@@ -47,28 +50,23 @@ module _ (lefts : ℕ → List (Option Inner)) {f : Function} {g : Fn} {active :
 
   operator_is : (compares : Bool) (line : ℕ) (op : BinaryOp) (l r : Expression) → is_comparison op ≡ compares → HasTestBy compares l r (binary_expression line op l r) → depth_of_expression (binary_expression line op l r) ≤ 200 → IsTestedBy compares g active op l r (binary_expression line op l r) before behind tested →
       KeepsNames g active (length m.constants) before behind (binary_expression line op l r) → IsAhead g active before (mentions_in (binary_expression line op l r)) m → Final (length m.labels) ((code (binary_expression line (tested_op op) l r)).jump_if truth label m) z →
-      SameTest f active listed lefts before (binary_expression line op l r) tested truth label m
-  operator_is true line op l r is has few (both, same) can ahead final = record {
-    same = ap (λ (tested : TestedValue). (coded (condition_word (place f.of listed f.short) (length m.constants) (lefts before) tested).words).jump_if truth label m) same
-        ∙ comparison_same lefts made again sized line op is l r has.0 has.1 (omega (arith, few)) (omega (arith, few)) both truth label m ahead final (can is both);
-    taken = comparison_taken lefts made again sized line op is l r has.0 has.1 (omega (arith, few)) (omega (arith, few)) both truth label m ahead final ∙ ap (λ (tested : TestedValue). taken_behind_test tested (length m.constants)) (sym same);
-  }
+      SameTest (binary_expression line op l r)
+  operator_is true line op l r is has few (both, same) can ahead final =
+      ap (λ (tested : TestedValue). (coded (condition_word (place f.of listed f.short) (length m.constants) (lefts before) tested).words).jump_if truth label m) same
+      ∙ comparison_same lefts made again sized line op is l r has.0 has.1 (omega (arith, few)) (omega (arith, few)) both truth label m ahead final (can is both)
   operator_is false line op l r is has few value can ahead final =
       let e = binary_expression line op l r in
       let same_op = plain_op op is in
       let final' = subst (λ op. Final (length m.labels) ((code (binary_expression line op l r)).jump_if truth label m) z) same_op final in
-      let found = value_is e (subst (λ (compares : Bool). HasTestBy compares l r e) (sym is) has) has.0 has.1 few value ahead final' in
-      record {
-        same = found.0 ∙ ap (λ op. (code (binary_expression line op l r)).jump_if truth label m) (sym same_op);
-        taken = ap (λ op. length ((code (binary_expression line op l r)).jump_if truth label m).constants) same_op ∙ found.1;
-      }
+      let found = value_same e (subst (λ (compares : Bool). HasTestBy compares l r e) (sym is) has) has.0 has.1 few value ahead final' in
+      found ∙ ap (λ op. (code (binary_expression line op l r)).jump_if truth label m) (sym same_op)
 
   pub test_same : (e : Expression) → HasTest e → depth_of_expression e ≤ 200 → IsTested g active e before behind tested → KeepsNames g active (length m.constants) before behind e → IsAhead g active before (mentions_in e) m → Final (length m.labels) ((code (tested_expression e)).jump_if truth label m) z →
-      SameTest f active listed lefts before e tested truth label m
+      SameTest e
   test_same (binary_expression line op l r) has few is can ahead final = operator_is (is_comparison op) line op l r refl has few is can ahead final
   test_same (unary_expression line UnaryOp.Not e) has few is can ahead final = absurd has
   test_same (parenthesized line e) has few is can ahead final = absurd has
-  test_same e has few is can ahead final = let found = value_is e has has.0 has.1 few is ahead final in record { same = found.0; taken = found.1 }
+  test_same e has few is can ahead final = value_same e has has.0 has.1 few is ahead final
 
   -- it takes these constants, whichever way its operands are written
   operator_taken : (compares : Bool) (line : ℕ) (op : BinaryOp) (l r : Expression) → is_comparison op ≡ compares → HasTestBy compares l r (binary_expression line op l r) → depth_of_expression (binary_expression line op l r) ≤ 200 → IsTestedBy compares g active op l r (binary_expression line op l r) before behind tested →
@@ -80,12 +78,12 @@ module _ (lefts : ℕ → List (Option Inner)) {f : Function} {g : Fn} {active :
       let e = binary_expression line op l r in
       let same_op = plain_op op is in
       let final' = subst (λ op. Final (length m.labels) ((code (binary_expression line op l r)).jump_if truth label m) z) same_op final in
-      let found = value_is e (subst (λ (compares : Bool). HasTestBy compares l r e) (sym is) has) has.0 has.1 few value ahead final' in
-      ap (λ op. length ((code (binary_expression line op l r)).jump_if truth label m).constants) same_op ∙ found.1
+      let found = value_taken e (subst (λ (compares : Bool). HasTestBy compares l r e) (sym is) has) has.0 has.1 few value ahead final' in
+      ap (λ op. length ((code (binary_expression line op l r)).jump_if truth label m).constants) same_op ∙ found
 
   pub test_taken : (e : Expression) → HasTest e → depth_of_expression e ≤ 200 → IsTested g active e before behind tested → IsAhead g active before (mentions_in e) m → Final (length m.labels) ((code (tested_expression e)).jump_if truth label m) z →
       length ((code (tested_expression e)).jump_if truth label m).constants ≡ taken_behind_test tested (length m.constants)
   test_taken (binary_expression line op l r) has few is ahead final = operator_taken (is_comparison op) line op l r refl has few is ahead final
   test_taken (unary_expression line UnaryOp.Not e) has few is ahead final = absurd has
   test_taken (parenthesized line e) has few is ahead final = absurd has
-  test_taken e has few is ahead final = let found = value_is e has has.0 has.1 few is ahead final in found.1
+  test_taken e has few is ahead final = value_taken e has has.0 has.1 few is ahead final

@@ -11,7 +11,7 @@ use Rattle.proto.specs.declared.parts.Constant.{Constant}
 use Rattle.core_expr.specs.Counting.{left_by, left_by_operand, taken_behind, taken_behind_operand}
 use Rattle.core_expr.specs.Making.{and_last, deepest, deepest_item, depth_of, depth_of_operand, made_index}
 use Rattle.core_expr.specs.Places.{Place, constant_name, field_name, local_name, place, upvalue_name}
-use Rattle.core_expr.specs.Values.{Inner, OperandList, OperandValue, Value, Values, and_operand, and_value, binary_value, call_value, concat_value, function_value, global_value, index_value, local_value, method_value, no_operands, no_values, table_value, unary_value, upvalue_value, vararg_value}
+use Rattle.core_expr.specs.Values.{Inner, OperandList, OperandValue, Value, Values, and_operand, and_value, binary_value, call_value, concat_value, function_value, global_value, index_value, local_value, method_value, no_operands, table_value, unary_value, upvalue_value, vararg_value}
 use Rattle.core_expr.specs.Writing.{Wording, as_prefix, can_write, function_left, function_word, name_word, with_key, word, word_keys, word_operand}
 use Rattle.recover_expr.specs.Situation.{Function}
 use Rattle.scheme.specs.Expressions.{Coded, binary_value as binary_made, compare, fold, is_comparison, literal, load_or, local_register, name_value, no_target, number_or, operand, operand_by, plain_literal, plain_multi, single, test_by, unary_value as unary_made}
@@ -24,6 +24,7 @@ use Rattle.scheme_stands.specs.Words.{Fn}
 use Rattle.reads_back.specs.Cores.{Counted, HasCore, IsArithmetic, IsCore, IsFoldedOr, IsOperandBy, IsOperator, IsUnary, IsVariable, concat_by, core, first_and, unary_by}
 use Rattle.reads_back.proofs.MarksSame.{over_made}
 use Rattle.reads_back.proofs.Mentions.{IsAhead, mentions_in}
+use Rattle.reads_back.proofs.PlainWords.{spine_is_some}
 use Rattle.reads_back.proofs.Rewriting.{Rewritten, code, wording}
 use Rattle.reads_back.proofs.TestedAs.{HasTest}
 use Rattle.reads_back.proofs.WordsSame.{operand_same, operand_taken, same_fold}
@@ -143,16 +144,6 @@ some_keys_whole at n fs w key rest = keys_whole at (taken_behind_operand key n) 
 last_key_whole : (at : Place) (n : ℕ) (fs : List (Option Inner)) (w : Wording) (keys : OperandList) (key : OperandValue) → IsTestedWhole (word_keys at n fs w (and_last keys key)).words
 last_key_whole at n fs w no_operands key = some_keys_whole at n fs w key no_operands
 last_key_whole at n fs w (and_operand first rest) key = some_keys_whole at n fs w first (and_last rest key)
-
-record HasFirst (row : Values) : Type 0 where
-  first : Value
-  rest : Values
-  is : row ≡ and_value first rest
-
-spine_is_some : (g : Fn) (active : List Active) (e : Expression) (before behind : ℕ) (row : Values) → (core g active e).spine before behind row → HasFirst row
-spine_is_some g active (binary_expression line BinaryOp.Concat left right) before behind row is = let parts = is.1 in record { first = parts.0; rest = parts.1; is = parts.4 }
-spine_is_some g active (binary_expression line op left right) before behind row is = record { first = is.0; rest = no_values; is = is.2 }
-spine_is_some g active e before behind row is = record { first = is.0; rest = no_values; is = is.2 }
 
 module _ (g : Fn) (active : List Active) (at : Place) (left : List (Option Inner)) where
   abbrev IsWrittenWhole : Value → Type 0

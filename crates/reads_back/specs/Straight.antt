@@ -1,4 +1,4 @@
--- To be believed. Straight statements: calls, assignments, function statements, local functions, declarations of locals and returns, of values in which no operator is `and`, `or` or a comparison; where the functions in them are such.
+-- Serves the laws. Straight statements: calls, assignments, function statements, local functions, declarations of locals and returns, of values in which no operator is `and`, `or` or a comparison; where the functions in them are such.
 use Rattle.std.specs.Prelude.{◌≡◌, ◌≤◌, Bool, true, length, false}
 use Rattle.lua_tree.specs.Names.{are_some_names, is_name}
 use Rattle.lua_tree.specs.Syntax as syntax

@@ -34,10 +34,10 @@ use Rattle.reads_back.specs.Stepped.{StepStands}
 use Rattle.reads_back.specs.Through.{BodyThrough}
 use Rattle.reads_back.proofs.FlowWhole.{tree_of, whole_of}
 use Rattle.reads_back.proofs.InnerNames.{AreKnown}
-use Rattle.reads_back.proofs.InnerReads.{AreNamedBy}
+use Rattle.reads_back.proofs.InnerChunks.{AreNamedBy}
 use Rattle.reads_back.proofs.MadeWhole.{IsMadeWhole}
 use Rattle.reads_back.proofs.StatementsStand.{laid_stand}
-use Rattle.reads_back.proofs.StraightFunctions.{as_many_lines, as_many_upvalues, own_of_same, takes_further}
+use Rattle.reads_back.proofs.SameChunks.{as_many_lines, as_many_upvalues, own_of_same, takes_further}
 use Rattle.reads_back.proofs.WordsRead.{IsFunction}
 use Rattle.reads_back.specs.Owned.{own_names}
 use Rattle.recovers.specs.Joined.{IsJoined, IsJoinedPart}

@@ -52,7 +52,7 @@ use Rattle.reads_back.proofs.PartsOnOne.{parts_on_one}
 use Rattle.reads_back.proofs.PartsPlain.{parts_plain}
 use Rattle.reads_back.proofs.PlainValues.{ArePlainLeft}
 use Rattle.reads_back.proofs.PartsRoom.{parts_in_room}
-use Rattle.reads_back.proofs.StraightActs.{AreLeft}
+use Rattle.reads_back.proofs.ActsKnown.{AreLeft}
 use Rattle.recovers.specs.Joined.{IsFlowRead, IsLike}
 use Rattle.recovers.proofs.Blockless.{blockless_stand}
 use Rattle.recovers.proofs.FlowHere.{IsFlowHere, closes, code, each_part, f, g, is_told, laid, parts_count, plain, steps_there}

@@ -24,11 +24,11 @@ use Rattle.reads_back.proofs.FlowFinal.{placed_maker, same_functions}
 use Rattle.reads_back.proofs.FlowMade.{HasRoomyPart, flow_made}
 use Rattle.reads_back.proofs.FlowPlaced.{AreCapturedLike, placed_in_end, read, steps_in_end}
 use Rattle.reads_back.proofs.FlowThere.{IsFlowBy, IsFlowFunction}
-use Rattle.reads_back.proofs.InnerReads.{count_same, counted}
+use Rattle.reads_back.proofs.InnerChunks.{count_same, counted}
 use Rattle.reads_back.proofs.FlowWhole.{IsWholeBy, whole_flow}
 use Rattle.reads_back.proofs.PlacedReads.{ArePlaced, placed_flow}
-use Rattle.reads_back.proofs.StraightActs.{AreLeft}
-use Rattle.reads_back.proofs.StraightFunctions.{activated_count, declared_count, inner_same}
+use Rattle.reads_back.proofs.ActsKnown.{AreLeft}
+use Rattle.reads_back.proofs.SameChunks.{activated_count, declared_count, inner_same}
 use Rattle.reads_back.proofs.WordsRead.{abc_is_read}
 use Rattle.recovers.specs.Joined.{IsRoomyPart}
 use Rattle.recovers.proofs.FlowHere.{IsFlowHere, closes, code, each_part, f, g, is_function, is_made, laid, last_is, plain, same_own, stand, words_count, z}

@@ -20,13 +20,13 @@ use Rattle.same_flow.specs.Space.{space_of_body}
 use Rattle.reads_back.specs.Coming.{Coming, IsMadeNext}
 use Rattle.reads_back.specs.Cores.{IsPlainBody}
 use Rattle.reads_back.proofs.EachMade.{IsMadeAt}
-use Rattle.reads_back.proofs.InnerReads.{AreNamedBy, StandsToo, part_found, stands_too, within_count}
+use Rattle.reads_back.proofs.InnerChunks.{AreNamedBy, StandsToo, part_found, stands_too, within_count}
 use Rattle.reads_back.proofs.LeftFunctions.{each_left, left_behind, next_left, others_left}
 use Rattle.reads_back.proofs.MadeWhole.{IsMadeWhole}
 use Rattle.reads_back.proofs.Marks.{IsPartLeft, exact_part, part_then}
 use Rattle.reads_back.proofs.NameReads.{AreListed}
 use Rattle.reads_back.proofs.NamesInside.{named_inside}
-use Rattle.reads_back.proofs.StraightActs.{AreLeft}
+use Rattle.reads_back.proofs.ActsKnown.{AreLeft}
 use Rattle.reads_back.proofs.WrittenFormed.{IsFineFunction}
 use Rattle.recovers.specs.EverFound.{IsEverFound, StandsAs}
 use Rattle.recovers.specs.Joined.{IsFoundAs}

@@ -22,7 +22,7 @@ use Rattle.scheme_stands.specs.Words.{Names}
 use Rattle.reads_back.proofs.FlowPlaced.{AreCapturedLike}
 use Rattle.reads_back.proofs.FlowWhole.{whole_of}
 use Rattle.reads_back.proofs.InnerNames.{placed_known}
-use Rattle.reads_back.proofs.InnerReads.{AreNamedBy}
+use Rattle.reads_back.proofs.InnerChunks.{AreNamedBy}
 use Rattle.reads_back.proofs.SomeNames.{good_params}
 use Rattle.reads_back.proofs.Tests.{first_of_both, second_of_both}
 use Rattle.reads_back.proofs.ThroughFunctions.{function_through}

@@ -13,7 +13,7 @@ use Rattle.same_flow.specs.Space.{around_body, space_of_statements}
 use Rattle.reads_back.proofs.FlowPlaced.{AreCapturedLike}
 use Rattle.reads_back.proofs.PlainValues.{plain_left}
 use Rattle.reads_back.proofs.Rooms.{body_room}
-use Rattle.reads_back.proofs.StraightFunctions.{inner_same}
+use Rattle.reads_back.proofs.SameChunks.{inner_same}
 use Rattle.recovers.specs.EverFound.{IsEverFound, IsEverTold, IsNeverLost}
 use Rattle.recovers.specs.Joined.{IsFlowRead}
 use Rattle.recovers.proofs.FlowHere.{IsFlowHere, f, g, is_made, is_told, same_own, z}

@@ -25,7 +25,7 @@ use Rattle.scheme_lines.proofs.Again.{bare_again}
 use Rattle.scheme_lines.specs.Alike.{AreAlike, SemicolonsDoNotMatter}
 use Rattle.same_flow.proofs.Breaks.{breaks_say_nothing}
 use Rattle.same_flow.specs.SameMarks.{but_breaks}
-use Rattle.reads_back.proofs.StraightFunctions.{own_of_same}
+use Rattle.reads_back.proofs.SameChunks.{own_of_same}
 use Rattle.recovers.specs.FlowSources.{IsFlowChunk}
 use Rattle.recovers.specs.Found.{IsSourceRecovered}
 use Rattle.recovers.specs.Joined.{IsFlowRead, IsLike}

@@ -11,7 +11,7 @@ use Rattle.scheme_stands.specs.Relation.{FunctionOf}
 use Rattle.scheme_stands.specs.Words.{Names}
 use Rattle.same_flow.specs.Space.{space_of_body}
 use Rattle.reads_back.specs.Cores.{IsPlainBody}
-use Rattle.reads_back.proofs.InnerReads.{AreNamedBy}
+use Rattle.reads_back.proofs.InnerChunks.{AreNamedBy}
 use Rattle.recovers.specs.Joined.{IsFoundAs}
 
 -- a chunk stands as this plain function, which is made there but for the numbers of lines, and whose upvalues have the names by which it is read

@@ -1,6 +1,6 @@
 -- Every part of a tree agrees with the turned one: the induction over the tree; and so does a function.
-use Rattle.std.proofs.Common.{◌≡◌, ℕ, Bool, true, false, List, ◌∷◌, ◌++◌, sym, ap, ◌∙◌}
-use Rattle.std.specs.Prelude.{Option, None, is_some}
+use Rattle.std.proofs.Common.{◌≡◌, ℕ, Bool, true, false, List, ◌∷◌, ◌++◌, sym, ◌∙◌}
+use Rattle.std.specs.Prelude.{None, is_some}
 use Rattle.lua_num.specs.Bytes.{Text}
 use Rattle.lua_tree.specs.Outline.{all_params}
 use Rattle.lua_tree.specs.Scoping.{Use}
@@ -9,12 +9,11 @@ use Rattle.lua_tree.specs.Syntax.{Statements, no_statements, Statement, assignme
 use Rattle.lua_tree.specs.WellFormed.{formed_statements}
 use Rattle.lua_tree.specs.declared.tree.UnaryOp.{UnaryOp}
 use Rattle.scheme.specs.Making.{Ahead}
-use Rattle.scheme.specs.Functions.{Heading, Finished, function_from}
-use Rattle.scheme.specs.Statements.{Loop}
+use Rattle.scheme.specs.Functions.{Heading, function_from}
 use Rattle.scheme.specs.Scheme.{statements_made}
 use Rattle.scheme_order.specs.Turned.{with_declared, with_all_declared, turned_block}
 use Rattle.scheme_order.specs.Permuted.{BlockUses}
-use Rattle.scheme_order.proofs.Makers.{SamePart, same_part, uses}
+use Rattle.scheme_order.proofs.Makers.{uses}
 use Rattle.scheme_order.proofs.Functions.{SameInner, same_function}
 use Rattle.scheme_order.proofs.Claims.{BlockAgrees, StatementAgrees, BranchesAgree, OtherwiseAgrees, StepAgrees, BodyAgrees, ExpressionAgrees, ArgumentsAgree, AllAgree, FieldsAgree}
 use Rattle.scheme_order.proofs.Values.{nil_agrees, true_agrees, false_agrees, vararg_agrees, number_agrees, text_agrees, name_agrees, function_agrees, index_agrees, field_agrees, call_agrees, method_agrees, and_agrees, or_agrees, binary_agrees, not_agrees, negation_agrees, length_agrees, constructor_agrees, paren_agrees, all_none_agrees, all_more_agrees, list_agrees, text_argument_agrees, table_agrees, no_fields_agree, positional_agrees, named_agrees, keyed_agrees}
@@ -95,11 +94,6 @@ mutual
 
 -- ---- blocks and functions
 
--- a block and the turned one make the same
-pub block_same : (own : List Text) (block : Statements) (here there : List Use) → formed_statements block ≡ true → BlockUses own block here there → (loop : Option Loop) →
-    SamePart here there (statements_made block loop) (statements_made (turned_block own block) loop)
-block_same own block here there f u loop = same_part (each_block block own here there f u loop)
-
 -- a function of a block, and one of the turned block
 functions_agree : (heading : Heading) (end_line : ℕ) (params : List Text) (own : List Text) (block : Statements) (here there : List Use) → formed_statements block ≡ true →
     BlockUses own block here there →
@@ -115,14 +109,3 @@ pub function_same : (heading : Heading) (end_line : ℕ) (params : List Text) (o
 function_same heading end_line params own block here there f u upvalue_names ahead rest =
     let s = functions_agree heading end_line params own block here there f u in
     s.first upvalue_names ahead rest ∙ sym (s.second upvalue_names ahead rest)
-
--- what is ahead behind them
-pub function_takes : (heading : Heading) (end_line : ℕ) (params : List Text) (own : List Text) (block : Statements) (here there : List Use) → formed_statements block ≡ true →
-    BlockUses own block here there →
-    (upvalue_names : List Text) (ahead : Ahead) (rest : List Use) →
-    ((function_from heading end_line params (statements_made block None) upvalue_names (record ahead { names = here ++ rest })).ahead.names ≡ rest)
-    × ((function_from heading end_line params (statements_made (turned_block own block) None) upvalue_names (record ahead { names = there ++ rest })).ahead.names ≡ rest)
-function_takes heading end_line params own block here there f u upvalue_names ahead rest =
-    let s = functions_agree heading end_line params own block here there f u in
-    let names = λ (made : Finished). made.ahead.names in
-    (ap names (s.first upvalue_names ahead rest), ap names (s.second upvalue_names ahead rest))

@@ -1,5 +1,5 @@
 -- Parts of the scheme that consume the names ahead in different orders, and make the same.
-use Rattle.std.proofs.Common.{◌≡◌, ℕ, suc, Bool, true, false, cond, List, [], ◌∷◌, ◌++◌, length, drop, refl, sym, ap, ◌∙◌, subst, append_assoc}
+use Rattle.std.proofs.Common.{◌≡◌, ℕ, suc, Bool, true, false, cond, List, [], ◌∷◌, ◌++◌, length, drop, refl, ap, ◌∙◌, subst, append_assoc}
 use Rattle.std.specs.Prelude.{Some}
 use Rattle.lua_num.specs.Bytes.{Text}
 use Rattle.lua_tree.specs.Scoping.{Use}
@@ -253,12 +253,3 @@ uses names rest = names ++ rest
 -- the names of a whole are those of its two parts
 pub uses_joined : {names : List Use} (one more : List Use) → names ≡ one ++ more → uses names ≡ and_then (uses one) (uses more)
 uses_joined one more e = λ i rest. (ap (λ names. names ++ rest) e ∙ append_assoc one more rest) i
-
--- parts that consume such names, and make the same but for the names ahead
-pub record SamePart (here there : List Use) (part other : Part) : Type 0 where
-  pub same : (m : Maker) (rest : List Use) → part (with_names (here ++ rest) m) ≡ other (with_names (there ++ rest) m)
-  pub takes : (m : Maker) (rest : List Use) → (part (with_names (here ++ rest) m)).ahead.names ≡ rest
-
--- parts that agree make the same
-pub same_part : {k : Bool} {here there : List Use} {part other : Part} → Agree k (uses here) (uses there) part other → SamePart here there part other
-same_part a = record { same = λ m rest. a.first m rest ∙ sym (a.second m rest); takes = λ m rest. ap (λ (n : Maker). n.ahead.names) (a.first m rest) }

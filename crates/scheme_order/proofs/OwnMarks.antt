@@ -34,9 +34,6 @@ behind_same f known (mention line name (Some binding) around ∷ marks) =
     by false e one other = other
 behind_same f known (mark ∷ marks) = behind_same f known marks
 
-pub upvalues_same : (f : ℕ) (marks : List Mark) → upvalues_of f (but_own marks) ≡ upvalues_of f marks
-upvalues_same f marks = behind_same f [] marks
-
 -- what is meant in a function
 pub use_same : (f : ℕ) (marks : List Mark) (means : Option Binding) → use_in f (but_own marks) means ≡ use_in f marks means
 use_same f marks None = refl

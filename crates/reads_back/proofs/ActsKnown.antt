@@ -1,4 +1,4 @@
--- What is known of each statement of a straight block where it is made: it is read as what it is, and what is written of it is well formed, has the same names and makes the same code.
+-- What is known of each statement without blocks where it is made: it is read as what it is, and what is written of it is well formed, has the same names and makes the same code.
 use Rattle.std.proofs.Common.{◌≡◌, ℕ, suc, ◌≤◌, true, List, [], length, None, arith, Option, ◌*◌, ◌+◌, ◌∷◌, ◌++◌}
 use Rattle.lua_tree.specs.OneLine.{one_line_statement}
 use Rattle.lua_tree.specs.Outline.{Part, statement_part}
