@@ -10,6 +10,7 @@ use Rattle.scheme.specs.declared.making.Active.{Active}
 use Rattle.scheme_stands.specs.Words.{Fn}
 use Rattle.same_flow.specs.Space.{space_of_arguments, space_of_body, space_of_expression, space_of_expressions, space_of_fields}
 use Rattle.reads_back.specs.Acted.{IsAct, is_path, lean_assignment, lean_depth}
+use Rattle.reads_back.specs.Assignments.{with_self}
 use Rattle.reads_back.specs.Coming.{Coming, IsMadeNext, IsOwnNext, inside_local}
 use Rattle.reads_back.specs.Cores.{AllHaveCores, HasCore, HaveCores, HaveItems, IsPlainBody}
 use Rattle.reads_back.proofs.Mentions.{AreMeant, Mention, behind_mention, coming_behind, function_mention, locals_mention, mentions_given, mentions_in, mentions_in_all, mentions_of_fields, name_mention, own_mention}
@@ -25,7 +26,7 @@ use Rattle.reads_back.proofs.Tests.{first_of_both}
 abbrev pub AreLowMentions : (high roomy : ℕ) → List Mention → Type 0
 AreLowMentions high roomy [] = Unit {0}
 AreLowMentions high roomy (name_mention text ∷ mentions) = AreLowMentions high roomy mentions
-AreLowMentions high roomy (function_mention body method ∷ mentions) = (IsPlainBody body × (depth_of_body body < high) × (space_of_body body < roomy)) × AreLowMentions high roomy mentions
+AreLowMentions high roomy (function_mention body method ∷ mentions) = (IsPlainBody (with_self method body) × (depth_of_body body < high) × (space_of_body body < roomy)) × AreLowMentions high roomy mentions
 AreLowMentions high roomy (locals_mention texts ∷ mentions) = AreLowMentions high roomy mentions
 AreLowMentions high roomy (own_mention text body ∷ mentions) = ⊥
 
@@ -131,7 +132,7 @@ pub record IsMadeAt (f : Function) (g : Fn) (high roomy number : ℕ) : Type 0 w
   pub c : Coming
   pub is : IsMadeNext g active body method c
   pub number_is : c.functions ≡ number
-  pub plain : IsPlainBody body
+  pub plain : IsPlainBody (with_self method body)
   pub low : depth_of_body body < high
   pub in_room : space_of_body body < roomy
 

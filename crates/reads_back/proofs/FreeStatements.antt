@@ -140,10 +140,12 @@ module _ (text : Text) (n : Names) (f : Fn) (active : List Active) where
 
   -- `self` is among the parameters
   inside_self : (method : Bool) (body : FunctionBody) → IsCapturedInside text body method → IsCapturedInside text (with_self method body) false
-  inside_self method (function_body params vararg block first last) inside = inside
+  inside_self true (function_body params vararg block first last) inside = inside
+  inside_self false body inside = inside
 
   self_same : (method : Bool) (body : FunctionBody) → free_in_body text false (with_self method body) ≡ free_in_body text method body
-  self_same method (function_body params vararg block first last) = refl
+  self_same true (function_body params vararg block first last) = refl
+  self_same false body = refl
 
   -- a path has a name
   no_path_found : (method : Option Text) (to : List Target) (from behind : ℕ) → Finds text n true (TargetsAt (rel_method g (rel_path g []) method ∷ []) active to from behind)

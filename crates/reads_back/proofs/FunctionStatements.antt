@@ -72,24 +72,25 @@ module _ (P : FunctionBody → Type 0) where
 
 self_formed : (method : Bool) (body : FunctionBody) → formed_body body ≡ true → formed_body (with_self method body) ≡ true
 self_formed true (function_body params vararg block first last) formed = formed
-self_formed false (function_body params vararg block first last) formed = formed
+self_formed false body formed = formed
 
 self_deep : (method : Bool) (body : FunctionBody) → depth_of_body (with_self method body) ≡ depth_of_body body
-self_deep method (function_body params vararg block first last) = refl
+self_deep true (function_body params vararg block first last) = refl
+self_deep false body = refl
 
 self_room : (method : Bool) (body : FunctionBody) → space_of_body (with_self method body) ≡ space_of_body body
-self_room method (function_body params vararg block first last) = refl
+self_room true (function_body params vararg block first last) = refl
+self_room false body = refl
 
 -- ---- it is an act
 
--- where functions are such with `self` among their parameters too
-pub statement_is_act : (P : FunctionBody → Type 0) → ((method : Bool) (body : FunctionBody) → P body → P (with_self method body)) → (s : Statement) → IsStraightStatementBy P s → formed_statement s ≡ true → IsActBy P (as_assignment s)
-statement_is_act P self (function_statement [] method body) is formed = not_so formed
-statement_is_act P self (function_statement (name ∷ names) method body) is formed =
+pub statement_is_act : (P : FunctionBody → Type 0) (s : Statement) → IsStraightStatementBy P s → formed_statement s ≡ true → IsActBy P (as_assignment s)
+statement_is_act P (function_statement [] method body) is formed = not_so formed
+statement_is_act P (function_statement (name ∷ names) method body) is formed =
     let behind = second_of_both (are_some_names (name ∷ names)) _ formed in
     let named = path_is_named P name names method (first_of_both _ _ formed) (first_of_both _ _ behind) in
-    record { some = refl; targets = (named.target, tt); given = refl; values = (self (is_some method) body is.1, tt) }
-statement_is_act P self s is formed = is
+    record { some = refl; targets = (named.target, tt); given = refl; values = (is.1, tt) }
+statement_is_act P s is formed = is
 
 pub indexes_still : (s : Statement) → StatementIndexesNoTable s → formed_statement s ≡ true → StatementIndexesNoTable (as_assignment s)
 indexes_still (function_statement [] method body) none formed = not_so formed

@@ -10,6 +10,7 @@ pub mod ActsStand
 pub mod AdjustedComes
 pub mod AdjustedEntries
 pub mod AdjustedWords
+pub mod AmongNames
 pub mod AssignedComes
 pub mod AssignedSame
 pub mod AssignedValues
@@ -146,11 +147,11 @@ pub mod OperandReads
 pub mod OperandsSame
 pub mod Operators
 pub mod OperatorsSame
+pub mod OrderedSteps
 pub mod OrderedTests
 pub mod OwnEntries
 pub mod OwnFirst
 pub mod OwnLocals
-pub mod OwnNames
 pub mod OwnSteps
 pub mod OwnValues
 pub mod OwnWords

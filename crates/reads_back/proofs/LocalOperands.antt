@@ -11,10 +11,10 @@ use Rattle.core_expr.specs.Values.{OperandValue, Value, Values, and_operand, bin
 use Rattle.scheme.specs.Expressions.{fold, is_name, literal, number_or, plain_literal}
 use Rattle.scheme.specs.Making.{in_globals, in_register, in_upvalue}
 use Rattle.scheme.specs.declared.making.Active.{Active}
+use Rattle.scheme_order.specs.Turned.{is_constant_literal}
 use Rattle.scheme_stands.specs.Expressions.{IsLarge}
 use Rattle.scheme_stands.specs.Words.{Fn, Means, Names, own_register}
 use Rattle.reads_back.specs.Cores.{Counted, IsArithmetic, IsConstant, IsCore, IsFoldedOr, IsNamed, IsOperand, IsOperandBy, IsOperator, IsUnary, core, still}
-use Rattle.reads_back.specs.Ordered.{is_constant_literal}
 use Rattle.reads_back.proofs.ComparisonOrder.{HasLocal}
 use Rattle.reads_back.proofs.MarksSame.{over_made}
 use Rattle.reads_back.proofs.TestedAs.{BothTested, IsField}

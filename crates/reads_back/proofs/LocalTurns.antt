@@ -13,11 +13,11 @@ use Rattle.scheme.specs.Expressions.{fold, is_name, is_small, literal, local_reg
 use Rattle.scheme.specs.Making.{Got, Maker, Where, in_globals, in_register, in_upvalue, next_name, pass_name, take_registers}
 use Rattle.scheme.specs.Scheme.{coded}
 use Rattle.scheme.specs.declared.making.Active.{Active}
+use Rattle.scheme_order.specs.Turned.{is_constant_literal}
 use Rattle.scheme_stands.proofs.Growth.{Final, before as before_part, calm}
 use Rattle.scheme_stands.proofs.Parts.{grows, grows_rk}
 use Rattle.scheme_stands.specs.Words.{Fn}
 use Rattle.reads_back.specs.Cores.{HasCore, IsCore, IsVariable}
-use Rattle.reads_back.specs.Ordered.{is_constant_literal}
 use Rattle.reads_back.proofs.ComparesSame.{Turns, ahead_left, ahead_right, front, x_got, y_got}
 use Rattle.reads_back.proofs.ConstantsSame.{large_there, loads, number_loads}
 use Rattle.reads_back.proofs.InRoom.{IsOperandInRoom}

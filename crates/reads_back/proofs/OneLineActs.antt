@@ -1,9 +1,10 @@
 -- An act or a function statement is one on one line too, where the functions in it stay such.
-use Rattle.std.proofs.Common.{◌≡◌, true, refl}
+use Rattle.std.proofs.Common.{◌≡◌, Bool, true, false, is_some, refl, subst}
 use Rattle.lua_tree.specs.OneLine.{one_line_arguments, one_line_expression, one_line_expressions, one_line_fields, one_line_statement, one_line_body}
 use Rattle.lua_tree.specs.Syntax as syntax
-use Rattle.lua_tree.specs.Syntax.{Arguments, Expression, Expressions, Statement, argument_list, assignment, binary_expression, call_expression, call_statement, constructor, Fields, no_fields, positional, named, keyed, table_argument, false_literal, field_expression, index_expression, local_statement, method_call, name_expression, nil_literal, no_expressions, number_literal, parenthesized, return_statement, text_argument, text_literal, true_literal, unary_expression, vararg_expression, FunctionBody, function_expression, function_statement, local_function}
+use Rattle.lua_tree.specs.Syntax.{Arguments, Expression, Expressions, Statement, argument_list, assignment, binary_expression, call_expression, call_statement, constructor, Fields, no_fields, positional, named, keyed, table_argument, false_literal, field_expression, index_expression, local_statement, method_call, name_expression, nil_literal, no_expressions, number_literal, parenthesized, return_statement, text_argument, text_literal, true_literal, unary_expression, vararg_expression, FunctionBody, function_body, function_expression, function_statement, local_function}
 use Rattle.lua_tree.specs.WellFormed.{has_expressions, is_call}
+use Rattle.reads_back.specs.Assignments.{with_self}
 use Rattle.reads_back.specs.Straight.{IsActBy, IsActTargetBy, AreActTargetsBy, IsStraightStatementBy, HasCoreBy, AllHaveCoresBy, HaveCoresBy, HaveItemsBy}
 
 module _ (P : FunctionBody → Type 0) where
@@ -21,6 +22,11 @@ module _ (P : FunctionBody → Type 0) where
 -- functions stay such on one line
 abbrev pub StayOnLine : (FunctionBody → Type 0) → Type 0
 StayOnLine P = (body : FunctionBody) → P body → P (one_line_body body)
+
+-- with `self` among the parameters or not
+pub self_on_line : (method : Bool) (body : FunctionBody) → one_line_body (with_self method body) ≡ with_self method (one_line_body body)
+self_on_line true (function_body params vararg block first last) = refl
+self_on_line false body = refl
 
 module _ {P : FunctionBody → Type 0} (kept : StayOnLine P) where
   -- ---- it is an act
@@ -90,5 +96,5 @@ module _ {P : FunctionBody → Type 0} (kept : StayOnLine P) where
 
   -- so is a function statement
   pub straight_statement_on_line : (s : Statement) → IsStraightStatementBy P s → IsStraightStatementBy P (one_line_statement s)
-  straight_statement_on_line (function_statement path method body) is = (is.0, kept body is.1)
+  straight_statement_on_line (function_statement path method body) is = (is.0, subst P (self_on_line (is_some method) body) (kept (with_self (is_some method) body) is.1))
   straight_statement_on_line s is = act_on_line s is

@@ -7,22 +7,22 @@ use Rattle.lua_num.specs.Bytes.{Text}
 use Rattle.lua_tree.specs.Outline as outline
 use Rattle.lua_tree.specs.Syntax.{Statements}
 use Rattle.core_expr.specs.Values.{Inner}
-use Rattle.recover_expr.specs.Drafts.{Drafted, Part, condition_part, head_part, nothing_part, statement_part, values_part}
+use Rattle.recover_expr.specs.Drafts.{Drafted, Part, condition_part, head_part}
 use Rattle.recover_expr.specs.Placing.{Steps}
 use Rattle.recover_expr.specs.Situation.{Function}
 use Rattle.recover_expr.specs.declared.steps.Step.{Step}
 use Rattle.recover_expr.specs.declared.steps.StepKind.{StepKind}
 use Rattle.scheme.specs.Making.{Ahead, Maker}
-use Rattle.scheme_stands.specs.Words.{Fn, is_among}
+use Rattle.scheme_order.specs.Ordered.{ordered_block}
+use Rattle.scheme_stands.specs.Words.{Fn}
 use Rattle.same_flow.specs.Alike.{ArePartsLike, SayLike}
 use Rattle.same_flow.specs.Performed.{kind_at, kind_made, names_in, part_at}
-use Rattle.reads_back.specs.Ordered.{IsOrderedPart}
-use Rattle.reads_back.specs.Owned.{names_of_part}
 use Rattle.reads_back.proofs.FlowNext.{DraftRead}
 use Rattle.reads_back.proofs.FlowRead.{PartRead}
 use Rattle.reads_back.proofs.FlowThere.{IsFlowFunction, StepIs, before_at, few_before, made_at, pcs}
+use Rattle.reads_back.proofs.AmongNames.{among_named}
+use Rattle.reads_back.proofs.OrderedSteps.{KeptAt, laid_ordered}
 use Rattle.reads_back.proofs.OrderedTests.{ordered_turns}
-use Rattle.reads_back.proofs.OwnNames.{active_named}
 use Rattle.reads_back.proofs.PartsMake.{SameHeads, TestTurns, kind_made_same}
 use Rattle.reads_back.proofs.PartsSay.{say_like}
 use Rattle.reads_back.proofs.PlacedCaptures.{element_there}
@@ -92,22 +92,18 @@ module _ {f : Function} {g : Fn} {z : Maker} {lefts : ℕ → List (Option Inner
         subst (SayLike kind one) found.part (say_like of kind one found.is (turns at kind one found.is) found.draft found.part_read);
   }
 
-  -- so where no local of the function changes places in the conditions, and these are the names of its locals
-  module _ (own : List Text) (ordered : (at : ℕ) (part : Part) → part_at code at ≡ Some part → IsOrderedPart own part) (in_params : (text : Text) → is_among text params ≡ true → is_among text own ≡ true)
-      (in_parts : (at : ℕ) (part : Part) → part_at code at ≡ Some part → (text : Text) → is_among text (names_of_part part) ≡ true → is_among text own ≡ true) where
+  -- so where no local of the function changes places in the conditions
+  module _ (keeps : ordered_block params block ≡ true) where
     ordered_turn : (at : ℕ) (kind : StepKind) (part : Part) → StepIs of at kind part → TestTurns of at kind part
-    ordered_turn at kind part is = by part (ordered at part is.part_there)
+    ordered_turn at kind part is = by kind part ((laid_ordered code of.plain params names ahead block of.laid keeps).each at kind part (omega arith) is.within is.there is.part_there)
       where
-        by : (part : Part) → IsOrderedPart own part → TestTurns of at kind part
-        by (condition_part e) ordered =
+        by : (kind : StepKind) (part : Part) → KeptAt (before_at of at).active kind part → TestTurns of at kind part
+        by (StepKind.Test when target levels) (condition_part e) kept =
             let less = is.within in
-            ordered_turns g (before_at of at).active (few_before of at (omega (arith, less))) of.made.names of.made.law own (active_named of own in_params in_parts at less)
-            (length (before_at of at).constants) (length (before_at of at).functions) (length (made_at of at kind (condition_part e)).functions) e ordered
-        by nothing_part ordered = tt
-        by (statement_part s) ordered = tt
-        by (values_part es) ordered = tt
-        by (head_part es texts) ordered = tt
+            let active = (before_at of at).active in
+            ordered_turns g active (few_before of at (omega (arith, less))) of.made.names of.made.law kept.own (among_named kept.own active kept.among) (length (before_at of at).constants)
+            (length (before_at of at).functions) (length (made_at of at (StepKind.Test when target levels) (condition_part e)).functions) e kept.keeps
+        by kind part kept = tt
 
-  pub ordered_alike : length code.parts ≡ length code.steps → (own : List Text) → ((at : ℕ) (part : Part) → part_at code at ≡ Some part → IsOrderedPart own part) → ((text : Text) → is_among text params ≡ true → is_among text own ≡ true) →
-      ((at : ℕ) (part : Part) → part_at code at ≡ Some part → (text : Text) → is_among text (names_of_part part) ≡ true → is_among text own ≡ true) → ArePartsLike code steps_read params names ahead
-  ordered_alike count own ordered in_params in_parts = parts_alike count (ordered_turn own ordered in_params in_parts)
+  pub ordered_alike : length code.parts ≡ length code.steps → ordered_block params block ≡ true → ArePartsLike code steps_read params names ahead
+  ordered_alike count keeps = parts_alike count (ordered_turn keeps)

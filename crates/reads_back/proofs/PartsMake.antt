@@ -51,9 +51,9 @@ part_of_made s m = refl
 module _ {f : Function} {g : Fn} {z : Maker} {lefts : ℕ → List (Option Inner)} {parts : ℕ → outline.Part} {code : Steps} {params names : List Text} {ahead : Ahead} {block : Statements} (of : IsFlowFunction f g z lefts parts code params names ahead block) where
   -- a leaf whose operands are written the other way round has no names that change places
   abbrev pub TestTurns : (at : ℕ) → StepKind → Part → Type 0
-  TestTurns at kind (condition_part e) =
+  TestTurns at (StepKind.Test when target levels) (condition_part e) =
       let m = before_at of at in
-      let behind = length (made_at of at kind (condition_part e)).functions in
+      let behind = length (made_at of at (StepKind.Test when target levels) (condition_part e)).functions in
       KeepsNames g m.active (length m.constants) (length m.functions) behind e
   TestTurns at kind part = Unit {0}
 

@@ -23,6 +23,7 @@ use Rattle.reads_back.proofs.Mentions.{IsAhead, mentions_in, mentions_given, men
 use Rattle.reads_back.proofs.InRoom.{IsInRoom, IsOperandInRoom}
 use Rattle.reads_back.proofs.Rooms.{lean_room}
 use Rattle.reads_back.proofs.WordsRead.{IsFunction}
+use Rattle.reads_back.specs.Assignments.{with_self}
 use Rattle.reads_back.specs.Cores.{IsPlainBody}
 use Rattle.reads_back.specs.Coming.{Coming, IsMadeNext, captured_names, declared_local}
 use Rattle.std.specs.Prelude.{◌&&◌, not, slice_set}
@@ -46,8 +47,8 @@ pub record IsAgain (short : Bool) (g : Fn) (active : List Active) (body : Functi
 
 -- the functions that are left where so many were made: the next one is there, and behind it the others are left
 pub record AreAgain (f : Function) (g : Fn) (lefts : ℕ → List (Option Inner)) : Type 0 where
-  pub next : (active : List Active) (listed : List ℕ) → AreListed f g active listed → (body : FunctionBody) (method : Bool) (c : Coming) → IsPlainBody body → depth_of_body body ≤ 199 → IsMadeNext g active body method c → (found : Inner) × (function_left (lefts c.functions) c.functions ≡ Some found) × IsAgain f.short g active body method c found
-  pub others : (active : List Active) (body : FunctionBody) (method : Bool) (c : Coming) → IsPlainBody body → IsMadeNext g active body method c → slice_set (lefts c.functions) c.functions None ≡ lefts (suc c.functions)
+  pub next : (active : List Active) (listed : List ℕ) → AreListed f g active listed → (body : FunctionBody) (method : Bool) (c : Coming) → IsPlainBody (with_self method body) → depth_of_body body ≤ 199 → IsMadeNext g active body method c → (found : Inner) × (function_left (lefts c.functions) c.functions ≡ Some found) × IsAgain f.short g active body method c found
+  pub others : (active : List Active) (body : FunctionBody) (method : Bool) (c : Coming) → IsPlainBody (with_self method body) → IsMadeNext g active body method c → slice_set (lefts c.functions) c.functions None ≡ lefts (suc c.functions)
 
 -- the code of an expression on one line
 abbrev pub code : Expression → Coded

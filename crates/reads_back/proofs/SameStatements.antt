@@ -36,7 +36,8 @@ path_related g name names method = method_related g _ method ∙ ap (λ (on : Re
 
 -- `self` is among the parameters
 pub self_related : (g : Fn) (method : Bool) (body : FunctionBody) → related g (function_expression 1 (with_self method body)) ≡ rel_function g (FunctionOf body method)
-self_related g method (function_body params vararg block first last) = refl
+self_related g true (function_body params vararg block first last) = refl
+self_related g false body = refl
 
 statement_stands : (g : Fn) (loop : Option LoopAt) (s : Statement) → formed_statement s ≡ true → StatementAt g loop s ≡ StatementAt g loop (as_assignment s)
 statement_stands g loop (function_statement [] method body) formed = absurd (not_so formed)
@@ -63,7 +64,8 @@ path_coded name names method =
     ∙ ap (λ (on : Coded). with_method 1 on method) (coded_fields (name_expression 1 name) names refl)
 
 inner_self : (method : Bool) (body : FunctionBody) → inner (with_self method body) false ≡ inner body method
-inner_self method (function_body params vararg block first last) = refl
+inner_self true (function_body params vararg block first last) = refl
+inner_self false body = refl
 
 made_same : (s : Statement) (line : ℕ) (loop : Option Loop) (m : Maker) → formed_statement s ≡ true → line ≡ 1 → statement_made (as_assignment s) line loop m ≡ statement_made s line loop m
 made_same (function_statement [] method body) line loop m formed first = not_so formed
@@ -90,7 +92,8 @@ method_part_same on None = refl
 method_part_same on (Some text) = refl
 
 self_part : (method : Bool) (body : FunctionBody) → SameWalk (body_part false (with_self method body)) (body_part method body)
-self_part method (function_body params vararg block first last) place = refl
+self_part true (function_body params vararg block first last) place = refl
+self_part false body place = refl
 
 path_mentioned : (name : Text) (names : List Text) (method : Option Text) → SameWalk (expression_part (path_target (name ∷ names) method)) (path_part 1 (name ∷ names))
 path_mentioned name names method place = ap (λ (part : Part). part place) (method_part_same (fields_behind (name_expression 1 name) names) method ∙ fields_part_same (name_expression 1 name) names)

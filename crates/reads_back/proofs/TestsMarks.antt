@@ -17,9 +17,9 @@ use Rattle.recover_expr.specs.Situation.{Function}
 use Rattle.recover_expr.specs.Testing.{TestedValue, tested_comparison}
 use Rattle.scheme.specs.Expressions.{is_comparison, literal}
 use Rattle.scheme.specs.declared.making.Active.{Active}
+use Rattle.scheme_order.specs.Turned.{is_constant_literal}
 use Rattle.scheme_stands.specs.Words.{Fn}
 use Rattle.reads_back.specs.Cores.{HasCore}
-use Rattle.reads_back.specs.Ordered.{is_constant_literal}
 use Rattle.reads_back.proofs.ComparisonOrder.{HasLocal, IsNextNumber, early_second, has_local, late_first}
 use Rattle.reads_back.proofs.ComparisonsSame.{CanTurn, KeepsNames, Order, order_of, ordered, other_op, tested_op, turned}
 use Rattle.reads_back.proofs.FunctionsLeft.{each_by_operand}

@@ -1,5 +1,5 @@
 -- Serves the laws. A function statement stands for the assignment of a function to its path (manual 2.5.9).
-use Rattle.std.specs.Prelude.{Bool, List, [], ◌∷◌, Option, None, Some, is_some}
+use Rattle.std.specs.Prelude.{Bool, true, false, List, [], ◌∷◌, Option, None, Some, is_some}
 use Rattle.lua_num.specs.Bytes.{Text}
 use Rattle.lua_tree.specs.Outline.{all_params}
 use Rattle.lua_tree.specs.Syntax as syntax
@@ -12,7 +12,8 @@ fields_behind on (text ∷ texts) = fields_behind (field_expression 1 on text) t
 
 -- a method takes `self` first
 abbrev pub with_self : (method : Bool) → FunctionBody → FunctionBody
-with_self method (function_body params vararg block first last) = function_body (all_params method params) vararg block first last
+with_self true (function_body params vararg block first last) = function_body (all_params true params) vararg block first last
+with_self false body = body
 
 abbrev pub with_method_name : Expression → Option Text → Expression
 with_method_name on None = on

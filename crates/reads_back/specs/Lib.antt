@@ -1,4 +1,3 @@
-pub mod Ordered
 pub mod Placed
 pub mod Stepped
 pub mod Straight
@@ -9,4 +8,3 @@ pub mod Acted
 pub mod ReadAs
 pub mod Through
 pub mod Assignments
-pub mod Owned

@@ -1,10 +1,11 @@
 -- Serves the laws. Straight statements: calls, assignments, function statements, local functions, declarations of locals and returns, of values in which no operator is `and`, `or` or a comparison; where the functions in them are such.
-use Rattle.std.specs.Prelude.{◌≡◌, ◌≤◌, Bool, true, length, false}
+use Rattle.std.specs.Prelude.{◌≡◌, ◌≤◌, Bool, true, length, false, is_some}
 use Rattle.lua_tree.specs.Names.{are_some_names, is_name}
 use Rattle.lua_tree.specs.Syntax as syntax
 use Rattle.lua_tree.specs.Syntax.{FunctionBody, function_body, Expression, Expressions, no_expressions, Source, Statement, Statements, Arguments, argument_list, text_argument, table_argument, Fields, no_fields, positional, named, keyed, nil_literal, true_literal, false_literal, vararg_expression, number_literal, text_literal, name_expression, function_expression, index_expression, field_expression, call_expression, method_call, binary_expression, unary_expression, constructor, parenthesized, assignment, call_statement, function_statement, local_function, local_statement, no_statements, return_statement}
 use Rattle.lua_tree.specs.WellFormed.{has_expressions, is_call, is_numeral_value}
 use Rattle.scheme.specs.Expressions.{is_comparison}
+use Rattle.reads_back.specs.Assignments.{with_self}
 
 -- ---- expressions: no `and`, `or` and comparisons
 
@@ -73,7 +74,7 @@ IsActBy P statement = ⊥
 
 -- or it gives a function to a path of at most so many names
 abbrev pub IsStraightStatementBy : (FunctionBody → Type 0) → Statement → Type 0
-IsStraightStatementBy P (function_statement path method body) = (length path ≤ 198) × P body
+IsStraightStatementBy P (function_statement path method body) = (length path ≤ 198) × P (with_self (is_some method) body)
 IsStraightStatementBy P s = IsActBy P s
 
 -- a constructor, in parentheses or not

@@ -1,4 +1,4 @@
--- What holds of a part of a source where it lies no deeper than so many levels, is formed, plain and clear, and its breaks stand in loops; and how that of a whole comes from that of its parts.
+-- What holds of a part of a source where it lies no deeper than so many levels, is formed, plain, clear and ordered, and its breaks stand in loops; and how that of a whole comes from that of its parts.
 use Rattle.std.proofs.Common.{◌≡◌, ◌≤◌, ℕ, ◌+◌, max, Bool, true, false, List, ◌++◌, refl, arith}
 use Rattle.std.specs.Prelude.{◌&&◌}
 use Rattle.std.proofs.lemmas.Bool.{and_parts, false≢true}
@@ -7,142 +7,151 @@ use Rattle.scheme.specs.Shapes.{plain_comparison}
 use Rattle.recovers.proofs.BreaksInLoops.{InLoops, in_both, in_three, in_joined}
 
 -- G holds there
-pub record Gives (limit depth : ℕ) (formed plain clear : Bool) (marks : List Mark) (G : Type 0) : Type 0 where
-  pub holds : depth ≤ limit → formed ≡ true → plain ≡ true → clear ≡ true → InLoops marks → G
+pub record Gives (limit depth : ℕ) (formed plain clear ordered : Bool) (marks : List Mark) (G : Type 0) : Type 0 where
+  pub holds : depth ≤ limit → formed ≡ true → plain ≡ true → clear ≡ true → ordered ≡ true → InLoops marks → G
 
 -- ---- what holds at once
 
 -- of every part
-pub at_once : {limit depth : ℕ} {formed plain clear : Bool} {marks : List Mark} {G : Type 0} → G → Gives limit depth formed plain clear marks G
-at_once is = record { holds = λ shallow f p c breaks. is }
+pub at_once : {limit depth : ℕ} {formed plain clear ordered : Bool} {marks : List Mark} {G : Type 0} → G → Gives limit depth formed plain clear ordered marks G
+at_once is = record { holds = λ shallow f p c o breaks. is }
 
 -- it is formed
-pub as_formed : {limit depth : ℕ} {formed plain clear : Bool} {marks : List Mark} → Gives limit depth formed plain clear marks (formed ≡ true)
-as_formed = record { holds = λ shallow f p c breaks. f }
+pub as_formed : {limit depth : ℕ} {formed plain clear ordered : Bool} {marks : List Mark} → Gives limit depth formed plain clear ordered marks (formed ≡ true)
+as_formed = record { holds = λ shallow f p c o breaks. f }
 
 -- what is never plain
-pub not_plain : {limit depth : ℕ} {formed clear : Bool} {marks : List Mark} {G : Type 0} → Gives limit depth formed false clear marks G
-not_plain = record { holds = λ shallow f p c breaks. absurd (false≢true p) }
+pub not_plain : {limit depth : ℕ} {formed clear ordered : Bool} {marks : List Mark} {G : Type 0} → Gives limit depth formed false clear ordered marks G
+not_plain = record { holds = λ shallow f p c o breaks. absurd (false≢true p) }
 
 -- ---- two parts
 
 -- one behind the other
 infixl 20 ◌and◌
-pub ◌and◌ : {limit depth depth' : ℕ} {formed formed' plain plain' clear clear' : Bool} {marks marks' : List Mark} {G H : Type 0}
-    → Gives limit depth formed plain clear marks G → Gives limit depth' formed' plain' clear' marks' H
-    → Gives limit (max depth depth') (formed && formed') (plain && plain') (clear && clear') (marks ++ marks') (G × H)
-◌and◌ {depth} {depth'} {formed} {formed'} {plain} {plain'} {clear} {clear'} {marks} {marks'} one other = record {
-  holds = λ shallow f p c breaks.
+pub ◌and◌ : {limit depth depth' : ℕ} {formed formed' plain plain' clear clear' ordered ordered' : Bool} {marks marks' : List Mark} {G H : Type 0}
+    → Gives limit depth formed plain clear ordered marks G → Gives limit depth' formed' plain' clear' ordered' marks' H
+    → Gives limit (max depth depth') (formed && formed') (plain && plain') (clear && clear') (ordered && ordered') (marks ++ marks') (G × H)
+◌and◌ {depth} {depth'} {formed} {formed'} {plain} {plain'} {clear} {clear'} {ordered} {ordered'} {marks} {marks'} one other = record {
+  holds = λ shallow f p c o breaks.
       let fs = and_parts formed formed' f in
       let ps = and_parts plain plain' p in
       let cs = and_parts clear clear' c in
+      let os = and_parts ordered ordered' o in
       let each = in_both marks marks' breaks in
-      (one.holds (omega arith) fs.0 ps.0 cs.0 each.0, other.holds (omega arith) fs.1 ps.1 cs.1 each.1);
+      (one.holds (omega arith) fs.0 ps.0 cs.0 os.0 each.0, other.holds (omega arith) fs.1 ps.1 cs.1 os.1 each.1);
 }
 
 -- ---- one part, and something else
 
 -- what holds gives more
-pub so : {limit depth : ℕ} {formed plain clear : Bool} {marks : List Mark} {G H : Type 0}
-    → (G → H) → Gives limit depth formed plain clear marks G → Gives limit depth formed plain clear marks H
-so then g = record { holds = λ shallow f p c breaks. then (g.holds shallow f p c breaks) }
+pub so : {limit depth : ℕ} {formed plain clear ordered : Bool} {marks : List Mark} {G H : Type 0}
+    → (G → H) → Gives limit depth formed plain clear ordered marks G → Gives limit depth formed plain clear ordered marks H
+so then g = record { holds = λ shallow f p c o breaks. then (g.holds shallow f p c o breaks) }
 
 -- one level above it
-pub deeper : {limit depth : ℕ} {formed plain clear : Bool} {marks : List Mark} {G : Type 0}
-    → Gives limit depth formed plain clear marks G → Gives limit (1 + depth) formed plain clear marks G
-deeper g = record { holds = λ shallow f p c breaks. g.holds (omega arith) f p c breaks }
+pub deeper : {limit depth : ℕ} {formed plain clear ordered : Bool} {marks : List Mark} {G : Type 0}
+    → Gives limit depth formed plain clear ordered marks G → Gives limit (1 + depth) formed plain clear ordered marks G
+deeper g = record { holds = λ shallow f p c o breaks. g.holds (omega arith) f p c o breaks }
 
 -- behind a test of form or ahead of it, which is passed over, or is kept
-pub also : (test : Bool) {limit depth : ℕ} {formed plain clear : Bool} {marks : List Mark} {G : Type 0}
-    → Gives limit depth formed plain clear marks G → Gives limit depth (test && formed) plain clear marks G
-also test {formed} g = record { holds = λ shallow f p c breaks. g.holds shallow (and_parts test formed f).1 p c breaks }
+pub also : (test : Bool) {limit depth : ℕ} {formed plain clear ordered : Bool} {marks : List Mark} {G : Type 0}
+    → Gives limit depth formed plain clear ordered marks G → Gives limit depth (test && formed) plain clear ordered marks G
+also test {formed} g = record { holds = λ shallow f p c o breaks. g.holds shallow (and_parts test formed f).1 p c o breaks }
 
-pub ahead_of : (test : Bool) {limit depth : ℕ} {formed plain clear : Bool} {marks : List Mark} {G : Type 0}
-    → Gives limit depth formed plain clear marks G → Gives limit depth (formed && test) plain clear marks G
-ahead_of test {formed} g = record { holds = λ shallow f p c breaks. g.holds shallow (and_parts formed test f).0 p c breaks }
+pub ahead_of : (test : Bool) {limit depth : ℕ} {formed plain clear ordered : Bool} {marks : List Mark} {G : Type 0}
+    → Gives limit depth formed plain clear ordered marks G → Gives limit depth (formed && test) plain clear ordered marks G
+ahead_of test {formed} g = record { holds = λ shallow f p c o breaks. g.holds shallow (and_parts formed test f).0 p c o breaks }
 
-pub keeping : {limit depth : ℕ} {test formed plain clear : Bool} {marks : List Mark} {G : Type 0}
-    → Gives limit depth formed plain clear marks G → Gives limit depth (test && formed) plain clear marks ((test ≡ true) × G)
-keeping {test} {formed} g = record { holds = λ shallow f p c breaks. let fs = and_parts test formed f in (fs.0, g.holds shallow fs.1 p c breaks) }
+pub keeping : {limit depth : ℕ} {test formed plain clear ordered : Bool} {marks : List Mark} {G : Type 0}
+    → Gives limit depth formed plain clear ordered marks G → Gives limit depth (test && formed) plain clear ordered marks ((test ≡ true) × G)
+keeping {test} {formed} g = record { holds = λ shallow f p c o breaks. let fs = and_parts test formed f in (fs.0, g.holds shallow fs.1 p c o breaks) }
 
 -- where what holds is asked for
-pub knowing : {limit depth : ℕ} {test formed plain clear : Bool} {marks : List Mark} {G : Type 0}
-    → (test ≡ true → Gives limit depth formed plain clear marks G) → Gives limit depth (test && formed) plain clear marks G
-knowing {test} {formed} g = record { holds = λ shallow f p c breaks. let fs = and_parts test formed f in (g fs.0).holds shallow fs.1 p c breaks }
+pub knowing : {limit depth : ℕ} {test formed plain clear ordered : Bool} {marks : List Mark} {G : Type 0}
+    → (test ≡ true → Gives limit depth formed plain clear ordered marks G) → Gives limit depth (test && formed) plain clear ordered marks G
+knowing {test} {formed} g = record { holds = λ shallow f p c o breaks. let fs = and_parts test formed f in (g fs.0).holds shallow fs.1 p c o breaks }
 
 -- behind a test of what is clear, which is kept
-pub clearing : {limit depth : ℕ} {test formed plain clear : Bool} {marks : List Mark} {G : Type 0}
-    → Gives limit depth formed plain clear marks G → Gives limit depth formed plain (test && clear) marks (G × (test ≡ true))
-clearing {test} {clear} g = record { holds = λ shallow f p c breaks. let cs = and_parts test clear c in (g.holds shallow f p cs.1 breaks, cs.0) }
+pub clearing : {limit depth : ℕ} {test formed plain clear ordered : Bool} {marks : List Mark} {G : Type 0}
+    → Gives limit depth formed plain clear ordered marks G → Gives limit depth formed plain (test && clear) ordered marks (G × (test ≡ true))
+clearing {test} {clear} g = record { holds = λ shallow f p c o breaks. let cs = and_parts test clear c in (g.holds shallow f p cs.1 o breaks, cs.0) }
+
+-- behind a test of what is ordered, which is passed over
+pub past : (test : Bool) {limit depth : ℕ} {formed plain clear ordered : Bool} {marks : List Mark} {G : Type 0}
+    → Gives limit depth formed plain clear ordered marks G → Gives limit depth formed plain clear (test && ordered) marks G
+past test {ordered} g = record { holds = λ shallow f p c o breaks. g.holds shallow f p c (and_parts test ordered o).1 breaks }
 
 -- behind other marks, and before them
-pub later : {limit depth : ℕ} {formed plain clear : Bool} (before : List Mark) {marks : List Mark} {G : Type 0}
-    → Gives limit depth formed plain clear marks G → Gives limit depth formed plain clear (before ++ marks) G
-later before {marks} g = record { holds = λ shallow f p c breaks. g.holds shallow f p c (in_both before marks breaks).1 }
+pub later : {limit depth : ℕ} {formed plain clear ordered : Bool} (before : List Mark) {marks : List Mark} {G : Type 0}
+    → Gives limit depth formed plain clear ordered marks G → Gives limit depth formed plain clear ordered (before ++ marks) G
+later before {marks} g = record { holds = λ shallow f p c o breaks. g.holds shallow f p c o (in_both before marks breaks).1 }
 
-pub earlier : {limit depth : ℕ} {formed plain clear : Bool} {marks : List Mark} (behind : List Mark) {G : Type 0}
-    → Gives limit depth formed plain clear marks G → Gives limit depth formed plain clear (marks ++ behind) G
-earlier {marks} behind g = record { holds = λ shallow f p c breaks. g.holds shallow f p c (in_both marks behind breaks).0 }
+pub earlier : {limit depth : ℕ} {formed plain clear ordered : Bool} {marks : List Mark} (behind : List Mark) {G : Type 0}
+    → Gives limit depth formed plain clear ordered marks G → Gives limit depth formed plain clear ordered (marks ++ behind) G
+earlier {marks} behind g = record { holds = λ shallow f p c o breaks. g.holds shallow f p c o (in_both marks behind breaks).0 }
 
 -- ---- an operation of two operands
 
 -- one that is plain as a value is no comparison
-pub no_comparison : (compares : Bool) {limit depth : ℕ} {formed plain clear : Bool} {marks : List Mark} {G H : Type 0}
-    → Gives limit depth formed plain clear marks (G × H) → Gives limit depth formed (plain_comparison compares plain).value clear marks ((compares ≡ false) × G × H)
+pub no_comparison : (compares : Bool) {limit depth : ℕ} {formed plain clear ordered : Bool} {marks : List Mark} {G H : Type 0}
+    → Gives limit depth formed plain clear ordered marks (G × H) → Gives limit depth formed (plain_comparison compares plain).value clear ordered marks ((compares ≡ false) × G × H)
 no_comparison true g = not_plain
 no_comparison false g = so (λ both. (refl, both.0, both.1)) g
 
 -- one that is plain as a condition has plain operands
-pub compared : (compares : Bool) {limit depth : ℕ} {formed plain clear : Bool} {marks : List Mark} {G : Type 0}
-    → Gives limit depth formed plain clear marks G → Gives limit depth formed (plain_comparison compares plain).condition clear marks G
+pub compared : (compares : Bool) {limit depth : ℕ} {formed plain clear ordered : Bool} {marks : List Mark} {G : Type 0}
+    → Gives limit depth formed plain clear ordered marks G → Gives limit depth formed (plain_comparison compares plain).condition clear ordered marks G
 compared true g = g
 compared false g = g
 
 -- ---- three parts
 
 -- of which the first two are plain together
-three : {limit a b c : ℕ} {f g h p q r x y z : Bool} {one two more marks : List Mark} {G H K : Type 0} → (InLoops marks → InLoops one × InLoops two × InLoops more)
-    → Gives limit a f p x one G → Gives limit b g q y two H → Gives limit c h r z more K
-    → Gives limit (max (max a b) c) (f && (g && h)) ((p && q) && r) (x && (y && z)) marks (G × H × K)
-three {a} {b} {c} {f} {g} {h} {p} {q} {r} {x} {y} {z} apart first second third = record {
-  holds = λ shallow formed plain clear breaks.
+three : {limit a b c : ℕ} {f g h p q r x y z i j k : Bool} {one two more marks : List Mark} {G H K : Type 0} → (InLoops marks → InLoops one × InLoops two × InLoops more)
+    → Gives limit a f p x i one G → Gives limit b g q y j two H → Gives limit c h r z k more K
+    → Gives limit (max (max a b) c) (f && (g && h)) ((p && q) && r) (x && (y && z)) (i && (j && k)) marks (G × H × K)
+three {a} {b} {c} {f} {g} {h} {p} {q} {r} {x} {y} {z} {i} {j} {k} apart first second third = record {
+  holds = λ shallow formed plain clear ordered breaks.
       let fs = and_parts f (g && h) formed in
       let gs = and_parts g h fs.1 in
       let ps = and_parts (p && q) r plain in
       let pq = and_parts p q ps.0 in
       let xs = and_parts x (y && z) clear in
       let ys = and_parts y z xs.1 in
+      let is = and_parts i (j && k) ordered in
+      let js = and_parts j k is.1 in
       let each = apart breaks in (
-        first.holds (omega arith) fs.0 pq.0 xs.0 each.0,
-        second.holds (omega arith) gs.0 pq.1 ys.0 each.1,
-        third.holds (omega arith) gs.1 ps.1 ys.1 each.2,
+        first.holds (omega arith) fs.0 pq.0 xs.0 is.0 each.0,
+        second.holds (omega arith) gs.0 pq.1 ys.0 js.0 each.1,
+        third.holds (omega arith) gs.1 ps.1 ys.1 js.1 each.2,
       );
 }
 
 -- and the marks of the last two are joined, or those of the first two
-pub in_turn : {limit a b c : ℕ} {f g h p q r x y z : Bool} {one two more : List Mark} {G H K : Type 0}
-    → Gives limit a f p x one G → Gives limit b g q y two H → Gives limit c h r z more K
-    → Gives limit (max (max a b) c) (f && (g && h)) ((p && q) && r) (x && (y && z)) (one ++ (two ++ more)) (G × H × K)
+pub in_turn : {limit a b c : ℕ} {f g h p q r x y z i j k : Bool} {one two more : List Mark} {G H K : Type 0}
+    → Gives limit a f p x i one G → Gives limit b g q y j two H → Gives limit c h r z k more K
+    → Gives limit (max (max a b) c) (f && (g && h)) ((p && q) && r) (x && (y && z)) (i && (j && k)) (one ++ (two ++ more)) (G × H × K)
 in_turn {one} {two} {more} first second third = three (in_three one two more) first second third
 
-pub joined : {limit a b c : ℕ} {f g h p q r x y z : Bool} {one two more : List Mark} {G H K : Type 0}
-    → Gives limit a f p x one G → Gives limit b g q y two H → Gives limit c h r z more K
-    → Gives limit (max (max a b) c) (f && (g && h)) ((p && q) && r) (x && (y && z)) ((one ++ two) ++ more) (G × H × K)
+pub joined : {limit a b c : ℕ} {f g h p q r x y z i j k : Bool} {one two more : List Mark} {G H K : Type 0}
+    → Gives limit a f p x i one G → Gives limit b g q y j two H → Gives limit c h r z k more K
+    → Gives limit (max (max a b) c) (f && (g && h)) ((p && q) && r) (x && (y && z)) (i && (j && k)) ((one ++ two) ++ more) (G × H × K)
 joined {one} {two} {more} first second third = three (in_joined one two more) first second third
 
 -- ---- four parts
 
 -- of which the first three stand before the last
-pub headed : {limit a b c d : ℕ} {f g h k p q r s x y z w : Bool} {one two more last : List Mark} {G H K L : Type 0}
-    → Gives limit a f p x one G → Gives limit b g q y two H → Gives limit c h r z more K → Gives limit d k s w last L
-    → Gives limit (max (max a b) (max c d)) (f && (g && (h && k))) (((p && q) && r) && s) (x && (y && (z && w))) ((one ++ (two ++ more)) ++ last) ((G × H × K) × L)
-headed {a} {b} {c} {d} {f} {g} {h} {k} {p} {q} {r} {s} {x} {y} {z} {w} {one} {two} {more} {last} first second third fourth = record {
-  holds = λ shallow formed plain clear breaks.
+pub headed : {limit a b c d : ℕ} {f g h k p q r s x y z w i j m n : Bool} {one two more last : List Mark} {G H K L : Type 0}
+    → Gives limit a f p x i one G → Gives limit b g q y j two H → Gives limit c h r z m more K → Gives limit d k s w n last L
+    → Gives limit (max (max a b) (max c d)) (f && (g && (h && k))) (((p && q) && r) && s) (x && (y && (z && w))) (i && (j && (m && n))) ((one ++ (two ++ more)) ++ last) ((G × H × K) × L)
+headed {a} {b} {c} {d} {f} {g} {h} {k} {p} {q} {r} {s} {x} {y} {z} {w} {i} {j} {m} {n} {one} {two} {more} {last} first second third fourth = record {
+  holds = λ shallow formed plain clear ordered breaks.
       let fs = and_parts (f && (g && h)) k (parted f g h k formed) in
       let ps = and_parts ((p && q) && r) s plain in
       let xs = and_parts (x && (y && z)) w (parted x y z w clear) in
+      let is = and_parts (i && (j && m)) n (parted i j m n ordered) in
       let each = in_both (one ++ (two ++ more)) last breaks in
-      ((in_turn first second third).holds (omega arith) fs.0 ps.0 xs.0 each.0, fourth.holds (omega arith) fs.1 ps.1 xs.1 each.1);
+      ((in_turn first second third).holds (omega arith) fs.0 ps.0 xs.0 is.0 each.0, fourth.holds (omega arith) fs.1 ps.1 xs.1 is.1 each.1);
 } where
   parted : (f g h k : Bool) → (f && (g && (h && k))) ≡ true → ((f && (g && h)) && k) ≡ true
   parted true true true k all = all

@@ -1,6 +1,6 @@
--- A source that is formed, scoped, plain and clear has such statements, and such functions in them at any depth, as come back from its chunk.
-use Rattle.std.proofs.Common.{◌≡◌, ℕ, zero, suc, Bool, true, false, List, [], ◌∷◌, length, refl, sym, ◌∙◌, arith}
-use Rattle.std.specs.Prelude.{is_some, not}
+-- A source that is formed, scoped, plain, clear and ordered has such statements, and such functions in them at any depth, as come back from its chunk.
+use Rattle.std.proofs.Common.{◌≡◌, ◌≤◌, ℕ, zero, suc, Bool, true, false, List, [], ◌∷◌, ◌++◌, length, refl, sym, ◌∙◌, arith}
+use Rattle.std.specs.Prelude.{is_some, nat_le, not}
 use Rattle.std.proofs.lemmas.Bool.{and_parts, false≢true, leb-true}
 use Rattle.lua_num.specs.Bytes.{Text}
 use Rattle.lua_tree.specs.Names.{are_names}
@@ -10,16 +10,20 @@ use Rattle.lua_tree.specs.Syntax as syntax
 use Rattle.lua_tree.specs.Syntax.{Statements, no_statements, Statement, assignment, call_statement, do_block, while_loop, repeat_loop, if_statement, numeric_for, generic_for, function_statement, local_function, local_statement, return_statement, break_statement, Branches, no_branches, branch, Otherwise, no_otherwise, otherwise, ForStep, no_step, by_step, FunctionBody, function_body, Expressions, no_expressions, Expression, index_expression, field_expression, Source}
 use Rattle.lua_tree.specs.WellFormed.{depth_of_statements, depth_of_statement, depth_of_branches, depth_of_otherwise, depth_of_step, formed_statements, formed_statement, formed_branches, formed_otherwise, formed_step, WellFormed}
 use Rattle.scheme.specs.Shapes.{plain_statements, plain_statement, plain_branches, plain_otherwise, plain_step, Plain}
+use Rattle.scheme_order.specs.AllOrdered.{all_ordered_block, all_ordered_branches, all_ordered_otherwise, all_ordered_statement, all_ordered_step, IsAllOrdered}
+use Rattle.scheme_order.specs.Ordered.{ordered_block}
+use Rattle.scheme_order.specs.Turned.{with_all_declared, with_declared}
 use Rattle.scheme_stands.proofs.Counting.{statement_counted, branches_closed, expression_closed}
 use Rattle.same_flow.specs.Blocks.{BranchesHold, OtherwiseHolds, StatementHolds, StatementsHold}
 use Rattle.same_flow.specs.Laid.{head_values}
+use Rattle.reads_back.specs.Assignments.{with_self}
 use Rattle.reads_back.specs.Flows.{IsFlowBody, IsFlowPartBy}
-use Rattle.reads_back.specs.Owned.{own_names}
 use Rattle.reads_back.specs.Straight.{AllHaveCoresBy, AllIndexNoTables, HasCoreBy, IndexesNoTable, is_constructor}
 use Rattle.recovers.specs.Clear.{indexes_no_table, all_index_no_tables, clear_statements, clear_statement, clear_branches, clear_otherwise, clear_step, IsClear}
 use Rattle.recovers.proofs.BreaksInLoops.{breaks_in_loops}
 use Rattle.recovers.proofs.ClearGives.{Gives, at_once, ◌and◌, so, deeper, also, keeping, knowing, clearing, later, earlier, in_turn, headed}
 use Rattle.recovers.proofs.ClearValues.{Known, value_clear, values_clear, targets_clear, test_clear}
+use Rattle.scheme_order.proofs.OrderedBlocks.{ordered_of_all}
 
 -- ---- targets
 
@@ -38,7 +42,13 @@ no_tables : (es : Expressions) → all_index_no_tables es ≡ true → AllIndexN
 no_tables no_expressions are = tt
 no_tables (syntax.expression e rest) are = let both = and_parts (indexes_no_table e) (all_index_no_tables rest) are in (no_table e both.0, no_tables rest both.1)
 
-module _ {P : FunctionBody → Type 0} {limit : ℕ} (known : Known P limit) (own : List Text) where
+-- ---- paths
+
+-- what is tested to be short is
+short_path : (path : List Text) → nat_le (length path) 198 ≡ true → length path ≤ 198
+short_path path is = leb-true (length path) 198 is
+
+module _ (P : FunctionBody → Type 0) {limit : ℕ} (known : Known P limit) where
   -- ---- statements
 
   -- the step of a loop that counts, if there is one
@@ -46,9 +56,9 @@ module _ {P : FunctionBody → Type 0} {limit : ℕ} (known : Known P limit) (ow
   HasStep no_step = Unit {0}
   HasStep (by_step e) = HasCoreBy P e
 
-  step_clear : (by : ForStep) (place : Place) → Gives limit (depth_of_step by) (formed_step by) (plain_step by) (clear_step by) (step_part by place).marks (HasStep by)
-  step_clear no_step place = at_once tt
-  step_clear (by_step e) place = value_clear known [] e place
+  step_clear : (own : List Text) (by : ForStep) (place : Place) → Gives limit (depth_of_step by) (formed_step by) (plain_step by) (clear_step by) (all_ordered_step own by) (step_part by place).marks (HasStep by)
+  step_clear own no_step place = at_once tt
+  step_clear own (by_step e) place = value_clear P known own e place
 
   -- the values of such a loop
   heads_have : (first last : Expression) (by : ForStep) → HasCoreBy P first × HasCoreBy P last × HasStep by → AllHaveCoresBy P (head_values first last by)
@@ -57,69 +67,80 @@ module _ {P : FunctionBody → Type 0} {limit : ℕ} (known : Known P limit) (ow
 
   mutual
     -- at a place that is in a loop, or is not
-    pub block_clear : (block : Statements) (looped : Bool) (place : Place) → place.looped ≡ looped →
-        Gives limit (depth_of_statements block) (formed_statements block) (plain_statements block) (clear_statements own block) (statements_part block place).marks
-        (StatementsHold (IsFlowPartBy own P) looped block)
-    block_clear no_statements looped place same = at_once tt
-    block_clear (syntax.statement line semi s rest) looped place same =
-        deeper (statement_clear line s looped place same) and also _ (block_clear rest looped (statement_part line s place).next ((statement_counted line s place).looped ∙ same))
+    pub block_clear : (own : List Text) (block : Statements) (looped : Bool) (place : Place) → place.looped ≡ looped →
+        Gives limit (depth_of_statements block) (formed_statements block) (plain_statements block) (clear_statements block) (all_ordered_block own block) (statements_part block place).marks
+        (StatementsHold (IsFlowPartBy P) looped block)
+    block_clear own no_statements looped place same = at_once tt
+    block_clear own (syntax.statement line semi s rest) looped place same =
+        deeper (statement_clear own line s looped place same) and also _ (block_clear (with_declared own s) rest looped (statement_part line s place).next ((statement_counted line s place).looped ∙ same))
 
-    statement_clear : (line : ℕ) (s : Statement) (looped : Bool) (place : Place) → place.looped ≡ looped →
-        Gives limit (depth_of_statement s) (formed_statement s) (plain_statement s) (clear_statement own s) (statement_part line s place).marks
-        (StatementHolds (IsFlowPartBy own P) looped s)
-    statement_clear line (assignment targets es) looped place same =
+    statement_clear : (own : List Text) (line : ℕ) (s : Statement) (looped : Bool) (place : Place) → place.looped ≡ looped →
+        Gives limit (depth_of_statement s) (formed_statement s) (plain_statement s) (clear_statement s) (all_ordered_statement own s) (statement_part line s place).marks
+        (StatementHolds (IsFlowPartBy P) looped s)
+    statement_clear own line (assignment targets es) looped place same =
         so (λ is. (record { some = is.0.0; targets = is.0.1.0; given = is.0.1.1.0; values = is.0.1.1.1 }, no_tables targets is.1))
-        (clearing (keeping (knowing (λ are. targets_clear known targets place are and keeping (values_clear known es _)))))
-    statement_clear line (call_statement e) looped place same = so (λ is. (is, tt)) (keeping (value_clear known own e place))
-    statement_clear line (do_block block) looped place same = block_clear block looped place same
-    statement_clear line (while_loop e block) looped place same = test_clear known own e place and block_clear block true _ refl
-    statement_clear line (repeat_loop block e) looped place same = block_clear block true _ refl and test_clear known own e _
-    statement_clear line (if_statement branches last) looped place same =
-        also _ (branches_clear branches looped place same and otherwise_clear last looped (branches_part branches place).next ((branches_closed branches place).counted.looped ∙ same))
-    statement_clear line (numeric_for name first last by block) looped place same =
+        (clearing (keeping (knowing (λ are. targets_clear P known own targets place are and keeping (values_clear P known own es _)))))
+    statement_clear own line (call_statement e) looped place same = so (λ is. (is, tt)) (keeping (value_clear P known own e place))
+    statement_clear own line (do_block block) looped place same = block_clear own block looped place same
+    statement_clear own line (while_loop e block) looped place same = test_clear P known own e place and block_clear own block true _ refl
+    statement_clear own line (repeat_loop block e) looped place same = block_clear own block true _ refl and test_clear P known (with_all_declared own block) e _
+    statement_clear own line (if_statement branches last) looped place same =
+        also _ (branches_clear own branches looped place same and otherwise_clear own last looped (branches_part branches place).next ((branches_closed branches place).counted.looped ∙ same))
+    statement_clear own line (numeric_for name first last by block) looped place same =
         later (declares line 3 (name ∷ []) place).marks (also _ (so (λ is. (heads_have first last by is.0, is.1))
-        (headed (value_clear known own first _) (value_clear known own last _) (step_clear by _) (block_clear block true _ refl))))
-    statement_clear line (generic_for names es block) looped place same =
-        later (declares line 3 names place).marks (also _ (also _ (values_clear known es _ and block_clear block true _ refl)))
-    statement_clear line (function_statement path method body) looped place same =
-        later (path_part line path place).marks (so (λ is. ((leb-true (length path) 198 is.1, is.0), tt)) (also _ (also _ (clearing (known (is_some method) body _)))))
-    statement_clear line (local_function name body) looped place same = later (declares line 0 (name ∷ []) place).marks (so (λ is. (is, tt)) (keeping (known false body _)))
-    statement_clear line (local_statement names es) looped place same = later (declares line 0 names place).marks (so (λ is. (is, tt)) (keeping (earlier [] (values_clear known es _))))
-    statement_clear line (return_statement es) looped place same = values_clear known es place
-    statement_clear line break_statement looped place same = record { holds = λ shallow f p c breaks. sym same ∙ breaks.0 }
+        (headed (value_clear P known own first _) (value_clear P known own last _) (step_clear own by _) (block_clear (name ∷ own) block true _ refl))))
+    statement_clear own line (generic_for names es block) looped place same =
+        later (declares line 3 names place).marks (also _ (also _ (values_clear P known own es _ and block_clear (names ++ own) block true _ refl)))
+    statement_clear own line (function_statement path method body) looped place same =
+        later (path_part line path place).marks (so (λ is. ((short_path path is.1, is.0), tt)) (also _ (also _ (clearing (known (is_some method) body _)))))
+    statement_clear own line (local_function name body) looped place same = later (declares line 0 (name ∷ []) place).marks (so (λ is. (is, tt)) (keeping (known false body _)))
+    statement_clear own line (local_statement names es) looped place same = later (declares line 0 names place).marks (so (λ is. (is, tt)) (keeping (earlier [] (values_clear P known own es _))))
+    statement_clear own line (return_statement es) looped place same = values_clear P known own es place
+    statement_clear own line break_statement looped place same = record { holds = λ shallow f p c o breaks. sym same ∙ breaks.0 }
 
-    branches_clear : (branches : Branches) (looped : Bool) (place : Place) → place.looped ≡ looped →
-        Gives limit (depth_of_branches branches) (formed_branches branches) (plain_branches branches) (clear_branches own branches) (branches_part branches place).marks
-        (BranchesHold (IsFlowPartBy own P) looped branches)
-    branches_clear no_branches looped place same = at_once tt
-    branches_clear (branch e block rest) looped place same =
+    branches_clear : (own : List Text) (branches : Branches) (looped : Bool) (place : Place) → place.looped ≡ looped →
+        Gives limit (depth_of_branches branches) (formed_branches branches) (plain_branches branches) (clear_branches branches) (all_ordered_branches own branches) (branches_part branches place).marks
+        (BranchesHold (IsFlowPartBy P) looped branches)
+    branches_clear own no_branches looped place same = at_once tt
+    branches_clear own (branch e block rest) looped place same =
         let behind = (expression_closed e place).counted.looped ∙ same in
-        in_turn (test_clear known own e place) (block_clear block looped _ behind) (branches_clear rest looped _ behind)
+        in_turn (test_clear P known own e place) (block_clear own block looped _ behind) (branches_clear own rest looped _ behind)
 
-    otherwise_clear : (last : Otherwise) (looped : Bool) (place : Place) → place.looped ≡ looped →
-        Gives limit (depth_of_otherwise last) (formed_otherwise last) (plain_otherwise last) (clear_otherwise own last) (otherwise_part last place).marks
-        (OtherwiseHolds (IsFlowPartBy own P) looped last)
-    otherwise_clear no_otherwise looped place same = at_once tt
-    otherwise_clear (otherwise block) looped place same = block_clear block looped place same
+    otherwise_clear : (own : List Text) (last : Otherwise) (looped : Bool) (place : Place) → place.looped ≡ looped →
+        Gives limit (depth_of_otherwise last) (formed_otherwise last) (plain_otherwise last) (clear_otherwise last) (all_ordered_otherwise own last) (otherwise_part last place).marks
+        (OtherwiseHolds (IsFlowPartBy P) looped last)
+    otherwise_clear own no_otherwise looped place same = at_once tt
+    otherwise_clear own (otherwise block) looped place same = block_clear own block looped place same
 
 -- ---- functions
 
+-- a function, or a method with its `self`
+with_parameters : (deep : ℕ) (method : Bool) (params : List Text) (vararg : Bool) (block : Statements) (first last : ℕ) → all_ordered_block (all_params method params) block ≡ true →
+    StatementsHold (IsFlowPartBy (IsFlowBody deep)) false block → IsFlowBody (suc deep) (with_self method (function_body params vararg block first last))
+with_parameters deep true params vararg block first last ordered holds = (holds, ordered_of_all (all_params true params) block ordered)
+with_parameters deep false params vararg block first last ordered holds = (holds, ordered_of_all params block ordered)
+
 -- those that lie less deep than so many levels
 bodies_clear : (deep : ℕ) → Known (IsFlowBody deep) deep
-bodies_clear zero method body place = record { holds = λ shallow f p c breaks. absurd (omega arith) }
+bodies_clear zero method body place = record { holds = λ shallow f p c o breaks. absurd (omega arith) }
 bodies_clear (suc deep) method (function_body params vararg block first last) place = record {
-  holds = λ shallow f p c breaks.
+  holds = λ shallow f p c o breaks.
       let names = all_params method params in
       let inside = in_function vararg place in
       let begun = declares first 0 names inside in
       let place' = with_locals 0 names inside.declarations begun.next in
-      (later begun.marks (also (are_names params) (block_clear (bodies_clear deep) (own_names params block) block false place' refl))).holds (omega arith) f p c breaks;
+      with_parameters deep method params vararg block first last o
+      ((later begun.marks (also (are_names params) (block_clear (IsFlowBody deep) (bodies_clear deep) names block false place' refl))).holds (omega arith) f p c o breaks);
 }
 
 -- ---- sources
 
 -- the whole, in which no function lies deeper than the levels that it has at most
-pub clear_holds : (source : Source) → WellFormed source → Scoped source → Plain source → IsClear source →
-    StatementsHold (IsFlowPartBy (own_names [] source.body) (IsFlowBody 200)) false source.body
-clear_holds source well scoped plain clear =
-    (block_clear (bodies_clear 200) (own_names [] source.body) source.body false beginning refl).holds well.shallow well.formed plain clear (breaks_in_loops source scoped)
+pub clear_holds : (source : Source) → WellFormed source → Scoped source → Plain source → IsClear source → IsAllOrdered source →
+    StatementsHold (IsFlowPartBy (IsFlowBody 200)) false source.body
+clear_holds source well scoped plain clear ordered =
+    (block_clear (IsFlowBody 200) (bodies_clear 200) [] source.body false beginning refl).holds well.shallow well.formed plain clear ordered (breaks_in_loops source scoped)
+
+-- and no local that is compared in it changes places
+pub ordered_holds : (source : Source) → IsAllOrdered source → ordered_block [] source.body ≡ true
+ordered_holds source ordered = ordered_of_all [] source.body ordered

@@ -1,5 +1,5 @@
--- A value that is formed, plain and clear has a core, and a condition such parts, where P holds of the functions in them that are so.
-use Rattle.std.proofs.Common.{◌≡◌, ℕ, ◌+◌, Bool, true, false, List, [], refl}
+-- A value that is formed, plain, clear and ordered has a core, and a condition such parts, where P holds of the functions in them that are so.
+use Rattle.std.proofs.Common.{◌≡◌, ℕ, ◌+◌, Bool, true, false, List}
 use Rattle.std.specs.Prelude.{Option, Some, None}
 use Rattle.std.proofs.lemmas.Bool.{and_parts, false≢true}
 use Rattle.lua_num.specs.Bytes.{Text}
@@ -13,25 +13,26 @@ use Rattle.proto.specs.declared.parts.Constant.{Constant}
 use Rattle.recover_expr.specs.Drafts.{condition_part}
 use Rattle.scheme.specs.Expressions.{is_comparison, literal}
 use Rattle.scheme.specs.Shapes.{plain_body, plain_values, plainness, plain_arguments, plain_fields}
+use Rattle.scheme_order.specs.AllOrdered.{all_ordered_arguments, all_ordered_body, all_ordered_expression, all_ordered_fields, all_ordered_values}
 use Rattle.same_flow.specs.Blocks.{AloneHolds, TestHolds, tested_as}
+use Rattle.reads_back.specs.Assignments.{with_self}
 use Rattle.reads_back.specs.Flows.{IsFlowPartBy}
-use Rattle.reads_back.specs.Ordered.{keeps_names}
 use Rattle.reads_back.specs.Straight.{AllHaveCoresBy, AreActTargetsBy, HasCoreBy, HaveCoresBy, HaveItemsBy, IsActTargetBy}
 use Rattle.recovers.specs.Clear.{clear_body, clear_expression, clear_arguments, clear_values, clear_fields}
-use Rattle.recovers.proofs.ClearGives.{Gives, at_once, as_formed, not_plain, ◌and◌, so, deeper, also, ahead_of, keeping, clearing, no_comparison, compared, joined}
+use Rattle.recovers.proofs.ClearGives.{Gives, at_once, as_formed, not_plain, ◌and◌, so, deeper, also, ahead_of, keeping, past, no_comparison, compared, joined}
 
--- P holds of each function that lies less deep than so many levels
+-- P holds of each function, and of each method with its `self`, that lies less deep than so many levels
 abbrev pub Known : (P : FunctionBody → Type 0) → (limit : ℕ) → Type 0
 Known P limit = (method : Bool) (body : FunctionBody) (place : Place) →
-    Gives limit (1 + depth_of_body body) (formed_body body) (plain_body body) (clear_body body) (body_part method body place).marks (P body)
+    Gives limit (1 + depth_of_body body) (formed_body body) (plain_body body) (clear_body body) (all_ordered_body method body) (body_part method body place).marks (P (with_self method body))
 
-module _ {P : FunctionBody → Type 0} {limit : ℕ} (known : Known P limit) where
+module _ (P : FunctionBody → Type 0) {limit : ℕ} (known : Known P limit) where
   -- ---- values
 
   mutual
-    -- where the names of the locals do not count, since nothing is tested in it
+    -- where nothing is tested in it, but in the functions in it
     pub value_clear : (own : List Text) (e : Expression) (place : Place) →
-        Gives limit (depth_of_expression e) (formed_expression e) (plainness e).value (clear_expression false own e) (expression_part e place).marks (HasCoreBy P e)
+        Gives limit (depth_of_expression e) (formed_expression e) (plainness e).value (clear_expression e) (all_ordered_expression false own e) (expression_part e place).marks (HasCoreBy P e)
     value_clear own (nil_literal line) place = at_once tt
     value_clear own (true_literal line) place = at_once tt
     value_clear own (false_literal line) place = at_once tt
@@ -42,73 +43,71 @@ module _ {P : FunctionBody → Type 0} {limit : ℕ} (known : Known P limit) whe
     value_clear own (function_expression line body) place = known false body place
     value_clear own (index_expression line on key) place = deeper (also _ (value_clear own on place and value_clear own key _))
     value_clear own (field_expression line on name) place = deeper (also _ (ahead_of _ (value_clear own on place)))
-    value_clear own (call_expression line on args on_line) place = deeper (also _ (value_clear own on place and also _ (arguments_clear args _)))
+    value_clear own (call_expression line on args on_line) place = deeper (also _ (value_clear own on place and also _ (arguments_clear own args _)))
     value_clear own (method_call line on name args on_line) place =
-        so (λ both. (both.1.0, both.0, both.1.1)) (deeper (also _ (value_clear own on place and keeping (also _ (arguments_clear args _)))))
+        so (λ both. (both.1.0, both.0, both.1.1)) (deeper (also _ (value_clear own on place and keeping (also _ (arguments_clear own args _)))))
     value_clear own (and_expression line left right) place = not_plain
     value_clear own (or_expression line left right) place = not_plain
     value_clear own (binary_expression line op left right) place = deeper (also _ (also _ (no_comparison (is_comparison op) (value_clear own left place and value_clear own right _))))
     value_clear own (unary_expression line UnaryOp.Not e) place = deeper (also _ (value_clear own e place))
     value_clear own (unary_expression line op e) place = deeper (also _ (value_clear own e place))
-    value_clear own (constructor line fields) place = deeper (fields_clear fields place)
+    value_clear own (constructor line fields) place = deeper (fields_clear own fields place)
     value_clear own (parenthesized line e) place = deeper (value_clear own e place)
 
-    arguments_clear : (args : Arguments) (place : Place) →
-        Gives limit (depth_of_arguments args) (formed_arguments args) (plain_arguments args) (clear_arguments args) (arguments_part args place).marks (HaveCoresBy P args)
-    arguments_clear (argument_list es) place = values_clear es place
-    arguments_clear (text_argument text) place = at_once tt
-    arguments_clear (table_argument fields) place = fields_clear fields place
+    arguments_clear : (own : List Text) (args : Arguments) (place : Place) →
+        Gives limit (depth_of_arguments args) (formed_arguments args) (plain_arguments args) (clear_arguments args) (all_ordered_arguments own args) (arguments_part args place).marks (HaveCoresBy P args)
+    arguments_clear own (argument_list es) place = values_clear own es place
+    arguments_clear own (text_argument text) place = at_once tt
+    arguments_clear own (table_argument fields) place = fields_clear own fields place
 
-    pub values_clear : (es : Expressions) (place : Place) →
-        Gives limit (depth_of_expressions es) (formed_expressions es) (plain_values es) (clear_values es) (expressions_part es place).marks (AllHaveCoresBy P es)
-    values_clear no_expressions place = at_once tt
-    values_clear (syntax.expression e rest) place = value_clear [] e place and values_clear rest _
+    pub values_clear : (own : List Text) (es : Expressions) (place : Place) →
+        Gives limit (depth_of_expressions es) (formed_expressions es) (plain_values es) (clear_values es) (all_ordered_values own es) (expressions_part es place).marks (AllHaveCoresBy P es)
+    values_clear own no_expressions place = at_once tt
+    values_clear own (syntax.expression e rest) place = value_clear own e place and values_clear own rest _
 
-    fields_clear : (fields : Fields) (place : Place) →
-        Gives limit (depth_of_fields fields) (formed_fields fields) (plain_fields fields) (clear_fields fields) (fields_part fields place).marks (HaveItemsBy P fields)
-    fields_clear no_fields place = at_once tt
-    fields_clear (positional e separator rest) place = also _ (value_clear [] e place and fields_clear rest _)
-    fields_clear (named name e separator rest) place = also _ (also _ (value_clear [] e place and fields_clear rest _))
-    fields_clear (keyed key e separator rest) place = also _ (joined (value_clear [] key place) (value_clear [] e _) (fields_clear rest _))
+    fields_clear : (own : List Text) (fields : Fields) (place : Place) →
+        Gives limit (depth_of_fields fields) (formed_fields fields) (plain_fields fields) (clear_fields fields) (all_ordered_fields own fields) (fields_part fields place).marks (HaveItemsBy P fields)
+    fields_clear own no_fields place = at_once tt
+    fields_clear own (positional e separator rest) place = also _ (value_clear own e place and fields_clear own rest _)
+    fields_clear own (named name e separator rest) place = also _ (also _ (value_clear own e place and fields_clear own rest _))
+    fields_clear own (keyed key e separator rest) place = also _ (joined (value_clear own key place) (value_clear own e _) (fields_clear own rest _))
 
   -- ---- targets
 
   -- names, or parts of tables
-  pub targets_clear : (es : Expressions) (place : Place) → are_targets es ≡ true →
-      Gives limit (depth_of_expressions es) (formed_expressions es) (plain_values es) (clear_values es) (expressions_part es place).marks (AreActTargetsBy P es)
-  targets_clear no_expressions place are = at_once tt
-  targets_clear (syntax.expression e rest) place are = let both = and_parts (is_target e) (are_targets rest) are in target e both.0 and targets_clear rest _ both.1
+  pub targets_clear : (own : List Text) (es : Expressions) (place : Place) → are_targets es ≡ true →
+      Gives limit (depth_of_expressions es) (formed_expressions es) (plain_values es) (clear_values es) (all_ordered_values own es) (expressions_part es place).marks (AreActTargetsBy P es)
+  targets_clear own no_expressions place are = at_once tt
+  targets_clear own (syntax.expression e rest) place are = let both = and_parts (is_target e) (are_targets rest) are in target e both.0 and targets_clear own rest _ both.1
     where
       target : (e : Expression) → is_target e ≡ true →
-          Gives limit (depth_of_expression e) (formed_expression e) (plainness e).value (clear_expression false [] e) (expression_part e place).marks (IsActTargetBy P e)
-      target (name_expression line name) is = value_clear [] (name_expression line name) place
-      target (index_expression line on key) is = value_clear [] (index_expression line on key) place
-      target (field_expression line on name) is = value_clear [] (field_expression line on name) place
+          Gives limit (depth_of_expression e) (formed_expression e) (plainness e).value (clear_expression e) (all_ordered_expression false own e) (expression_part e place).marks (IsActTargetBy P e)
+      target (name_expression line name) is = value_clear own (name_expression line name) place
+      target (index_expression line on key) is = value_clear own (index_expression line on key) place
+      target (field_expression line on name) is = value_clear own (field_expression line on name) place
       target e is = absurd (false≢true is)
 
   -- ---- conditions
 
-  module _ (own : List Text) where
-    -- what is tested, if it is
-    alone : (k : Option Constant) (e : Expression) → IsFlowPartBy own P (condition_part (tested_as e)) → AloneHolds (IsFlowPartBy own P) k e
-    alone (Some k) e is = tt
-    alone None e is = is
+  -- what is tested, if it is
+  alone : (k : Option Constant) (e : Expression) → IsFlowPartBy P (condition_part (tested_as e)) → AloneHolds (IsFlowPartBy P) k e
+  alone (Some k) e is = tt
+  alone None e is = is
 
-    -- a comparison
-    comparison : (line : ℕ) (op : BinaryOp) (left right : Expression) → HasCoreBy P left × HasCoreBy P right → keeps_names own (binary_expression line op left right) ≡ true →
-        IsFlowPartBy own P (condition_part (tested_as (binary_expression line op left right)))
-    comparison line BinaryOp.Ne left right have keeps = (have, refl)
-    comparison line op left right have keeps = (have, keeps)
+  -- a comparison
+  comparison : (line : ℕ) (op : BinaryOp) (left right : Expression) → HasCoreBy P left × HasCoreBy P right → IsFlowPartBy P (condition_part (tested_as (binary_expression line op left right)))
+  comparison line BinaryOp.Ne left right have = have
+  comparison line op left right have = have
 
-    -- what is tested, by its parts
-    pub test_clear : (e : Expression) (place : Place) →
-        Gives limit (depth_of_expression e) (formed_expression e) (plainness e).condition (clear_expression true own e) (expression_part e place).marks
-        (TestHolds (IsFlowPartBy own P) e)
-    test_clear (and_expression line left right) place = deeper (also _ (also _ (test_clear left place and test_clear right _)))
-    test_clear (or_expression line left right) place = deeper (also _ (also _ (test_clear left place and test_clear right _)))
-    test_clear (unary_expression line UnaryOp.Not e) place = deeper (also _ (test_clear e place))
-    test_clear (parenthesized line e) place = deeper (test_clear e place)
-    test_clear (binary_expression line op left right) place =
-        so (λ is. alone (literal (binary_expression line op left right)) (binary_expression line op left right) (comparison line op left right is.0 is.1))
-        (deeper (also _ (also _ (compared (is_comparison op) (clearing (value_clear own left place and value_clear own right _))))))
-    test_clear e place = so (λ is. alone (literal e) e (is, refl)) (value_clear own e place)
+  -- what is tested, by its parts
+  pub test_clear : (own : List Text) (e : Expression) (place : Place) →
+      Gives limit (depth_of_expression e) (formed_expression e) (plainness e).condition (clear_expression e) (all_ordered_expression true own e) (expression_part e place).marks
+      (TestHolds (IsFlowPartBy P) e)
+  test_clear own (and_expression line left right) place = deeper (also _ (also _ (test_clear own left place and test_clear own right _)))
+  test_clear own (or_expression line left right) place = deeper (also _ (also _ (test_clear own left place and test_clear own right _)))
+  test_clear own (unary_expression line UnaryOp.Not e) place = deeper (also _ (test_clear own e place))
+  test_clear own (parenthesized line e) place = deeper (test_clear own e place)
+  test_clear own (binary_expression line op left right) place =
+      so (λ both. alone (literal (binary_expression line op left right)) (binary_expression line op left right) (comparison line op left right both))
+      (deeper (also _ (also _ (compared (is_comparison op) (past _ (value_clear own left place and value_clear own right _))))))
+  test_clear own e place = so (λ is. alone (literal e) e is) (value_clear own e place)

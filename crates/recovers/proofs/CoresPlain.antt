@@ -1,12 +1,18 @@
 -- A value in which no operator is `and`, `or` or a comparison is plain, and so is an act, where the functions in them are.
-use Rattle.std.proofs.Common.{◌≡◌, true, ◌&&◌, refl, ap, ◌∙◌}
+use Rattle.std.proofs.Common.{◌≡◌, Bool, true, false, ◌&&◌, is_some, refl, sym, ap, ◌∙◌}
 use Rattle.lua_tree.specs.Syntax as syntax
 use Rattle.lua_tree.specs.Syntax.{Statements, no_statements, Statement, assignment, call_statement, function_statement, local_function, local_statement, return_statement, FunctionBody, function_body, Expressions, no_expressions, Expression, nil_literal, true_literal, false_literal, vararg_expression, number_literal, text_literal, name_expression, function_expression, index_expression, field_expression, call_expression, method_call, binary_expression, unary_expression, constructor, parenthesized, Arguments, argument_list, text_argument, table_argument, Fields, no_fields, positional, named, keyed}
 use Rattle.lua_tree.specs.declared.tree.UnaryOp.{UnaryOp}
 use Rattle.scheme.specs.Shapes.{plain_arguments, plain_body, plain_comparison, plain_fields, plain_statement, plain_values, plainness}
+use Rattle.reads_back.specs.Assignments.{with_self}
 use Rattle.reads_back.specs.Straight.{AllHaveCoresBy, HasCoreBy, HaveCoresBy, HaveItemsBy, IsActBy, IsStraightStatementBy}
 use Rattle.reads_back.proofs.OneLineActs.{targets_have_cores}
 use Rattle.reads_back.proofs.Tests.{both_hold}
+
+-- with `self` among the parameters or not
+self_plain : (method : Bool) (body : FunctionBody) → plain_body (with_self method body) ≡ plain_body body
+self_plain true (function_body params vararg block first last) = refl
+self_plain false body = refl
 
 module _ {P : FunctionBody → Type 0} (plain : (body : FunctionBody) → P body → plain_body body ≡ true) where
   -- ---- expressions
@@ -59,5 +65,5 @@ module _ {P : FunctionBody → Type 0} (plain : (body : FunctionBody) → P body
   act_plain s is = absurd is
 
   pub straight_statement_plain : (s : Statement) → IsStraightStatementBy P s → plain_statement s ≡ true
-  straight_statement_plain (function_statement path method body) is = plain body is.1
+  straight_statement_plain (function_statement path method body) is = sym (self_plain (is_some method) body) ∙ plain (with_self (is_some method) body) is.1
   straight_statement_plain s is = act_plain s is

@@ -5,13 +5,14 @@ use Rattle.lua_tree.specs.Syntax as syntax
 use Rattle.lua_tree.specs.Syntax.{Expression, Expressions, Statement, Statements, argument_list, assignment, call_expression, call_statement, false_literal, name_expression, nil_literal, no_expressions, no_statements, number_literal, text_literal, true_literal}
 use Rattle.lua_tree.specs.WellFormed.{formed_expression, formed_expressions, formed_statement, formed_statements}
 use Rattle.scheme.specs.Shapes.{are_flat, are_simple, is_bare_name, is_flat_statement, is_simple}
+use Rattle.scheme_order.specs.Ordered.{ordered_block, ordered_statement}
+use Rattle.scheme_order.specs.Turned.{with_declared}
 use Rattle.same_flow.specs.Blocks.{StatementHolds, StatementsHold}
 use Rattle.same_flow.specs.Never.{nevers_of_statements}
 use Rattle.same_flow.specs.Space.{around_body, has_block, has_blocks, space_of_expression, space_of_expressions, space_of_statement, space_of_statements}
 use Rattle.reads_back.specs.Flows.{IsFlowBody, IsFlowPartBy}
-use Rattle.reads_back.specs.Owned.{own_names}
 use Rattle.reads_back.specs.Straight.{AllHaveCoresBy, HasCoreBy}
-use Rattle.reads_back.proofs.Tests.{first_of_both, not_so, second_of_both}
+use Rattle.reads_back.proofs.Tests.{both_hold, first_of_both, not_so, second_of_both}
 use Rattle.recovers.specs.Found.{FlatSourcesAreFlow}
 
 -- ---- simple expressions
@@ -47,14 +48,16 @@ all_room (syntax.expression e rest) simple = omega (arith, simple_room e (first_
 
 -- a call or an assignment of one value, with room
 record IsLowAct (s : Statement) : Type 0 where
-  holds : (own : List Text) → StatementHolds (IsFlowPartBy own (IsFlowBody 0)) false s
+  holds : StatementHolds (IsFlowPartBy (IsFlowBody 0)) false s
+  ordered : (own : List Text) → ordered_statement own s ≡ true
   room : space_of_statement s ≤ 5
   alone : has_block s ≡ false
 
 call_is_low : (line on_line : ℕ) (on : Expression) (es : Expressions) → is_bare_name on ≡ true → are_simple es ≡ true → formed_statement (call_statement (call_expression line on (argument_list es) on_line)) ≡ true →
     IsLowAct (call_statement (call_expression line on (argument_list es) on_line))
 call_is_low line on_line (name_expression at text) es named simple formed = record {
-  holds = λ own. ((refl, (first_of_both _ _ formed, all_have_cores es simple (second_of_both _ _ (second_of_both _ _ formed)))), tt);
+  holds = ((refl, (first_of_both _ _ formed, all_have_cores es simple (second_of_both _ _ (second_of_both _ _ formed)))), tt);
+  ordered = λ own. refl;
   room = omega (arith, all_room es simple);
   alone = refl;
 }
@@ -63,7 +66,8 @@ call_is_low line on_line on es named simple formed = not_so named
 assignment_is_low : (target e : Expression) → is_bare_name target ≡ true → is_simple e ≡ true → formed_statement (assignment (syntax.expression target no_expressions) (syntax.expression e no_expressions)) ≡ true →
     IsLowAct (assignment (syntax.expression target no_expressions) (syntax.expression e no_expressions))
 assignment_is_low (name_expression line text) e named simple formed = record {
-  holds = λ own. (record { some = refl; targets = (first_of_both _ _ (first_of_both _ _ formed), tt); given = refl; values = (simple_has_core e simple (first_of_both _ _ (second_of_both _ _ formed)), tt) }, (tt, tt));
+  holds = (record { some = refl; targets = (first_of_both _ _ (first_of_both _ _ formed), tt); given = refl; values = (simple_has_core e simple (first_of_both _ _ (second_of_both _ _ formed)), tt) }, (tt, tt));
+  ordered = λ own. refl;
   room = omega (arith, simple_room e simple);
   alone = refl;
 }
@@ -77,17 +81,19 @@ flat_is_low s flat formed = not_so flat
 -- ---- blocks
 
 record IsLowBlock (block : Statements) : Type 0 where
-  holds : (own : List Text) → StatementsHold (IsFlowPartBy own (IsFlowBody 0)) false block
+  holds : StatementsHold (IsFlowPartBy (IsFlowBody 0)) false block
+  ordered : (own : List Text) → ordered_block own block ≡ true
   room : space_of_statements block ≤ 6
   alone : has_blocks block ≡ false
 
 block_is_low : (block : Statements) → are_flat block ≡ true → formed_statements block ≡ true → IsLowBlock block
-block_is_low no_statements flat formed = record { holds = λ own. tt; room = omega arith; alone = refl }
+block_is_low no_statements flat formed = record { holds = tt; ordered = λ own. refl; room = omega arith; alone = refl }
 block_is_low (syntax.statement line semi s rest) flat formed =
     let low = flat_is_low s (first_of_both _ _ flat) (first_of_both _ _ formed) in
     let behind = block_is_low rest (second_of_both _ _ flat) (second_of_both _ _ (second_of_both _ _ formed)) in
     record {
-      holds = λ own. (low.holds own, behind.holds own);
+      holds = (low.holds, behind.holds);
+      ordered = λ own. both_hold _ _ (low.ordered own) (behind.ordered (with_declared own s));
       room = omega (arith, low.room, behind.room);
       alone = cc (low.alone, behind.alone);
     }
@@ -97,4 +103,4 @@ flat_are_flow source well flat =
     let low = block_is_low source.body flat well.formed in
     let levels = space_of_statements source.body in
     let around : around_body source.body levels ≡ levels = ap (λ has. if has then suc (levels + nevers_of_statements source.body) else levels) low.alone in
-    (low.holds (own_names [] source.body), omega (arith, low.room, around))
+    (low.holds, low.ordered [], omega (arith, low.room, around))

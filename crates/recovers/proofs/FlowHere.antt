@@ -39,7 +39,6 @@ use Rattle.reads_back.proofs.MadeWhole.{IsMadeWhole}
 use Rattle.reads_back.proofs.StatementsStand.{laid_stand}
 use Rattle.reads_back.proofs.SameChunks.{as_many_lines, as_many_upvalues, own_of_same, takes_further}
 use Rattle.reads_back.proofs.WordsRead.{IsFunction}
-use Rattle.reads_back.specs.Owned.{own_names}
 use Rattle.recovers.specs.Joined.{IsJoined, IsJoinedPart}
 
 -- a function with these parameters and this block, on one line, whose upvalues have these names; its chunk is what is made but for the numbers of lines
@@ -118,10 +117,10 @@ module _ {n : Names} {heading : Heading} {params : List Text} {block : Statement
   -- ---- its steps
 
   abbrev Joined : Part → Type 0
-  Joined part = IsJoinedPart (space_of_statements block) (own_names params block) part
+  Joined part = IsJoinedPart (space_of_statements block) part
 
   abbrev pub steps_there : (code : Steps) × (code.params ≡ params) × AreLaid code params names ahead block × ((at : ℕ) (part : Part) → part_at code at ≡ Some part → Joined part) × (length code.parts ≡ length code.steps)
-  steps_there = blocks_are_laid Joined (record { plain = tt; flow = tt; formed = tt; ordered = tt; declares = λ text none. cc; roomy = tt }) params names ahead block of.joined.again of.joined.parts
+  steps_there = blocks_are_laid Joined (record { plain = tt; flow = tt; formed = tt; roomy = tt }) params names ahead block of.joined.again of.joined.parts
 
   abbrev named_there : (steps : List Step) × AreStepsLoose steps_there.0.steps steps × ClosesTell (record steps_there.0 { steps = steps }) params names ahead
   named_there = closes_may_tell steps_there.0 params names ahead

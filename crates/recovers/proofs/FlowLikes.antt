@@ -1,5 +1,5 @@
 -- Each body that stands in the steps which are read of a function is built as a block that is like its own.
-use Rattle.std.proofs.Common.{◌∙◌, ◌≡◌, ℕ, zero, ◌+◌, ◌^◌, ◌<◌, ◌≤◌, suc, Bool, true, false, List, length, map, Option, Some, refl, sym, ap, arith, subst, if◌then◌else◌}
+use Rattle.std.proofs.Common.{◌≡◌, ℕ, zero, ◌+◌, ◌^◌, ◌<◌, ◌≤◌, suc, Bool, true, false, List, length, map, Option, Some, refl, sym, ap, arith, subst, if◌then◌else◌}
 use Rattle.std.proofs.lemmas.Option.{slice_get_within}
 use Rattle.lua_num.specs.Bytes.{Text}
 use Rattle.lua_tree.specs.Outline as outline
@@ -24,7 +24,6 @@ use Rattle.scheme_stands.specs.Words.{Names}
 use Rattle.same_flow.specs.Alike.{ArePartsLike, AreStepsLike, LaidOnLikeSteps, MarksOnLikeParts, SameOnLikeParts}
 use Rattle.same_flow.specs.Listed.{pc_of_step}
 use Rattle.same_flow.specs.Never.{nevers_of_statements}
-use Rattle.same_flow.specs.Performed.{part_at}
 use Rattle.same_flow.specs.SameFlow.{AreLaid, HasPlainParts, begun_of}
 use Rattle.same_flow.specs.Space.{around_body, has_blocks, space_of_statements}
 use Rattle.same_flow.specs.Told.{AreTold, LaidAreTold}
@@ -34,13 +33,7 @@ use Rattle.built_flow.proofs.CapturesKept.{highest_most}
 use Rattle.built_flow.specs.BuiltLaid.{BuiltAreLaid, FewLocals}
 use Rattle.built_flow.specs.BuiltWhole.{BuiltIsFormed, BuiltIsShallow, LyingIsBuilt, StandingIsFormed}
 use Rattle.built_flow.specs.LaidLie.{LaidLie, LaidLies, around_of}
-use Rattle.reads_back.specs.Ordered.{IsOrderedPart}
-use Rattle.reads_back.specs.Owned.{names_declared, own_names}
-use Rattle.scheme_stands.specs.Words.{is_among}
-use Rattle.std.specs.Prelude.{codes, ◌||◌}
-use Rattle.std.specs.Str.{bytes_eq}
 use Rattle.reads_back.specs.Placed as written
-use Rattle.reads_back.proofs.InnerNames.{among_both}
 use Rattle.reads_back.proofs.FlowPlaced.{AreCapturedLike}
 use Rattle.reads_back.proofs.FlowSteps.{have_words}
 use Rattle.reads_back.proofs.FlowThere.{few_before}
@@ -123,23 +116,13 @@ module _ (laws : FlowLaws) {n : Names} {heading : Heading} {params : List Text} 
   mixed_told : AreTold mixed params names ahead
   mixed_told = laws.told mixed mixed_plain params names ahead block mixed_laid
 
-  ordered_parts : (at : ℕ) (part : Part) → part_at mine at ≡ Some part → IsOrderedPart (own_names params block) part
-  ordered_parts at part is = (each_part fewest of at part is).ordered
-
-  params_among : (text : Text) → is_among text params ≡ true → is_among text (own_names params block) ≡ true
-  params_among text is = ap (λ among. bytes_eq text (codes "self") || among) (among_both text params (names_declared block) ∙ ap (λ among. among || is_among text (names_declared block)) is) ∙ or_true (bytes_eq text (codes "self"))
-    where
-      or_true : (b : Bool) → (b || true) ≡ true
-      or_true true = refl
-      or_true false = refl
-
   -- ---- the parts that are read make and say the same
 
   alike : ArePartsLike mine (record mine { parts = parts_there }) params names ahead
   alike =
       let read = drafts_read fewest of left in
       subst (λ texts. ArePartsLike mine (record { params = texts; steps = mine.steps; parts = parts_there }) params names ahead) (sym (steps_there fewest of).1)
-      (ordered_alike (flow fewest of left) read.drafts read.as_many read.each (parts_count fewest of) (own_names params block) ordered_parts params_among (λ at part is. (each_part fewest of at part is).declares))
+      (ordered_alike (flow fewest of left) read.drafts read.as_many read.each (parts_count fewest of) of.joined.ordered)
 
   mixed_alike : ArePartsLike mixed there params names ahead
   mixed_alike = subst (λ texts. ArePartsLike mixed (record { params = texts; steps = there.steps; parts = parts_there }) params names ahead) (steps_there fewest of).1 (parts_on_like mine there.steps like parts_there params names ahead alike)

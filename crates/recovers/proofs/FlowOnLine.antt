@@ -1,7 +1,5 @@
 -- A function whose statements may have blocks stays such a one on one line.
-use Rattle.std.proofs.Common.{List, ◌++◌, ◌∷◌, ap₂, ◌≡◌, ap, ℕ, zero, suc, Bool, true, false, Option, Some, None, refl, sym, ◌∙◌, subst}
-use Rattle.std.specs.Prelude.{codes}
-use Rattle.lua_num.specs.Bytes.{Text}
+use Rattle.std.proofs.Common.{◌≡◌, ℕ, zero, suc, Bool, true, false, Option, Some, None, refl, sym, ◌∙◌, subst}
 use Rattle.lua_tree.specs.OneLine.{one_line_body, one_line_branches, one_line_expression, one_line_otherwise, one_line_statement, one_line_statements, one_line_step}
 use Rattle.lua_tree.specs.Syntax as syntax
 use Rattle.lua_tree.specs.Syntax.{Statements, no_statements, Statement, assignment, call_statement, do_block, while_loop, repeat_loop, if_statement, numeric_for, generic_for, function_statement, local_function, local_statement, return_statement, break_statement, Branches, no_branches, branch, Otherwise, no_otherwise, otherwise, ForStep, no_step, by_step, FunctionBody, function_body, Expression, name_expression, Expressions, and_expression, or_expression, binary_expression, unary_expression, parenthesized}
@@ -13,12 +11,11 @@ use Rattle.scheme.specs.Expressions.{literal}
 use Rattle.same_flow.specs.Blocks.{AloneHolds, BranchesHold, OtherwiseHolds, StatementHolds, StatementsHold, TestHolds, tested_as}
 use Rattle.same_flow.specs.Laid.{head_values}
 use Rattle.reads_back.specs.Flows.{IsFlowBody, IsFlowLeafBy, IsFlowPartBy}
-use Rattle.reads_back.specs.Ordered.{is_own, keeps_names, names_stay}
-use Rattle.reads_back.specs.Owned.{names_declared, names_declared_by, names_in_branches, names_otherwise, own_names}
 use Rattle.reads_back.specs.Straight.{AllHaveCoresBy, IsStraightStatementBy, StatementIndexesNoTable}
 use Rattle.reads_back.proofs.OneLineActs.{StayOnLine, core_on_line, cores_on_line, straight_statement_on_line}
 use Rattle.reads_back.proofs.OneLineRules.{statement_indexes_none}
 use Rattle.reads_back.proofs.WordsSame.{same_literal}
+use Rattle.recovers.proofs.OrderedOnLine.{ordered_on_line}
 
 -- ---- what is tested
 
@@ -26,68 +23,24 @@ pub tested_on_line : (e : Expression) → one_line_expression (tested_as e) ≡ 
 tested_on_line (binary_expression line BinaryOp.Ne left right) = refl
 tested_on_line e = refl
 
-own_on_line : (own : List Text) (e : Expression) → is_own own (one_line_expression e) ≡ is_own own e
-own_on_line own (name_expression line text) = refl
-own_on_line own (parenthesized line e) = own_on_line own e
-own_on_line own e = refl
-
-pub keeps_on_line : (own : List Text) (e : Expression) → keeps_names own (one_line_expression e) ≡ keeps_names own e
-keeps_on_line own (binary_expression line op left right) = by op
-  where
-    stay : names_stay own (one_line_expression left) (one_line_expression right) ≡ names_stay own left right
-    stay = cc (own_on_line own left, own_on_line own right, same_literal left, same_literal right)
-
-    by : (op : BinaryOp) → keeps_names own (binary_expression 1 op (one_line_expression left) (one_line_expression right)) ≡ keeps_names own (binary_expression line op left right)
-    by BinaryOp.Gt = stay
-    by BinaryOp.Ge = stay
-    by op = refl
-keeps_on_line own e = refl
-
--- ---- the names of locals
-
-mutual
-  declared_on_line : (block : Statements) → names_declared (one_line_statements block) ≡ names_declared block
-  declared_on_line no_statements = refl
-  declared_on_line (syntax.statement line semi s rest) = ap₂ (λ (one others : List Text). one ++ others) (declared_by_on_line s) (declared_on_line rest)
-
-  declared_by_on_line : (s : Statement) → names_declared_by (one_line_statement s) ≡ names_declared_by s
-  declared_by_on_line (do_block block) = declared_on_line block
-  declared_by_on_line (while_loop e block) = declared_on_line block
-  declared_by_on_line (repeat_loop block e) = declared_on_line block
-  declared_by_on_line (if_statement branches last) = ap₂ (λ (one others : List Text). one ++ others) (branches_declared branches) (otherwise_declared last)
-  declared_by_on_line (numeric_for name first last by block) = ap (λ (names : List Text). name ∷ names) (declared_on_line block)
-  declared_by_on_line (generic_for names es block) = ap (λ (others : List Text). names ++ others) (declared_on_line block)
-  declared_by_on_line s = refl
-
-  branches_declared : (branches : Branches) → names_in_branches (one_line_branches branches) ≡ names_in_branches branches
-  branches_declared no_branches = refl
-  branches_declared (branch e block rest) = ap₂ (λ (one others : List Text). one ++ others) (declared_on_line block) (branches_declared rest)
-
-  otherwise_declared : (last : Otherwise) → names_otherwise (one_line_otherwise last) ≡ names_otherwise last
-  otherwise_declared no_otherwise = refl
-  otherwise_declared (otherwise block) = declared_on_line block
-
-pub own_names_on_line : (params : List Text) (block : Statements) → own_names params (one_line_statements block) ≡ own_names params block
-own_names_on_line params block = ap (λ (names : List Text). codes "self" ∷ params ++ names) (declared_on_line block)
-
 -- ---- statements
 
-module _ {P : FunctionBody → Type 0} (own : List Text) (kept : StayOnLine P) where
+module _ {P : FunctionBody → Type 0} (kept : StayOnLine P) where
   abbrev Holds : (looped : Bool) → Statements → Type 0
-  Holds looped block = StatementsHold (IsFlowPartBy own P) looped block
+  Holds looped block = StatementsHold (IsFlowPartBy P) looped block
 
   leaf_on_line : (e : Expression) → IsFlowLeafBy P e → IsFlowLeafBy P (one_line_expression e)
   leaf_on_line (binary_expression line op left right) are = (core_on_line kept left are.0, core_on_line kept right are.1)
   leaf_on_line e is = core_on_line kept e is
 
-  alone_on_line : (e : Expression) → (k : Option Constant) → literal e ≡ k → AloneHolds (IsFlowPartBy own P) k e → AloneHolds (IsFlowPartBy own P) (literal (one_line_expression e)) (one_line_expression e)
-  alone_on_line e k is holds = subst (λ (k : Option Constant). AloneHolds (IsFlowPartBy own P) k (one_line_expression e)) (sym (same_literal e ∙ is)) (by k holds)
+  alone_on_line : (e : Expression) → (k : Option Constant) → literal e ≡ k → AloneHolds (IsFlowPartBy P) k e → AloneHolds (IsFlowPartBy P) (literal (one_line_expression e)) (one_line_expression e)
+  alone_on_line e k is holds = subst (λ (k : Option Constant). AloneHolds (IsFlowPartBy P) k (one_line_expression e)) (sym (same_literal e ∙ is)) (by k holds)
     where
-      by : (k : Option Constant) → AloneHolds (IsFlowPartBy own P) k e → AloneHolds (IsFlowPartBy own P) k (one_line_expression e)
+      by : (k : Option Constant) → AloneHolds (IsFlowPartBy P) k e → AloneHolds (IsFlowPartBy P) k (one_line_expression e)
       by (Some k) holds = tt
-      by None holds = subst (λ (e : Expression). IsFlowPartBy own P (condition_part e)) (tested_on_line e) (leaf_on_line (tested_as e) holds.0, keeps_on_line own (tested_as e) ∙ holds.1)
+      by None holds = subst (λ (e : Expression). IsFlowPartBy P (condition_part e)) (tested_on_line e) (leaf_on_line (tested_as e) holds)
 
-  test_on_line : (e : Expression) → TestHolds (IsFlowPartBy own P) e → TestHolds (IsFlowPartBy own P) (one_line_expression e)
+  test_on_line : (e : Expression) → TestHolds (IsFlowPartBy P) e → TestHolds (IsFlowPartBy P) (one_line_expression e)
   test_on_line (and_expression line left right) holds = (test_on_line left holds.0, test_on_line right holds.1)
   test_on_line (or_expression line left right) holds = (test_on_line left holds.0, test_on_line right holds.1)
   test_on_line (unary_expression line UnaryOp.Not e) holds = test_on_line e holds
@@ -106,7 +59,7 @@ module _ {P : FunctionBody → Type 0} (own : List Text) (kept : StayOnLine P) w
     block_on_line looped no_statements holds = tt
     block_on_line looped (syntax.statement line semi s rest) holds = (statement_on_line looped s holds.0, block_on_line looped rest holds.1)
 
-    statement_on_line : (looped : Bool) (s : Statement) → StatementHolds (IsFlowPartBy own P) looped s → StatementHolds (IsFlowPartBy own P) looped (one_line_statement s)
+    statement_on_line : (looped : Bool) (s : Statement) → StatementHolds (IsFlowPartBy P) looped s → StatementHolds (IsFlowPartBy P) looped (one_line_statement s)
     statement_on_line looped (do_block block) holds = block_on_line looped block holds
     statement_on_line looped (while_loop e block) holds = (test_on_line e holds.0, block_on_line true block holds.1)
     statement_on_line looped (repeat_loop block e) holds = (block_on_line true block holds.0, test_on_line e holds.1)
@@ -121,11 +74,11 @@ module _ {P : FunctionBody → Type 0} (own : List Text) (kept : StayOnLine P) w
     statement_on_line looped (local_function name body) holds = act_holds (local_function name body) holds
     statement_on_line looped (function_statement path method body) holds = act_holds (function_statement path method body) holds
 
-    branches_on_line : (looped : Bool) (branches : Branches) → BranchesHold (IsFlowPartBy own P) looped branches → BranchesHold (IsFlowPartBy own P) looped (one_line_branches branches)
+    branches_on_line : (looped : Bool) (branches : Branches) → BranchesHold (IsFlowPartBy P) looped branches → BranchesHold (IsFlowPartBy P) looped (one_line_branches branches)
     branches_on_line looped no_branches holds = tt
     branches_on_line looped (branch e block rest) holds = (test_on_line e holds.0, block_on_line looped block holds.1, branches_on_line looped rest holds.2)
 
-    otherwise_on_line : (looped : Bool) (last : Otherwise) → OtherwiseHolds (IsFlowPartBy own P) looped last → OtherwiseHolds (IsFlowPartBy own P) looped (one_line_otherwise last)
+    otherwise_on_line : (looped : Bool) (last : Otherwise) → OtherwiseHolds (IsFlowPartBy P) looped last → OtherwiseHolds (IsFlowPartBy P) looped (one_line_otherwise last)
     otherwise_on_line looped no_otherwise holds = tt
     otherwise_on_line looped (otherwise block) holds = block_on_line looped block holds
 
@@ -134,4 +87,4 @@ module _ {P : FunctionBody → Type 0} (own : List Text) (kept : StayOnLine P) w
 pub flow_stays : (deep : ℕ) (body : FunctionBody) → IsFlowBody deep body → IsFlowBody deep (one_line_body body)
 flow_stays zero body none = absurd none
 flow_stays (suc deep) (function_body params vararg block first last) holds =
-    subst (λ own. StatementsHold (IsFlowPartBy own (IsFlowBody deep)) false (one_line_statements block)) (sym (own_names_on_line params block)) (block_on_line (own_names params block) (flow_stays deep) false block holds)
+    (block_on_line (flow_stays deep) false block holds.0, ordered_on_line params block ∙ holds.1)

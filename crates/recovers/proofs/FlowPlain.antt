@@ -1,6 +1,5 @@
 -- A function whose statements may have blocks is plain: `and`, `or` and comparisons stand in its conditions alone.
-use Rattle.std.proofs.Common.{◌≡◌, ℕ, zero, suc, ℤ, Bool, true, false, ◌&&◌, List, Option, Some, None, refl, ap, ◌∙◌}
-use Rattle.lua_num.specs.Bytes.{Text}
+use Rattle.std.proofs.Common.{◌≡◌, ℕ, zero, suc, ℤ, Bool, true, false, ◌&&◌, Option, Some, None, refl, ap, ◌∙◌}
 use Rattle.lua_tree.specs.Syntax as syntax
 use Rattle.lua_tree.specs.Syntax.{Statements, no_statements, Statement, assignment, call_statement, do_block, while_loop, repeat_loop, if_statement, numeric_for, generic_for, function_statement, local_function, local_statement, return_statement, break_statement, Branches, no_branches, branch, Otherwise, no_otherwise, otherwise, ForStep, no_step, by_step, FunctionBody, function_body, Expression, and_expression, or_expression, binary_expression, unary_expression, parenthesized, number_literal, nil_literal, true_literal, false_literal, text_literal}
 use Rattle.lua_tree.specs.declared.tree.BinaryOp.{BinaryOp}
@@ -12,7 +11,6 @@ use Rattle.scheme.specs.Shapes.{plain_body, plain_branches, plain_comparison, pl
 use Rattle.same_flow.specs.Blocks.{AloneHolds, BranchesHold, OtherwiseHolds, StatementHolds, StatementsHold, TestHolds, tested_as}
 use Rattle.same_flow.specs.Laid.{head_values}
 use Rattle.reads_back.specs.Flows.{IsFlowBody, IsFlowLeafBy, IsFlowPartBy}
-use Rattle.reads_back.specs.Owned.{own_names}
 use Rattle.reads_back.specs.Straight.{AllHaveCoresBy, HasCoreBy}
 use Rattle.reads_back.proofs.Tests.{both_hold}
 use Rattle.recovers.proofs.CoresPlain.{core_plain, cores_plain, straight_statement_plain}
@@ -91,16 +89,16 @@ compared_condition line op left right first second = by (is_comparison op)
 
 -- ---- statements
 
-module _ {P : FunctionBody → Type 0} (own : List Text) (plain : (body : FunctionBody) → P body → plain_body body ≡ true) where
+module _ {P : FunctionBody → Type 0} (plain : (body : FunctionBody) → P body → plain_body body ≡ true) where
   operands_have : (line : ℕ) (op : BinaryOp) (left right : Expression) → IsFlowLeafBy P (tested_as (binary_expression line op left right)) → HasCoreBy P left × HasCoreBy P right
   operands_have line BinaryOp.Ne left right are = are
   operands_have line op left right are = are
 
-  alone_plain : (e : Expression) (k : Option Constant) → literal e ≡ k → AloneHolds (IsFlowPartBy own P) k e → (IsFlowLeafBy P (tested_as e) → (plainness e).condition ≡ true) → (plainness e).condition ≡ true
+  alone_plain : (e : Expression) (k : Option Constant) → literal e ≡ k → AloneHolds (IsFlowPartBy P) k e → (IsFlowLeafBy P (tested_as e) → (plainness e).condition ≡ true) → (plainness e).condition ≡ true
   alone_plain e (Some k) is holds leaf = literal_plain e k is
-  alone_plain e None is holds leaf = leaf holds.0
+  alone_plain e None is holds leaf = leaf holds
 
-  test_plain : (e : Expression) → TestHolds (IsFlowPartBy own P) e → (plainness e).condition ≡ true
+  test_plain : (e : Expression) → TestHolds (IsFlowPartBy P) e → (plainness e).condition ≡ true
   test_plain (and_expression line left right) holds = both_hold _ _ (test_plain left holds.0) (test_plain right holds.1)
   test_plain (or_expression line left right) holds = both_hold _ _ (test_plain left holds.0) (test_plain right holds.1)
   test_plain (unary_expression line UnaryOp.Not e) holds = test_plain e holds
@@ -117,11 +115,11 @@ module _ {P : FunctionBody → Type 0} (own : List Text) (plain : (body : Functi
   counted_plain first last (by_step e) block have inside = both_hold _ _ (both_hold _ _ (both_hold _ _ (core_plain plain first have.0) (core_plain plain last have.1.0)) (core_plain plain e have.1.1.0)) inside
 
   mutual
-    block_plain : (looped : Bool) (block : Statements) → StatementsHold (IsFlowPartBy own P) looped block → plain_statements block ≡ true
+    block_plain : (looped : Bool) (block : Statements) → StatementsHold (IsFlowPartBy P) looped block → plain_statements block ≡ true
     block_plain looped no_statements holds = refl
     block_plain looped (syntax.statement line semi s rest) holds = both_hold _ _ (statement_plain looped s holds.0) (block_plain looped rest holds.1)
 
-    statement_plain : (looped : Bool) (s : Statement) → StatementHolds (IsFlowPartBy own P) looped s → plain_statement s ≡ true
+    statement_plain : (looped : Bool) (s : Statement) → StatementHolds (IsFlowPartBy P) looped s → plain_statement s ≡ true
     statement_plain looped (do_block block) holds = block_plain looped block holds
     statement_plain looped (while_loop e block) holds = both_hold _ _ (test_plain e holds.0) (block_plain true block holds.1)
     statement_plain looped (repeat_loop block e) holds = both_hold _ _ (block_plain true block holds.0) (test_plain e holds.1)
@@ -136,11 +134,11 @@ module _ {P : FunctionBody → Type 0} (own : List Text) (plain : (body : Functi
     statement_plain looped (local_function name body) holds = straight_statement_plain plain (local_function name body) holds.0
     statement_plain looped (function_statement path method body) holds = straight_statement_plain plain (function_statement path method body) holds.0
 
-    branches_plain : (looped : Bool) (branches : Branches) → BranchesHold (IsFlowPartBy own P) looped branches → plain_branches branches ≡ true
+    branches_plain : (looped : Bool) (branches : Branches) → BranchesHold (IsFlowPartBy P) looped branches → plain_branches branches ≡ true
     branches_plain looped no_branches holds = refl
     branches_plain looped (branch e block rest) holds = both_hold _ _ (both_hold _ _ (test_plain e holds.0) (block_plain looped block holds.1)) (branches_plain looped rest holds.2)
 
-    otherwise_plain : (looped : Bool) (last : Otherwise) → OtherwiseHolds (IsFlowPartBy own P) looped last → plain_otherwise last ≡ true
+    otherwise_plain : (looped : Bool) (last : Otherwise) → OtherwiseHolds (IsFlowPartBy P) looped last → plain_otherwise last ≡ true
     otherwise_plain looped no_otherwise holds = refl
     otherwise_plain looped (otherwise block) holds = block_plain looped block holds
 
@@ -148,4 +146,4 @@ module _ {P : FunctionBody → Type 0} (own : List Text) (plain : (body : Functi
 
 pub flow_plain : (deep : ℕ) (body : FunctionBody) → IsFlowBody deep body → plain_body body ≡ true
 flow_plain zero body none = absurd none
-flow_plain (suc deep) (function_body params vararg block first last) holds = block_plain (own_names params block) (flow_plain deep) false block holds
+flow_plain (suc deep) (function_body params vararg block first last) holds = block_plain (flow_plain deep) false block holds.0

@@ -17,6 +17,7 @@ use Rattle.scheme.specs.declared.making.Active.{Active}
 use Rattle.scheme_stands.specs.Relation.{FunctionOf}
 use Rattle.scheme_stands.specs.Words.{Fn, Law, Names, law_inside, names_in, onto}
 use Rattle.same_flow.specs.Space.{space_of_body}
+use Rattle.reads_back.specs.Assignments.{with_self}
 use Rattle.reads_back.specs.Coming.{Coming, IsMadeNext}
 use Rattle.reads_back.specs.Cores.{IsPlainBody}
 use Rattle.reads_back.proofs.EachMade.{IsMadeAt}
@@ -101,7 +102,7 @@ module _ (limit : ℕ) (functions : Functions) {outer : Function} {made_of : Fn}
 
   -- it stands as what is made next
   module _ {active : List Active} {listed : List ℕ} (all : AreListed outer made_of active listed) {body : FunctionBody} {method : Bool} {c : Coming}
-      (plain : IsPlainBody body) (shallow : depth_of_body body ≤ 199) (next : IsMadeNext made_of active body method c) where
+      (plain : IsPlainBody (with_self method body)) (shallow : depth_of_body body ≤ 199) (next : IsMadeNext made_of active body method c) where
     abbrev inside : Names
     inside = record { around = names_in (onto active []) ++ whole.names.around; upvalues = next.names }
 
@@ -153,7 +154,7 @@ module _ (limit : ℕ) (functions : Functions) {outer : Function} {made_of : Fn}
 
     -- one that is made next, and what is found of it
     module _ {active : List Active} {listed : List ℕ} (all : AreListed outer made_of active listed) {body : FunctionBody} {method : Bool} {c : Coming}
-        (plain : IsPlainBody body) (shallow : depth_of_body body ≤ 199) (next : IsMadeNext made_of active body method c) where
+        (plain : IsPlainBody (with_self method body)) (shallow : depth_of_body body ≤ 199) (next : IsMadeNext made_of active body method c) where
       -- whatever is found of the function of this number stands for it
       stands_for : (d : Chunk) (found : Inner) → function_at functions c.functions ≡ Some d → IsFound short d found →
           IsFoundAs short body method (own next.chunk).upvalue_names (without_sources c.ahead) found

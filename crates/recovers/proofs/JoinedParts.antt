@@ -1,11 +1,11 @@
 -- A part of a readable block is on one line what must be known of it: an act, values, the head of a loop, and what is tested in a condition.
-use Rattle.std.proofs.Common.{◌≡◌, ◌<◌, ◌≤◌, ℕ, Bool, true, false, List, Option, Some, None, refl, sym, ap, ◌∙◌, arith, subst}
+use Rattle.std.proofs.Common.{◌≡◌, ◌<◌, ◌≤◌, ℕ, true, false, List, Option, Some, None, refl, sym, ap, ◌∙◌, arith, subst}
 use Rattle.std.specs.Prelude.{is_some}
 use Rattle.lua_num.specs.Bytes.{Text}
 use Rattle.lua_tree.specs.Names.{are_some_names}
-use Rattle.lua_tree.specs.OneLine.{one_line_body, one_line_expression, one_line_expressions, one_line_statement}
+use Rattle.lua_tree.specs.OneLine.{one_line_expression, one_line_expressions, one_line_statement}
 use Rattle.lua_tree.specs.Precedence.{is_right_associative, left_binds, level_of_op, right_binds}
-use Rattle.lua_tree.specs.Syntax.{Statement, function_statement, return_statement, FunctionBody, function_body, Expressions, Expression, and_expression, or_expression, binary_expression, unary_expression, parenthesized}
+use Rattle.lua_tree.specs.Syntax.{Statement, function_statement, return_statement, Expressions, Expression, and_expression, or_expression, binary_expression, unary_expression, parenthesized}
 use Rattle.lua_tree.specs.WellFormed.{depth_of_expression, depth_of_expressions, depth_of_statement, ends_block, formed_expression, formed_expressions, formed_statement, has_expressions}
 use Rattle.lua_tree.specs.declared.tree.BinaryOp.{BinaryOp}
 use Rattle.lua_tree.specs.declared.tree.UnaryOp.{UnaryOp}
@@ -16,35 +16,29 @@ use Rattle.scheme.specs.Shapes.{plainness}
 use Rattle.same_flow.specs.Blocks.{AloneHolds, TestHolds, tested_as}
 use Rattle.same_flow.specs.Renaming.{IsOneStep, IsTested}
 use Rattle.same_flow.specs.Space.{space_of_expression, space_of_expressions, space_of_statement}
-use Rattle.reads_back.specs.Assignments.{as_assignment, with_self}
+use Rattle.reads_back.specs.Assignments.{as_assignment}
 use Rattle.reads_back.specs.Cores.{AllHaveCores, HasCore}
 use Rattle.reads_back.specs.Flows.{IsFlowBody, IsFlowLeafBy, IsFlowPartBy}
-use Rattle.reads_back.specs.Ordered.{keeps_names}
 use Rattle.reads_back.specs.Straight.{AllHaveCoresBy, HasCoreBy, IsActBy, IsStraightStatementBy, StatementIndexesNoTable}
 use Rattle.reads_back.proofs.FlowThere.{IsFlowAct, IsFlowStatement}
 use Rattle.reads_back.proofs.FunctionStatements.{assigned_formed, assigned_in_room, assigned_shallow, indexes_still, path_on_line, statement_is_act}
-use Rattle.reads_back.proofs.OneLineActs.{act_on_line, core_on_line, cores_on_line, straight_statement_on_line}
+use Rattle.reads_back.proofs.OneLineActs.{act_on_line, core_on_line, cores_on_line, self_on_line, straight_statement_on_line}
 use Rattle.reads_back.proofs.PlainBodies.{plain_act, plain_core, plain_cores}
 use Rattle.reads_back.proofs.OneLineRules.{same_some, statement_indexes_none}
 use Rattle.reads_back.proofs.Rooms.{inside_room, left_room}
 use Rattle.reads_back.proofs.TestedAs.{HasTest}
 use Rattle.reads_back.proofs.Tests.{both_hold, first_of_both, second_of_both}
 use Rattle.reads_back.proofs.WordsSame.{same_literal}
-use Rattle.reads_back.specs.Owned.{names_of_part}
-use Rattle.recovers.specs.Joined.{AllAmong, IsJoinedPart}
+use Rattle.recovers.specs.Joined.{IsJoinedPart}
 use Rattle.recovers.proofs.CoresPlain.{core_plain, cores_plain, straight_statement_plain}
-use Rattle.recovers.proofs.FlowOnLine.{flow_stays, keeps_on_line, tested_on_line}
-use Rattle.recovers.proofs.OwnMore.{flow_with_self}
+use Rattle.recovers.proofs.FlowOnLine.{flow_stays, tested_on_line}
 use Rattle.recovers.proofs.FlowPlain.{flow_plain}
 use Rattle.recovers.proofs.OneLineBlocks.{expression_again, expression_as_deep, expression_as_roomy, expression_formed, expressions_again, expressions_as_deep, expressions_as_roomy, expressions_formed, statement_again, statement_as_deep, statement_as_roomy, statement_formed}
 
 -- ---- the assignment that a function statement stands for
 
-self_line : (method : Bool) (body : FunctionBody) → one_line_body (with_self method body) ≡ with_self method (one_line_body body)
-self_line method (function_body params vararg block first last) = refl
-
 assignment_line : (s : Statement) → one_line_statement (as_assignment s) ≡ as_assignment (one_line_statement s)
-assignment_line (function_statement path method body) = cc (path_on_line path method, self_line (is_some method) body)
+assignment_line (function_statement path method body) = cc (path_on_line path method, self_on_line (is_some method) body)
 assignment_line s = refl
 
 -- ---- what a leaf is tested as
@@ -87,7 +81,7 @@ binary_tested : (op : BinaryOp) (left right : Expression) → (plainness left).v
 binary_tested BinaryOp.Ne left right first second = both_hold _ _ first second
 binary_tested op left right first second = both_hold _ _ first second
 
-module _ (most : ℕ) (few : most ≤ 200) (own : List Text) (deep : ℕ) where
+module _ (most : ℕ) (few : most ≤ 200) (deep : ℕ) where
   -- ---- values
 
   core_joined : (e : Expression) → HasCoreBy (IsFlowBody deep) e → formed_expression e ≡ true → space_of_expression e ≤ 200 → HasCore (one_line_expression e)
@@ -115,36 +109,32 @@ module _ (most : ℕ) (few : most ≤ 200) (own : List Text) (deep : ℕ) where
   flow_statement : (s : Statement) → IsStraightStatementBy (IsFlowBody deep) s → StatementIndexesNoTable s → formed_statement s ≡ true → depth_of_statement s ≤ 199 → space_of_statement s ≤ 200 → IsFlowStatement (one_line_statement s)
   flow_statement s is begins formed shallow roomy = record {
     formed = statement_formed s formed;
-    act = subst IsFlowAct (assignment_line s) (flow_act (as_assignment s) (statement_is_act (IsFlowBody deep) (flow_with_self deep) s is formed) (indexes_still s begins formed) (assigned_formed s formed)
+    act = subst IsFlowAct (assignment_line s) (flow_act (as_assignment s) (statement_is_act (IsFlowBody deep) s is formed) (indexes_still s begins formed) (assigned_formed s formed)
         (assigned_shallow (IsFlowBody deep) s is shallow) (assigned_in_room (IsFlowBody deep) s is roomy));
   }
 
   pub act_joined : (s : Statement) → IsOneStep (one_line_statement s) → ends_block (one_line_statement s) ≡ false → IsStraightStatementBy (IsFlowBody deep) s × StatementIndexesNoTable s →
-      formed_statement s ≡ true → depth_of_statement s ≤ 199 → space_of_statement s < most → AllAmong (names_of_part (statement_part (one_line_statement s))) own →
-      IsJoinedPart most own (statement_part (one_line_statement s))
-  act_joined s one goes_on is formed shallow roomy declares = record {
+      formed_statement s ≡ true → depth_of_statement s ≤ 199 → space_of_statement s < most →
+      IsJoinedPart most (statement_part (one_line_statement s))
+  act_joined s one goes_on is formed shallow roomy = record {
     plain = (one, straight_statement_plain (flow_plain deep) (one_line_statement s) (straight_statement_on_line (flow_stays deep) s is.0));
     flow = flow_statement s is.0 is.1 formed shallow (omega (arith, few, roomy));
     formed = (statement_formed s formed, goes_on);
-    ordered = tt;
-    declares = declares;
     roomy = subst (λ (room : ℕ). room < most) (sym (statement_as_roomy s)) roomy;
   }
 
   pub values_joined : (es : Expressions) → AllHaveCoresBy (IsFlowBody deep) es →
-      formed_expressions es ≡ true → depth_of_expressions es ≤ 199 → space_of_expressions es < most → IsJoinedPart most own (values_part (one_line_expressions es))
+      formed_expressions es ≡ true → depth_of_expressions es ≤ 199 → space_of_expressions es < most → IsJoinedPart most (values_part (one_line_expressions es))
   values_joined es have formed shallow roomy = record {
     plain = cores_plain (flow_plain deep) (one_line_expressions es) (cores_on_line (flow_stays deep) es have);
     flow = flow_act (return_statement es) have tt formed shallow (omega (arith, few, roomy));
     formed = expressions_formed es formed;
-    ordered = tt;
-    declares = λ text none. cc;
     roomy = subst (λ (room : ℕ). room < most) (sym (expressions_as_roomy es)) roomy;
   }
 
   pub head_joined : (es : Expressions) (names : List Text) → AllHaveCoresBy (IsFlowBody deep) es → has_expressions es ≡ true → are_some_names names ≡ true →
-      formed_expressions es ≡ true → depth_of_expressions es ≤ 200 → space_of_expressions es < most → AllAmong names own → IsJoinedPart most own (head_part (one_line_expressions es) names)
-  head_joined es names have some good formed shallow roomy declares =
+      formed_expressions es ≡ true → depth_of_expressions es ≤ 200 → space_of_expressions es < most → IsJoinedPart most (head_part (one_line_expressions es) names)
+  head_joined es names have some good formed shallow roomy =
       let some_there : has_expressions (one_line_expressions es) ≡ true = same_some es ∙ some in
       record {
         plain = cores_plain (flow_plain deep) (one_line_expressions es) (cores_on_line (flow_stays deep) es have);
@@ -156,8 +146,6 @@ module _ (most : ℕ) (few : most ≤ 200) (own : List Text) (deep : ℕ) where
           on_line = expressions_again es;
         };
         formed = (good, some_there, expressions_formed es formed);
-        ordered = tt;
-        declares = declares;
         roomy = subst (λ (room : ℕ). room < most) (sym (expressions_as_roomy es)) roomy;
       }
 
@@ -194,35 +182,33 @@ module _ (most : ℕ) (few : most ≤ 200) (own : List Text) (deep : ℕ) where
   leaf_has (parenthesized line e) leaf none is formed roomy = absurd leaf
   leaf_has e leaf none is formed roomy = (core_joined e is formed roomy, same_literal e ∙ none)
 
-  leaf_joined : (e : Expression) → IsLeaf e → literal e ≡ None → IsFlowPartBy own (IsFlowBody deep) (condition_part (tested_as e)) →
-      formed_expression e ≡ true → depth_of_expression e ≤ 200 → space_of_expression e < most → IsJoinedPart most own (condition_part (tested_as (one_line_expression e)))
+  leaf_joined : (e : Expression) → IsLeaf e → literal e ≡ None → IsFlowPartBy (IsFlowBody deep) (condition_part (tested_as e)) →
+      formed_expression e ≡ true → depth_of_expression e ≤ 200 → space_of_expression e < most → IsJoinedPart most (condition_part (tested_as (one_line_expression e)))
   leaf_joined e leaf none is formed shallow roomy =
       let line = one_line_expression e in
       record {
-        plain = leaf_tested e leaf is.0;
+        plain = leaf_tested e leaf is;
         flow = record {
-          has = leaf_has e leaf none is.0 formed (omega (arith, few, roomy));
+          has = leaf_has e leaf none is formed (omega (arith, few, roomy));
           shallow = subst (λ (depth : ℕ). depth ≤ 200) (sym (tested_as_deep line ∙ expression_as_deep e)) shallow;
           on_line = tested_on_line line ∙ ap tested_as (expression_again e);
           tested = tested_again line;
         };
         formed = tested_formed line ∙ expression_formed e formed;
-        ordered = ap (keeps_names own) (sym (tested_on_line e)) ∙ keeps_on_line own (tested_as e) ∙ is.1;
-        declares = λ text none. cc;
         roomy = subst (λ (room : ℕ). room < most) (sym (tested_as_roomy line ∙ expression_as_roomy e)) roomy;
       }
 
-  alone_joined : (e : Expression) → IsLeaf e → (k : Option Constant) → literal e ≡ k → AloneHolds (IsFlowPartBy own (IsFlowBody deep)) k e →
-      formed_expression e ≡ true → depth_of_expression e ≤ 200 → space_of_expression e < most → AloneHolds (IsJoinedPart most own) (literal (one_line_expression e)) (one_line_expression e)
-  alone_joined e leaf k is holds formed shallow roomy = subst (λ (k : Option Constant). AloneHolds (IsJoinedPart most own) k (one_line_expression e)) (sym (same_literal e ∙ is)) (by k is holds)
+  alone_joined : (e : Expression) → IsLeaf e → (k : Option Constant) → literal e ≡ k → AloneHolds (IsFlowPartBy (IsFlowBody deep)) k e →
+      formed_expression e ≡ true → depth_of_expression e ≤ 200 → space_of_expression e < most → AloneHolds (IsJoinedPart most) (literal (one_line_expression e)) (one_line_expression e)
+  alone_joined e leaf k is holds formed shallow roomy = subst (λ (k : Option Constant). AloneHolds (IsJoinedPart most) k (one_line_expression e)) (sym (same_literal e ∙ is)) (by k is holds)
     where
-      by : (k : Option Constant) → literal e ≡ k → AloneHolds (IsFlowPartBy own (IsFlowBody deep)) k e → AloneHolds (IsJoinedPart most own) k (one_line_expression e)
+      by : (k : Option Constant) → literal e ≡ k → AloneHolds (IsFlowPartBy (IsFlowBody deep)) k e → AloneHolds (IsJoinedPart most) k (one_line_expression e)
       by (Some k) is holds = tt
       by None is holds = leaf_joined e leaf is holds formed shallow roomy
 
   -- the leaves of a condition
-  pub test_joined : (e : Expression) → TestHolds (IsFlowPartBy own (IsFlowBody deep)) e →
-      formed_expression e ≡ true → depth_of_expression e ≤ 200 → space_of_expression e < most → TestHolds (IsJoinedPart most own) (one_line_expression e)
+  pub test_joined : (e : Expression) → TestHolds (IsFlowPartBy (IsFlowBody deep)) e →
+      formed_expression e ≡ true → depth_of_expression e ≤ 200 → space_of_expression e < most → TestHolds (IsJoinedPart most) (one_line_expression e)
   test_joined (and_expression line left right) holds formed shallow roomy =
       let parts = second_of_both (right_binds 2 false right) _ (second_of_both (left_binds 2 false left) _ formed) in (
         test_joined left holds.0 (first_of_both _ _ parts) (omega (arith, shallow)) (omega (arith, roomy)),

@@ -20,11 +20,12 @@ pub mod JoinedBlocks
 pub mod JoinedParts
 pub mod MainFlow
 pub mod OneLineBlocks
-pub mod OwnMore
+pub mod OrderedOnLine
 pub mod PlainBuilt
 pub mod PlainSources
 pub mod ReadHere
 pub mod SmallSource
 pub mod SourceRecovered
 pub mod StandsApart
+pub mod TurnedClear
 pub mod TurnedRoom

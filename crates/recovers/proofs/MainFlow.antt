@@ -61,7 +61,7 @@ module _ (stand : NamesStand) (semicolons : SemicolonsDoNotMatter) (mine : Own) 
   heading = record { source = Some of.name; first_line = 0; last_line = 0; params = 0; vararg = true }
 
   joined_block : IsJoined [] plain_source.body
-  joined_block = on_one_line_joined of.deep [] of.source.body of.formed.formed of.formed.shallow of.blocks of.room
+  joined_block = on_one_line_joined of.deep [] of.source.body of.formed.formed of.formed.shallow of.blocks of.ordered of.room
 
   main_here : IsFlowHere no_names heading [] plain_source.body [] begins_with (function mine functions)
   main_here =

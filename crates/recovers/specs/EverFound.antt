@@ -10,13 +10,14 @@ use Rattle.scheme.specs.Making.{Ahead}
 use Rattle.scheme_stands.specs.Relation.{FunctionOf}
 use Rattle.scheme_stands.specs.Words.{Names}
 use Rattle.same_flow.specs.Space.{space_of_body}
+use Rattle.reads_back.specs.Assignments.{with_self}
 use Rattle.reads_back.specs.Cores.{IsPlainBody}
 use Rattle.reads_back.proofs.InnerChunks.{AreNamedBy}
 use Rattle.recovers.specs.Joined.{IsFoundAs}
 
 -- a chunk stands as this plain function, which is made there but for the numbers of lines, and whose upvalues have the names by which it is read
 pub record StandsAs (chunk : Chunk) (body : FunctionBody) (method : Bool) (n : Names) (before behind : Ahead) (made : Chunk) : Type 0 where
-  pub plain : IsPlainBody body
+  pub plain : IsPlainBody (with_self method body)
   pub shallow : depth_of_body body ≤ 199
   pub at : FunctionOf body method (Some n) before behind made
   pub same : SameButLines chunk made

@@ -1,15 +1,15 @@
 -- Serves the laws. Sources that come back from their chunks, part by part: statements with blocks stand in them, and in the functions in them, at any depth.
-use Rattle.std.specs.Prelude.{◌≤◌, ℕ, false, []}
+use Rattle.std.specs.Prelude.{◌≡◌, ◌≤◌, ℕ, true, false, []}
 use Rattle.lua_num.specs.Bytes.{Text}
 use Rattle.lua_tree.specs.Scoping.{Scoped}
 use Rattle.lua_tree.specs.Syntax.{Source}
 use Rattle.lua_tree.specs.WellFormed.{WellFormed}
 use Rattle.proto.specs.Chunk.{Chunk, SameButLines}
 use Rattle.scheme.specs.Scheme.{scheme, Fits}
+use Rattle.scheme_order.specs.Ordered.{ordered_block}
 use Rattle.same_flow.specs.Blocks.{StatementsHold}
 use Rattle.same_flow.specs.Space.{around_body, space_of_statements}
 use Rattle.reads_back.specs.Flows.{IsFlowBody, IsFlowPartBy}
-use Rattle.reads_back.specs.Owned.{own_names}
 
 -- the chunk of such a source that keeps every rule, under some name, but for the numbers of lines; each function whose statements have blocks has room for one level more, and for one more for each further arm of an `if` whose condition never fails
 pub record IsFlowChunk (chunk : Chunk) : Type 0 where
@@ -19,6 +19,7 @@ pub record IsFlowChunk (chunk : Chunk) : Type 0 where
   pub scoped : Scoped source
   pub fits : Fits source
   pub deep : ℕ
-  pub blocks : StatementsHold (IsFlowPartBy (own_names [] source.body) (IsFlowBody deep)) false source.body
+  pub blocks : StatementsHold (IsFlowPartBy (IsFlowBody deep)) false source.body
+  pub ordered : ordered_block [] source.body ≡ true
   pub room : around_body source.body (space_of_statements source.body) ≤ 200
   pub same : SameButLines chunk (scheme source name)

@@ -1,5 +1,5 @@
 -- To be believed. What is recovered of a chunk whose source it has: a tree that is alike to the source, whatever the search takes; and nothing is lost in the forms of fewest levels.
-use Rattle.std.specs.Prelude.{◌≤◌, ℕ, List, true, false, [], IsSome}
+use Rattle.std.specs.Prelude.{◌≡◌, ◌≤◌, ℕ, List, true, false, [], IsSome}
 use Rattle.lua_tree.specs.Syntax.{Source}
 use Rattle.lua_tree.specs.WellFormed.{WellFormed}
 use Rattle.proto.specs.Chunk.{Chunk, own}
@@ -7,7 +7,7 @@ use Rattle.proto.specs.Short.{IsShort}
 use Rattle.recover_flow.specs.Debug.{FirstUntold}
 use Rattle.recover_flow.specs.Recovering.{IsLost, IsSourceFound}
 use Rattle.reads_back.specs.Flows.{IsFlowBody, IsFlowPartBy}
-use Rattle.reads_back.specs.Owned.{own_names}
+use Rattle.scheme_order.specs.Ordered.{ordered_block}
 use Rattle.same_flow.specs.Blocks.{StatementsHold}
 use Rattle.same_flow.specs.Space.{around_body, space_of_statements}
 use Rattle.scheme.specs.Shapes.{Flat}
@@ -28,4 +28,4 @@ FlowSourcesAreRecovered = (chunk : Chunk) (of : IsFlowChunk chunk) → IsShort c
 
 -- flat sources are such
 abbrev pub FlatSourcesAreFlow : Type 0
-FlatSourcesAreFlow = (source : Source) → WellFormed source → Flat source → StatementsHold (IsFlowPartBy (own_names [] source.body) (IsFlowBody 0)) false source.body × (around_body source.body (space_of_statements source.body) ≤ 200)
+FlatSourcesAreFlow = (source : Source) → WellFormed source → Flat source → StatementsHold (IsFlowPartBy (IsFlowBody 0)) false source.body × (ordered_block [] source.body ≡ true) × (around_body source.body (space_of_statements source.body) ≤ 200)

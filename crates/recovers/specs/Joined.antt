@@ -24,9 +24,7 @@ use Rattle.same_flow.specs.SameFlow.{AreLaid, IsPlainPart}
 use Rattle.same_flow.specs.SameMarks.{but_breaks}
 use Rattle.same_flow.specs.Space.{around_body, has_blocks, space_of_body, space_of_expression, space_of_expressions, space_of_statement, space_of_statements}
 use Rattle.reads_back.specs.ReadAs.{IsTold}
-use Rattle.scheme_stands.specs.Words.{is_among}
-use Rattle.reads_back.specs.Ordered.{IsOrderedPart}
-use Rattle.reads_back.specs.Owned.{names_of_part, own_names}
+use Rattle.scheme_order.specs.Ordered.{ordered_block}
 use Rattle.reads_back.proofs.FlowThere.{IsFlowPart}
 use Rattle.reads_back.proofs.Marks.{SamePart}
 use Rattle.reads_back.proofs.WrittenFormed.{IsFineFunction}
@@ -39,24 +37,19 @@ IsRoomyPart limit (values_part es) = space_of_expressions es < limit
 IsRoomyPart limit (condition_part e) = space_of_expression e < limit
 IsRoomyPart limit (head_part es names) = space_of_expressions es < limit
 
--- each of these names is among others
-abbrev pub AllAmong : (names own : List Text) → Type 0
-AllAmong names own = (text : Text) → is_among text names ≡ true → is_among text own ≡ true
-
--- a part of a function whose locals have these names
-pub record IsJoinedPart (limit : ℕ) (own : List Text) (part : Part) : Type 0 where
+-- a part of a function
+pub record IsJoinedPart (limit : ℕ) (part : Part) : Type 0 where
   pub plain : IsPlainPart part
   pub flow : IsFlowPart part
   pub formed : IsPartFormed part
-  pub ordered : IsOrderedPart own part
-  pub declares : AllAmong (names_of_part part) own
   pub roomy : IsRoomyPart limit part
 
 -- the block of a function with these parameters
 pub record IsJoined (params : List Text) (block : Statements) : Type 0 where
   pub again : one_line_statements block ≡ block
   pub formed : formed_statements block ≡ true
-  pub parts : StatementsHold (IsJoinedPart (space_of_statements block) (own_names params block)) false block
+  pub parts : StatementsHold (IsJoinedPart (space_of_statements block)) false block
+  pub ordered : ordered_block params block ≡ true
   pub room : around_body block (space_of_statements block) ≤ 200
 
 -- ---- what is read of a function

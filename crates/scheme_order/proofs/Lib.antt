@@ -6,6 +6,7 @@ pub mod Functions
 pub mod KeptParts
 pub mod Lists
 pub mod Makers
+pub mod OrderedBlocks
 pub mod OwnMarks
 pub mod OwnNames
 pub mod Statements
@@ -15,6 +16,7 @@ pub mod TurnedAlike
 pub mod TurnedDepth
 pub mod TurnedForms
 pub mod TurnedMarks
+pub mod TurnedOrdered
 pub mod TurnedParts
 pub mod TurnedPlain
 pub mod TurnedScopes

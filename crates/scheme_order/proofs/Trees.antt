@@ -41,7 +41,7 @@ look_plain nothing neither folds name other calls varargs = record {
 -- ---- a turned comparison
 
 -- only `>` and `>=` are turned
-turned_greater : (tested : Bool) (own : List Text) (op : BinaryOp) (left right : Expression) → (tested && is_turned own op left right) ≡ true → is_greater op ≡ true
+pub turned_greater : (tested : Bool) (own : List Text) (op : BinaryOp) (left right : Expression) → (tested && is_turned own op left right) ≡ true → is_greater op ≡ true
 turned_greater tested own op left right e = (and_parts _ _ (and_parts tested _ e).1).0
 
 -- of a binary operator, turned or not, what it folds to
@@ -60,7 +60,7 @@ of_both of a true line op left right e = e _ right left
 of_both of a false line op left right e = e op left right
 
 -- what an expression folds to
-fold_same : (tested : Bool) (own : List Text) (e : Expression) → fold e ≡ fold (turned_expression tested own e)
+pub fold_same : (tested : Bool) (own : List Text) (e : Expression) → fold e ≡ fold (turned_expression tested own e)
 fold_same tested own (binary_expression line op left right) =
     fold_turned (tested && is_turned own op left right) line op left right (turned_expression false own left) (turned_expression false own right)
     (turned_greater tested own op left right) (fold_same false own left) (fold_same false own right)
@@ -71,7 +71,7 @@ fold_same tested own (parenthesized line e) = fold_same tested own e
 fold_same tested own e = refl
 
 -- which literal it is
-plain_same : (tested : Bool) (own : List Text) (e : Expression) → plain_literal e ≡ plain_literal (turned_expression tested own e)
+pub plain_same : (tested : Bool) (own : List Text) (e : Expression) → plain_literal e ≡ plain_literal (turned_expression tested own e)
 plain_same tested own (binary_expression line op left right) = of_both plain_literal None (tested && is_turned own op left right) line op _ _ (λ op left right. refl)
 plain_same tested own (unary_expression line UnaryOp.Not e) = refl
 plain_same tested own (unary_expression line op e) = refl

@@ -1,3 +1,5 @@
+pub mod AllOrdered
+pub mod Ordered
 pub mod Own
 pub mod Permuted
 pub mod Turned
