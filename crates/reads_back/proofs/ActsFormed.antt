@@ -10,7 +10,7 @@ use Rattle.lua_tree.specs.WellFormed.{are_targets, depth_of_expression, depth_of
 use Rattle.core_expr.specs.Counting.{one_more, left_by_values, taken_behind_values}
 use Rattle.core_expr.specs.Making.{deepest, depth_of}
 use Rattle.core_expr.specs.Places.{Place, constant_name, field_name, local_name, upvalue_name}
-use Rattle.core_expr.specs.Targets.{TargetValue, can_write_target, global_target, index_target, left_by_target, local_target, taken_behind_target, upvalue_target, word_target}
+use Rattle.core_expr.specs.Targets.{TargetValue, can_have_path, can_write_target, global_target, index_target, left_by_target, local_target, taken_behind_target, upvalue_target, word_target}
 use Rattle.core_expr.specs.Values.{Inner, OperandValue, Value, Values, and_operand, and_value, nil_value, no_values, call_value, global_value, index_value, local_value, method_value, no_operands, upvalue_value}
 use Rattle.core_expr.specs.Writing.{Wording, can_write, can_write_values, name_word, with_key, word, word_operand, word_values, function_left}
 use Rattle.recover_expr.specs.Assigning.{function_as}
@@ -22,8 +22,9 @@ use Rattle.reads_back.specs.Acted.{Acted, AreAssigned, AreTargets, AreValues, Ar
 use Rattle.reads_back.specs.Cores.{AreCores, IsCore, ends_open}
 use Rattle.reads_back.proofs.FunctionsLeft.{each_by_target, each_by_targets, each_by_values, left_there}
 use Rattle.reads_back.proofs.MarksSame.{over_made}
-use Rattle.reads_back.proofs.NamedActs.{function_as_depth, function_as_ends, function_as_formed, named_can, named_fine, path_names}
+use Rattle.reads_back.proofs.NamedActs.{function_as_depth, function_as_ends, function_as_formed, named_fine, path_names}
 use Rattle.reads_back.proofs.Paths.{IsNamed, named_or_holds}
+use Rattle.reads_back.proofs.Said.{can_say, said_holds}
 use Rattle.reads_back.proofs.Tests.{both_hold, first_of_both, not_so, or_first, or_second, second_of_both}
 use Rattle.reads_back.proofs.WrittenFormed.{AreFine, AreFineLeft, IsFine, operand_fine, values_fine, word_fine, IsFineFunction}
 
@@ -215,13 +216,13 @@ module _ (at : Place) (g : Fn) (active : List Active) where
       let high = values.shallow (omega (arith, few)) in
       omega (arith, few, low, high)
 
-  pub act_formed : (s : Statement) (before behind : ℕ) (acted : Acted) (n : ℕ) (left : List (Option Inner)) → AreFineLeft left → IsAct s → IsActed g active s before behind acted → can_act at left acted ≡ true → formed_statement (act_statement at n left acted) ≡ true
+  pub act_formed : (s : Statement) (before behind : ℕ) (acted : Acted) (n : ℕ) (left : List (Option Inner)) → AreFineLeft left → IsAct s → IsActed g active s before behind acted → can_say at left acted ≡ true → formed_statement (act_statement at n left acted) ≡ true
   act_formed (call_statement e) before behind (called v) n left fine_left has is can = let fine = word_fine at v n left fine_left can in both_hold _ _ (called_is at g active left e before behind v n has.0 is) fine.formed
   act_formed (assignment targets es) before behind (assigned ts vs all last) n left fine_left has is can =
-      let named : (path : List Text) (found : Inner) → IsNamed at left ts vs last path found → formed_statement (function_as path found.body) ≡ true = λ path found named.
+      let named : (path : List Text) (found : Inner) (named : IsNamed at left ts vs last path found) → can_have_path at named.target ≡ true → formed_statement (function_as path found.body) ≡ true = λ path found named can_path.
       let fine = named_fine at left ts vs last path found named fine_left in
-      function_as_formed path found.body (path_names at left named.target path (named_can at left ts vs last path found named (first_of_both _ _ can)) named.has_path) fine.formed in
-      named_or_holds (λ s levels. formed_statement s ≡ true) at left ts vs last (assigned_statement at n left ts vs all last) (assigned_levels at n left ts vs all last) (assigned_formed targets es before behind ts vs all last n left fine_left has is can) named
+      function_as_formed path found.body (path_names at named.target path can_path named.has_path) fine.formed in
+      said_holds (λ s levels. formed_statement s ≡ true) at left ts vs all last (assigned_statement at n left ts vs all last) (assigned_levels at n left ts vs all last) can (λ none can. assigned_formed targets es before behind ts vs all last n left fine_left has is can) named
   act_formed (local_statement names es) before behind (declared others vs all) n left fine_left has is can =
       let fine = values_fine at vs all n left fine_left can in
       both_hold _ _ (ap are_some_names is.0 ∙ has.0) fine.formed
@@ -234,14 +235,14 @@ module _ (at : Place) (g : Fn) (active : List Active) where
   act_formed (return_statement es) before behind (returned vs all) n left fine_left has is can = let fine = values_fine at vs all n left fine_left can in fine.formed
   act_formed s before behind acted n left fine_left has is can = absurd is
 
-  pub act_shallow : (s : Statement) (before behind : ℕ) (acted : Acted) (n : ℕ) (left : List (Option Inner)) → AreFineLeft left → IsAct s → IsActed g active s before behind acted → can_act at left acted ≡ true → act_levels at n left acted ≤ 1000 → suc (depth_of_statement (act_statement at n left acted)) ≤ act_levels at n left acted
+  pub act_shallow : (s : Statement) (before behind : ℕ) (acted : Acted) (n : ℕ) (left : List (Option Inner)) → AreFineLeft left → IsAct s → IsActed g active s before behind acted → can_say at left acted ≡ true → act_levels at n left acted ≤ 1000 → suc (depth_of_statement (act_statement at n left acted)) ≤ act_levels at n left acted
   act_shallow s before behind (called v) n left fine_left has is can few = let fine = word_fine at v n left fine_left can in let low = fine.shallow (omega (arith, few)) in omega (arith, few, low)
   act_shallow s before behind (assigned ts vs all last) n left fine_left has is can few =
       let named : (path : List Text) (found : Inner) → IsNamed at left ts vs last path found → one_more (one_more found.levels) ≤ 1000 → suc (depth_of_statement (function_as path found.body)) ≤ one_more (one_more found.levels) = λ path found named few.
       let fine = named_fine at left ts vs last path found named fine_left in
       let low = fine.shallow (omega (arith, few)) in
       omega (arith, few, low, function_as_depth path found.body) in
-      named_or_holds (λ s levels. levels ≤ 1000 → suc (depth_of_statement s) ≤ levels) at left ts vs last (assigned_statement at n left ts vs all last) (assigned_levels at n left ts vs all last) (assigned_shallow ts vs all last n left fine_left can) named few
+      said_holds (λ s levels. levels ≤ 1000 → suc (depth_of_statement s) ≤ levels) at left ts vs all last (assigned_statement at n left ts vs all last) (assigned_levels at n left ts vs all last) can (λ none can. assigned_shallow ts vs all last n left fine_left can) (λ path found is can_path. named path found is) few
   act_shallow s before behind (declared names vs all) n left fine_left has is can few = let fine = values_fine at vs all n left fine_left can in let low = fine.shallow (omega (arith, few)) in omega (arith, few, low)
   act_shallow s before behind (declared_function name number) n left fine_left has is can few = own_shallow name (function_left left number) (λ found there. left_there (λ number found. IsFineFunction found) number left found fine_left there) can few
   act_shallow s before behind (returned vs all) n left fine_left has is can few = let fine = values_fine at vs all n left fine_left can in let low = fine.shallow (omega (arith, few)) in omega (arith, few, low)

@@ -1,16 +1,16 @@
 -- What is written of an act mentions the same names as the act, in the same order.
-use Rattle.std.proofs.Common.{◌≡◌, ◌≤◌, max, arith, ℕ, ◌⊎◌, inl, inr, Bool, false, List, [], ◌∷◌, length, Option, Some, None, refl, ap, subst, ◌∙◌, true, sym, is_some}
+use Rattle.std.proofs.Common.{◌≡◌, ◌≤◌, arith, ℕ, ◌⊎◌, inl, inr, Bool, false, List, [], ◌∷◌, length, Option, Some, None, refl, ap, subst, ◌∙◌, true, sym, is_some}
 use Rattle.lua_num.specs.Bytes.{Text}
 use Rattle.lua_tree.specs.Joins.{join_expressions}
 use Rattle.lua_tree.specs.OneLine.{one_line_expression, one_line_expressions, one_line_statement}
 use Rattle.lua_tree.specs.Outline.{Part, both, come, declares, expression_part, expressions_part, nothing, path_part, statement_part, body_part}
 use Rattle.lua_tree.specs.Syntax as syntax
 use Rattle.lua_tree.specs.Syntax.{Expression, Expressions, Statement, assignment, call_statement, field_expression, index_expression, local_statement, name_expression, no_expressions, return_statement, local_function}
-use Rattle.lua_tree.specs.WellFormed.{depth_of_expression, depth_of_expressions, depth_of_statement}
+use Rattle.lua_tree.specs.WellFormed.{depth_of_expressions}
 use Rattle.core_expr.specs.Counting.{left_by_values, taken_behind_values}
 use Rattle.core_expr.specs.Places.{Place, constant_name, local_name, place, upvalue_name}
-use Rattle.core_expr.specs.Targets.{TargetValue, can_write_target, global_target, index_target, left_by_target, local_target, path_of, upvalue_target, taken_behind_target, word_target}
-use Rattle.core_expr.specs.Values.{Inner, OperandValue, Values}
+use Rattle.core_expr.specs.Targets.{TargetValue, can_have_path, can_write_target, global_target, index_target, left_by_target, local_target, path_of, upvalue_target, taken_behind_target, word_target}
+use Rattle.core_expr.specs.Values.{Inner, OperandValue, Value, Values}
 use Rattle.core_expr.specs.Writing.{can_write_values, word_operand, word_values, function_left}
 use Rattle.recover_expr.specs.Assigning.{function_as}
 use Rattle.recover_expr.specs.Situation.{Function}
@@ -18,18 +18,21 @@ use Rattle.scheme.specs.Expressions.{literal}
 use Rattle.scheme.specs.Making.{Where, in_globals, in_register, in_upvalue}
 use Rattle.scheme.specs.declared.making.Active.{Active}
 use Rattle.scheme_stands.specs.Words.{Fn}
-use Rattle.reads_back.specs.Acted.{Acted, AreActTargets, AreAssigned, Assigns, assigned_levels, assigned_statement, function_in, AreTargets, AreValues, AreWithOperand, Assigned, EndWithOperand, IsAct, IsActTarget, IsActed, IsTarget, IsVariableTarget, act_statement, assigned, called, can_act, can_write_last, can_write_targets, declared, last_target, left_by_targets, returned, taken_behind_targets, words_assigned, words_targets, declared_function, local_by}
-use Rattle.reads_back.specs.Cores.{AllHaveCores, IsVariable, ends_open}
+use Rattle.reads_back.specs.Acted.{Acted, AreActTargets, AreAssigned, Assigns, assigned_levels, assigned_statement, function_in, AreTargets, AreValues, AreWithOperand, Assigned, EndWithOperand, IsAct, IsActTarget, IsActed, IsTarget, IsVariableTarget, act_statement, assigned, called, can_act, can_write_last, can_write_targets, declared, last_target, left_by_targets, returned, taken_behind_targets, words_assigned, words_targets, declared_function, is_path, lean_assignment, lean_depth, local_by}
+use Rattle.reads_back.specs.Cores.{AllHaveCores, HasCore, IsCore, IsVariable, ends_open}
 use Rattle.reads_back.proofs.ActsFormed.{can_be_read, value_of_target, written_as_value}
 use Rattle.reads_back.proofs.Marks.{ArePartsLeft, IsPartLeft, SamePart, both_assoc, both_same, exact_part, nothing_behind, operand_part, part_back, part_of, part_of_operand, part_then, parts_of, same_part, values_part, word_part}
 use Rattle.reads_back.proofs.FunctionsLeft.{each_by_target, each_by_targets, each_by_values, left_there}
 use Rattle.reads_back.proofs.DeclaredValues.{assigned_part, assigned_parts, declared_parts, last_part}
-use Rattle.reads_back.proofs.MarksSame.{ArePartsMade, key_part, list_part, marks_of, of_operand, OwnPartsMade}
+use Rattle.reads_back.proofs.MarksSame.{ArePartsMade, index_part, key_part, list_part, marks_of, of_operand, OwnPartsMade}
 use Rattle.reads_back.proofs.LocalFunctionMarks.{given_marks, own_marks}
 use Rattle.reads_back.proofs.Rewriting.{OwnListed}
 use Rattle.reads_back.proofs.NameReads.{AreListed}
-use Rattle.reads_back.proofs.NamedActs.{field_path_part, function_as_part, named_can, single_path_part}
-use Rattle.reads_back.proofs.Paths.{IsNamed, function_alone, named_or_holds}
+use Rattle.reads_back.proofs.LeanTargets.{ArePathsOr, IsLow, IsPathOr, targets_low}
+use Rattle.reads_back.proofs.NamedActs.{field_path_part, function_as_part, single_path_part}
+use Rattle.reads_back.proofs.NamedSame.{lean_values}
+use Rattle.reads_back.proofs.Paths.{IsNamed, function_alone}
+use Rattle.reads_back.proofs.Said.{can_say, said_holds}
 use Rattle.reads_back.proofs.Tests.{first_of_both, second_of_both, not_so}
 use Rattle.reads_back.proofs.WordsRead.{IsFunction}
 
@@ -39,11 +42,11 @@ module _ (at : Place) (of : ℕ → Part) where
 
 module _ (at : Place) (of : ℕ → Part) where
   -- the path of a target mentions what the target does
-  path_of_part : (fs : List (Option Inner)) (t : TargetValue) (path : List Text) → can_write_target at fs t ≡ true → path_of at t ≡ Some path → SamePart (path_part 1 path) (part_of at of (value_of_target t))
-  path_of_part fs (local_target r) path can is = single_path_part at of (local_name at r) path can is
-  path_of_part fs (upvalue_target u) path can is = single_path_part at of (upvalue_name at u) path can is
-  path_of_part fs (global_target k) path can is = single_path_part at of (constant_name at k) path can is
-  path_of_part fs (index_target on key) path can is = field_path_part at of fs on key path (first_of_both _ _ can) is
+  path_of_part : (t : TargetValue) (path : List Text) → can_have_path at t ≡ true → path_of at t ≡ Some path → SamePart (path_part 1 path) (part_of at of (value_of_target t))
+  path_of_part (local_target r) path has is = single_path_part at of (local_name at r) path has is
+  path_of_part (upvalue_target u) path has is = single_path_part at of (upvalue_name at u) path has is
+  path_of_part (global_target k) path has is = single_path_part at of (constant_name at k) path has is
+  path_of_part (index_target on key) path has is = field_path_part at of on key path has is
 
   -- a function that is all of the values is all that they mention
   alone_part : (vs : Values) (all : Bool) (last : Option OperandValue) (number : ℕ) → function_in vs last ≡ Some number → SamePart (of number) (assigned_part at of (record { values = vs; all = all; last = last }))
@@ -60,26 +63,40 @@ module _ {f : Function} {g : Fn} {active : List Active} {listed : List ℕ} (is_
   variable_value text (in_upvalue slot) t is = ap value_of_target is
   variable_value text in_globals t (number, has, is) = (number, has, ap value_of_target is)
 
+  -- a path, of any length
+  path_marks : (e : Expression) (before behind : ℕ) (v : Value) → HasCore e → is_path e ≡ true → IsCore g active e before behind v → SamePart (part_of at of v) (expression_part (one_line_expression e))
+  path_marks (name_expression line text) before behind v has path is = (marks_of is_function listed_names of parts_made (name_expression line text) has (omega arith)).one before behind v is
+  path_marks (field_expression line on text) before behind v has path (mid, (o, key, is, is_key, made)) =
+      let on_part = path_marks on before mid o has (first_of_both _ _ path) is in
+      part_then (index_part at of o key v made) (part_then (both_same on_part (key_part is_function listed_names of parts_made text mid behind key is_key)) (nothing_behind (expression_part (one_line_expression on))))
+  path_marks e before behind v has path is = not_so path
+
+  -- what is indexed by a name
+  on_marks : (line : ℕ) (on : Expression) (text : Text) (before behind : ℕ) (v : Value) → HasCore on → IsPathOr (IsLow 200) (field_expression line on text) → IsCore g active on before behind v → SamePart (part_of at of v) (expression_part (one_line_expression on))
+  on_marks line on text before behind v has (inl path) is = path_marks on before behind v has (first_of_both _ _ path) is
+  on_marks line on text before behind v has (inr few) is = (marks_of is_function listed_names of parts_made on has (omega (arith, few))).one before behind v is
+
   -- what is assigned to
-  target_marks : (e : Expression) (before behind : ℕ) (t : TargetValue) → IsActTarget e → depth_of_expression e ≤ 200 → IsTarget g active e before behind t → SamePart (part_of at of (value_of_target t)) (expression_part (one_line_expression e))
+  target_marks : (e : Expression) (before behind : ℕ) (t : TargetValue) → IsActTarget e → IsPathOr (IsLow 200) e → IsTarget g active e before behind t → SamePart (part_of at of (value_of_target t)) (expression_part (one_line_expression e))
   target_marks (name_expression line text) before behind t has few is =
       (marks_of is_function listed_names of parts_made (name_expression line text) has (omega arith)).one before behind (value_of_target t) (is.0, (is.1, is.2, variable_value text is.1 t is.3))
-  target_marks (index_expression line on key) before behind (index_target o k) has few is =
+  target_marks (index_expression line on key) before behind (index_target o k) has (inl path) is = not_so path
+  target_marks (index_expression line on key) before behind (index_target o k) has (inr few) is =
       both_same ((marks_of is_function listed_names of parts_made on has.0 (omega (arith, few))).one before is.0 o is.1)
       (part_then (nothing_behind (part_of_operand at of k)) (of_operand is_function listed_names of parts_made key is.0 behind k (literal key) refl (marks_of is_function listed_names of parts_made key has.1 (omega (arith, few))).one is.2))
   target_marks (field_expression line on text) before behind (index_target o k) has few is =
       let key = key_part is_function listed_names of parts_made text is.0 behind k is.2 in
-      part_then (both_same ((marks_of is_function listed_names of parts_made on has (omega (arith, few))).one before is.0 o is.1) (part_then (nothing_behind (part_of_operand at of k)) key)) (nothing_behind (expression_part (one_line_expression on)))
+      part_then (both_same (on_marks line on text before is.0 o has few is.1) (part_then (nothing_behind (part_of_operand at of k)) key)) (nothing_behind (expression_part (one_line_expression on)))
   target_marks e before behind t has few is = absurd (assumption is)
 
-  targets_marks : (es : Expressions) (before behind : ℕ) (ts : List TargetValue) (n : ℕ) (fs : List (Option Inner)) → ArePartsLeft of fs → AreActTargets es → depth_of_expressions es ≤ 200 → AreTargets g active es before behind ts → can_write_targets at fs ts ≡ true →
+  targets_marks : (es : Expressions) (before behind : ℕ) (ts : List TargetValue) (n : ℕ) (fs : List (Option Inner)) → ArePartsLeft of fs → AreActTargets es → ArePathsOr (IsLow 200) es → AreTargets g active es before behind ts → can_write_targets at fs ts ≡ true →
       SamePart (expressions_part (words_targets at n fs ts).words) (expressions_part (one_line_expressions es))
   targets_marks no_expressions before behind [] n fs parts_left are few is can = same_part nothing
   targets_marks no_expressions before behind (t ∷ ts) n fs parts_left are few is can = absurd is
   targets_marks (syntax.expression e es) before behind [] n fs parts_left are few is can = absurd is
   targets_marks (syntax.expression e es) before behind (t ∷ ts) n fs parts_left are few is can =
-      both_same (part_then (target_part at of t n fs parts_left (first_of_both _ _ can)) (target_marks e before is.0 t are.0 (omega (arith, few)) is.1))
-      (targets_marks es is.0 behind ts (taken_behind_target t n) (left_by_target t fs) (each_by_target (IsPartLeft of) t fs parts_left) are.1 (omega (arith, few)) is.2 (second_of_both (can_write_target at fs t) _ can))
+      both_same (part_then (target_part at of t n fs parts_left (first_of_both _ _ can)) (target_marks e before is.0 t are.0 few.0 is.1))
+      (targets_marks es is.0 behind ts (taken_behind_target t n) (left_by_target t fs) (each_by_target (IsPartLeft of) t fs parts_left) are.1 few.1 is.2 (second_of_both (can_write_target at fs t) _ can))
 
   -- ---- the values that are assigned
 
@@ -114,41 +131,41 @@ module _ {f : Function} {g : Fn} {active : List Active} {listed : List ℕ} (is_
       part_then (assigned_parts at of (length ts) (last_target ts) (ends_open es) is.0 to is.3) (list_part is_function listed_names of parts_made es has (omega (arith, few)) before behind is.0 is.1)
 
   -- an assignment, where no path says it
-  assigned_marks : (targets es : Expressions) (before behind : ℕ) (ts : List TargetValue) (vs : Values) (all : Bool) (last : Option OperandValue) (n : ℕ) (left : List (Option Inner)) → ArePartsLeft of left → Assigns targets es → max (depth_of_expressions targets) (depth_of_expressions es) ≤ 200 → AreAssigned g active targets es ts before behind (record { values = vs; all = all; last = last }) → can_act at left (assigned ts vs all last) ≡ true →
+  assigned_marks : (targets es : Expressions) (before behind : ℕ) (ts : List TargetValue) (vs : Values) (all : Bool) (last : Option OperandValue) (n : ℕ) (left : List (Option Inner)) → ArePartsLeft of left → Assigns targets es → lean_assignment targets es ≤ 200 → AreAssigned g active targets es ts before behind (record { values = vs; all = all; last = last }) → can_act at left (assigned ts vs all last) ≡ true →
       SamePart (statement_part 1 (assigned_statement at n left ts vs all last)) (statement_part 1 (one_line_statement (assignment targets es)))
   assigned_marks targets es before behind ts vs all last n left parts_left has few is can =
       let values = second_of_both (can_write_targets at left ts) _ can in
-      both_same (targets_marks targets before is.0 ts n left parts_left has.targets (omega (arith, few)) is.1 (first_of_both _ _ can))
+      both_same (targets_marks targets before is.0 ts n left parts_left has.targets (targets_low 200 targets es few) is.1 (first_of_both _ _ can))
       (part_then (assigned_words vs all last (taken_behind_targets ts n) (left_by_targets ts left) (each_by_targets (IsPartLeft of) ts left parts_left) (first_of_both _ _ values) (second_of_both (can_write_values at (left_by_targets ts left) vs) _ values))
-      (values_marks es ts is.0 behind (record { values = vs; all = all; last = last }) has.values (omega (arith, few)) is.2))
+      (values_marks es ts is.0 behind (record { values = vs; all = all; last = last }) has.values (omega (arith, few, lean_values targets es)) is.2))
 
   -- one target
-  alone_marks : (es : Expressions) (before behind : ℕ) (ts : List TargetValue) (t : TargetValue) → ts ≡ t ∷ [] → AreActTargets es → depth_of_expressions es ≤ 200 → AreTargets g active es before behind ts → SamePart (part_of at of (value_of_target t)) (expressions_part (one_line_expressions es))
+  alone_marks : (es : Expressions) (before behind : ℕ) (ts : List TargetValue) (t : TargetValue) → ts ≡ t ∷ [] → AreActTargets es → ArePathsOr (IsLow 200) es → AreTargets g active es before behind ts → SamePart (part_of at of (value_of_target t)) (expressions_part (one_line_expressions es))
   alone_marks no_expressions before behind ts t one are few is = absurd (subst (AreTargets g active no_expressions before behind) one is)
   alone_marks (syntax.expression e no_expressions) before behind ts t one are few is =
       let those = subst (AreTargets g active (syntax.expression e no_expressions) before behind) one is in
-      part_then (target_marks e before those.0 t are.0 (omega (arith, few)) those.1) (part_back (nothing_behind (expression_part (one_line_expression e))))
+      part_then (target_marks e before those.0 t are.0 few.0 those.1) (part_back (nothing_behind (expression_part (one_line_expression e))))
   alone_marks (syntax.expression e (syntax.expression d es)) before behind ts t one are few is =
       let those = subst (AreTargets g active (syntax.expression e (syntax.expression d es)) before behind) one is in
       absurd those.2
 
   -- a function statement that says a path
-  named_marks : (targets es : Expressions) (before behind : ℕ) (ts : List TargetValue) (vs : Values) (all : Bool) (last : Option OperandValue) (left : List (Option Inner)) → ArePartsLeft of left → Assigns targets es → max (depth_of_expressions targets) (depth_of_expressions es) ≤ 200 → AreAssigned g active targets es ts before behind (record { values = vs; all = all; last = last }) → can_act at left (assigned ts vs all last) ≡ true →
-      (path : List Text) (found : Inner) → IsNamed at left ts vs last path found → SamePart (statement_part 1 (function_as path found.body)) (statement_part 1 (one_line_statement (assignment targets es)))
-  named_marks targets es before behind ts vs all last left parts_left has few is can path found named =
-      let target = path_of_part at of left named.target path (named_can at left ts vs last path found named (first_of_both _ _ can)) named.has_path in
+  named_marks : (targets es : Expressions) (before behind : ℕ) (ts : List TargetValue) (vs : Values) (all : Bool) (last : Option OperandValue) (left : List (Option Inner)) → ArePartsLeft of left → Assigns targets es → lean_assignment targets es ≤ 200 → AreAssigned g active targets es ts before behind (record { values = vs; all = all; last = last }) →
+      (path : List Text) (found : Inner) (named : IsNamed at left ts vs last path found) → can_have_path at named.target ≡ true → SamePart (statement_part 1 (function_as path found.body)) (statement_part 1 (one_line_statement (assignment targets es)))
+  named_marks targets es before behind ts vs all last left parts_left has few is path found named can_path =
+      let target = path_of_part at of named.target path can_path named.has_path in
       let body = left_there (IsPartLeft of) named.number left found parts_left named.there in
       let function = part_then body (alone_part at of vs all last named.number named.goes) in
       part_then (function_as_part 1 path found.body)
-      (both_same (part_then target (alone_marks targets before is.0 ts named.target named.one has.targets (omega (arith, few)) is.1))
-      (part_then function (values_marks es ts is.0 behind (record { values = vs; all = all; last = last }) has.values (omega (arith, few)) is.2)))
+      (both_same (part_then target (alone_marks targets before is.0 ts named.target named.one has.targets (targets_low 200 targets es few) is.1))
+      (part_then function (values_marks es ts is.0 behind (record { values = vs; all = all; last = last }) has.values (omega (arith, few, lean_values targets es)) is.2)))
 
   -- on the line 1, which every path has that is written as a target
-  pub act_marks : (s : Statement) → depth_of_statement s ≤ 200 → OwnListed f g active s → OwnPartsMade g active of s → (before behind : ℕ) (acted : Acted) (n : ℕ) (left : List (Option Inner)) → ArePartsLeft of left → IsAct s → IsActed g active s before behind acted → can_act at left acted ≡ true → SamePart (statement_part 1 (act_statement at n left acted)) (statement_part 1 (one_line_statement s))
+  pub act_marks : (s : Statement) → lean_depth s ≤ 200 → OwnListed f g active s → OwnPartsMade g active of s → (before behind : ℕ) (acted : Acted) (n : ℕ) (left : List (Option Inner)) → ArePartsLeft of left → IsAct s → IsActed g active s before behind acted → can_say at left acted ≡ true → SamePart (statement_part 1 (act_statement at n left acted)) (statement_part 1 (one_line_statement s))
   act_marks (call_statement e) few own parts before behind (called v) n left parts_left has is can = part_then (word_part at of v n left parts_left can) ((marks_of is_function listed_names of parts_made e has.1 (omega (arith, few))).one before behind v is)
   act_marks (assignment targets es) few own parts before behind (assigned ts vs all last) n left parts_left has is can =
-      named_or_holds (λ s levels. SamePart (statement_part 1 s) (statement_part 1 (one_line_statement (assignment targets es)))) at left ts vs last (assigned_statement at n left ts vs all last) (assigned_levels at n left ts vs all last)
-      (assigned_marks targets es before behind ts vs all last n left parts_left has few is can) (named_marks targets es before behind ts vs all last left parts_left has few is can)
+      said_holds (λ s levels. SamePart (statement_part 1 s) (statement_part 1 (one_line_statement (assignment targets es)))) at left ts vs all last (assigned_statement at n left ts vs all last) (assigned_levels at n left ts vs all last) can
+      (λ none can. assigned_marks targets es before behind ts vs all last n left parts_left has few is can) (named_marks targets es before behind ts vs all last left parts_left has few is)
   act_marks (local_statement names es) few own parts before behind (declared others vs all) n left parts_left has is can =
       let made = part_then (declared_parts at of (length names) (ends_open es) is.1 vs all is.3) (list_part is_function listed_names of parts_made es has.1 (omega (arith, few)) before behind is.1 is.2) in
       let values = part_then (values_part at of vs all n left parts_left can) made in

@@ -20,12 +20,13 @@ use Rattle.scheme.specs.declared.making.Active.{Active}
 use Rattle.scheme.specs.declared.making.Piece.{Piece}
 use Rattle.scheme_stands.specs.Relation.{related}
 use Rattle.scheme_stands.specs.Words.{Fn, Spot}
-use Rattle.reads_back.specs.Acted.{Acted, called, declared, returned, IsActed, act_levels, act_statement, can_act, left_by_act, taken_behind_act, declared_function}
+use Rattle.reads_back.specs.Acted.{Acted, called, declared, returned, IsActed, act_levels, act_statement, left_by_act, taken_behind_act, declared_function}
 use Rattle.reads_back.specs.Cores.{IsCore}
 use Rattle.reads_back.specs.ReadAs.{part_of}
 use Rattle.reads_back.proofs.Comes.{CallComes, ReadsCall}
 use Rattle.reads_back.proofs.BehindWords.{HasLocals, SameLocals, behind_words}
 use Rattle.reads_back.proofs.Reaches.{reaches_on, step_ends}
+use Rattle.reads_back.proofs.Said.{can_say}
 use Rattle.reads_back.proofs.ValueWords.{next_free}
 use Rattle.reads_back.proofs.WordsRead.{IsFunction, IsQuiet, word_of}
 
@@ -74,13 +75,13 @@ pub record ActRead (f : Function) (g : Fn) (active : List Active) (statement : S
   pub seen : behind.seen ≡ taken_behind_act acted s.seen
   pub later : first < last
 
--- whatever act the statement is, it can be written, with the functions that are left where so many were made
+-- whatever act the statement is, it can be said, with the functions that are left where so many were made
 pub record CanAct (f : Function) (g : Fn) (active : List Active) (listed : List ℕ) (lefts : ℕ → List (Option Inner)) (statement : Statement) : Type 0 where
-  pub can : (before behind : ℕ) (acted : Acted) → IsActed g active statement before behind acted → can_act (place f.of listed f.short) (lefts before) acted ≡ true
+  pub can : (before behind : ℕ) (acted : Acted) → IsActed g active statement before behind acted → can_say (place f.of listed f.short) (lefts before) acted ≡ true
 
 pub can_now : {f : Function} {g : Fn} {active : List Active} {listed : List ℕ} {lefts : ℕ → List (Option Inner)} {statement : Statement} {before : ℕ} {left : List (Option Inner)} → CanAct f g active listed lefts statement → (behind : ℕ) (acted : Acted) →
-    left ≡ lefts before → IsActed g active statement before behind acted → can_act (place f.of listed f.short) left acted ≡ true
-can_now {f} {listed = listed} {before = before} can behind acted left_is is = subst (λ (left : List (Option Inner)). can_act (place f.of listed f.short) left acted ≡ true) (sym left_is) (can.can before behind acted is)
+    left ≡ lefts before → IsActed g active statement before behind acted → can_say (place f.of listed f.short) left acted ≡ true
+can_now {f} {listed = listed} {before = before} can behind acted left_is is = subst (λ (left : List (Option Inner)). can_say (place f.of listed f.short) left acted ≡ true) (sym left_is) (can.can before behind acted is)
 
 -- the step of an act, and what is known behind it
 abbrev pub act_draft : (f : Function) → (next : ℕ) → Acted → Situation → Drafted

@@ -2,6 +2,7 @@
 use Rattle.std.proofs.Common.{◌≡◌, ℕ, suc, ◌+◌, ◌-◌, ◌*◌, ◌≤◌, ◌<◌, Bool, true, false, cond, List, [], ◌∷◌, ◌++◌, length, nat_lt, Option, Some, None, refl, sym, ap, ap₂, ◌∙◌, subst, arith, inl, inr, ◌⊎◌, max, zero}
 use Rattle.std.proofs.lemmas.Bool.{eq-eqb, eqb-false, eqb-true, ltb-false, ltb-true, ne_eqb}
 use Rattle.std.specs.Prelude.{◌&&◌, ◌==◌, not, if◌then◌else◌}
+use Rattle.lua_num.specs.Bytes.{Text}
 use Rattle.lua_tree.specs.OneLine.{one_line_expressions}
 use Rattle.lua_tree.specs.Syntax as syntax
 use Rattle.lua_tree.specs.Syntax.{Expression, Expressions, no_expressions, name_expression, index_expression, field_expression, assignment, nil_literal}
@@ -9,7 +10,7 @@ use Rattle.lua_tree.specs.WellFormed.{depth_of_expressions, depth_of_statement, 
 use Rattle.core_expr.specs.Counting.{left_by, left_by_operand, left_by_values, taken_behind, taken_behind_operand, taken_behind_values}
 use Rattle.core_expr.specs.Places.{Place, place}
 use Rattle.core_expr.specs.Targets.{TargetValue, global_target, index_target, local_target, upvalue_target}
-use Rattle.core_expr.specs.Values.{Value, OperandValue, Values, no_values, and_value, nil_value, value_operand, Inner}
+use Rattle.core_expr.specs.Values.{OperandValue, Values, no_values, and_value, nil_value, value_operand, Inner}
 use Rattle.core_expr.specs.Writing.{can_write_operand, can_write_values, is_bare, single as single_word, word_operand, word_values}
 use Rattle.recover_expr.specs.Entries.{and_last_value}
 use Rattle.recover_expr.specs.Lists.{value_count}
@@ -25,36 +26,24 @@ use Rattle.scheme_stands.proofs.Lines.{grows_adjust}
 use Rattle.scheme_stands.proofs.Parts.{AllGrow, grow_all}
 use Rattle.scheme_stands.specs.Words.{Fn}
 use Rattle.same_flow.specs.Space.{space_of_expressions, space_of_statement, space_of_expression}
-use Rattle.reads_back.specs.Acted.{AreActTargets, AreAssigned, AreTargets, AreValues, AreWithOperand, Assigned, EndWithOperand, Assigns, IsActTarget, IsTarget, all_named_behind, assigned, can_write_last, is_part, last_target, left_by_last, left_by_targets, some_missing, taken_behind_targets, with_last_nil, words_assigned, words_targets, can_act, named_by, lean_assignment, function_in}
-use Rattle.reads_back.specs.Cores.{AllHaveCores, AreCores, IsCore, ends_open}
+use Rattle.reads_back.specs.Acted.{AreActTargets, AreAssigned, AreTargets, AreValues, AreWithOperand, Assigned, EndWithOperand, Assigns, IsTarget, all_named_behind, assigned, can_write_last, is_part, last_target, left_by_last, left_by_targets, some_missing, taken_behind_targets, with_last_nil, words_assigned, words_targets, named_by, lean_assignment, function_in}
+use Rattle.reads_back.specs.Cores.{AllHaveCores, AreCores, ends_open}
 use Rattle.reads_back.proofs.AdjustedEntries.{count_last}
 use Rattle.reads_back.proofs.DeclaredSame.{Adjusts, adjust_closed, closed_written, more_written, nil_written, nils_one, open_written}
 use Rattle.reads_back.proofs.EachStoredSame.{with_operand_levels, operand_levels_are, name_no_part, EachSame, LastNoLocal, Placed, and_nil, as_many_places, before_each, before_stored, each_values, each_with_operand, nil_all_rewritten, nil_cores, nil_count, nil_from, nil_have, nil_names, nil_operand, operand_written, placed_of, places, places_are, stored_taken, targets_are, targets_of, with_operand_coded}
 use Rattle.reads_back.proofs.GivenSame.{AllRewritten}
 use Rattle.reads_back.proofs.ListsSame.{coded_count, codes_of, cores_count, list_few, opens_is, values_coded}
+use Rattle.reads_back.proofs.LeanTargets.{IsLean}
 use Rattle.reads_back.proofs.Mentions.{IsAhead, ahead_behind, ahead_front, mentions_in_all, made_behind, made_both, Passed, Mention}
-use Rattle.reads_back.proofs.NamedSame.{lean_room_alone, lean_room_values, lean_alone, lean_values, named_few, named_same}
-use Rattle.reads_back.proofs.Rewriting.{IsMadeBy, Rewritten, RewrittenAct}
-use Rattle.reads_back.proofs.TargetsSame.{ArePlaces, TargetSame, TargetsSame, copies_constants, copies_grow, copies_places, field_same, index_same, more_same, name_same, none_same, targets_grow, written_count}
+use Rattle.reads_back.proofs.NamedSame.{lean_room_alone, lean_room_values, lean_alone, lean_values, named_few, named_same, said_lean}
+use Rattle.reads_back.proofs.Rewriting.{IsMadeBy, RewrittenAct}
+use Rattle.reads_back.proofs.Said.{can_be_said, can_say, says_function}
+use Rattle.reads_back.proofs.TargetsSame.{ArePlaces, TargetsSame, copies_constants, copies_grow, copies_places, targets_grow, written_count}
+use Rattle.reads_back.proofs.TargetsWritten.{TargetsWritten, lean_can_name, same_targets, targets_can}
 use Rattle.reads_back.proofs.Rooms.{lean_room_assignment, some_room}
 use Rattle.reads_back.proofs.Taking.{taken_by}
 use Rattle.reads_back.proofs.Tests.{both_hold, not_so, first_of_both, second_of_both}
 use Rattle.reads_back.proofs.WordsSame.{levels_wrapped}
-
-module _ (f : Function) (g : Fn) (active : List Active) (listed : List ℕ) (z : Maker) (lefts : ℕ → List (Option Inner)) where
-  -- each value of an expression is written with the same code
-  abbrev pub AreWritten : Expression → Type 0
-  AreWritten e = (before behind : ℕ) (v : Value) → IsCore g active e before behind v → Rewritten f g active listed z lefts before behind e v
-
-  -- those of the parts of a target
-  abbrev pub TargetWritten : Expression → Type 0
-  TargetWritten (index_expression line on key) = AreWritten on × AreWritten key
-  TargetWritten (field_expression line on text) = AreWritten on
-  TargetWritten target = Unit {0}
-
-  abbrev pub TargetsWritten : Expressions → Type 0
-  TargetsWritten no_expressions = Unit {0}
-  TargetsWritten (syntax.expression target targets) = TargetWritten target × TargetsWritten targets
 
 -- ---- copies of locals that are targets
 
@@ -446,24 +435,25 @@ module _ {f : Function} {g : Fn} {active : List Active} {listed : List ℕ} {z :
           let same = ap₂ (λ n fs. (words_assigned (place f.of listed f.short) n fs to.values to.all to.last).levels) taken_there first.leaves in
           omega (arith, low, same)
 
-  can_store : can_act (place f.of listed f.short) (lefts before) (assigned ts to.values to.all to.last) ≡ true
-  can_store = let at = place f.of listed f.short in both_hold _ _ first.can (ap (λ fs. can_write_values at fs to.values && can_write_last at (left_by_values to.values fs) to.last) first.leaves ∙ stores.can)
+  values_can : (let at = place f.of listed f.short in can_write_values at (left_by_targets ts (lefts before)) to.values && can_write_last at (left_by_values to.values (left_by_targets ts (lefts before))) to.last) ≡ true
+  values_can = let at = place f.of listed f.short in ap (λ fs. can_write_values at fs to.values && can_write_last at (left_by_values to.values fs) to.last) first.leaves ∙ stores.can
 
   -- where what is no function statement is as deep as it is
-  stores_act : (named_by (place f.of listed f.short) ts to.values to.last ≡ None → depth_of_statement (assignment targets es) ≤ lean_assignment targets es) →
+  stores_act : can_say (place f.of listed f.short) (lefts before) (assigned ts to.values to.all to.last) ≡ true →
+      (named_by (place f.of listed f.short) ts to.values to.last ≡ None → depth_of_statement (assignment targets es) ≤ lean_assignment targets es) →
       (named_by (place f.of listed f.short) ts to.values to.last ≡ None → space_of_statement (assignment targets es) ≤ lean_room_assignment targets es) → (has_expressions targets ≡ true → nil_room to.last ≤ space_of_expressions targets) →
       RewrittenAct f g active listed z lefts before behind (assignment targets es) (assigned ts to.values to.all to.last)
-  stores_act lean lean_room nil_low =
+  stores_act can lean lean_room nil_low =
       let at = place f.of listed f.short in
       record {
-        can = can_store;
+        can = can;
         leaves = ap (λ fs. left_by_last to.last (left_by_values to.values fs)) first.leaves ∙ stores.leaves;
         makes = stores.makes ∙ ap (made_behind (mentions_in_all es)) first.makes ∙ sym (made_both (mentions_in_all targets) (mentions_in_all es) before);
         few = λ n.
             let next = taken_behind_targets ts n in
             let same = ap (λ fs. (words_assigned at next fs to.values to.all to.last).levels) first.leaves in
             let few = stores.few next in
-            let high = named_few at n (lefts before) to.values to.all to.last ts (3 * lean_assignment targets es + 203) can_store (λ none. omega (arith, first.few n, same, few, lean none)) (λ only is. omega (arith, same, few, lean_values targets es)) in
+            let high = named_few at n (lefts before) to.values to.all to.last ts (3 * lean_assignment targets es + 203) can (λ none. omega (arith, first.few n, same, few, lean none)) (λ only is. omega (arith, same, few, lean_values targets es)) in
             omega (arith, high);
         low = λ short formed m ahead final.
             let n = length m.constants in
@@ -472,27 +462,13 @@ module _ {f : Function} {g : Fn} {active : List Active} {listed : List ℕ} {z :
             let some = first_of_both _ _ formed in
             let to_low = first.low short (first_of_both _ _ behind_targets) m (targets_ahead m ahead) (targets_final m ahead final) in
             let low = values_low m ahead final short formed_es in
-            named_few at n (lefts before) to.values to.all to.last ts (lean_room_assignment targets es) can_store (λ none. omega (arith, to_low, low, lean_room none, nil_low some, some_rooms targets some))
+            named_few at n (lefts before) to.values to.all to.last ts (lean_room_assignment targets es) can (λ none. omega (arith, to_low, low, lean_room none, nil_low some, some_rooms targets some))
             (λ only is. omega (arith, low, no_nil_room to.values to.last only is, lean_room_values targets es));
-        made = λ m ahead final. named_same at (length m.constants) (lefts before) to.values to.all to.last ts can_store m ∙ act_made m ahead final;
+        made = λ m ahead final. named_same at (length m.constants) (lefts before) to.values to.all to.last ts can m ∙ act_made m ahead final;
         taken = act_taken;
       }
 
 module _ {f : Function} {g : Fn} {active : List Active} {listed : List ℕ} {z : Maker} (lefts : ℕ → List (Option Inner)) (made : IsMadeBy f g active listed z) where
-  target_same : (target : Expression) (before behind : ℕ) (t : TargetValue) → IsActTarget target → TargetWritten f g active listed z lefts target → IsTarget g active target before behind t → TargetSame f g active listed z lefts before behind target t
-  target_same (name_expression line text) before behind t good written (as_many, w, means, is) =
-      subst (λ (behind : ℕ). TargetSame f g active listed z lefts before behind (name_expression line text) t) (sym as_many) (name_same made lefts before line text w t good means is)
-  target_same (index_expression line on key) before behind (index_target x k) has written (mid, is, is_key) = index_same lefts made line on key before mid behind x k has.0 has.1 (written.0 before mid x is) (written.1 mid behind) is_key
-  target_same (field_expression line on text) before behind (index_target x k) has written (mid, is, is_key) = field_same lefts made line on text before mid behind x k has (written before mid x is) is_key
-  target_same target before behind t has written is = absurd is
-
-  targets_same : (targets : Expressions) (before behind : ℕ) (ts : List TargetValue) → AreActTargets targets → TargetsWritten f g active listed z lefts targets → AreTargets g active targets before behind ts →
-      TargetsSame f g active listed z lefts before behind targets ts
-  targets_same no_expressions before behind [] has written are = none_same are
-  targets_same (syntax.expression target targets) before behind (t ∷ ts) has written (mid, is, are) =
-      more_same target targets t ts (target_same target before mid t has.0 written.0 is) (targets_same targets mid behind ts has.1 written.1 are)
-  targets_same targets before behind ts has written are = absurd are
-
   -- a part of a table has room for two levels
   part_room : (targets : Expressions) (before behind : ℕ) (ts : List TargetValue) → AreTargets g active targets before behind ts → is_part (last_target ts) ≡ true → 2 ≤ space_of_expressions targets
   part_room no_expressions before behind [] are part = not_so part
@@ -528,9 +504,24 @@ module _ {f : Function} {g : Fn} {active : List Active} {listed : List ℕ} {z :
       by true is = either (subst (λ (to : Assigned). (is_part (last_target ts) ≡ true) ⊎ (nil_room to.last ≡ 0)) is (missing_last (suc (value_count values.0) == length ts) (last_target ts) values.0))
       by false is = either (inr (sym (ap (λ (to : Assigned). nil_room to.last) is)))
 
-  pub assignment_rewritten_act : (targets es : Expressions) (before behind : ℕ) (ts : List TargetValue) (to : Assigned) → Assigns targets es → TargetsWritten f g active listed z lefts targets → AllRewritten f g active listed z lefts es →
+  -- it can be written, or a path says it
+  can_store : (targets es : Expressions) (before mid behind : ℕ) (ts : List TargetValue) (to : Assigned) → IsLean targets es ⊎ TargetsWritten f g active listed z lefts targets → AreActTargets targets → AreAssigned g active targets es ts before behind to →
+      AreTargets g active targets before mid ts → (let at = place f.of listed f.short in can_write_values at (left_by_targets ts (lefts before)) to.values && can_write_last at (left_by_values to.values (left_by_targets ts (lefts before))) to.last) ≡ true →
+      can_say (place f.of listed f.short) (lefts before) (assigned ts to.values to.all to.last) ≡ true
+  can_store targets es before mid behind ts to (inl lean) has stored are values = by (named_by (place f.of listed f.short) ts to.values to.last) refl
+    where
+      by : (named : Option (List Text × ℕ)) → named_by (place f.of listed f.short) ts to.values to.last ≡ named → can_say (place f.of listed f.short) (lefts before) (assigned ts to.values to.all to.last) ≡ true
+      by None none = absurd (said_lean made targets es before behind ts to lean stored none)
+      by (Some named) is = says_function (place f.of listed f.short) (lefts before) ts to.values to.all to.last named.0 named.1 is (lean_can_name lefts made targets es before mid ts lean are) values
+  can_store targets es before mid behind ts to (inr written) has stored are values =
+      can_be_said (place f.of listed f.short) (lefts before) ts to.values to.all to.last (both_hold _ _ (targets_can lefts made targets before mid ts has written are) values)
+
+  pub assignment_rewritten_act : (targets es : Expressions) (before behind : ℕ) (ts : List TargetValue) (to : Assigned) → Assigns targets es → IsLean targets es ⊎ TargetsWritten f g active listed z lefts targets → AllRewritten f g active listed z lefts es →
       AreAssigned g active targets es ts before behind to → RewrittenAct f g active listed z lefts before behind (assignment targets es) (assigned ts to.values to.all to.last)
   assignment_rewritten_act targets es before behind ts to assigns to_written written (mid, are, are_values) =
-      stores_act targets es ts to (targets_same targets before mid ts assigns.targets to_written are) (all_stores lefts made ts es mid behind assigns.values written assigns.given to are_values)
+      let first = same_targets lefts made targets es before mid ts to_written assigns.targets are in
+      let stores = all_stores lefts made ts es mid behind assigns.values written assigns.given to are_values in
+      let can = can_store targets es before mid behind ts to to_written assigns.targets (mid, are, are_values) are (values_can targets es ts to first stores) in
+      stores_act targets es ts to first stores can
       (lean_alone made targets es before behind ts to (mid, are, are_values)) (lean_room_alone made targets es before behind ts to (mid, are, are_values))
       (λ some. nil_in_room targets es before mid behind ts to are are_values)

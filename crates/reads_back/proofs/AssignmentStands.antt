@@ -28,7 +28,7 @@ use Rattle.scheme_stands.specs.Lists.{AdjustAt}
 use Rattle.scheme_stands.specs.Relation.{all_related, related}
 use Rattle.scheme_stands.specs.Statements.{AssignAt, CopiesAt, CopyBy, EachStoredAt, NoTargetsAt, StoreAt, StoreRegisterAt, StoresBy, TargetsAt}
 use Rattle.scheme_stands.specs.Words.{Fn, Spot, Stretch, WordAt, instr_by}
-use Rattle.reads_back.specs.Acted.{Acted, AreActTargets, AreTargets, AreValues, AreWithOperand, Assigned, Assigns, EndWithOperand, IsActTarget, IsActed, all_named_behind, assigned, can_act, is_part, last_target, some_missing, taken_behind_act, taken_behind_last, taken_behind_targets, values_assigned, function_in}
+use Rattle.reads_back.specs.Acted.{Acted, AreActTargets, AreTargets, AreValues, AreWithOperand, Assigned, Assigns, EndWithOperand, IsActTarget, IsActed, all_named_behind, assigned, is_part, last_target, some_missing, taken_behind_act, taken_behind_last, taken_behind_targets, values_assigned, function_in}
 use Rattle.reads_back.specs.Cores.{AllHaveCores, AreCores, Counted, HasCore, ends_open}
 use Rattle.reads_back.proofs.ActsRead.{ActRead, CanAct, can_now}
 use Rattle.reads_back.proofs.AdjustedComes.{some_related}
@@ -47,6 +47,7 @@ use Rattle.reads_back.proofs.LastStored.{Begun, GoesTo, LastStored, last_forward
 use Rattle.reads_back.proofs.NameReads.{AreListed}
 use Rattle.reads_back.proofs.PartsUsed.{all_there_length}
 use Rattle.reads_back.proofs.Reaches.{Reaches, reaches_on, reaches_then}
+use Rattle.reads_back.proofs.Said.{can_say}
 use Rattle.reads_back.proofs.SeveralValues.{wanted_come}
 use Rattle.reads_back.proofs.StoredTargets.{AreThere, Destination, IsThere, StoreWordAt, StoreWordsAt, first_stored, parts_used, seen_with, seen_with_all, store_piece, target_to, targets_to, used_by_all}
 use Rattle.reads_back.proofs.StoresRead.{IsInStep}
@@ -394,7 +395,7 @@ module _ {f : Function} {g : Fn} {active : List Active} {listed : List ℕ} {lef
         let acts : IsActed g active (assignment targets es) p.functions mid.functions acted = (last.functions, subst (λ (ds : List Destination). AreTargets g active targets p.functions last.functions (targets_to ds)) is come.are, values) in
         let u = record there { scope = begun.scope; entries = come.parts ++ begun.values; seen = seen_with d (taken_behind_last to.last (taken_behind_values to.values come.seen)) } in
         let step : IsInStep f (length active) listed u = record { base = locals.base; places = begun.same.active ∙ locals_there.places } in
-        let can_there : can_act (place_in_step f u) s.left acted ≡ true = subst (λ (listed : List ℕ). can_act (place f.of listed f.short) s.left acted ≡ true) (sym step.places) (can_now can mid.functions acted left_is acts) in
+        let can_there : can_say (place_in_step f u) s.left acted ≡ true = subst (λ (listed : List ℕ). can_say (place f.of listed f.short) s.left acted ≡ true) (sym step.places) (can_now can mid.functions acted left_is acts) in
         let used = subst (λ (ds : List Destination). used_by_all (length active) ds (replicate (length come.parts) false) ≡ replicate (length come.parts) true) is come.used in
         let ends = targets_end is_function ds d begun.pc begun.straight begun.used to come.parts begun.values come.behind mid q u step refl stand used begun.enough (omega (arith, fit, come.counts))
         (subst (λ (free : ℕ). StoreWordsAt g free ds mid q) come.counts at) quiet.within begun.writes (λ none. begun.function (ap length none)) can_there in

@@ -37,7 +37,6 @@ use Rattle.reads_back.proofs.ParametersRead.{begins_with}
 use Rattle.reads_back.proofs.Rewriting.{OwnListed}
 use Rattle.reads_back.proofs.Rooms.{lean_room, left_room}
 use Rattle.reads_back.proofs.StatementsMeant.{statement_meant}
-use Rattle.reads_back.proofs.ActsKnown.{lean_low}
 use Rattle.reads_back.proofs.TestedAs.{HasTest, HasTestBy}
 use Rattle.reads_back.proofs.TestsMeant.{test_meant}
 
@@ -96,7 +95,7 @@ module _ (limit : ℕ) {Left : Type 0} {f : Function} {g : Fn} {z : Maker} {code
         let all = (made_before of at (omega (arith, less))).all in
         let meant = statement_meant g s flow.is m.active made.active (spot m) (spot made) stands in
         let one = statement_made_at g m.active all s flow.is own (coming m) meant.meant number from (omega (arith, below, ap (λ (c : Coming). c.functions) meant.behind)) in
-        made_lower (lean_depth s) 200 (lean_room s) limit number (omega (arith, flow.shallow, lean_low s)) (omega (arith, room)) one
+        made_lower (lean_depth s) 200 (lean_room s) limit number (omega (arith, flow.shallow)) (omega (arith, room)) one
 
   -- of the head of a loop, whose variables are declared before its values are made
   module _ {at foot end variables_end : ℕ} {captured : Bool} {es : Expressions} {texts : List Text} where

@@ -9,7 +9,7 @@ use Rattle.lua_tree.specs.Names.{are_names, are_some_names, is_name}
 use Rattle.lua_tree.specs.OneLine.{one_line_expression, one_line_expressions, one_line_statement}
 use Rattle.lua_tree.specs.Outline as outline
 use Rattle.lua_tree.specs.Syntax.{Expression, Expressions, Statement, Statements, assignment, call_statement, function_statement, local_function, local_statement, return_statement}
-use Rattle.lua_tree.specs.WellFormed.{depth_of_expression, depth_of_expressions, depth_of_statement, formed_statement, has_expressions}
+use Rattle.lua_tree.specs.WellFormed.{depth_of_expression, depth_of_expressions, formed_statement, has_expressions}
 use Rattle.proto.specs.declared.parts.LocVar.{LocVar}
 use Rattle.core_expr.specs.Places.{name_of_entry, name_of_local, place}
 use Rattle.core_expr.specs.Values.{Inner}
@@ -33,7 +33,7 @@ use Rattle.same_flow.proofs.ListedRun.{entries_begin, entries_last, step_there}
 use Rattle.same_flow.proofs.LocalsListed.{locals_listed}
 use Rattle.same_flow.proofs.StatementsTold.{laid_are_told, laid_tell}
 use Rattle.same_flow.proofs.StepsTold.{EndLater}
-use Rattle.reads_back.specs.Acted.{IsAct}
+use Rattle.reads_back.specs.Acted.{IsAct, lean_depth}
 use Rattle.reads_back.specs.Assignments.{as_assignment}
 use Rattle.reads_back.specs.Cores.{AllHaveCores}
 use Rattle.reads_back.specs.Stepped.{KindAt, StepStands, begun_by}
@@ -58,7 +58,7 @@ use Rattle.reads_back.proofs.Tests.{both_hold, first_of_both, second_of_both}
 pub record IsFlowAct (s : Statement) : Type 0 where
   pub is : IsAct s
   pub begins : StatementIndexesNoTable s
-  pub shallow : depth_of_statement s ≤ 199
+  pub shallow : lean_depth s ≤ 199
   pub on_line : one_line_statement s ≡ s
 
 -- a statement that is one, or a function statement that stands for one

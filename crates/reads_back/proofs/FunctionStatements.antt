@@ -1,5 +1,5 @@
 -- A function statement is the assignment of a function to its path.
-use Rattle.std.proofs.Common.{◌≡◌, ℕ, suc, ◌+◌, ◌≤◌, Bool, true, false, List, [], ◌∷◌, length, max, Option, Some, None, refl, arith}
+use Rattle.std.proofs.Common.{◌≡◌, suc, ◌+◌, ◌≤◌, Bool, true, false, List, [], ◌∷◌, max, Option, Some, None, refl, arith}
 use Rattle.std.specs.Prelude.{is_some, if◌then◌else◌}
 use Rattle.lua_num.specs.Bytes.{Text}
 use Rattle.lua_tree.specs.Names.{are_names, are_some_names, is_name}
@@ -9,38 +9,36 @@ use Rattle.lua_tree.specs.Syntax.{Expression, Expressions, FunctionBody, Stateme
 use Rattle.lua_tree.specs.WellFormed.{depth_of_body, depth_of_expression, depth_of_expressions, depth_of_statement, ends_block, formed_body, formed_expression, formed_statement, is_optional_name, is_prefix, is_target}
 use Rattle.same_flow.specs.Space.{space_of_body, space_of_expression, space_of_expressions, space_of_statement}
 use Rattle.reads_back.specs.Assignments.{as_assignment, fields_behind, path_target, with_method_name, with_self}
-use Rattle.reads_back.specs.Acted.{is_path, lean_assignment}
+use Rattle.reads_back.specs.Acted.{is_path, lean_assignment, lean_depth}
 use Rattle.reads_back.specs.Straight.{HasCoreBy, IsActBy, IsActTargetBy, IsStraightStatementBy, StatementIndexesNoTable, IndexesNoTable, is_constructor}
 use Rattle.reads_back.proofs.Rooms.{lean_room, lean_room_assignment}
 use Rattle.reads_back.proofs.Tests.{both_hold, first_of_both, not_so, second_of_both}
 
 -- ---- the path, as a target
 
--- a name with fields behind it, on one line and of at most so many names
-record IsChain (most : ℕ) (e : Expression) : Type 0 where
+-- a name with fields behind it, on one line
+record IsChain (e : Expression) : Type 0 where
   target : is_target e ≡ true
   no_constructor : is_constructor e ≡ false
   indexes : IndexesNoTable e
   on_line : one_line_expression e ≡ e
-  deep : depth_of_expression e ≤ most
-  roomy : space_of_expression e ≤ most
 
-name_is_chain : (text : Text) → IsChain 1 (name_expression 1 text)
-name_is_chain text = record { target = refl; no_constructor = refl; indexes = tt; on_line = refl; deep = omega arith; roomy = omega arith }
+name_is_chain : (text : Text) → IsChain (name_expression 1 text)
+name_is_chain text = record { target = refl; no_constructor = refl; indexes = tt; on_line = refl }
 
-field_is_chain : (most : ℕ) (on : Expression) (text : Text) → IsChain most on → IsChain (suc most) (field_expression 1 on text)
-field_is_chain most on text chain = record { target = refl; no_constructor = refl; indexes = chain.no_constructor; on_line = cc chain.on_line; deep = omega (arith, chain.deep); roomy = omega (arith, chain.roomy) }
+field_is_chain : (on : Expression) (text : Text) → IsChain on → IsChain (field_expression 1 on text)
+field_is_chain on text chain = record { target = refl; no_constructor = refl; indexes = chain.no_constructor; on_line = cc chain.on_line }
 
-fields_are_chain : (most all : ℕ) (on : Expression) (texts : List Text) → most + length texts ≡ all → IsChain most on → IsChain all (fields_behind on texts)
-fields_are_chain most all on [] is chain = record { target = chain.target; no_constructor = chain.no_constructor; indexes = chain.indexes; on_line = chain.on_line; deep = omega (arith, is, chain.deep); roomy = omega (arith, is, chain.roomy) }
-fields_are_chain most all on (text ∷ texts) is chain = fields_are_chain (suc most) all (field_expression 1 on text) texts (omega (arith, is)) (field_is_chain most on text chain)
+fields_are_chain : (on : Expression) (texts : List Text) → IsChain on → IsChain (fields_behind on texts)
+fields_are_chain on [] chain = chain
+fields_are_chain on (text ∷ texts) chain = fields_are_chain (field_expression 1 on text) texts (field_is_chain on text chain)
 
-method_is_chain : (most : ℕ) (on : Expression) (method : Option Text) → IsChain most on → IsChain (suc most) (with_method_name on method)
-method_is_chain most on None chain = record { target = chain.target; no_constructor = chain.no_constructor; indexes = chain.indexes; on_line = chain.on_line; deep = omega (arith, chain.deep); roomy = omega (arith, chain.roomy) }
-method_is_chain most on (Some text) chain = field_is_chain most on text chain
+method_is_chain : (on : Expression) (method : Option Text) → IsChain on → IsChain (with_method_name on method)
+method_is_chain on None chain = chain
+method_is_chain on (Some text) chain = field_is_chain on text chain
 
-path_is_chain : (name : Text) (names : List Text) (method : Option Text) → IsChain (suc (suc (length names))) (path_target (name ∷ names) method)
-path_is_chain name names method = method_is_chain (suc (length names)) _ method (fields_are_chain 1 (suc (length names)) (name_expression 1 name) names (omega arith) (name_is_chain name))
+path_is_chain : (name : Text) (names : List Text) (method : Option Text) → IsChain (path_target (name ∷ names) method)
+path_is_chain name names method = method_is_chain _ method (fields_are_chain (name_expression 1 name) names (name_is_chain name))
 
 -- where its names are names
 record IsNamedChain (P : FunctionBody → Type 0) (e : Expression) : Type 0 where
@@ -89,7 +87,7 @@ statement_is_act P (function_statement [] method body) is formed = not_so formed
 statement_is_act P (function_statement (name ∷ names) method body) is formed =
     let behind = second_of_both (are_some_names (name ∷ names)) _ formed in
     let named = path_is_named P name names method (first_of_both _ _ formed) (first_of_both _ _ behind) in
-    record { some = refl; targets = (named.target, tt); given = refl; values = (is.1, tt) }
+    record { some = refl; targets = (named.target, tt); given = refl; values = (is, tt) }
 statement_is_act P s is formed = is
 
 pub indexes_still : (s : Statement) → StatementIndexesNoTable s → formed_statement s ≡ true → StatementIndexesNoTable (as_assignment s)
@@ -118,26 +116,6 @@ pub path_on_line : (path : List Text) (method : Option Text) → one_line_expres
 path_on_line [] method = refl
 path_on_line (name ∷ names) method = (path_is_chain name names method).on_line
 
--- ---- it is not deep
-
-path_deep : (path : List Text) (method : Option Text) → depth_of_expression (path_target path method) ≤ suc (length path)
-path_deep [] method = omega arith
-path_deep (name ∷ names) method = (path_is_chain name names method).deep
-
-pub assigned_shallow : (P : FunctionBody → Type 0) (s : Statement) → IsStraightStatementBy P s → depth_of_statement s ≤ 199 → depth_of_statement (as_assignment s) ≤ 199
-assigned_shallow P (function_statement path method body) is shallow = omega (arith, is.0, path_deep path method, self_deep (is_some method) body, shallow)
-assigned_shallow P s is shallow = shallow
-
--- ---- nor does it need more room than a tree has
-
-path_roomy : (path : List Text) (method : Option Text) → space_of_expression (path_target path method) ≤ suc (length path)
-path_roomy [] method = omega arith
-path_roomy (name ∷ names) method = (path_is_chain name names method).roomy
-
-pub assigned_in_room : (P : FunctionBody → Type 0) (s : Statement) → IsStraightStatementBy P s → space_of_statement s ≤ 200 → space_of_statement (as_assignment s) ≤ 200
-assigned_in_room P (function_statement path method body) is roomy = omega (arith, is.0, path_roomy path method, self_room (is_some method) body, roomy)
-assigned_in_room P s is roomy = roomy
-
 -- ---- an assignment is no deeper where its path does not count
 
 pub lean_is_less : (targets es : Expressions) → lean_assignment targets es ≤ max (depth_of_expressions targets) (depth_of_expressions es)
@@ -147,6 +125,23 @@ lean_is_less (syntax.expression target no_expressions) (syntax.expression (funct
     by true = omega arith
     by false = omega arith
 lean_is_less targets es = omega arith
+
+-- so it is no deeper than the statement
+pub assigned_shallow : (s : Statement) → formed_statement s ≡ true → lean_depth (as_assignment s) ≤ depth_of_statement s
+assigned_shallow (function_statement [] method body) formed = not_so formed
+assigned_shallow (function_statement (name ∷ names) method body) formed =
+    let behind = second_of_both (are_some_names (name ∷ names)) _ formed in
+    let named = path_is_named (λ body. Unit {0}) name names method (first_of_both _ _ formed) (first_of_both _ _ behind) in
+    by (is_path (path_target (name ∷ names) method)) named.path
+  where
+    inside : FunctionBody
+    inside = with_self (is_some method) body
+
+    by : (path : Bool) → path ≡ true → (if path then suc (depth_of_body inside) else max (depth_of_expression (path_target (name ∷ names) method)) (suc (depth_of_body inside))) ≤ 1 + depth_of_body body
+    by true is = omega (arith, self_deep (is_some method) body)
+    by false is = not_so is
+assigned_shallow (assignment targets es) formed = lean_is_less targets es
+assigned_shallow s formed = omega arith
 
 -- ---- and it has as much room
 

@@ -1,39 +1,24 @@
--- A function that goes alone to a target with a path is read as a function statement: what can be written has its path, and the step is the statement that is written.
-use Rattle.std.proofs.Common.{◌≡◌, ℕ, nat_le, true, List, [], ◌∷◌, Option, Some, None, is_some, refl, sym, ap, ◌∙◌, subst}
+-- A function that goes alone to a target with a path is read as a function statement: the step is the statement that is written.
+use Rattle.std.proofs.Common.{◌≡◌, ℕ, true, List, [], ◌∷◌, Option, Some, None, is_some, refl, sym, ap, ◌∙◌}
 use Rattle.std.proofs.lemmas.Option.{same_Some}
-use Rattle.std.specs.Prelude.{◌&&◌, not, slice_get, slice_set, option_map, option_and_then, if◌then◌else◌}
+use Rattle.std.specs.Prelude.{slice_get, slice_set, option_map, option_and_then, if◌then◌else◌}
 use Rattle.lua_num.specs.Bytes.{Text}
 use Rattle.lua_tree.specs.Syntax.{FunctionBody, Statement, function_statement}
 use Rattle.core_expr.specs.Counting.{left_by_values, one_more}
 use Rattle.core_expr.specs.Places.{Place}
-use Rattle.core_expr.specs.Targets.{TargetValue, local_target, upvalue_target, global_target, index_target, can_have_path, can_write_target, has_long_path, is_long_path, path_of}
-use Rattle.core_expr.specs.Values.{Value, local_value, upvalue_value, global_value, index_value, Values, OperandValue, OperandList, no_operands, Inner}
-use Rattle.core_expr.specs.Writing.{can_write, can_write_values, function_left, function_there, operand_count}
+use Rattle.core_expr.specs.Targets.{TargetValue, can_have_path, path_of}
+use Rattle.core_expr.specs.Values.{Values, OperandValue, Inner}
+use Rattle.core_expr.specs.Writing.{function_left, function_there}
 use Rattle.recover_expr.specs.Assigning.{function_as, function_ended, function_step, last_name, named_as, names_before_last, with_number, without_self}
 use Rattle.recover_expr.specs.Drafts.{Drafted, drafted, statement_part}
 use Rattle.recover_expr.specs.Situation.{Function, Situation, body_at, place_in_step, take_body, with_left}
 use Rattle.recover_expr.specs.declared.draft.DraftKind.{DraftKind}
-use Rattle.reads_back.specs.Acted.{Acted, Assigned, assigned, assigned_levels, assigned_statement, can_act, can_write_last, can_write_targets, function_in, left_by_act, left_by_last, left_by_targets, levels_by, levels_or, named_by, named_or, path_to, said_by}
+use Rattle.reads_back.specs.Acted.{Acted, Assigned, assigned, assigned_levels, assigned_statement, function_in, left_by_act, left_by_last, left_by_targets, levels_by, levels_or, named_by, named_or, path_to, said_by}
 use Rattle.reads_back.specs.ReadAs.{part_of}
 use Rattle.reads_back.proofs.ActsRead.{act_draft, after_act}
-use Rattle.reads_back.proofs.Paths.{function_alone, function_as_holds, function_there_yet, path_to_leaves}
-use Rattle.reads_back.proofs.Tests.{first_of_both, not_so, or_second, second_of_both}
-
--- ---- what can be written has its path
-
-has_long : (at : Place) (fs : List (Option Inner)) (on : Value) (keys : OperandList) (key : OperandValue) → can_write at fs on ≡ true → has_long_path at on keys key ≡ true
-has_long at fs (local_value r) keys key can = or_second (not (is_long_path at (local_value r) keys key)) _ can
-has_long at fs (upvalue_value u) keys key can = or_second (not (is_long_path at (upvalue_value u) keys key)) _ can
-has_long at fs (global_value k) keys key can = or_second (not (is_long_path at (global_value k) keys key)) _ can
-has_long at fs on keys key can = refl
-
--- a target that can be written has a path or surely none
-can_path : (at : Place) (fs : List (Option Inner)) (t : TargetValue) → can_write_target at fs t ≡ true → can_have_path at t ≡ true
-can_path at fs (local_target r) can = can
-can_path at fs (upvalue_target u) can = can
-can_path at fs (global_target k) can = can
-can_path at fs (index_target (index_value on keys depth) key) can = has_long at fs on keys key (first_of_both _ _ (second_of_both (nat_le (operand_count keys) 200) _ (first_of_both _ _ can)))
-can_path at fs (index_target on key) can = has_long at fs on no_operands key (first_of_both _ _ can)
+use Rattle.reads_back.proofs.Paths.{function_alone, function_as_holds, path_to_leaves}
+use Rattle.reads_back.proofs.Said.{can_say, named_parts, said_there}
+use Rattle.reads_back.proofs.Tests.{not_so}
 
 -- ---- a function that is all of the values
 
@@ -52,23 +37,15 @@ module _ (f : Function) (s : Situation) where
   abbrev at : Place
   at = place_in_step f s
 
-  pub one_named : (t : TargetValue) (made : Option ℕ) → can_write_target at s.left t ≡ true → named_as f s (t ∷ []) made ≡ Some (option_and_then (λ number. with_number number (path_of at t)) made)
-  one_named t None can = refl
-  one_named t (Some number) can = ap (λ can. option_map (with_number number) (if can then Some (path_of at t) else None)) (can_path at s.left t can)
+  pub one_named : (t : TargetValue) (made : Option ℕ) → ((number : ℕ) → made ≡ Some number → can_have_path at t ≡ true) → named_as f s (t ∷ []) made ≡ Some (option_and_then (λ number. with_number number (path_of at t)) made)
+  one_named t None has = refl
+  one_named t (Some number) has = ap (λ can. option_map (with_number number) (if can then Some (path_of at t) else None)) (has number refl)
 
   pub several_named : (t u : TargetValue) (ts : List TargetValue) (read made : Option ℕ) → named_as f s (t ∷ u ∷ ts) read ≡ Some (option_and_then (λ number. with_number number None) made)
   several_named t u ts read None = refl
   several_named t u ts read (Some number) = refl
 
 -- ---- the step
-
--- a name with a number is made of both
-named_parts : (made : Option ℕ) (path : Option (List Text)) (names : List Text) (number : ℕ) → option_and_then (λ number. with_number number path) made ≡ Some (names, number) → (made ≡ Some number) × (path ≡ Some names)
-named_parts None path names number is = cc
-named_parts (Some n) None names number is = cc
-named_parts (Some n) (Some some) names number is =
-    let same = same_Some (some, n) (names, number) is in
-    (ap (λ (p : List Text × ℕ). Some p.1) same, ap (λ (p : List Text × ℕ). Some p.0) same)
 
 function_part : (path : List Text) (body : FunctionBody) → statement_part (function_as path body) ≡ part_of (function_as path body)
 function_part path body = as_function (λ s. statement_part s ≡ part_of s) path body (λ path method body. refl)
@@ -111,8 +88,8 @@ module _ (f : Function) (next : ℕ) (ts : List TargetValue) (to : Assigned) (s 
       ∙ ap (λ named. step (levels_or s.left named levels) (named_or s.left named otherwise) mine) (sym named)
       ∙ ap (step (levels_or s.left names levels) (named_or s.left names otherwise)) (sym left)
 
-  -- a path and a number say it, where it can be written
-  pub function_ends : (path : List Text) (number : ℕ) → names ≡ Some (path, number) → can_act (place_in_step f s) s.left act ≡ true → function_step next s (path, number) ≡ Some (act_draft f next act s, after_act act s)
+  -- a path and a number say it, where it can be said
+  pub function_ends : (path : List Text) (number : ℕ) → names ≡ Some (path, number) → can_say (place_in_step f s) s.left act ≡ true → function_step next s (path, number) ≡ Some (act_draft f next act s, after_act act s)
   function_ends path number named can = by (function_left s.left number) refl there
     where
       is : (function_in to.values to.last ≡ Some number) × (path_to (place_in_step f s) ts ≡ Some path)
@@ -122,9 +99,7 @@ module _ (f : Function) (next : ℕ) (ts : List TargetValue) (to : Assigned) (s 
       keeps = path_to_leaves (place_in_step f s) ts path s.left is.1
 
       there : is_some (function_left s.left number) ≡ true
-      there =
-          function_there_yet (place_in_step f s) s.left number to.values to.last is.0
-          (subst (λ fs. (can_write_values (place_in_step f s) fs to.values && can_write_last (place_in_step f s) (left_by_values to.values fs) to.last) ≡ true) keeps (second_of_both (can_write_targets (place_in_step f s) s.left ts) _ can))
+      there = said_there (place_in_step f s) s.left ts to.values to.all to.last path number named can
 
       left : left_by_act act s.left ≡ slice_set s.left number None
       left = ap (λ fs. left_by_last to.last (left_by_values to.values fs)) keeps ∙ function_goes s.left number to.values to.last is.0

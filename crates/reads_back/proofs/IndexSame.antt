@@ -32,7 +32,7 @@ use Rattle.reads_back.proofs.Mentions.{AskingPasses, IsAhead, ahead_behind, ahea
 use Rattle.reads_back.proofs.Operators.{last_taken}
 use Rattle.reads_back.proofs.OperatorsSame.{few_more}
 use Rattle.reads_back.proofs.PassedMentions.{PassesMentions, operand_passes, rk_passes, rk_text_passes}
-use Rattle.reads_back.proofs.Rewriting.{Rewritten, RewrittenOperand, code, keys_of, operand_wording, wording}
+use Rattle.reads_back.proofs.Rewriting.{Rewritten, RewrittenOperand, RewrittenWith, code, keys_of, operand_wording, wording}
 use Rattle.reads_back.proofs.WordsSame.{levels_wrapped, made_plainly, no_local, operand_low, operand_same, operand_taken, operand_wrapped}
 use Rattle.reads_back.proofs.Tests.{first_of_both, given_is, second_of_both}
 use Rattle.reads_back.proofs.WrittenFormed.{keyed_prefix, prefix_by}
@@ -236,8 +236,8 @@ field_indexing line on text = record {
 abbrev behind_key : (to : ℕ) → Maker → ℕ → Got ℕ → Maker
 behind_key to m x y = free_from m.free (put 1 (Piece.Abc Op.GetTable to x y.value) y.after)
 
-module _ {f : Function} {g : Fn} {active : List Active} {listed : List ℕ} {z : Maker} {lefts : ℕ → List (Option Inner)} {before mid behind : ℕ} {on : Expression} {o : Value} {asked : Asks ℕ} {mentions : List Mention} {key : OperandValue} {deep : ℕ} {good : Bool} {roomy : ℕ} {v : Value}
-    (first : Rewritten f g active listed z lefts before mid on o) (second : KeyWritten f g active listed z lefts mid behind asked mentions key deep good roomy) (made : made_index o key ≡ Some v) where
+module _ {f : Function} {g : Fn} {active : List Active} {listed : List ℕ} {z : Maker} {lefts : ℕ → List (Option Inner)} {before mid behind : ℕ} {on : Expression} {o : Value} {asked : Asks ℕ} {mentions : List Mention} {key : OperandValue} {deep : ℕ} {good : Bool} {roomy : ℕ} {v : Value} {On : Type 0}
+    (first : RewrittenWith f g active listed z lefts before mid On on o) (second : KeyWritten f g active listed z lefts mid behind asked mentions key deep good roomy) (made : made_index o key ≡ Some v) where
   is : Indexes (place f.of listed f.short) o key v
   is = indexes (place f.of listed f.short) o key v made
 
@@ -258,10 +258,10 @@ module _ {f : Function} {g : Fn} {active : List Active} {listed : List ℕ} {z :
       let all = key_few (field_name (place f.of listed f.short) key) (as_prefix w) u (3 * depth_of_expression on + 203) (3 * deep + 203) (omega (arith, first.few n, one)) (second.few (taken_behind o n)) in
       omega (arith, same, all)
 
-  indexed_can : suc (depth_of_expression on) ≤ 200 → can_write (place f.of listed f.short) (lefts before) v ≡ true
-  indexed_can few =
+  indexed_can : suc (depth_of_expression on) ≤ 200 → can_write (place f.of listed f.short) (lefts before) o ≡ true → can_write (place f.of listed f.short) (lefts before) v ≡ true
+  indexed_can few can =
       let more : suc (keys_of o) ≤ 200 = omega (arith, few, first.keys) in
-      is.can (lefts before) more first.can (ap (λ fs. can_write_operand (place f.of listed f.short) fs key) first.leaves ∙ second.can)
+      is.can (lefts before) more can (ap (λ fs. can_write_operand (place f.of listed f.short) fs key) first.leaves ∙ second.can)
 
   module _ (kept : PassesMentions (mentions_in on) (code on)) (to : ℕ) (m : Maker) (ahead : IsAhead g active before (mentions_in on ++ mentions) m) (final : Final (length m.labels) (freeing (indexed_value 1 (code on) asked to) m) z) where
     on_ahead : IsAhead g active before (mentions_in on) m
@@ -313,13 +313,13 @@ module _ {f : Function} {g : Fn} {active : List Active} {listed : List ℕ} {z :
         ∙ sym (is.taken (length m.constants))
 
   -- an expression whose code this is
-  indexed_rewritten : (e : Expression) → mentions_in e ≡ mentions_in on ++ mentions → suc (max (depth_of_expression on) deep) ≤ depth_of_expression e → depth_of_expression e ≤ 200 → is_name e ≡ false → fold e ≡ None → is_multiple e ≡ false → IsIndexing e on good roomy →
-      ((to : ℕ) (m : Maker) → (code e).to_reg to m ≡ freeing (indexed_value 1 (code on) asked to) m) → PassesMentions (mentions_in on) (code on) → Rewritten f g active listed z lefts before behind e v
-  indexed_rewritten e mentioned deeper shallow plain none single indexing code_is kept =
+  indexed_rewritten : {Can : Type 0} → Can → (e : Expression) → mentions_in e ≡ mentions_in on ++ mentions → suc (max (depth_of_expression on) deep) ≤ depth_of_expression e → is_name e ≡ false → fold e ≡ None → is_multiple e ≡ false → IsIndexing e on good roomy →
+      ((to : ℕ) (m : Maker) → (code e).to_reg to m ≡ freeing (indexed_value 1 (code on) asked to) m) → PassesMentions (mentions_in on) (code on) → RewrittenWith f g active listed z lefts before behind Can e v
+  indexed_rewritten can e mentioned deeper plain none single indexing code_is kept =
       let name = field_name (place f.of listed f.short) key in
       let ahead_of : (m : Maker) → IsAhead g active before (mentions_in e) m → IsAhead g active before (mentions_in on ++ mentions) m = λ m ahead. subst (λ mentions. IsAhead g active before mentions m) mentioned ahead in
       record {
-        can = indexed_can (omega (arith, deeper, shallow));
+        can = can;
         leaves = is.unused (lefts before) ∙ ap (left_by_operand key) first.leaves ∙ second.leaves;
         makes = second.makes ∙ ap (made_behind mentions) first.makes ∙ sym (made_both (mentions_in on) mentions before) ∙ ap (λ mentions. made_behind mentions before) (sym mentioned);
         named = λ n. ap (λ w. is_name w.words) (indexed_is n (taken_behind o n) refl) ∙ key_plain name _ _ ∙ sym plain;
@@ -367,12 +367,19 @@ module _ {f : Function} {g : Fn} {active : List Active} {listed : List ℕ} {z :
   pub index_rewritten : (line : ℕ) (on key : Expression) (o : Value) (k : OperandValue) (v : Value) → depth_of_expression (index_expression line on key) ≤ 200 → PassesMentions (mentions_in on) (code on) →
       Rewritten f g active listed z lefts before mid on o → RewrittenOperand f g active listed z lefts mid behind key k → made_index o k ≡ Some v → Rewritten f g active listed z lefts before behind (index_expression line on key) v
   index_rewritten line on key o k v shallow kept first second made =
-      indexed_rewritten first (operand_key key k second) made (index_expression line on key) refl (omega arith) shallow refl refl refl (index_indexing line on key) (λ to m. refl) kept
+      let key_is = operand_key key k second in
+      indexed_rewritten first key_is made (indexed_can first key_is made (omega (arith, shallow)) first.can) (index_expression line on key) refl (omega arith) refl refl refl (index_indexing line on key) (λ to m. refl) kept
+
+  -- a field, however many names stand before it
+  pub field_rewritten_with : {On Can : Type 0} → Can → (line : ℕ) (on : Expression) (text : Text) (o : Value) (k : OperandValue) (v : Value) → PassesMentions (mentions_in on) (code on) →
+      RewrittenWith f g active listed z lefts before mid On on o → KeySame f g active listed z lefts mid behind (rk_text 1 text) [] k 1 true 1 → made_index o k ≡ Some v → RewrittenWith f g active listed z lefts before behind Can (field_expression line on text) v
+  field_rewritten_with can line on text o k v kept first key made =
+      indexed_rewritten first key.written made can (field_expression line on text) (sym (append-nil (mentions_in on))) (omega (arith, some_depth on)) refl refl refl (field_indexing line on text) (λ to m. refl) kept
 
   pub field_rewritten : (line : ℕ) (on : Expression) (text : Text) (o : Value) (k : OperandValue) (v : Value) → depth_of_expression (field_expression line on text) ≤ 200 → PassesMentions (mentions_in on) (code on) →
       Rewritten f g active listed z lefts before mid on o → KeySame f g active listed z lefts mid behind (rk_text 1 text) [] k 1 true 1 → made_index o k ≡ Some v → Rewritten f g active listed z lefts before behind (field_expression line on text) v
   field_rewritten line on text o k v shallow kept first key made =
-      indexed_rewritten first key.written made (field_expression line on text) (sym (append-nil (mentions_in on))) (omega (arith, some_depth on)) shallow refl refl refl (field_indexing line on text) (λ to m. refl) kept
+      field_rewritten_with (indexed_can first key.written made (omega (arith, shallow)) first.can) line on text o k v kept first key made
 
 module _ {f : Function} {g : Fn} {active : List Active} {listed : List ℕ} {z : Maker} {lefts : ℕ → List (Option Inner)} {before behind : ℕ} where
   pub expression_key : (key : Expression) (k : OperandValue) → PassesMentions (mentions_in key) (code key) → RewrittenOperand f g active listed z lefts before behind key k → KeySame f g active listed z lefts before behind (rk (code key)) (mentions_in key) k (depth_of_expression key) (formed_expression key) (space_of_expression key)

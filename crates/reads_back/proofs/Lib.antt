@@ -104,6 +104,7 @@ pub mod KnownBeginnings
 pub mod LabelsStand
 pub mod LastOfList
 pub mod LastStored
+pub mod LeanTargets
 pub mod LeavesRead
 pub mod LeavesSame
 pub mod LeftFunctions
@@ -170,7 +171,9 @@ pub mod PartsRoom
 pub mod PartsSay
 pub mod PartsUsed
 pub mod PassedMentions
+pub mod PathReads
 pub mod Paths
+pub mod PathsWritten
 pub mod PlacedCaptures
 pub mod PlacedEach
 pub mod PlacedEnds
@@ -188,6 +191,7 @@ pub mod ReturnsRead
 pub mod ReturnsSame
 pub mod Rewriting
 pub mod Rooms
+pub mod Said
 pub mod SameChunks
 pub mod SameStatements
 pub mod ScopeActive
@@ -226,6 +230,7 @@ pub mod TargetsSame
 pub mod TargetsStand
 pub mod TargetsStored
 pub mod TargetsTaken
+pub mod TargetsWritten
 pub mod TestedAs
 pub mod Tests
 pub mod TestsEnd

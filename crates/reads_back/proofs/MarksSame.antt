@@ -41,7 +41,7 @@ module _ (at : Place) (of : ℕ → Part) where
   is_part : (v w : Value) → v ≡ w → SamePart (part_of at of v) (part_of at of w)
   is_part v w same = exact_part (λ place. ap (λ v. part_of at of v place) same)
 
-  index_part : (on : Value) (key : OperandValue) (v : Value) → made_index on key ≡ Some v → SamePart (part_of at of v) (both (part_of at of on) (part_of_operand at of key))
+  pub index_part : (on : Value) (key : OperandValue) (v : Value) → made_index on key ≡ Some v → SamePart (part_of at of v) (both (part_of at of on) (part_of_operand at of key))
   index_part (index_value on keys depth) key v is =
       part_then (is_part v _ (over_made (depth_of_operand key) (λ d. index_value on (and_last keys key) (max depth d)) v is)) (part_then (both_same (same_part (part_of at of on)) (last_part keys key)) (part_back (both_assoc (part_of at of on) (parts_of_operands at of keys) (part_of_operand at of key))))
   index_part on key v is = part_then (is_part v _ (over_made (max (depth_of on) (depth_of_operand key)) (λ d. index_value on (and_operand key no_operands) d) v is)) (both_same (same_part (part_of at of on)) (nothing_behind (part_of_operand at of key)))

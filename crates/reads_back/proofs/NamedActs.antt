@@ -1,28 +1,24 @@
 -- A function that goes alone to a target with a path: the function statement that says it is well formed, no deeper than its levels tell, and mentions what the target and the function do.
 use Rattle.std.proofs.Common.{◌≡◌, ℕ, ◌+◌, true, false, List, [], ◌∷◌, ◌++◌, Option, Some, None, is_some, refl, sym, ap, subst}
-use Rattle.std.specs.Prelude.{nat_le, nat_lt, length}
+use Rattle.std.specs.Prelude.{nat_lt, length}
 use Rattle.std.proofs.lemmas.Option.{same_Some}
 use Rattle.lua_num.specs.Bytes.{Text}
 use Rattle.lua_tree.specs.Names.{are_names, are_some_names, is_name}
 use Rattle.lua_tree.specs.Outline.{Part, body_part, both, mentions, nothing, path_part, statement_part}
 use Rattle.lua_tree.specs.Syntax.{FunctionBody, function_body, function_statement}
 use Rattle.lua_tree.specs.WellFormed.{depth_of_body, depth_of_statement, ends_block, formed_body, formed_expression, formed_statement, is_optional_name}
-use Rattle.core_expr.specs.Places.{Place, constant_name, field_name, field_number, is_variable, local_name, name_of_number, upvalue_name, variable_name}
-use Rattle.core_expr.specs.Targets.{TargetValue, are_fields, can_write_target, field_names, field_path, global_target, index_target, local_target, long_path, path_of, upvalue_target}
+use Rattle.core_expr.specs.Places.{Place, constant_name, field_name, field_number, local_name, name_of_number, upvalue_name, variable_name}
+use Rattle.core_expr.specs.Targets.{TargetValue, are_fields, can_have_path, field_names, field_path, global_target, has_field_path, has_long_path, index_target, local_target, long_path, path_of, upvalue_target}
 use Rattle.core_expr.specs.Values.{Inner, OperandList, OperandValue, Value, Values, and_operand, constant_operand, constant_value, global_value, index_value, local_value, no_operands, upvalue_value, value_operand}
-use Rattle.core_expr.specs.Writing.{can_write, name_word, operand_count, text_or_empty}
+use Rattle.core_expr.specs.Writing.{name_word, text_or_empty}
 use Rattle.recover_expr.specs.Assigning.{all_but_first, function_as, last_name, names_before_last, takes_self, without_self}
-use Rattle.reads_back.specs.Acted.{can_write_targets}
 use Rattle.reads_back.proofs.FunctionsLeft.{left_there}
 use Rattle.reads_back.proofs.Marks.{SamePart, both_same, exact_part, name_mentioned, nothing_behind, part_back, part_of, part_of_operand, part_then, parts_of_operands, same_part}
-use Rattle.reads_back.proofs.Paths.{IsNamed, function_as_holds, last_there, long_is, params_part}
+use Rattle.reads_back.proofs.Paths.{IsNamed, function_as_holds, last_there, long_is, params_part, variable_named}
 use Rattle.reads_back.proofs.Tests.{both_hold, first_of_both, not_so, second_of_both}
 use Rattle.reads_back.proofs.WrittenFormed.{AreFineLeft, IsFineFunction, word_fine}
 
--- ---- the target and the function
-
-pub named_can : (at : Place) (left : List (Option Inner)) (ts : List TargetValue) (vs : Values) (last : Option OperandValue) (path : List Text) (found : Inner) (named : IsNamed at left ts vs last path found) → can_write_targets at left ts ≡ true → can_write_target at left named.target ≡ true
-named_can at left ts vs last path found named can = first_of_both _ _ (subst (λ ts. can_write_targets at left ts ≡ true) named.one can)
+-- ---- the function
 
 pub named_fine : (at : Place) (left : List (Option Inner)) (ts : List TargetValue) (vs : Values) (last : Option OperandValue) (path : List Text) (found : Inner) → IsNamed at left ts vs last path found → AreFineLeft left → IsFineFunction found
 named_fine at left ts vs last path found named fine_left = left_there (λ number found. IsFineFunction found) named.number left found fine_left named.there
@@ -100,12 +96,6 @@ upvalue_is_name at u some = let fine = word_fine at (upvalue_value u) 0 [] tt so
 constant_is_name : (at : Place) (k : ℕ) → is_some (constant_name at k) ≡ true → is_name (text_or_empty (constant_name at k)) ≡ true
 constant_is_name at k some = let fine = word_fine at (global_value k) 0 [] tt some in word_is_name (constant_name at k) some fine.formed
 
-variable_there : (at : Place) (fs : List (Option Inner)) (v : Value) → is_variable v ≡ true → can_write at fs v ≡ true → is_some (variable_name at v) ≡ true
-variable_there at fs (local_value r) variable can = can
-variable_there at fs (upvalue_value u) variable can = can
-variable_there at fs (global_value k) variable can = can
-variable_there at fs v variable can = not_so variable
-
 variable_is_name : (at : Place) (v : Value) → is_some (variable_name at v) ≡ true → is_name (text_or_empty (variable_name at v)) ≡ true
 variable_is_name at (local_value r) some = local_is_name at r some
 variable_is_name at (upvalue_value u) some = upvalue_is_name at u some
@@ -123,24 +113,24 @@ fields_are_names : (at : Place) (keys : OperandList) (key : OperandValue) → ar
 fields_are_names at no_operands key fields field = both_hold _ _ (field_is_name at key field) refl
 fields_are_names at (and_operand first keys) key fields field = both_hold _ _ (field_is_name at first (first_of_both _ _ fields)) (fields_are_names at keys key (second_of_both (is_some (field_name at first)) _ fields) field)
 
-long_names : (at : Place) (fs : List (Option Inner)) (on : Value) (keys : OperandList) (key : OperandValue) (path : List Text) → can_write at fs on ≡ true → long_path at on keys key ≡ Some path → are_some_names path ≡ true
-long_names at fs on keys key path can is =
+long_names : (at : Place) (on : Value) (keys : OperandList) (key : OperandValue) (path : List Text) → has_long_path at on keys key ≡ true → long_path at on keys key ≡ Some path → are_some_names path ≡ true
+long_names at on keys key path has is =
     let long = long_is at on keys key path is in
-    subst (λ path. are_some_names path ≡ true) long.same (both_hold _ _ (variable_is_name at on (variable_there at fs on long.variable can)) (fields_are_names at keys key long.fields long.field))
+    subst (λ path. are_some_names path ≡ true) long.same (both_hold _ _ (variable_is_name at on (variable_named at on keys key path has is)) (fields_are_names at keys key long.fields long.field))
 
-field_path_names : (at : Place) (fs : List (Option Inner)) (on : Value) (key : OperandValue) (path : List Text) → can_write at fs on ≡ true → field_path at on key ≡ Some path → are_some_names path ≡ true
-field_path_names at fs (index_value on keys depth) key path can is = long_names at fs on keys key path (first_of_both _ _ (second_of_both (nat_le (operand_count keys) 200) _ can)) is
-field_path_names at fs on key path can is = long_names at fs on no_operands key path can is
+field_path_names : (at : Place) (on : Value) (key : OperandValue) (path : List Text) → has_field_path at on key ≡ true → field_path at on key ≡ Some path → are_some_names path ≡ true
+field_path_names at (index_value on keys depth) key path has is = long_names at on keys key path has is
+field_path_names at on key path has is = long_names at on no_operands key path has is
 
 single_names : (name : Option Text) (path : List Text) → is_name (text_or_empty name) ≡ true → Some (text_or_empty name ∷ []) ≡ Some path → are_some_names path ≡ true
 single_names name path named is = subst (λ path. are_some_names path ≡ true) (same_Some (text_or_empty name ∷ []) path is) (both_hold _ _ named refl)
 
 -- the names of a target's path are names
-pub path_names : (at : Place) (fs : List (Option Inner)) (t : TargetValue) (path : List Text) → can_write_target at fs t ≡ true → path_of at t ≡ Some path → are_some_names path ≡ true
-path_names at fs (local_target r) path can is = single_names (local_name at r) path (local_is_name at r can) is
-path_names at fs (upvalue_target u) path can is = single_names (upvalue_name at u) path (upvalue_is_name at u can) is
-path_names at fs (global_target k) path can is = single_names (constant_name at k) path (constant_is_name at k can) is
-path_names at fs (index_target on key) path can is = field_path_names at fs on key path (first_of_both _ _ can) is
+pub path_names : (at : Place) (t : TargetValue) (path : List Text) → can_have_path at t ≡ true → path_of at t ≡ Some path → are_some_names path ≡ true
+path_names at (local_target r) path has is = single_names (local_name at r) path (local_is_name at r has) is
+path_names at (upvalue_target u) path has is = single_names (upvalue_name at u) path (upvalue_is_name at u has) is
+path_names at (global_target k) path has is = single_names (constant_name at k) path (constant_is_name at k has) is
+path_names at (index_target on key) path has is = field_path_names at on key path has is
 
 -- ---- its first name is all that is mentioned
 
@@ -165,21 +155,21 @@ module _ (at : Place) (of : ℕ → Part) where
   variable_part v some = not_so some
 
   -- a variable with names behind it, and one more
-  long_part : (fs : List (Option Inner)) (on : Value) (keys : OperandList) (key : OperandValue) (path : List Text) → can_write at fs on ≡ true → long_path at on keys key ≡ Some path →
+  long_part : (on : Value) (keys : OperandList) (key : OperandValue) (path : List Text) → has_long_path at on keys key ≡ true → long_path at on keys key ≡ Some path →
       SamePart (path_part 1 path) (both (both (part_of at of on) (parts_of_operands at of keys)) (both (part_of_operand at of key) nothing))
-  long_part fs on keys key path can is =
+  long_part on keys key path has is =
       let long = long_is at on keys key path is in
-      let first = variable_part on (variable_there at fs on long.variable can) in
+      let first = variable_part on (variable_named at on keys key path has is) in
       let behind = both_same (both_same (same_part (part_of at of on)) (fields_part keys long.fields)) (both_same (field_part key long.field) (same_part nothing)) in
       part_then (exact_part (λ place. ap (λ path. path_part 1 path place) (sym long.same)))
       (part_then first (part_back (part_then behind (part_then (nothing_behind (both (part_of at of on) nothing)) (nothing_behind (part_of at of on))))))
 
   -- names behind a value
-  pub field_path_part : (fs : List (Option Inner)) (on : Value) (key : OperandValue) (path : List Text) → can_write at fs on ≡ true → field_path at on key ≡ Some path →
+  pub field_path_part : (on : Value) (key : OperandValue) (path : List Text) → has_field_path at on key ≡ true → field_path at on key ≡ Some path →
       SamePart (path_part 1 path) (part_of at of (index_value on (and_operand key no_operands) 1))
-  field_path_part fs (index_value on keys depth) key path can is = long_part fs on keys key path (first_of_both _ _ (second_of_both (nat_le (operand_count keys) 200) _ can)) is
-  field_path_part fs on key path can is =
-      part_then (long_part fs on no_operands key path can is) (both_same (nothing_behind (part_of at of on)) (same_part (both (part_of_operand at of key) nothing)))
+  field_path_part (index_value on keys depth) key path has is = long_part on keys key path has is
+  field_path_part on key path has is =
+      part_then (long_part on no_operands key path has is) (both_same (nothing_behind (part_of at of on)) (same_part (both (part_of_operand at of key) nothing)))
 
   -- a name alone
   pub single_path_part : (name : Option Text) (path : List Text) → is_some name ≡ true → Some (text_or_empty name ∷ []) ≡ Some path → SamePart (path_part 1 path) (name_mentioned name)

@@ -1,5 +1,5 @@
 -- A function that goes alone to a target with a path makes the same words as a function statement of that path and as an assignment, and its levels are few.
-use Rattle.std.proofs.Common.{◌≡◌, ℕ, suc, ◌≤◌, Bool, true, false, max, nat_lt, List, [], ◌∷◌, ◌++◌, length, Option, Some, None, is_some, refl, sym, ap, ap₂, ◌∙◌, subst, arith, inl, inr, ◌⊎◌, not}
+use Rattle.std.proofs.Common.{◌≡◌, ℕ, suc, ◌≤◌, Bool, true, false, max, nat_lt, List, [], ◌∷◌, ◌++◌, length, Option, Some, None, is_some, refl, sym, ap, ap₂, ◌∙◌, subst, subst₂, arith, inl, inr, ◌⊎◌, not}
 use Rattle.std.proofs.lemmas.Option.{same_Some}
 use Rattle.std.specs.Prelude.{◌&&◌, if◌then◌else◌, option_and_then}
 use Rattle.lua_num.specs.Bytes.{Text}
@@ -8,13 +8,13 @@ use Rattle.lua_tree.specs.Syntax as syntax
 use Rattle.lua_tree.specs.Syntax.{Expression, Expressions, no_expressions, FunctionBody, function_body, Statement, name_expression, field_expression, function_expression}
 use Rattle.lua_tree.specs.WellFormed.{depth_of_body, depth_of_expressions, is_prefix, depth_of_statement, depth_of_expression}
 use Rattle.proto.specs.declared.parts.Constant.{Constant}
-use Rattle.core_expr.specs.Counting.{left_by, left_by_operand, left_by_values, one_more, taken_behind, taken_behind_operand}
+use Rattle.core_expr.specs.Counting.{left_by, left_by_operand, one_more, taken_behind, taken_behind_operand}
 use Rattle.core_expr.specs.Held.{wordings_with}
 use Rattle.core_expr.specs.Making.{and_last, depth_of, depth_of_operand, made_index, made_over}
 use Rattle.core_expr.specs.Places.{Place, as_name, as_text, constant_name, field_name, is_variable, local_name, name_of_number, place, upvalue_name, variable_name}
-use Rattle.core_expr.specs.Targets.{TargetValue, are_fields, can_write_target, field_names, field_path, global_target, index_target, is_long_path, left_by_target, local_target, long_path, path_of, taken_behind_target, upvalue_target, word_target}
+use Rattle.core_expr.specs.Targets.{TargetValue, are_fields, can_have_path, field_names, field_path, global_target, has_field_path, has_long_path, index_target, is_long_path, left_by_target, local_target, long_path, path_of, taken_behind_target, upvalue_target, word_target}
 use Rattle.core_expr.specs.Values.{Value, OperandList, OperandValue, Values, and_operand, and_value, function_value, global_value, index_value, Inner, local_value, no_operands, no_values, upvalue_value, value_operand}
-use Rattle.core_expr.specs.Writing.{Wording, Wordings, and_wording, as_prefix, can_write, can_write_values, function_left, name_word, no_wordings, over, text_or_empty, unless, with_key, word, word_keys, word_operand, as_value, function_word}
+use Rattle.core_expr.specs.Writing.{Wording, Wordings, and_wording, as_prefix, function_left, name_word, no_wordings, over, text_or_empty, unless, with_key, word, word_keys, word_operand, as_value, function_word}
 use Rattle.recover_expr.specs.Assigning.{function_as, last_name, names_before_last, takes_self, with_number, without_self}
 use Rattle.recover_expr.specs.Situation.{Function}
 use Rattle.scheme.specs.Expressions.{Coded, coded_field}
@@ -26,12 +26,14 @@ use Rattle.scheme.specs.declared.making.Active.{Active}
 use Rattle.scheme_stands.specs.Words.{Fn}
 use Rattle.same_flow.specs.Space.{space_of_body, space_of_expression, space_of_expressions, space_of_statement}
 use Rattle.reads_back.specs.Assignments.{fields_behind}
-use Rattle.reads_back.specs.Acted.{AreAssigned, Assigned, IsTarget, IsVariableTarget, act_levels, act_statement, assigned, assigned_levels, assigned_statement, can_act, can_write_last, can_write_targets, function_in, is_path, lean_assignment, left_by_targets, named_by, levels_or, levels_by, path_to, taken_behind_targets, words_assigned, AreWithOperand, AreValues, values_assigned}
+use Rattle.reads_back.specs.Acted.{AreAssigned, Assigned, IsTarget, IsVariableTarget, act_levels, act_statement, assigned, assigned_levels, assigned_statement, function_in, is_path, lean_assignment, left_by_targets, named_by, taken_behind_targets, words_assigned, AreWithOperand, AreValues, values_assigned}
 use Rattle.reads_back.specs.Cores.{IsCore, IsKey, HasNumber, IsVariable}
 use Rattle.reads_back.proofs.ConstantsSame.{constant_is}
-use Rattle.reads_back.proofs.Paths.{assign_same, coded_fields, function_alone, function_as_holds, function_there_yet, last_there, long_is, named_or_holds, params_part, path_leaves}
+use Rattle.reads_back.proofs.LeanTargets.{IsLean}
+use Rattle.reads_back.proofs.Paths.{assign_same, coded_fields, function_alone, function_as_holds, last_there, long_is, params_part, path_leaves, variable_named}
 use Rattle.reads_back.proofs.Rewriting.{IsMadeBy}
 use Rattle.reads_back.proofs.Rooms.{lean_room_assignment}
+use Rattle.reads_back.proofs.Said.{can_say, said_holds}
 use Rattle.reads_back.proofs.Tests.{both_hold, first_of_both, given_is, not_below, second_of_both}
 
 -- ---- the words of a path
@@ -63,11 +65,11 @@ name_words : (name : Option Text) → is_some name ≡ true → (name_word name)
 name_words (Some name) is = refl
 name_words None is = cc
 
-variable_words : (at : Place) (n : ℕ) (fs : List (Option Inner)) (on : Value) → is_variable on ≡ true → can_write at fs on ≡ true → (word at n fs on).words ≡ name_expression 1 (text_or_empty (variable_name at on))
-variable_words at n fs (local_value r) is can = name_words (local_name at r) can
-variable_words at n fs (upvalue_value u) is can = name_words (upvalue_name at u) can
-variable_words at n fs (global_value k) is can = name_words (constant_name at k) can
-variable_words at n fs on is can = cc
+variable_words : (at : Place) (n : ℕ) (fs : List (Option Inner)) (on : Value) → is_some (variable_name at on) ≡ true → (word at n fs on).words ≡ name_expression 1 (text_or_empty (variable_name at on))
+variable_words at n fs (local_value r) is = name_words (local_name at r) is
+variable_words at n fs (upvalue_value u) is = name_words (upvalue_name at u) is
+variable_words at n fs (global_value k) is = name_words (constant_name at k) is
+variable_words at n fs on is = cc
 
 -- a value whose words are a prefix stands without parentheses
 bare_prefix : (w : Wording) (e : Expression) → w.words ≡ e → is_prefix e ≡ true → (as_prefix w).words ≡ e
@@ -88,30 +90,30 @@ long_words at w key_word on keys key path is words =
     ∙ ap (path_from 1) long.same
 
 -- a variable with a key behind it
-alone_words : (at : Place) (n : ℕ) (fs : List (Option Inner)) (key_word : Wording) (on : Value) (key : OperandValue) (path : List Text) → long_path at on no_operands key ≡ Some path → can_write at fs on ≡ true →
+alone_words : (at : Place) (n : ℕ) (fs : List (Option Inner)) (key_word : Wording) (on : Value) (key : OperandValue) (path : List Text) → long_path at on no_operands key ≡ Some path → has_long_path at on no_operands key ≡ true →
     coded (with_key (field_name at key) (as_prefix (word at n fs on)) key_word).words ≡ path_from 1 path
-alone_words at n fs key_word on key path is can =
-    long_words at (word at n fs on) key_word on no_operands key path is (variable_words at n fs on (long_is at on no_operands key path is).variable can)
+alone_words at n fs key_word on key path is has =
+    long_words at (word at n fs on) key_word on no_operands key path is (variable_words at n fs on (variable_named at on no_operands key path has is))
 
-field_words : (at : Place) (n : ℕ) (fs : List (Option Inner)) (key_word : Wording) (on : Value) (key : OperandValue) (path : List Text) → field_path at on key ≡ Some path → can_write at fs on ≡ true →
+field_words : (at : Place) (n : ℕ) (fs : List (Option Inner)) (key_word : Wording) (on : Value) (key : OperandValue) (path : List Text) → field_path at on key ≡ Some path → has_field_path at on key ≡ true →
     coded (with_key (field_name at key) (as_prefix (word at n fs on)) key_word).words ≡ path_from 1 path
-field_words at n fs key_word (index_value on keys depth) key path is can =
+field_words at n fs key_word (index_value on keys depth) key path is has =
     let long = long_is at on keys key path is in
-    let first = variable_words at n fs on long.variable (first_of_both _ _ (second_of_both _ _ can)) in
+    let first = variable_words at n fs on (variable_named at on keys key path has is) in
     long_words at (word at n fs (index_value on keys depth)) key_word on keys key path is
     (keys_named at (taken_behind on n) (left_by on fs) (as_prefix (word at n fs on)) keys long.fields
     ∙ ap (λ e. fields_behind e (field_names at keys)) (bare_prefix (word at n fs on) _ first refl))
-field_words at n fs key_word on key path is can = alone_words at n fs key_word on key path is can
+field_words at n fs key_word on key path is has = alone_words at n fs key_word on key path is has
 
 name_path : (name : Option Text) (path : List Text) → is_some name ≡ true → Some (text_or_empty name ∷ []) ≡ Some path → coded (name_word name).words ≡ path_from 1 path
 name_path name path there is = ap coded (name_words name there) ∙ ap (path_from 1) (same_Some _ _ is)
 
 -- the words of a target with a path are the path
-path_words : (at : Place) (n : ℕ) (fs : List (Option Inner)) (t : TargetValue) (path : List Text) → path_of at t ≡ Some path → can_write_target at fs t ≡ true → coded (word_target at n fs t).words ≡ path_from 1 path
-path_words at n fs (local_target r) path is can = name_path (local_name at r) path can is
-path_words at n fs (upvalue_target u) path is can = name_path (upvalue_name at u) path can is
-path_words at n fs (global_target k) path is can = name_path (constant_name at k) path can is
-path_words at n fs (index_target on key) path is can = field_words at n fs (word_operand at (taken_behind on n) (left_by on fs) key) on key path is (first_of_both _ _ can)
+path_words : (at : Place) (n : ℕ) (fs : List (Option Inner)) (t : TargetValue) (path : List Text) → path_of at t ≡ Some path → can_have_path at t ≡ true → coded (word_target at n fs t).words ≡ path_from 1 path
+path_words at n fs (local_target r) path is has = name_path (local_name at r) path has is
+path_words at n fs (upvalue_target u) path is has = name_path (upvalue_name at u) path has is
+path_words at n fs (global_target k) path is has = name_path (constant_name at k) path has is
+path_words at n fs (index_target on key) path is has = field_words at n fs (word_operand at (taken_behind on n) (left_by on fs) key) on key path is has
 
 -- ---- a function statement is an assignment
 
@@ -141,9 +143,9 @@ function_said : (path : List Text) (body : FunctionBody) (m : Maker) → stateme
 function_said path body m = function_as_holds (λ s. statement_made s 1 None m ≡ assign_part 1 (path_from 1 path ∷ []) (coded (function_expression 1 body) ∷ []) m) path body refl (method_said path body m)
 
 -- the statement of a function that goes to a target with a path makes the same words as the assignment
-function_named : (at : Place) (n : ℕ) (fs : List (Option Inner)) (t : TargetValue) (path : List Text) (body : FunctionBody) → path_of at t ≡ Some path → can_write_target at fs t ≡ true → (m : Maker) →
+function_named : (at : Place) (n : ℕ) (fs : List (Option Inner)) (t : TargetValue) (path : List Text) (body : FunctionBody) → path_of at t ≡ Some path → can_have_path at t ≡ true → (m : Maker) →
     statement_made (function_as path body) 1 None m ≡ statement_made (syntax.assignment (syntax.expression (word_target at n fs t).words no_expressions) (syntax.expression (function_expression 1 body) no_expressions)) 1 None m
-function_named at n fs t path body is can m = function_said path body m ∙ ap (λ on. assign_part 1 (on ∷ []) (coded (function_expression 1 body) ∷ []) m) (sym (path_words at n fs t path is can))
+function_named at n fs t path body is has m = function_said path body m ∙ ap (λ on. assign_part 1 (on ∷ []) (coded (function_expression 1 body) ∷ []) m) (sym (path_words at n fs t path is has))
 
 -- ---- a function that is all of the values
 
@@ -176,18 +178,18 @@ module _ (at : Place) (n : ℕ) (fs : List (Option Inner)) (vs : Values) (all : 
         ap (λ fs. words_assigned at (taken_behind_target t n) fs vs all last) (path_leaves at t path fs is)
         ∙ function_words at (taken_behind_target t n) fs all number found there vs last only
 
-    said_same : can_write_target at fs t ≡ true → (m : Maker) → statement_made (function_as path found.body) 1 None m ≡ statement_made (statement_of (t ∷ [])) 1 None m
-    said_same can m =
-        function_named at n fs t path found.body is can m
+    said_same : can_have_path at t ≡ true → (m : Maker) → statement_made (function_as path found.body) 1 None m ≡ statement_made (statement_of (t ∷ [])) 1 None m
+    said_same has m =
+        function_named at n fs t path found.body is has m
         ∙ ap (λ (w : Wordings). statement_made (syntax.assignment (syntax.expression (word_target at n fs t).words no_expressions) w.words) 1 None m) (sym words_alone)
 
   -- the statement of an act makes the same words as the assignment
-  pub named_same : (ts : List TargetValue) → can_act at fs (assigned ts vs all last) ≡ true → (m : Maker) → statement_made (act_statement at n fs (assigned ts vs all last)) 1 None m ≡ statement_made (statement_of ts) 1 None m
+  pub named_same : (ts : List TargetValue) → can_say at fs (assigned ts vs all last) ≡ true → (m : Maker) → statement_made (act_statement at n fs (assigned ts vs all last)) 1 None m ≡ statement_made (statement_of ts) 1 None m
   named_same ts can m =
-      named_or_holds (λ s levels. statement_made s 1 None m ≡ statement_made (statement_of ts) 1 None m) at fs ts vs last (statement_of ts) 0 refl
-      (λ path found named.
+      said_holds (λ s levels. statement_made s 1 None m ≡ statement_made (statement_of ts) 1 None m) at fs ts vs all last (statement_of ts) 0 can (λ none written. refl)
+      (λ path found named has.
       subst (λ ts. statement_made (function_as path found.body) 1 None m ≡ statement_made (statement_of ts) 1 None m) (sym named.one)
-      (said_same named.target path named.number found named.has_path named.goes named.there (first_of_both _ _ (subst (λ ts. can_write_targets at fs ts ≡ true) named.one (first_of_both _ _ can))) m))
+      (said_same named.target path named.number found named.has_path named.goes named.there has m))
 
   -- ---- it has few levels
 
@@ -197,32 +199,14 @@ module _ (at : Place) (n : ℕ) (fs : List (Option Inner)) (vs : Values) (all : 
   abbrev value_levels : List TargetValue → ℕ
   value_levels ts = (words_assigned at (taken_behind_targets ts n) (left_by_targets ts fs) vs all last).levels
 
-  not_there : (found : Option Inner) → is_some found ≡ true → found ≡ None → ⊥
-  not_there (Some found) there none = cc
-  not_there None there none = cc
-
-  -- it is written, so it is there
-  is_there : (t : TargetValue) (path : List Text) (number : ℕ) → path_of at t ≡ Some path → function_in vs last ≡ Some number → can_act at fs (assigned (t ∷ []) vs all last) ≡ true → function_left fs number ≡ None → ⊥
-  is_there t path number is only can none =
-      let values_can = ap (λ fs. can_write_values at fs vs && can_write_last at (left_by_values vs fs) last) (sym (path_leaves at t path fs is)) ∙ second_of_both _ _ can in
-      not_there (function_left fs number) (function_there_yet at fs number vs last only values_can) none
-
-  found_few : (ts : List TargetValue) (path : List Text) (number : ℕ) (found : Option Inner) (most : ℕ) → path_to at ts ≡ Some path → function_in vs last ≡ Some number → function_left fs number ≡ found → can_act at fs (assigned ts vs all last) ≡ true →
-      value_levels ts ≤ most → levels_by found (levels_of ts) ≤ suc most
-  found_few (t ∷ []) path number None most is only there can few = absurd (is_there t path number is only can there)
-  found_few (t ∷ []) path number (Some found) most is only there can few = omega (arith, few, ap (λ (w : Wordings). w.levels) (words_alone t path number found is only there))
-  found_few ts path number found most is only there can few = cc
-
-  few_by : (ts : List TargetValue) (number : Option ℕ) (path : Option (List Text)) (most : ℕ) → function_in vs last ≡ number → path_to at ts ≡ path → can_act at fs (assigned ts vs all last) ≡ true →
-      (option_and_then (λ number. with_number number path) number ≡ None → levels_of ts ≤ suc most) → ((only : ℕ) → function_in vs last ≡ Some only → value_levels ts ≤ most) → levels_or fs (option_and_then (λ number. with_number number path) number) (levels_of ts) ≤ suc most
-  few_by ts None path most only is can otherwise few = otherwise refl
-  few_by ts (Some number) None most only is can otherwise few = otherwise refl
-  few_by ts (Some number) (Some path) most only is can otherwise few = found_few ts path number (function_left fs number) most is only refl can (few number only)
-
   -- a target that has a path needs no levels where a function goes to it
-  pub named_few : (ts : List TargetValue) (most : ℕ) → can_act at fs (assigned ts vs all last) ≡ true → (named_by at ts vs last ≡ None → levels_of ts ≤ suc most) → ((only : ℕ) → function_in vs last ≡ Some only → value_levels ts ≤ most) →
+  pub named_few : (ts : List TargetValue) (most : ℕ) → can_say at fs (assigned ts vs all last) ≡ true → (named_by at ts vs last ≡ None → levels_of ts ≤ suc most) → ((only : ℕ) → function_in vs last ≡ Some only → value_levels ts ≤ most) →
       act_levels at n fs (assigned ts vs all last) ≤ suc most
-  named_few ts most can otherwise few = few_by ts (function_in vs last) (path_to at ts) most refl refl can otherwise few
+  named_few ts most can otherwise few =
+      said_holds (λ s levels. levels ≤ suc most) at fs ts vs all last (statement_of ts) (levels_of ts) can (λ none written. otherwise none)
+      (λ path found named has.
+      let low = subst (λ ts. value_levels ts ≤ most) named.one (few named.number named.goes) in
+      omega (arith, low, ap (λ (w : Wordings). w.levels) (words_alone named.target path named.number found named.has_path named.goes named.there)))
 
 -- ---- a path has a path
 
@@ -317,6 +301,11 @@ module _ {f : Function} {g : Fn} {active : List Active} {listed : List ℕ} {z :
       still_said (function_in to.values to.last) (path_of named_at t) (function_given line body t mid behind to values) (target_there target before mid_target t is is_target) none
   said_alone target line body before behind [] to is stored none = absurd stored.1
   said_alone target line body before behind (t ∷ u ∷ ts) to is stored none = absurd stored.1.2
+
+  pub said_lean : (targets es : Expressions) (before behind : ℕ) (ts : List TargetValue) (to : Assigned) → IsLean targets es → AreAssigned g active targets es ts before behind to → named_by named_at ts to.values to.last ≡ None → ⊥
+  said_lean targets es before behind ts to lean stored =
+      said_alone lean.target lean.line lean.body before behind ts to lean.path
+      (subst₂ (λ (targets es : Expressions). AreAssigned g active targets es ts before behind to) lean.one lean.alone stored)
 
   lean_by : (path : Bool) (target : Expression) (line : ℕ) (body : FunctionBody) → is_path target ≡ path → (path ≡ true → ⊥) →
       depth_of_statement (syntax.assignment (syntax.expression target no_expressions) (syntax.expression (function_expression line body) no_expressions)) ≤ (if path then suc (depth_of_body body) else max (depth_of_expression target) (suc (depth_of_body body)))

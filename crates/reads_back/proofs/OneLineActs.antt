@@ -96,5 +96,5 @@ module _ {P : FunctionBody → Type 0} (kept : StayOnLine P) where
 
   -- so is a function statement
   pub straight_statement_on_line : (s : Statement) → IsStraightStatementBy P s → IsStraightStatementBy P (one_line_statement s)
-  straight_statement_on_line (function_statement path method body) is = (is.0, subst P (self_on_line (is_some method) body) (kept (with_self (is_some method) body) is.1))
+  straight_statement_on_line (function_statement path method body) is = subst P (self_on_line (is_some method) body) (kept (with_self (is_some method) body) is)
   straight_statement_on_line s is = act_on_line s is

@@ -1,6 +1,6 @@
 -- Targets that a path says, and functions that go alone to one.
 use Rattle.std.proofs.Common.{◌≡◌, ℕ, Bool, true, false, List, [], ◌∷◌, ◌++◌, Option, Some, None, is_some, refl, sym, ap, ◌∙◌, subst}
-use Rattle.std.specs.Prelude.{nat_lt, length, option_and_then, ◌&&◌, if◌then◌else◌}
+use Rattle.std.specs.Prelude.{nat_lt, length, option_and_then, not, ◌&&◌, ◌||◌, if◌then◌else◌}
 use Rattle.std.proofs.lemmas.Option.{same_Some}
 use Rattle.std.proofs.lemmas.Slice.Eq.{bytes_eq-Decides}
 use Rattle.lua_num.specs.Bytes.{Text}
@@ -8,7 +8,7 @@ use Rattle.lua_tree.specs.Outline.{all_params}
 use Rattle.lua_tree.specs.Syntax.{Expression, FunctionBody, Statement, field_expression, function_statement}
 use Rattle.core_expr.specs.Counting.{left_by, left_by_operand, left_by_operands, left_by_values, one_more}
 use Rattle.core_expr.specs.Places.{Place, field_name, is_variable, variable_name}
-use Rattle.core_expr.specs.Targets.{TargetValue, are_fields, field_names, index_target, is_long_path, left_by_target, long_path, path_of}
+use Rattle.core_expr.specs.Targets.{TargetValue, are_fields, field_names, has_long_path, index_target, is_long_path, left_by_target, long_path, path_of}
 use Rattle.core_expr.specs.Values.{Inner, OperandList, OperandValue, Value, Values, and_operand, and_value, constant_operand, constant_value, function_value, global_value, index_value, local_value, no_operands, no_values, upvalue_value, value_operand}
 use Rattle.core_expr.specs.Writing.{can_write_values, function_left, text_or_empty}
 use Rattle.recover_expr.specs.Assigning.{all_but_first, function_as, function_number, is_self, last_name, names_before_last, self, takes_self, with_number, without_self}
@@ -43,8 +43,16 @@ long_is at on keys key path is =
     let behind = second_of_both (is_variable on) _ holds in
     record { variable = first_of_both _ _ holds; fields = first_of_both _ _ behind; field = second_of_both (are_fields at keys) _ behind; same = given_is (is_long_path at on keys key) _ path is }
 
+-- its variable has a name, where one that has a path has it
+pub variable_named : (at : Place) (on : Value) (keys : OperandList) (key : OperandValue) (path : List Text) → has_long_path at on keys key ≡ true → long_path at on keys key ≡ Some path → is_some (variable_name at on) ≡ true
+variable_named at on keys key path has is = by (is_long_path at on keys key) (test_holds (is_long_path at on keys key) _ path is) has
+  where
+    by : (long : Bool) → long ≡ true → (not long || is_some (variable_name at on)) ≡ true → is_some (variable_name at on) ≡ true
+    by true holds has = has
+    by false holds has = not_so holds
+
 -- it is of one target
-path_alone : (at : Place) (ts : List TargetValue) (path : List Text) → path_to at ts ≡ Some path → (t : TargetValue) × (ts ≡ t ∷ []) × (path_of at t ≡ Some path)
+pub path_alone : (at : Place) (ts : List TargetValue) (path : List Text) → path_to at ts ≡ Some path → (t : TargetValue) × (ts ≡ t ∷ []) × (path_of at t ≡ Some path)
 path_alone at [] path is = cc
 path_alone at (t ∷ []) path is = (t, refl, is)
 path_alone at (t ∷ u ∷ ts) path is = cc

@@ -1,17 +1,20 @@
 -- Each function in a statement that is well formed, on one line and has room is plain, where the statements of functions may have blocks.
-use Rattle.std.proofs.Common.{◌≡◌, ◌≤◌, ℕ, true, false, max, arith}
+use Rattle.std.proofs.Common.{◌≡◌, ◌≤◌, ℕ, true, false, max, arith, inl, inr}
 use Rattle.lua_tree.specs.Names.{is_name, are_some_names}
 use Rattle.lua_tree.specs.OneLine.{one_line_arguments, one_line_expression, one_line_expressions, one_line_fields, one_line_statement}
 use Rattle.lua_tree.specs.Precedence.{is_right_associative, left_binds, level_of_op, right_binds}
 use Rattle.lua_tree.specs.Syntax as syntax
 use Rattle.lua_tree.specs.Syntax.{Arguments, Expression, Expressions, Statement, argument_list, assignment, binary_expression, call_expression, call_statement, constructor, Fields, no_fields, positional, named, keyed, table_argument, false_literal, field_expression, function_expression, index_expression, local_statement, method_call, name_expression, nil_literal, no_expressions, number_literal, parenthesized, return_statement, text_argument, text_literal, true_literal, unary_expression, vararg_expression, local_function}
 use Rattle.lua_tree.specs.WellFormed.{are_targets, ends_item, formed_arguments, formed_expression, formed_expressions, formed_fields, formed_statement, has_expressions, is_call, is_prefix, on_its_line}
-use Rattle.same_flow.specs.Space.{space_of_arguments, space_of_expression, space_of_expressions, space_of_fields, space_of_statement}
+use Rattle.same_flow.specs.Space.{space_of_arguments, space_of_expression, space_of_expressions, space_of_fields}
+use Rattle.reads_back.specs.Acted.{is_path}
 use Rattle.reads_back.specs.Cores.{AllHaveCores, HasCore, HaveCores, HaveItems, IsPlainBody}
 use Rattle.reads_back.specs.Flows.{IsFlowBody}
 use Rattle.reads_back.specs.Straight.{AllHaveCoresBy, AreActTargetsBy, HasCoreBy, HaveCoresBy, HaveItemsBy, IsActBy, IsActTargetBy}
-use Rattle.reads_back.proofs.Rooms.{inside_room, left_room, of_room}
-use Rattle.reads_back.proofs.Tests.{first_of_both, second_of_both}
+use Rattle.reads_back.proofs.LeanTargets.{ArePathsOr, HasSpace, IsPathOr, targets_spaced}
+use Rattle.reads_back.proofs.NamedSame.{lean_room_values}
+use Rattle.reads_back.proofs.Rooms.{inside_room, lean_room, left_room, of_room}
+use Rattle.reads_back.proofs.Tests.{first_of_both, not_so, second_of_both}
 
 module _ (deep : ℕ) where
   -- ---- expressions
@@ -94,32 +97,40 @@ module _ (deep : ℕ) where
 
   -- ---- targets
 
-  plain_target : (e : Expression) → IsActTargetBy (IsFlowBody deep) e → formed_expression e ≡ true → one_line_expression e ≡ e → space_of_expression e ≤ 200 → IsActTargetBy IsPlainBody e
+  -- a path needs no room
+  plain_path : (e : Expression) → is_path e ≡ true → HasCoreBy (IsFlowBody deep) e → HasCore e
+  plain_path (name_expression line text) path has = has
+  plain_path (field_expression line on text) path has = plain_path on (first_of_both _ _ path) has
+  plain_path e path has = not_so path
+
+  plain_target : (e : Expression) → IsActTargetBy (IsFlowBody deep) e → formed_expression e ≡ true → one_line_expression e ≡ e → IsPathOr (HasSpace 200) e → IsActTargetBy IsPlainBody e
   plain_target (name_expression line text) is formed same room = is
-  plain_target (index_expression line on key) is formed same room = plain_core (index_expression line on key) is formed same room
-  plain_target (field_expression line on text) is formed same room = plain_core (field_expression line on text) is formed same room
+  plain_target (index_expression line on key) is formed same (inl path) = not_so path
+  plain_target (index_expression line on key) is formed same (inr room) = plain_core (index_expression line on key) is formed same room
+  plain_target (field_expression line on text) is formed same (inl path) = plain_path on (first_of_both _ _ path) is
+  plain_target (field_expression line on text) is formed same (inr room) = plain_core (field_expression line on text) is formed same room
   plain_target e is formed same room = absurd is
 
-  plain_targets : (targets : Expressions) → AreActTargetsBy (IsFlowBody deep) targets → formed_expressions targets ≡ true → one_line_expressions targets ≡ targets → space_of_expressions targets ≤ 200 →
+  plain_targets : (targets : Expressions) → AreActTargetsBy (IsFlowBody deep) targets → formed_expressions targets ≡ true → one_line_expressions targets ≡ targets → ArePathsOr (HasSpace 200) targets →
       AreActTargetsBy IsPlainBody targets
   plain_targets no_expressions are formed same room = are
   plain_targets (syntax.expression e targets) are formed same room = (
-    plain_target e are.0 (first_of_both _ _ formed) (cc same) (omega arith),
-    plain_targets targets are.1 (second_of_both (formed_expression e) _ formed) (cc same) (omega arith),
+    plain_target e are.0 (first_of_both _ _ formed) (cc same) room.0,
+    plain_targets targets are.1 (second_of_both (formed_expression e) _ formed) (cc same) room.1,
   )
 
   -- ---- statements
 
-  pub plain_act : (s : Statement) → IsActBy (IsFlowBody deep) s → formed_statement s ≡ true → one_line_statement s ≡ s → space_of_statement s ≤ 200 → IsActBy IsPlainBody s
+  pub plain_act : (s : Statement) → IsActBy (IsFlowBody deep) s → formed_statement s ≡ true → one_line_statement s ≡ s → lean_room s ≤ 200 → IsActBy IsPlainBody s
   plain_act (call_statement e) is formed same room = (is.0, plain_core e is.1 (second_of_both (is_call e) _ formed) (cc same) room)
   plain_act (assignment targets es) is formed same room =
       let formed_on = second_of_both (are_targets targets) _ (second_of_both (has_expressions targets) _ formed) in
       let values_on = second_of_both (formed_expressions targets) _ formed_on in
       record {
         some = is.some;
-        targets = plain_targets targets is.targets (first_of_both _ _ formed_on) (cc same) (omega arith);
+        targets = plain_targets targets is.targets (first_of_both _ _ formed_on) (cc same) (targets_spaced 200 targets es room);
         given = is.given;
-        values = plain_cores es is.values (second_of_both (has_expressions es) _ values_on) (cc same) (omega arith);
+        values = plain_cores es is.values (second_of_both (has_expressions es) _ values_on) (cc same) (omega (arith, room, lean_room_values targets es));
       }
   plain_act (local_statement names es) is formed same room = (is.0, plain_cores es is.1 (second_of_both (are_some_names names) _ formed) (cc same) room)
   plain_act (local_function text body) is formed same room = (is.0, record { deep = deep; flow = is.1; formed = second_of_both (is_name text) _ formed; on_line = cc same; room = omega arith })

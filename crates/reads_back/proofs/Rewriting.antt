@@ -17,11 +17,12 @@ use Rattle.scheme.specs.Scheme.{coded, given, statement_made, inner}
 use Rattle.scheme.specs.declared.making.Active.{Active}
 use Rattle.scheme_stands.proofs.Growth.{Final}
 use Rattle.scheme_stands.specs.Words.{Fn, Means}
-use Rattle.reads_back.specs.Acted.{Acted, act_levels, act_statement, can_act, left_by_act, taken_behind_act, lean_depth}
+use Rattle.reads_back.specs.Acted.{Acted, act_levels, act_statement, left_by_act, taken_behind_act, lean_depth}
 use Rattle.reads_back.proofs.NameReads.{AreListed}
 use Rattle.reads_back.proofs.Mentions.{IsAhead, mentions_in, mentions_given, mentions_in_all, Mention, locals_mention, made_behind, own_mention}
 use Rattle.reads_back.proofs.InRoom.{IsInRoom, IsOperandInRoom}
 use Rattle.reads_back.proofs.Rooms.{lean_room}
+use Rattle.reads_back.proofs.Said.{can_say}
 use Rattle.reads_back.proofs.WordsRead.{IsFunction}
 use Rattle.reads_back.specs.Assignments.{with_self}
 use Rattle.reads_back.specs.Cores.{IsPlainBody}
@@ -101,9 +102,9 @@ module _ (f : Function) (listed : List ℕ) (z : Maker) (lefts : ℕ → List (O
 
 -- so many functions were made before it and behind it; `lefts` are those that are left where so many were made; `few` bounds the levels in every form, and `low` those in the forms of fewest levels, of what is well formed
 module _ (f : Function) (g : Fn) (active : List Active) (listed : List ℕ) (z : Maker) (lefts : ℕ → List (Option Inner)) (before behind : ℕ) where
-  -- of a value
-  pub record Rewritten (e : Expression) (v : Value) : Type 0 where
-    pub can : can_write (place f.of listed f.short) (lefts before) v ≡ true
+  -- of a value, where this is known of whether it can be written
+  pub record RewrittenWith (Can : Type 0) (e : Expression) (v : Value) : Type 0 where
+    pub can : Can
     pub leaves : left_by v (lefts before) ≡ lefts behind
     pub makes : behind ≡ made_behind (mentions_in e) before
     pub named : (n : ℕ) → is_name (wording f listed z lefts before n v).words ≡ is_name e
@@ -119,6 +120,10 @@ module _ (f : Function) (g : Fn) (active : List Active) (listed : List ℕ) (z :
     pub taken : (r : ℕ) (m : Maker) → IsAhead g active before (mentions_in e) m → Final (length m.labels) ((code e).to_reg r m) z → length ((code e).to_reg r m).constants ≡ taken_behind v (length m.constants)
     pub multi : is_multiple e ≡ true → (op : Op) (want : Want) (m : Maker) → IsAhead g active before (mentions_in e) m → Final (length m.labels) ((code e).multi op want m) z → (coded (wording f listed z lefts before (length m.constants) v).words).multi op want m ≡ (code e).multi op want m
     pub multi_taken : is_multiple e ≡ true → (op : Op) (want : Want) (m : Maker) → IsAhead g active before (mentions_in e) m → Final (length m.labels) ((code e).multi op want m) z → length ((code e).multi op want m).constants ≡ taken_behind v (length m.constants)
+
+  -- of a value that can be written
+  abbrev pub Rewritten : Expression → Value → Type 0
+  Rewritten e v = RewrittenWith (can_write (place f.of listed f.short) (lefts before) v ≡ true) e v
 
   -- of a constant, or the value of an expression, as an operand
   pub record RewrittenOperand (e : Expression) (o : OperandValue) : Type 0 where
@@ -154,7 +159,7 @@ module _ (f : Function) (g : Fn) (active : List Active) (listed : List ℕ) (z :
 
   -- of an act: as a statement on one line it makes the same
   pub record RewrittenAct (s : Statement) (acted : Acted) : Type 0 where
-    pub can : can_act (place f.of listed f.short) (lefts before) acted ≡ true
+    pub can : can_say (place f.of listed f.short) (lefts before) acted ≡ true
     pub leaves : left_by_act acted (lefts before) ≡ lefts behind
     pub makes : behind ≡ made_behind (mentions_of_statement s) before
     pub few : (n : ℕ) → act_levels (place f.of listed f.short) n (lefts before) acted ≤ 3 * lean_depth s + 204

@@ -23,7 +23,7 @@ use Rattle.scheme_stands.proofs.Growth.{Final, Grown, before as before_part, cal
 use Rattle.scheme_stands.proofs.Parts.{AllGrow, asks_cond, grow_all, grows, grows_operand}
 use Rattle.scheme_stands.specs.Words.{Fn, Means}
 use Rattle.same_flow.specs.Space.{space_of_expression, space_of_expressions}
-use Rattle.reads_back.specs.Acted.{IsVariableTarget, can_write_targets, is_part, left_by_targets, taken_behind_targets, words_targets}
+use Rattle.reads_back.specs.Acted.{IsVariableTarget, is_part, left_by_targets, taken_behind_targets, words_targets}
 use Rattle.reads_back.specs.Cores.{HasCore, IsCore, IsKey, IsOperand, IsOperandBy}
 use Rattle.reads_back.proofs.ConstantsSame.{numeral_plain}
 use Rattle.reads_back.proofs.Deeper.{some_depth}
@@ -34,7 +34,7 @@ use Rattle.reads_back.proofs.LocalOperands.{literal_no_name}
 use Rattle.reads_back.proofs.Mentions.{AskingPasses, IsAhead, Passed, ahead_behind, ahead_front, mentions_in, mentions_in_all, passed_none, passed_then, Mention, made_behind, made_both}
 use Rattle.reads_back.proofs.OperandsSame.{key_rewritten, operand_rewritten}
 use Rattle.reads_back.proofs.PassedMentions.{PassesMentions, mentions_passed, operand_passes, pass_passes}
-use Rattle.reads_back.proofs.Rewriting.{IsMadeBy, Rewritten, code, operand_wording, wording}
+use Rattle.reads_back.proofs.Rewriting.{IsMadeBy, Rewritten, RewrittenWith, code, operand_wording, wording}
 use Rattle.reads_back.proofs.Tests.{both_hold, first_of_both, second_of_both}
 use Rattle.reads_back.proofs.WordsSame.{coded_is, levels_wrapped, name_wrapped, operand_low, operand_same, operand_taken, operand_wrapped, same_name}
 
@@ -141,7 +141,6 @@ key_named_by (Some text) key is = ap is_name (sym (is text refl))
 
 module _ (f : Function) (g : Fn) (active : List Active) (listed : List ℕ) (z : Maker) (lefts : ℕ → List (Option Inner)) (before behind : ℕ) where
   pub record TargetSame (target : Expression) (t : TargetValue) : Type 0 where
-    pub can : can_write_target (place f.of listed f.short) (lefts before) t ≡ true
     pub leaves : left_by_target t (lefts before) ≡ lefts behind
     pub makes : behind ≡ made_behind (mentions_in target) before
     pub few : (n : ℕ) → (word_target (place f.of listed f.short) n (lefts before) t).levels ≤ 3 * depth_of_expression target + 203
@@ -176,7 +175,6 @@ module _ {f : Function} {g : Fn} {active : List Active} {listed : List ℕ} {z :
   name_same lefts before line text w t good means is =
       let written = name_written text w t good means is in
       record {
-        can = written.can (lefts before);
         leaves = written.unused (lefts before);
         makes = refl;
         few = λ n. omega (arith, ap (λ (w : Wording). w.levels) (written.word_is n (lefts before)));
@@ -187,8 +185,8 @@ module _ {f : Function} {g : Fn} {active : List Active} {listed : List ℕ} {z :
         is_place = λ m ahead. subst (λ w. IsVariableTarget g text w t) (sym (next_means made text w [] m means ahead)) is;
       }
 
-module _ {f : Function} {g : Fn} {active : List Active} {listed : List ℕ} {z : Maker} {lefts : ℕ → List (Option Inner)} {before mid behind : ℕ} (target on : Expression) (x : Value) (k : OperandValue) (asked : Asks ℕ) (key_named : Bool) (mentions : List Mention) (deep : ℕ) (good : Bool) (roomy : ℕ)
-    (first : Rewritten f g active listed z lefts before mid on x) (second : KeySame f g active listed z lefts mid behind asked mentions k deep good roomy) (named : (n : ℕ) → is_name (operand_wording f listed z lefts mid n k).words ≡ key_named)
+module _ {f : Function} {g : Fn} {active : List Active} {listed : List ℕ} {z : Maker} {lefts : ℕ → List (Option Inner)} {before mid behind : ℕ} (target on : Expression) (x : Value) (k : OperandValue) (asked : Asks ℕ) (key_named : Bool) (mentions : List Mention) (deep : ℕ) (good : Bool) (roomy : ℕ) {On : Type 0}
+    (first : RewrittenWith f g active listed z lefts before mid On on x) (second : KeySame f g active listed z lefts mid behind asked mentions k deep good roomy) (named : (n : ℕ) → is_name (operand_wording f listed z lefts mid n k).words ≡ key_named)
     (on_passes : PassesMentions (mentions_in on) (code on)) (mentioned : mentions_in target ≡ mentions_in on ++ mentions) (deeper : suc (max (depth_of_expression on) deep) ≤ depth_of_expression target) (indexing : IsIndexing target on good roomy)
     (target_is : (m : Maker) → (code target).target m ≡ part_at (code on) asked (is_name (code on).e) key_named m) where
   abbrev words_at : ℕ → Wording
@@ -283,7 +281,6 @@ module _ {f : Function} {g : Fn} {active : List Active} {listed : List ℕ} {z :
 
   part_target_same : TargetSame f g active listed z lefts before behind target (index_target x k)
   part_target_same = record {
-    can = both_hold _ _ first.can (ap (λ fs. can_write_operand (place f.of listed f.short) fs k) first.leaves ∙ second.written.can);
     leaves = ap (left_by_operand k) first.leaves ∙ second.written.leaves;
     makes = second.written.makes ∙ ap (made_behind mentions) first.makes ∙ sym (made_both (mentions_in on) mentions before) ∙ ap (λ mentions. made_behind mentions before) (sym mentioned);
     few = part_few;
@@ -303,17 +300,31 @@ module _ {f : Function} {g : Fn} {active : List Active} {listed : List ℕ} {z :
       (expression_key key k (mentions_passed key key_has) (operand_rewritten lefts made key mid behind k key_has is written))
       (λ n. operand_named key k is written n ∙ sym (same_name key) ∙ sym (ap is_name (coded_is (one_line_expression key)))) (mentions_passed on on_has) refl (omega arith) (index_indexing line on key) (λ m. refl)
 
-  pub field_same : (line : ℕ) (on : Expression) (text : Text) (before mid behind : ℕ) (x : Value) (k : OperandValue) → HasCore on → Rewritten f g active listed z lefts before mid on x → IsKey g text mid behind k →
+  pub field_same : {On : Type 0} → (line : ℕ) (on : Expression) (text : Text) (before mid behind : ℕ) (x : Value) (k : OperandValue) → HasCore on → RewrittenWith f g active listed z lefts before mid On on x → IsKey g text mid behind k →
       TargetSame f g active listed z lefts before behind (field_expression line on text) (index_target x k)
   field_same line on text before mid behind x k has first is =
       part_target_same (field_expression line on text) on x k (rk_text 1 text) false [] 1 true 1 first (text_key 1 text k (key_rewritten lefts made 1 text mid behind k is))
       (operand_named (text_literal 1 text) k is (λ v core. subst (λ (behind : ℕ). Rewritten f g active listed z lefts mid behind (text_literal 1 text) v) (sym core.0) (text_rewritten made 1 text v core.1))) (mentions_passed on has) (sym (append-nil (mentions_in on))) (omega (arith, some_depth on)) (field_indexing line on text) (λ m. refl)
 
+  -- ---- what can be written
+
+  pub name_can : (text : Text) (w : Where) (t : TargetValue) (fs : List (Option Inner)) → is_good_name text ≡ true → Means g.law active text w → IsVariableTarget g text w t → can_write_target (place f.of listed f.short) fs t ≡ true
+  name_can text w t fs good means is = let written = name_written made text w t good means is in written.can fs
+
+  part_can : (on : Expression) (before mid : ℕ) (x : Value) (k : OperandValue) → Rewritten f g active listed z lefts before mid on x → can_write_operand (place f.of listed f.short) (lefts mid) k ≡ true → can_write_target (place f.of listed f.short) (lefts before) (index_target x k) ≡ true
+  part_can on before mid x k first can = both_hold _ _ first.can (ap (λ fs. can_write_operand (place f.of listed f.short) fs k) first.leaves ∙ can)
+
+  pub index_can : (on key : Expression) (before mid behind : ℕ) (x : Value) (k : OperandValue) → HasCore key → Rewritten f g active listed z lefts before mid on x →
+      ((v : Value) → IsCore g active key mid behind v → Rewritten f g active listed z lefts mid behind key v) → IsOperand g active key mid behind k → can_write_target (place f.of listed f.short) (lefts before) (index_target x k) ≡ true
+  index_can on key before mid behind x k has first written is = let operand = operand_rewritten lefts made key mid behind k has is written in part_can on before mid x k first operand.can
+
+  pub field_can : (on : Expression) (text : Text) (before mid behind : ℕ) (x : Value) (k : OperandValue) → Rewritten f g active listed z lefts before mid on x → IsKey g text mid behind k → can_write_target (place f.of listed f.short) (lefts before) (index_target x k) ≡ true
+  field_can on text before mid behind x k first is = let key = key_rewritten lefts made 1 text mid behind k is in part_can on before mid x k first key.can
+
 -- ---- all targets
 
 module _ (f : Function) (g : Fn) (active : List Active) (listed : List ℕ) (z : Maker) (lefts : ℕ → List (Option Inner)) (before behind : ℕ) where
   pub record TargetsSame (targets : Expressions) (ts : List TargetValue) : Type 0 where
-    pub can : can_write_targets (place f.of listed f.short) (lefts before) ts ≡ true
     pub leaves : left_by_targets ts (lefts before) ≡ lefts behind
     pub makes : behind ≡ made_behind (mentions_in_all targets) before
     pub few : (n : ℕ) → (words_targets (place f.of listed f.short) n (lefts before) ts).levels ≤ 3 * depth_of_expressions targets + 203
@@ -340,13 +351,12 @@ and_targets one others = record { value = one.value ∷ others.value; after = ot
 
 module _ {f : Function} {g : Fn} {active : List Active} {listed : List ℕ} {z : Maker} {lefts : ℕ → List (Option Inner)} {before behind : ℕ} where
   pub none_same : behind ≡ before → TargetsSame f g active listed z lefts before behind no_expressions []
-  none_same same = record { can = refl; leaves = ap lefts (sym same); makes = same; few = λ n. omega arith; low = λ short formed m ahead final. omega arith; count = refl; passes = λ m. passed_none; same = λ m ahead final. refl; taken = λ m ahead final. refl; are_places = λ m ahead. tt }
+  none_same same = record { leaves = ap lefts (sym same); makes = same; few = λ n. omega arith; low = λ short formed m ahead final. omega arith; count = refl; passes = λ m. passed_none; same = λ m ahead final. refl; taken = λ m ahead final. refl; are_places = λ m ahead. tt }
 
 module _ {f : Function} {g : Fn} {active : List Active} {listed : List ℕ} {z : Maker} {lefts : ℕ → List (Option Inner)} {before mid behind : ℕ} where
   pub more_same : (target : Expression) (targets : Expressions) (t : TargetValue) (ts : List TargetValue) → TargetSame f g active listed z lefts before mid target t → TargetsSame f g active listed z lefts mid behind targets ts →
       TargetsSame f g active listed z lefts before behind (syntax.expression target targets) (t ∷ ts)
   more_same target targets t ts first others = record {
-    can = both_hold _ _ first.can (ap (λ fs. can_write_targets at fs ts) first.leaves ∙ others.can);
     leaves = ap (left_by_targets ts) first.leaves ∙ others.leaves;
     makes = others.makes ∙ ap (made_behind (mentions_in_all targets)) first.makes ∙ sym (made_both (mentions_in target) (mentions_in_all targets) before);
     few = λ n. omega (arith, first.few n, ap (λ fs. (words_targets at (taken_behind_target t n) fs ts).levels) first.leaves, others.few (taken_behind_target t n));

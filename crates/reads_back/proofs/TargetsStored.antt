@@ -22,7 +22,7 @@ use Rattle.recover_expr.specs.declared.stores.Place as stores
 use Rattle.recover_expr.specs.declared.stores.Store.{Store}
 use Rattle.scheme.specs.declared.making.Piece.{Piece}
 use Rattle.scheme_stands.specs.Words.{Fn, Spot, WordAt, IsRead, instr_by}
-use Rattle.reads_back.specs.Acted.{Assigned, assigned, can_act, function_in, left_by_targets, taken_behind_targets}
+use Rattle.reads_back.specs.Acted.{Assigned, assigned, function_in, left_by_targets, taken_behind_targets}
 use Rattle.reads_back.proofs.ActsRead.{act_draft, after_act}
 use Rattle.reads_back.proofs.BothOperands.{counted, seen_with_both}
 use Rattle.reads_back.proofs.HeldOperands.{Kept, in_next, in_word, in_local, StandsIn, counts_none, entries_in, operand_of}
@@ -33,7 +33,8 @@ use Rattle.reads_back.proofs.StoresRead.{IsInStep, IsValueKept, local_there, no_
 use Rattle.reads_back.proofs.TableItems.{not_none}
 use Rattle.reads_back.proofs.TakenEntries.{behind_taken}
 use Rattle.reads_back.proofs.TargetsTaken.{count_stores, function_named, statement_ends, stores_back, targets_are}
-use Rattle.reads_back.proofs.Tests.{first_of_both, not_below}
+use Rattle.reads_back.proofs.Said.{can_say}
+use Rattle.reads_back.proofs.Tests.{not_below}
 use Rattle.reads_back.proofs.ValueWords.{place_of_next}
 use Rattle.reads_back.proofs.WordsRead.{IsFunction, IsQuiet, abc_is_read, abx_is_read, turn_there, word_of, word_there}
 
@@ -364,7 +365,7 @@ module _ {f : Function} {g : Fn} {count : ℕ} {listed : List ℕ} (is_function 
   pub targets_end : (ds : List Destination) (d : Destination) (pc : ℕ) (straight : Option Straight) (used : List Bool) (to : Assigned) (parts values behind : Entries) (p q : Spot) (s : Situation) → IsInStep f count listed s → s.entries ≡ parts ++ values →
       AreThere f count listed parts (ds ++ d ∷ []) behind → used_by_all count (ds ++ d ∷ []) (replicate (length parts) false) ≡ replicate (length parts) true → length ds ≤ length values → count + (length parts + length ds) ≤ 250 →
       StoreWordsAt g (count + length parts) ds p q → q.pc ≤ f.last → WritesValues f values straight d (suc (length ds)) to → (ds ≡ [] → stored_function straight values ≡ function_in to.values to.last) →
-      can_act (place_in_step f s) s.left (assigned (targets_to (ds ++ d ∷ [])) to.values to.all to.last) ≡ true →
+      can_say (place_in_step f s) s.left (assigned (targets_to (ds ++ d ∷ [])) to.values to.all to.last) ≡ true →
       assigned_from f straight p.pc s (first_stored pc d (parts_used count (length parts) d) (length ds) used)
       ≡ Some (act_draft f q.pc (assigned (targets_to (ds ++ d ∷ [])) to.values to.all to.last) (behind_stores ds s), after_act (assigned (targets_to (ds ++ d ∷ [])) to.values to.all to.last) (record (behind_stores ds s) { entries = behind }))
   targets_end ds d pc straight used to parts values behind p q s step is there all enough few at within writes function can =
@@ -383,5 +384,5 @@ module _ {f : Function} {g : Fn} {count : ℕ} {listed : List ℕ} (is_function 
       ∙ ap (λ (entries : Entries). assigning.assigned f a straight q.pc (record t { entries = entries })) is
       ∙ ap (option_and_then (with_targets f a straight q.pc)) (targets_are here (length parts1 + 0) values pc p.pc ds d parts mid behind split.1 split.2 low)
       ∙ ap (option_and_then (with_values f a.stores straight q.pc ts (record t { entries = behind ++ values }))) (behind_taken behind values (length parts1 + 0) low_behind)
-      ∙ ap (option_and_then (as_statement f a.stores straight q.pc ts values u)) (function_named f ds d u (stored_function straight values) to function (first_of_both _ _ can))
+      ∙ ap (option_and_then (as_statement f a.stores straight q.pc ts values u)) (function_named f ds d u (stored_function straight values) to function can)
       ∙ statement_ends f a.stores straight q.pc ts values to u can (writes a.stores (taken_behind_targets ts s.taken) (with_left (left_by_targets ts s.left) u) refl count_is)

@@ -28,6 +28,7 @@ use Rattle.reads_back.proofs.PartsUsed.{all_there_length, get_front, held_length
 use Rattle.reads_back.proofs.StoredTargets.{AreThere, Destination, HeldAt, IsThere, assigned_written, place_to, store_to, target_to, targets_to, to_global, to_local, to_part, to_upvalue}
 use Rattle.reads_back.proofs.StoresRead.{IsInStep, IsValueKept, local_there, no_place}
 use Rattle.reads_back.proofs.Tests.{first_of_both, not_below, second_of_both}
+use Rattle.reads_back.proofs.Said.{can_say, said_path, said_written}
 use Rattle.reads_back.proofs.ValueWords.{place_of_next}
 
 -- ---- the targets
@@ -130,9 +131,10 @@ module _ {f : Function} {count : ℕ} {listed : List ℕ} {s : Situation} (step 
 -- ---- what is written
 
 -- a function that goes alone to one target is named by it, and several targets are no statement of a function
-pub function_named : (f : Function) (ds : List Destination) (d : Destination) (s : Situation) (read : Option ℕ) (to : Assigned) → (ds ≡ [] → read ≡ function_in to.values to.last) → can_write_targets (place_in_step f s) s.left (targets_to (ds ++ d ∷ [])) ≡ true →
+pub function_named : (f : Function) (ds : List Destination) (d : Destination) (s : Situation) (read : Option ℕ) (to : Assigned) → (ds ≡ [] → read ≡ function_in to.values to.last) → can_say (place_in_step f s) s.left (assigned (targets_to (ds ++ d ∷ [])) to.values to.all to.last) ≡ true →
     named_as f s (targets_to (ds ++ d ∷ [])) read ≡ Some (named_by (place_in_step f s) (targets_to (ds ++ d ∷ [])) to.values to.last)
-function_named f [] d s read to function can = ap (named_as f s (target_to d ∷ [])) (function refl) ∙ one_named f s (target_to d) (function_in to.values to.last) (first_of_both _ _ can)
+function_named f [] d s read to function can =
+    ap (named_as f s (target_to d ∷ [])) (function refl) ∙ one_named f s (target_to d) (function_in to.values to.last) (λ number is. said_path (place_in_step f s) s.left (target_to d) to.values to.all to.last number is can)
 function_named f (e ∷ []) d s read to function can = several_named f s (target_to e) (target_to d) [] read (function_in to.values to.last)
 function_named f (e ∷ e1 ∷ ds) d s read to function can = several_named f s (target_to e) (target_to e1) (targets_to (ds ++ d ∷ [])) read (function_in to.values to.last)
 
@@ -191,12 +193,12 @@ module _ (f : Function) where
       ∙ assignment_step_is f next ts to s none
 
   -- the statement, where of what stands in the registers these values are written: an assignment, or what the names of a function say
-  pub statement_ends : (stores : List Store) (straight : Option Straight) (next : ℕ) (ts : List TargetValue) (entries : Entries) (to : Assigned) (s : Situation) → can_act (place_in_step f s) s.left (assigned ts to.values to.all to.last) ≡ true →
+  pub statement_ends : (stores : List Store) (straight : Option Straight) (next : ℕ) (ts : List TargetValue) (entries : Entries) (to : Assigned) (s : Situation) → can_say (place_in_step f s) s.left (assigned ts to.values to.all to.last) ≡ true →
       assigned_values f stores (taken_behind_targets ts s.taken) entries straight (with_left (left_by_targets ts s.left) s)
       ≡ assigned_written f (taken_behind_targets ts s.taken) to (with_left (left_by_targets ts s.left) s) →
       as_statement f stores straight next ts entries s (named_by (place_in_step f s) ts to.values to.last) ≡ Some (act_draft f next (assigned ts to.values to.all to.last) s, after_act (assigned ts to.values to.all to.last) s)
   statement_ends stores straight next ts entries to s can writes = by (named_by (place_in_step f s) ts to.values to.last) refl
     where
       by : (named : Option (List Text × ℕ)) → named_by (place_in_step f s) ts to.values to.last ≡ named → as_statement f stores straight next ts entries s named ≡ Some (act_draft f next (assigned ts to.values to.all to.last) s, after_act (assigned ts to.values to.all to.last) s)
-      by None is = assignment_ends stores straight next ts entries to s is can writes
+      by None is = assignment_ends stores straight next ts entries to s is (said_written (place_in_step f s) s.left ts to.values to.all to.last is can) writes
       by (Some named) is = function_ends f next ts to s named.0 named.1 is can

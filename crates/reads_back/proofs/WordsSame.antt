@@ -20,7 +20,7 @@ use Rattle.scheme.specs.declared.making.Active.{Active}
 use Rattle.scheme_stands.proofs.Growth.{Final, before_take}
 use Rattle.scheme_stands.specs.Words.{Fn}
 use Rattle.reads_back.proofs.Mentions.{IsAhead, mentions_in}
-use Rattle.reads_back.proofs.Rewriting.{HasRoom, IsMadeAs, Rewritten, code, wording}
+use Rattle.reads_back.proofs.Rewriting.{HasRoom, IsMadeAs, RewrittenWith, code, wording}
 
 -- ---- on one line
 
@@ -191,7 +191,7 @@ rk_on_right op w m = rk_wrapped (right_binds (level_of_op op) (is_power op) w.wo
 
 -- ---- what is written of a value
 
-module _ {f : Function} {g : Fn} {active : List Active} {listed : List ℕ} {z : Maker} {lefts : ℕ → List (Option Inner)} {before behind : ℕ} {e : Expression} {v : Value} (rewritten : Rewritten f g active listed z lefts before behind e v) where
+module _ {f : Function} {g : Fn} {active : List Active} {listed : List ℕ} {z : Maker} {lefts : ℕ → List (Option Inner)} {before behind : ℕ} {e : Expression} {v : Value} {Can : Type 0} (rewritten : RewrittenWith f g active listed z lefts before behind Can e v) where
   pub next_same : (m : Maker) → IsAhead g active before (mentions_in e) m → Final (length m.labels) (next_reg (code e) m) z → next_reg (coded (wording f listed z lefts before (length m.constants) v).words) m ≡ next_reg (code e) m
   next_same m ahead final = ap (take_registers 1) (rewritten.to_reg m.free m ahead (before_take 1 ((code e).to_reg m.free m) final))
 

@@ -44,10 +44,6 @@ no_tables (syntax.expression e rest) are = let both = and_parts (indexes_no_tabl
 
 -- ---- paths
 
--- what is tested to be short is
-short_path : (path : List Text) → nat_le (length path) 198 ≡ true → length path ≤ 198
-short_path path is = leb-true (length path) 198 is
-
 module _ (P : FunctionBody → Type 0) {limit : ℕ} (known : Known P limit) where
   -- ---- statements
 
@@ -92,7 +88,7 @@ module _ (P : FunctionBody → Type 0) {limit : ℕ} (known : Known P limit) whe
     statement_clear own line (generic_for names es block) looped place same =
         later (declares line 3 names place).marks (also _ (also _ (values_clear P known own es _ and block_clear (names ++ own) block true _ refl)))
     statement_clear own line (function_statement path method body) looped place same =
-        later (path_part line path place).marks (so (λ is. ((short_path path is.1, is.0), tt)) (also _ (also _ (clearing (known (is_some method) body _)))))
+        later (path_part line path place).marks (so (λ is. (is, tt)) (also _ (also _ (known (is_some method) body _))))
     statement_clear own line (local_function name body) looped place same = later (declares line 0 (name ∷ []) place).marks (so (λ is. (is, tt)) (keeping (known false body _)))
     statement_clear own line (local_statement names es) looped place same = later (declares line 0 names place).marks (so (λ is. (is, tt)) (keeping (earlier [] (values_clear P known own es _))))
     statement_clear own line (return_statement es) looped place same = values_clear P known own es place

@@ -65,5 +65,5 @@ module _ {P : FunctionBody → Type 0} (plain : (body : FunctionBody) → P body
   act_plain s is = absurd is
 
   pub straight_statement_plain : (s : Statement) → IsStraightStatementBy P s → plain_statement s ≡ true
-  straight_statement_plain (function_statement path method body) is = sym (self_plain (is_some method) body) ∙ plain (with_self (is_some method) body) is.1
+  straight_statement_plain (function_statement path method body) is = sym (self_plain (is_some method) body) ∙ plain (with_self (is_some method) body) is
   straight_statement_plain s is = act_plain s is

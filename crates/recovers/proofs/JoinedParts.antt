@@ -16,16 +16,17 @@ use Rattle.scheme.specs.Shapes.{plainness}
 use Rattle.same_flow.specs.Blocks.{AloneHolds, TestHolds, tested_as}
 use Rattle.same_flow.specs.Renaming.{IsOneStep, IsTested}
 use Rattle.same_flow.specs.Space.{space_of_expression, space_of_expressions, space_of_statement}
+use Rattle.reads_back.specs.Acted.{lean_depth}
 use Rattle.reads_back.specs.Assignments.{as_assignment}
 use Rattle.reads_back.specs.Cores.{AllHaveCores, HasCore}
 use Rattle.reads_back.specs.Flows.{IsFlowBody, IsFlowLeafBy, IsFlowPartBy}
 use Rattle.reads_back.specs.Straight.{AllHaveCoresBy, HasCoreBy, IsActBy, IsStraightStatementBy, StatementIndexesNoTable}
 use Rattle.reads_back.proofs.FlowThere.{IsFlowAct, IsFlowStatement}
-use Rattle.reads_back.proofs.FunctionStatements.{assigned_formed, assigned_in_room, assigned_shallow, indexes_still, path_on_line, statement_is_act}
+use Rattle.reads_back.proofs.FunctionStatements.{assigned_formed, assigned_roomy, assigned_shallow, indexes_still, path_on_line, statement_is_act}
 use Rattle.reads_back.proofs.OneLineActs.{act_on_line, core_on_line, cores_on_line, self_on_line, straight_statement_on_line}
 use Rattle.reads_back.proofs.PlainBodies.{plain_act, plain_core, plain_cores}
 use Rattle.reads_back.proofs.OneLineRules.{same_some, statement_indexes_none}
-use Rattle.reads_back.proofs.Rooms.{inside_room, left_room}
+use Rattle.reads_back.proofs.Rooms.{inside_room, lean_room, left_room}
 use Rattle.reads_back.proofs.TestedAs.{HasTest}
 use Rattle.reads_back.proofs.Tests.{both_hold, first_of_both, second_of_both}
 use Rattle.reads_back.proofs.WordsSame.{same_literal}
@@ -33,7 +34,8 @@ use Rattle.recovers.specs.Joined.{IsJoinedPart}
 use Rattle.recovers.proofs.CoresPlain.{core_plain, cores_plain, straight_statement_plain}
 use Rattle.recovers.proofs.FlowOnLine.{flow_stays, tested_on_line}
 use Rattle.recovers.proofs.FlowPlain.{flow_plain}
-use Rattle.recovers.proofs.OneLineBlocks.{expression_again, expression_as_deep, expression_as_roomy, expression_formed, expressions_again, expressions_as_deep, expressions_as_roomy, expressions_formed, statement_again, statement_as_deep, statement_as_roomy, statement_formed}
+use Rattle.recovers.proofs.LeanOneLine.{lean_as_deep, lean_as_roomy}
+use Rattle.recovers.proofs.OneLineBlocks.{expression_again, expression_as_deep, expression_as_roomy, expression_formed, expressions_again, expressions_as_deep, expressions_as_roomy, expressions_formed, statement_again, statement_as_roomy, statement_formed}
 
 -- ---- the assignment that a function statement stands for
 
@@ -97,11 +99,11 @@ module _ (most : ℕ) (few : most ≤ 200) (deep : ℕ) where
 
   -- ---- acts
 
-  flow_act : (s : Statement) → IsActBy (IsFlowBody deep) s → StatementIndexesNoTable s → formed_statement s ≡ true → depth_of_statement s ≤ 199 → space_of_statement s ≤ 200 → IsFlowAct (one_line_statement s)
+  flow_act : (s : Statement) → IsActBy (IsFlowBody deep) s → StatementIndexesNoTable s → formed_statement s ≡ true → lean_depth s ≤ 199 → lean_room s ≤ 200 → IsFlowAct (one_line_statement s)
   flow_act s is begins formed shallow roomy = record {
-    is = plain_act deep (one_line_statement s) (act_on_line (flow_stays deep) s is) (statement_formed s formed) (statement_again s) (omega (arith, roomy, statement_as_roomy s));
+    is = plain_act deep (one_line_statement s) (act_on_line (flow_stays deep) s is) (statement_formed s formed) (statement_again s) (omega (arith, roomy, lean_as_roomy s));
     begins = statement_indexes_none s begins;
-    shallow = subst (λ (depth : ℕ). depth ≤ 199) (sym (statement_as_deep s)) shallow;
+    shallow = subst (λ (depth : ℕ). depth ≤ 199) (sym (lean_as_deep s)) shallow;
     on_line = statement_again s;
   }
 
@@ -110,7 +112,7 @@ module _ (most : ℕ) (few : most ≤ 200) (deep : ℕ) where
   flow_statement s is begins formed shallow roomy = record {
     formed = statement_formed s formed;
     act = subst IsFlowAct (assignment_line s) (flow_act (as_assignment s) (statement_is_act (IsFlowBody deep) s is formed) (indexes_still s begins formed) (assigned_formed s formed)
-        (assigned_shallow (IsFlowBody deep) s is shallow) (assigned_in_room (IsFlowBody deep) s is roomy));
+        (omega (arith, shallow, assigned_shallow s formed)) (omega (arith, roomy, assigned_roomy s formed)));
   }
 
   pub act_joined : (s : Statement) → IsOneStep (one_line_statement s) → ends_block (one_line_statement s) ≡ false → IsStraightStatementBy (IsFlowBody deep) s × StatementIndexesNoTable s →

@@ -18,6 +18,7 @@ pub mod InnerCaptured
 pub mod InnerFlow
 pub mod JoinedBlocks
 pub mod JoinedParts
+pub mod LeanOneLine
 pub mod MainFlow
 pub mod OneLineBlocks
 pub mod OrderedOnLine

@@ -57,7 +57,7 @@ mutual
   statement_clear own (if_statement branches last) = same_both (branches_clear own branches) (otherwise_clear own last)
   statement_clear own (numeric_for name first last by block) = same_both (value_clear false own first) (same_both (value_clear false own last) (same_both (step_clear own by) (block_clear (name ∷ own) block)))
   statement_clear own (generic_for names es block) = same_both (values_clear own es) (block_clear (names ++ own) block)
-  statement_clear own (function_statement path method body) = same_both refl (body_clear (is_some method) body)
+  statement_clear own (function_statement path method body) = body_clear (is_some method) body
   statement_clear own (local_function name body) = body_clear false body
   statement_clear own (local_statement names es) = values_clear own es
   statement_clear own (return_statement es) = values_clear own es

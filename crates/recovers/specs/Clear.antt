@@ -1,5 +1,5 @@
--- To be believed. What is asked of a source beside that it is plain and has room: no target is an element of a constructor, and no path has more than 198 names.
-use Rattle.std.specs.Prelude.{◌≡◌, ◌&&◌, Bool, true, not, nat_le, length}
+-- To be believed. What is asked of a source beside that it is plain and has room: no target is an element of a constructor.
+use Rattle.std.specs.Prelude.{◌≡◌, ◌&&◌, Bool, true, not}
 use Rattle.lua_tree.specs.Syntax.{Statements, no_statements, statement, Statement, assignment, call_statement, do_block, while_loop, repeat_loop, if_statement, numeric_for, generic_for, function_statement, local_function, local_statement, return_statement, break_statement, Branches, no_branches, branch, Otherwise, no_otherwise, otherwise, ForStep, no_step, by_step, FunctionBody, function_body, Expressions, no_expressions, expression, Expression, function_expression, index_expression, field_expression, call_expression, method_call, and_expression, or_expression, binary_expression, unary_expression, constructor, parenthesized, Arguments, argument_list, text_argument, table_argument, Fields, no_fields, positional, named, keyed, Source}
 use Rattle.reads_back.specs.Straight.{is_constructor}
 
@@ -31,7 +31,7 @@ abbrev mutual
   clear_statement (if_statement branches last) = clear_branches branches && clear_otherwise last
   clear_statement (numeric_for name first last by block) = clear_expression first && (clear_expression last && (clear_step by && clear_statements block))
   clear_statement (generic_for names es block) = clear_values es && clear_statements block
-  clear_statement (function_statement path method body) = nat_le (length path) 198 && clear_body body
+  clear_statement (function_statement path method body) = clear_body body
   clear_statement (local_function name body) = clear_body body
   clear_statement (local_statement names es) = clear_values es
   clear_statement (return_statement es) = clear_values es
