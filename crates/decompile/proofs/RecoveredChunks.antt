@@ -77,7 +77,7 @@ module _ (laws : RecoveryLaws) (chunk : Chunk) (short : IsShort chunk) where
   flat_as_flow : IsFlatChunk chunk → IsFlowChunk chunk
   flat_as_flow flat =
       let such = laws.flat flat.source flat.formed flat.flat in
-      record { source = flat.source; name = flat.name; formed = flat.formed; scoped = flat.scoped; fits = flat.fits; deep = 0; blocks = such.0; room = such.1; same = flat.same }
+      record { source = flat.source; name = flat.name; formed = flat.formed; scoped = flat.scoped; fits = flat.fits; deep = 0; blocks = such.0; ordered = such.1; room = such.2; same = flat.same }
 
   flow_known : IsFlowChunk chunk → IsKnown chunk
   flow_known of = record { source = of.source; name = of.name; scoped = of.scoped; fits = of.fits; same = of.same; recovered = laws.flow chunk of short }
