@@ -15,19 +15,17 @@ use Rattle.scheme_stands.specs.Relation.{StatementAt}
 use Rattle.scheme_stands.specs.Words.{Fn, Spot}
 use Rattle.reads_back.specs.Acted.{Acted, AreActTargets, IsAct, IsActTarget, IsActed, act_levels, act_statement, lean_depth}
 use Rattle.reads_back.specs.Cores.{HasCore}
-use Rattle.reads_back.specs.Straight.{AllIndexNoTables, IndexesNoTable, StatementIndexesNoTable}
 use Rattle.reads_back.proofs.ActsFormed.{act_ends, act_formed, act_shallow}
 use Rattle.reads_back.proofs.ActsMarks.{act_marks}
 use Rattle.reads_back.proofs.ActsRead.{ActRead, CanAct, call_statement_read}
 use Rattle.reads_back.proofs.ActsRewritten.{AllWritten, act_rewritten}
 use Rattle.reads_back.proofs.BehindWords.{HasLocals}
-use Rattle.reads_back.proofs.Comes.{ReadsCore}
+use Rattle.reads_back.proofs.Comes.{IsOver, ReadsCore}
 use Rattle.reads_back.proofs.DeclarationsRead.{StartHere, local_read}
 use Rattle.reads_back.proofs.LeanTargets.{ArePathsOr, IsLow, IsPathOr, targets_low}
 use Rattle.reads_back.proofs.Marks.{SamePart, ArePartsLeft}
 use Rattle.reads_back.proofs.MarksSame.{ArePartsMade}
 use Rattle.reads_back.proofs.AssignmentStands.{assignment_read}
-use Rattle.reads_back.proofs.NoTables.{no_table}
 use Rattle.reads_back.proofs.ReturnsRead.{return_read}
 use Rattle.reads_back.proofs.LocalFunctionsRead.{local_function_read}
 use Rattle.reads_back.proofs.MarksSame.{OwnPartsMade}
@@ -47,6 +45,11 @@ abbrev pub StartsWith : Function → Statement → Situation → (last : ℕ) �
 StartsWith f (local_statement names es) s last = StartHere f s.scope names last
 StartsWith f (local_function text body) s last = StartHere f s.scope (text ∷ []) last
 StartsWith f statement s last = Unit {0}
+
+-- an assignment is over behind its words
+abbrev pub EndsAt : Function → Statement → Situation → (last : ℕ) → Type 0
+EndsAt f (assignment targets es) s last = IsOver f s.scope s.base last
+EndsAt f statement s last = Unit {0}
 
 -- what is known of the functions that are left where so many were made, and of the parts of the source that they are
 pub record AreLeft (f : Function) (g : Fn) (lefts : ℕ → List (Option Inner)) (of : ℕ → Part) : Type 0 where
@@ -105,28 +108,28 @@ module _ {f : Function} {g : Fn} {active : List Active} {listed : List ℕ} {z :
   on_reads line on text has (inl path) = path_reads made.is_function made.all on has (first_of_both _ _ path)
   on_reads line on text has (inr few) = (reads_all made.is_function made.all on has (omega (arith, few))).one
 
-  target_reads : (target : Expression) → IsActTarget target → IndexesNoTable target → IsPathOr (IsLow 200) target → ReadsTarget f g active listed target
-  target_reads (name_expression line text) is begins few = tt
-  target_reads (index_expression line on key) is begins (inl path) = not_so path
-  target_reads (index_expression line on key) is begins (inr few) = ((reads_all made.is_function made.all on is.0 (omega (arith, few))).one, (reads_all made.is_function made.all key is.1 (omega (arith, few))).one, no_table g active on begins)
-  target_reads (field_expression line on text) is begins few = (on_reads line on text is few, no_table g active on begins)
-  target_reads target is begins few = absurd is
+  target_reads : (target : Expression) → IsActTarget target → IsPathOr (IsLow 200) target → ReadsTarget f g active listed target
+  target_reads (name_expression line text) is few = tt
+  target_reads (index_expression line on key) is (inl path) = not_so path
+  target_reads (index_expression line on key) is (inr few) = ((reads_all made.is_function made.all on is.0 (omega (arith, few))).one, (reads_all made.is_function made.all key is.1 (omega (arith, few))).one)
+  target_reads (field_expression line on text) is few = on_reads line on text is few
+  target_reads target is few = absurd is
 
-  targets_read : (targets : Expressions) → AreActTargets targets → AllIndexNoTables targets → ArePathsOr (IsLow 200) targets → ReadsTargets f g active listed targets
-  targets_read no_expressions are begins few = tt
-  targets_read (syntax.expression target targets) are begins few = (target_reads target are.0 begins.0 few.0, targets_read targets are.1 begins.1 few.1)
+  targets_read : (targets : Expressions) → AreActTargets targets → ArePathsOr (IsLow 200) targets → ReadsTargets f g active listed targets
+  targets_read no_expressions are few = tt
+  targets_read (syntax.expression target targets) are few = (target_reads target are.0 few.0, targets_read targets are.1 few.1)
 
-  pub act_read : (s : Statement) → IsAct s → StatementIndexesNoTable s → lean_depth s ≤ 199 → OwnListed f g active s → length listed ≡ length active → (after : List Active) (p q : Spot) → StatementAt g None s active after p q → (now : Situation) → HasLocals active listed now → now.left ≡ lefts p.functions → now.entries ≡ [] → now.taken ≡ now.seen →
-      IsQuiet f now.scope p.pc q.pc → StartsWith f s now q.pc → ActRead f g active s p.functions q.functions now p.pc q.pc
-  act_read (call_statement e) is begins few own as_many after p q stands now locals left_is empty taken quiet starts =
+  pub act_read : (s : Statement) → IsAct s → lean_depth s ≤ 199 → OwnListed f g active s → length listed ≡ length active → (after : List Active) (p q : Spot) → StatementAt g None s active after p q → (now : Situation) → HasLocals active listed now → now.left ≡ lefts p.functions → now.entries ≡ [] → now.taken ≡ now.seen →
+      IsQuiet f now.scope p.pc q.pc → StartsWith f s now q.pc → EndsAt f s now q.pc → ActRead f g active s p.functions q.functions now p.pc q.pc
+  act_read (call_statement e) is few own as_many after p q stands now locals left_is empty taken quiet starts ends =
       let call = call_read made.is_function made.all e is.0 is.1 (omega (arith, few)) in
       call_statement_read made.is_function e call.0 call.1 (can (call_statement e) is few own) p q now locals left_is empty taken quiet stands.part_at
-  act_read (assignment targets es) is begins few own as_many after p q stands now locals left_is empty taken quiet starts =
-      assignment_read made.is_function made.all targets es is (targets_read targets is.targets begins (targets_low 200 targets es (omega (arith, few)))) (omega (arith, few, lean_values targets es)) (can (assignment targets es) is few own) p q now locals left_is empty taken quiet stands.part_at
-  act_read (local_statement names es) is begins few own as_many after p q stands now locals left_is empty taken quiet starts =
+  act_read (assignment targets es) is few own as_many after p q stands now locals left_is empty taken quiet starts ends =
+      assignment_read made.is_function made.all targets es is (targets_read targets is.targets (targets_low 200 targets es (omega (arith, few)))) (omega (arith, few, lean_values targets es)) (can (assignment targets es) is few own) p q now locals left_is empty taken quiet ends stands.part_at
+  act_read (local_statement names es) is few own as_many after p q stands now locals left_is empty taken quiet starts ends =
       local_read made.is_function made.all names es is.1 (omega (arith, few)) (can (local_statement names es) is few own) after p q now locals left_is empty taken quiet starts stands
-  act_read (return_statement es) is begins few own as_many after p q stands now locals left_is empty taken quiet starts =
+  act_read (return_statement es) is few own as_many after p q stands now locals left_is empty taken quiet starts ends =
       return_read made.is_function made.all es is (omega (arith, few)) (can (return_statement es) is few own) p q now locals left_is empty taken quiet stands.part_at
-  act_read (local_function text body) is begins few own as_many after p q stands now locals left_is empty taken quiet starts =
+  act_read (local_function text body) is few own as_many after p q stands now locals left_is empty taken quiet starts ends =
       local_function_read made.is_function made.all as_many made.is_function.told text body (can (local_function text body) is few own) after p q stands now locals left_is empty taken quiet starts
-  act_read s is begins few own as_many after p q stands now locals left_is empty taken quiet starts = absurd is
+  act_read s is few own as_many after p q stands now locals left_is empty taken quiet starts ends = absurd is

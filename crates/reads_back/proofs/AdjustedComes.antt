@@ -139,7 +139,7 @@ module _ {f : Function} {g : Fn} {active : List Active} {listed : List ℕ} (is_
   -- as many values as are wanted, or more
   come_alone : IsWanted f s q.pc → count ≤ length rels → AllNextAt g rels active free p q → ComeHere
   come_alone wanted enough at =
-      let come = all_come f g active listed 200 es (each_read is_function all es has (omega arith) few) free p q s locals is quiet wanted at in
+      let come = all_come f g active listed 200 es (each_read is_function all es has (omega arith) few) free p q s locals is quiet (λ only. wanted) at in
       record {
         from = come.values;
         are = come.are;
@@ -207,7 +207,7 @@ module _ {f : Function} {g : Fn} {active : List Active} {listed : List ℕ} (is_
       let on = all_forward f g active listed 200 es reads free p mid front_at in
       let back : mid.pc ≤ q.pc = omega (arith, at.word.next) in
       let begins = word_begins (free + length rels) is_function at.word (abc_is_read is_function at.word) refl (omega arith) in
-      let front = singles_come f g active listed 200 es reads free p mid s locals is (quiet_before mid.pc back quiet) begins front_at in
+      let front = singles_come f g active listed 200 es reads free p mid s locals is (quiet_before mid.pc back quiet) (quiet.stays mid.pc on (omega (arith, at.word.next))) begins front_at in
       let size = count_of_entries front.entries front.values front.singles in
       let next : free + length rels ≡ next_free (behind_all front) = omega (arith, is, length-append s.entries front.entries, size, front.counts) in
       then_cleared (sym (opens_by_last g es) ∙ opens) mid front next (quiet_same front.same (quiet_from mid.pc on quiet)) n some counts at

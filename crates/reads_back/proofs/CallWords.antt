@@ -27,6 +27,7 @@ use Rattle.reads_back.proofs.WordsBegin.{begins_wants, word_wants}
 use Rattle.reads_back.proofs.WordsRead.{IsFunction, IsQuiet, abc_is_read, quiet_before, quiet_from, turn_there, word_of, word_there}
 use Rattle.reads_back.specs.Cores.{IsCalled, Counted, CountedValues, called_by}
 use Rattle.reads_back.proofs.Deeper.{call_so}
+use Rattle.recover_expr.specs.Items.{all_stay}
 
 -- ---- what the word of a call makes
 
@@ -128,8 +129,8 @@ call_reads_from op pc a b c base (inl is) above = ap (λ (op : Op). reads_from (
 call_reads_from op pc a b c base (inr is) above = ap (λ (op : Op). reads_from (instr_by pc (Piece.Abc op a b c)) base) is ∙ le-leb base a above
 
 -- it reads the register of its function
-call_wants : {f : Function} {g : Fn} {p q : Spot} (op : Op) (a b c : ℕ) (s : Situation) → IsFunction f g → IsCallWord op → s.base ≤ a → WordAt g (Piece.Abc op a b c) p q → IsWanted f s p.pc
-call_wants {p = p} op a b c s is_function by above at = word_wants s is_function at (abc_is_read is_function at) (call_reads_from op p.pc a b c s.base by above)
+call_wants : {f : Function} {g : Fn} {p q : Spot} (op : Op) (a b c : ℕ) (s : Situation) → all_stay f s.scope p.pc ≡ true → IsFunction f g → IsCallWord op → s.base ≤ a → WordAt g (Piece.Abc op a b c) p q → IsWanted f s p.pc
+call_wants {p = p} op a b c s stay is_function by above at = word_wants s stay is_function at (abc_is_read is_function at) (call_reads_from op p.pc a b c s.base by above)
 
 -- ---- a function and its arguments
 
@@ -184,12 +185,20 @@ module _ {f : Function} {g : Fn} {active : List Active} {listed : List ℕ} {On 
       on_reads.begins free p at.mid (omega (arith, within, given_reads.forward (free + 1) at.mid at.last at.given_at, at.word.next)) at.on_at
 
   -- what is called is wanted by the first word of the arguments, or by that of the call
-  on_wanted : (free : ℕ) (op : Op) (want : Want) (p q : Spot) (s : Situation) → free ≡ next_free s → q.pc ≤ f.last → IsCallWord op → (at : CallAt g on_part given active free op want p q) → IsWanted f s at.mid.pc
-  on_wanted free op want p q s is within by at = by_arguments (given_reads.begins (free + 1) at.mid at.last (omega (arith, at.word.next, within)) at.given_at)
+  on_wanted : (free : ℕ) (op : Op) (want : Want) (p q : Spot) (s : Situation) → free ≡ next_free s → IsQuiet f s.scope p.pc q.pc → IsCallWord op → (at : CallAt g on_part given active free op want p q) → IsWanted f s at.mid.pc
+  on_wanted free op want p q s is quiet by at = by_arguments (given_reads.begins (free + 1) at.mid at.last (omega (arith, at.word.next, quiet.within)) at.given_at)
     where
+      on : p.pc ≤ at.mid.pc
+      on = on_reads.forward free free p at.mid at.on_at
+
+      back : at.mid.pc ≤ at.last.pc
+      back = given_reads.forward (free + 1) at.mid at.last at.given_at
+
       by_arguments : (at.mid.pc ≡ at.last.pc) ⊎ Begins f (free + 1) at.mid.pc → IsWanted f s at.mid.pc
-      by_arguments (inr begins) = begins_wants s begins (omega (arith, is))
-      by_arguments (inl same) = subst (λ (pc : ℕ). IsWanted f s pc) (sym same) (call_wants op free (count_field 1 given.count) (count_field 1 want) s is_function by (omega (arith, is)) at.word)
+      by_arguments (inr begins) = begins_wants s (quiet.stays at.mid.pc on (omega (arith, back, at.word.next))) begins (λ none. omega (arith, is, none))
+      by_arguments (inl same) =
+          let stay = quiet.stays at.last.pc (omega (arith, on, back)) (omega (arith, at.word.next)) in
+          subst (λ (pc : ℕ). IsWanted f s pc) (sym same) (call_wants op free (count_field 1 given.count) (count_field 1 want) s stay is_function by (omega (arith, is)) at.word)
 
   call_comes : (free : ℕ) (op : Op) (want : Want) (p q : Spot) (s : Situation) → HasLocals active listed s → free ≡ next_free s → IsQuiet f s.scope p.pc q.pc → IsCallWord op → CallAt g on_part given active free op want p q →
       CallComes f (called_by On Given p.functions q.functions) (suc deep) s op free (count_field 1 want) p.pc q.pc
@@ -197,7 +206,7 @@ module _ {f : Function} {g : Fn} {active : List Active} {listed : List ℕ} {On 
       let on_first = on_reads.forward free free p at.mid at.on_at in
       let later : at.last.pc < q.pc = omega (arith, at.word.next) in
       let before = quiet_before at.last.pc (omega (arith, later)) quiet in
-      let one = comes_next on_reads free p at.mid s locals is (quiet_before at.mid.pc (given_reads.forward (free + 1) at.mid at.last at.given_at) before) (on_wanted free op want p q s is quiet.within by at) at.on_at in
+      let one = comes_next on_reads free p at.mid s locals is (quiet_before at.mid.pc (given_reads.forward (free + 1) at.mid at.last at.given_at) before) (on_wanted free op want p q s is quiet by at) at.on_at in
       let next : free + 1 ≡ next_free (behind_one one) = omega (arith, is, length-append s.entries (one.entry ∷ [])) in
       let there : HasLocals active listed (behind_one one) = locals_then one.same locals in
       let some : 0 < length (behind_one one).entries = omega (arith, length-append s.entries (one.entry ∷ [])) in

@@ -1,5 +1,5 @@
 -- What is known behind the words of a value, and before the last of them.
-use Rattle.std.proofs.Common.{◌≡◌, ◌≢◌, ℕ, suc, ◌*◌, ◌+◌, ◌<◌, ◌≤◌, ◌⊎◌, nat_lt, Bool, true, false, ◌||◌, ◌&&◌, List, [], ◌∷◌, ◌++◌, length, None, Some, refl, sym, ◌∙◌, inl, inr}
+use Rattle.std.proofs.Common.{◌≡◌, ◌≢◌, ℕ, suc, ◌*◌, ◌+◌, ◌<◌, ◌≤◌, ◌⊎◌, Bool, true, false, ◌||◌, ◌&&◌, List, [], ◌∷◌, ◌++◌, length, None, Some, refl, sym, ◌∙◌, inl, inr}
 use Rattle.lua_tree.specs.Syntax.{Expression}
 use Rattle.lua_tree.specs.WellFormed.{depth_of_expression}
 use Rattle.opcode.specs.declared.op.Op.{Op}
@@ -10,7 +10,7 @@ use Rattle.core_expr.specs.Values.{Value, Values, OperandValue}
 use Rattle.recover_expr.specs.Drafts.{makes}
 use Rattle.recover_expr.specs.Effects.{makes_value, reads_from}
 use Rattle.recover_expr.specs.Entries.{Entries, EntryValue, value_entry, open_entry, single_of, singles_of, take_list, is_temporary}
-use Rattle.recover_expr.specs.Items.{is_read_behind, is_so, stores_alone}
+use Rattle.recover_expr.specs.Items.{all_stay, is_read_behind, is_so, makes_above, stores_alone}
 use Rattle.recover_expr.specs.Lists.{is_nil, value_count}
 use Rattle.recover_expr.specs.Locals.{Scope, starting}
 use Rattle.recover_expr.specs.Reading.{read_word, turn_at, turn_of}
@@ -35,20 +35,29 @@ IsCallWord op = (op ≡ Op.Call) ⊎ (op ≡ Op.TailCall)
 
 -- ---- the next words
 
--- the word at a pc makes a value for a register from this one on
+-- the word at a pc makes a value for this register, or for the second one above it: the name of a method
 pub record Begins (f : Function) (from pc : ℕ) : Type 0 where
   pub instr : Instr
   pub there : instr_at f pc ≡ Some instr
   pub makes : makes_value instr.op ≡ true
-  pub above : from ≤ instr.a
+  pub register : (instr.a ≡ from) ⊎ (instr.a ≡ from + 2)
 
--- a word at a pc wants what stands in the lowest register of the statement: it reads a register of the statement, or makes a value for a higher one, or it is a store behind which the next word reads one
-abbrev pub wants_lowest : Function → (base pc : ℕ) → Instr → Bool
-wants_lowest f base pc i = reads_from i base || ((makes_value i.op && nat_lt base i.a) || (stores_alone i base && is_read_behind f base pc i))
+-- words of an operand: there are none, and no register is taken, or the first makes a value
+abbrev pub BeginsOrNone : Function → (free free1 first last : ℕ) → Type 0
+BeginsOrNone f free free1 first last = ((first ≡ last) × (free1 ≡ free)) ⊎ Begins f free first
+
+-- a word at a pc wants what stands in the lowest register of the statement, where no local is over: it reads a register of the statement, or makes a value for a higher one, or it is a store behind which the next word reads one
+abbrev pub wants_lowest : Function → Scope → (base pc : ℕ) → Instr → Bool
+wants_lowest f scope base pc i = all_stay f scope pc && (reads_from i base || (makes_above f base pc i || (stores_alone i base && is_read_behind f base pc i)))
 
 -- what comes to the next free register is not the lowest of the statement; or a local starts behind it; or the word behind it wants it
 abbrev pub IsWanted : Function → Situation → (last : ℕ) → Type 0
-IsWanted f s last = (0 < length s.entries) ⊎ (0 < starting f.of.locals last s.scope) ⊎ (is_so (wants_lowest f s.base last) (instr_at f last) ≡ true)
+IsWanted f s last = (0 < length s.entries) ⊎ (0 < starting f.of.locals last s.scope) ⊎ (is_so (wants_lowest f s.scope s.base last) (instr_at f last) ≡ true)
+
+-- a statement is over where a pc is reached: no local starts there, and the words from there on want nothing of it
+pub record IsOver (f : Function) (scope : Scope) (base pc : ℕ) : Type 0 where
+  pub starts : starting f.of.locals pc scope ≡ 0
+  pub unwanted : is_so (wants_lowest f scope base pc) (instr_at f pc) ≡ false
 
 -- ---- one value
 
@@ -159,7 +168,7 @@ IsOperandWanted f s free x free1 last = x ≡ free → free1 ≡ free + 1 → Is
 -- where its words stand, if there are any
 pub record ReadsOperand (f : Function) (g : Fn) (active : List Active) (listed : List ℕ) (Is : Counted OperandValue) (deep : ℕ) (to : (free x free1 : ℕ) → Stretch) : Type 0 where
   pub forward : (free x free1 : ℕ) (p q : Spot) → to free x free1 p q → p.pc ≤ q.pc
-  pub begins : (free x free1 : ℕ) (p q : Spot) → q.pc ≤ f.last → to free x free1 p q → (p.pc ≡ q.pc) ⊎ Begins f free p.pc
+  pub begins : (free x free1 : ℕ) (p q : Spot) → q.pc ≤ f.last → to free x free1 p q → BeginsOrNone f free free1 p.pc q.pc
   pub comes : (free x free1 : ℕ) (p q : Spot) (s : Situation) → HasLocals active listed s → free ≡ next_free s → IsQuiet f s.scope p.pc q.pc → IsOperandWanted f s free x free1 q.pc → to free x free1 p q →
       OperandComes f (Is p.functions q.functions) deep s free x free1 p.pc q.pc
 

@@ -26,7 +26,7 @@ use Rattle.scheme_stands.specs.Words.{Fn, IsRead, Seq, Spot, Stretch, WordAt, in
 use Rattle.reads_back.specs.Cores.{IsOperand}
 use Rattle.reads_back.proofs.BehindWords.{HasLocals, SameLocals, behind_words, locals_then, quiet_same, same_then}
 use Rattle.reads_back.proofs.BothOperands.{counted, seen_with_both, as_operand, first_is_read, second_is_read}
-use Rattle.reads_back.proofs.Comes.{Begins, IsOperandWanted, IsWanted, ReadsCore}
+use Rattle.reads_back.proofs.Comes.{IsOperandWanted, IsWanted, ReadsCore, BeginsOrNone}
 use Rattle.reads_back.proofs.HeldOperands.{IsTaken, Kept, ReadsHeld, StandsIn, entries_in, in_local, in_next, in_word, operand_of, rk_held}
 use Rattle.reads_back.proofs.NameReads.{AreListed}
 use Rattle.reads_back.proofs.OperandReads.{register_popped}
@@ -220,37 +220,47 @@ module _ {f : Function} {g : Fn} {active : List Active} {listed : List ℕ} (lef
   abbrev BothAt : Stretch
   BothAt = TwoAt (RkAt g active (related g left)) (RkAt g active (related g right)) (length active) (λ x y. Seq (WordAt g (piece x y)) (WordAt g (Piece.Jump Op.Jmp 0 label)))
 
-  first_wanted : (p q : Spot) (s : Situation) → length active ≡ next_free s → q.pc ≤ f.last → (at : BothAt p q) → IsOperandWanted f s (length active) at.x at.free1 at.mid.pc
-  first_wanted p q s is within at at_x at_free = by_second (right_held.begins at.free1 at.y at.free2 at.mid at.last (omega (arith, at.words_at.first_at.next, at.words_at.second_at.next, within)) at.right_at) (left_held.takes (length active) at.x at.free1 p at.mid at.left_at)
+  first_wanted : (p q : Spot) (s : Situation) → length active ≡ next_free s → IsQuiet f s.scope p.pc q.pc → (at : BothAt p q) → IsOperandWanted f s (length active) at.x at.free1 at.mid.pc
+  first_wanted p q s is quiet at at_x at_free =
+      by_second (right_held.begins at.free1 at.y at.free2 at.mid at.last (omega (arith, at.words_at.first_at.next, at.words_at.second_at.next, quiet.within)) at.right_at) (left_held.takes (length active) at.x at.free1 p at.mid at.left_at)
     where
-      by_second : (at.mid.pc ≡ at.last.pc) ⊎ Begins f at.free1 at.mid.pc → IsTaken (length active) at.x at.free1 → IsWanted f s at.mid.pc
-      by_second (inr second) taken = begins_wants s second (omega (arith, is, at_free))
-      by_second (inl same) (inl none) = absurd (omega (arith, none, at_free))
-      by_second (inl same) (inr next) =
+      on : p.pc ≤ at.mid.pc
+      on = left_held.forward (length active) at.x at.free1 p at.mid at.left_at
+
+      back : at.mid.pc ≤ at.last.pc
+      back = right_held.forward at.free1 at.y at.free2 at.mid at.last at.right_at
+
+      by_second : BeginsOrNone f at.free1 at.free2 at.mid.pc at.last.pc → IsTaken (length active) at.x at.free1 → IsWanted f s at.mid.pc
+      by_second (inr second) taken = begins_wants s (quiet.stays at.mid.pc on (omega (arith, back, at.words_at.first_at.next, at.words_at.second_at.next))) second (λ none. omega (arith, is, at_free, none))
+      by_second (inl (same, still)) (inl none) = absurd (omega (arith, none, at_free))
+      by_second (inl (same, still)) (inr next) =
           let word = at.words_at.first_at in
           let few : at.x < 256 = omega (arith, next.0, next.1) in
           let first = reads.first at.last.pc at.x at.y s.base (omega (arith, is, at_x)) few in
-          subst (λ (pc : ℕ). IsWanted f s pc) (sym same) (word_wants s is_function word (reads.read is_function at.x at.y word) first)
+          subst (λ (pc : ℕ). IsWanted f s pc) (sym same) (word_wants s (quiet.stays at.last.pc (omega (arith, on, back)) (omega (arith, word.next, at.words_at.second_at.next))) is_function word (reads.read is_function at.x at.y word) first)
 
-  second_wanted : (p q : Spot) (t : Situation) (at : BothAt p q) → at.free1 ≡ next_free t → IsOperandWanted f t at.free1 at.y at.free2 at.last.pc
-  second_wanted p q t at is at_y at_free = by (right_held.takes at.free1 at.y at.free2 at.mid at.last at.right_at)
+  second_wanted : (p q : Spot) (t : Situation) → IsQuiet f t.scope p.pc q.pc → (at : BothAt p q) → at.free1 ≡ next_free t → IsOperandWanted f t at.free1 at.y at.free2 at.last.pc
+  second_wanted p q t quiet at is at_y at_free = by (right_held.takes at.free1 at.y at.free2 at.mid at.last at.right_at)
     where
       by : IsTaken at.free1 at.y at.free2 → IsWanted f t at.last.pc
       by (inl none) = absurd (omega (arith, none, at_free))
       by (inr next) =
           let word = at.words_at.first_at in
           let few : at.y < 256 = omega (arith, next.0, next.1) in
-          word_wants t is_function word (reads.read is_function at.x at.y word) (reads.second at.last.pc at.x at.y t.base (omega (arith, is, at_y)) few)
+          let on = left_held.forward (length active) at.x at.free1 p at.mid at.left_at in
+          let back = right_held.forward at.free1 at.y at.free2 at.mid at.last at.right_at in
+          let stay = quiet.stays at.last.pc (omega (arith, on, back)) (omega (arith, word.next, at.words_at.second_at.next)) in
+          word_wants t stay is_function word (reads.read is_function at.x at.y word) (reads.second at.last.pc at.x at.y t.base (omega (arith, is, at_y)) few)
 
   both_come : (p q : Spot) (s : Situation) → HasLocals active listed s → length active ≡ next_free s → IsQuiet f s.scope p.pc q.pc → (at : BothAt p q) → BothCome f g active listed left right p.functions at.last.functions s at.x at.y p.pc at.last.pc
   both_come p q s locals is quiet at =
       let on = left_held.forward (length active) at.x at.free1 p at.mid at.left_at in
       let back = right_held.forward at.free1 at.y at.free2 at.mid at.last at.right_at in
       let before = quiet_before at.last.pc (omega (arith, at.words_at.first_at.next, at.words_at.second_at.next)) quiet in
-      let one = left_held.comes (length active) at.x at.free1 p at.mid s locals is (quiet_before at.mid.pc back before) (first_wanted p q s is quiet.within at) at.left_at in
+      let one = left_held.comes (length active) at.x at.free1 p at.mid s locals is (quiet_before at.mid.pc back before) (first_wanted p q s is quiet at) at.left_at in
       let t = behind_words one.scope one.seen (entries_in one.kept) s in
       let next : at.free1 ≡ next_free t = entries_count f (length active) listed s at.x at.free1 one.kept is one.stands in
-      let two = right_held.comes at.free1 at.y at.free2 at.mid at.last t (locals_then one.same locals) next (quiet_same one.same (quiet_from at.mid.pc on before)) (second_wanted p q t at next) at.right_at in
+      let two = right_held.comes at.free1 at.y at.free2 at.mid at.last t (locals_then one.same locals) next (quiet_same one.same (quiet_from at.mid.pc on before)) (second_wanted p q t (quiet_same one.same quiet) at next) at.right_at in
       record {
         one = one.kept;
         two = two.kept;

@@ -27,6 +27,7 @@ use Rattle.reads_back.proofs.ValueWords.{next_free, place_of_next}
 use Rattle.reads_back.proofs.WordsBegin.{begins_wants, wanted_above}
 use Rattle.reads_back.proofs.WordsRead.{IsFunction, IsQuiet, abc_is_read, quiet_before, quiet_from, turn_there, word_of, word_there}
 use Rattle.reads_back.proofs.Deeper.{spine_so, made_so}
+use Rattle.reads_back.proofs.FurtherWords.{spine_further}
 
 -- ---- a value alone, and with others behind it
 
@@ -161,7 +162,9 @@ module _ {f : Function} {g : Fn} {active : List Active} {listed : List ℕ} wher
     one_of : (free free1 : ℕ) (p q : Spot) (s : Situation) → HasLocals active listed s → free ≡ next_free s → IsQuiet f s.scope p.pc q.pc → (at : SpineAt g left right active free free1 p q) → Comes f (First p.functions at.mid.functions) deep s p.pc at.mid.pc
     one_of free free1 p q s locals is quiet at =
         let back = rest.forward (free + 1) free1 at.mid q at.rest in
-        let wanted = begins_wants s (rest.begins (free + 1) free1 at.mid q quiet.within at.rest) (omega (arith, is)) in
+        let on = first.forward free free p at.mid at.first in
+        let later = spine_further rest (free + 1) free1 at.mid q s locals (omega (arith, is)) quiet.within at.rest in
+        let wanted = begins_wants s (quiet.stays at.mid.pc on later) (rest.begins (free + 1) free1 at.mid q quiet.within at.rest) (λ none. omega (arith, is, none)) in
         comes_next first free p at.mid s locals is (quiet_before at.mid.pc back quiet) wanted at.first
 
     rest_of : (free free1 : ℕ) (p q : Spot) (s : Situation) → HasLocals active listed s → free ≡ next_free s → IsQuiet f s.scope p.pc q.pc → (at : SpineAt g left right active free free1 p q) → (one : Comes f (First p.functions at.mid.functions) deep s p.pc at.mid.pc) →

@@ -1,6 +1,7 @@
 -- A local that is a part of a target and itself a target further right is copied to the next register, which that target uses: what the targets say stays the same.
 use Rattle.std.proofs.Common.{◌≡◌, ℕ, zero, suc, ◌+◌, ◌<◌, ◌≤◌, ◌⊎◌, max, Bool, true, false, cond, ◌||◌, ◌&&◌, List, [], ◌∷◌, ◌++◌, length, length-append, Some, refl, sym, ap, ap₂, ◌∙◌, subst, arith, inl, inr, ⊎_elim}
 use Rattle.std.proofs.lemmas.Bool.Decides.{nat_tests}
+use Rattle.std.proofs.lemmas.Option.{slice_get_within}
 use Rattle.std.proofs.Math.Logic.{⊎_map}
 use Rattle.std.specs.Prelude.{◌==◌}
 use Rattle.lua_num.specs.Bytes.{Text}
@@ -23,7 +24,7 @@ use Rattle.reads_back.proofs.BehindWords.{HasLocals, quiet_same, locals_then}
 use Rattle.reads_back.proofs.BothOperands.{counted}
 use Rattle.reads_back.proofs.HeldOperands.{Kept, in_word, in_local, in_next, counts_none, operand_of}
 use Rattle.reads_back.proofs.NameReads.{local_makes}
-use Rattle.reads_back.proofs.PartsCome.{ArePlaced, IsNoMaker, IsPlaced, KeptIn, Leads, PartsCome, UsesAny, UsesKept, UsesTarget, grows_by, kept_grows, leads_nowhere, leads_then, target_grows}
+use Rattle.reads_back.proofs.PartsCome.{ArePlaced, IsLower, IsPlaced, KeptIn, Leads, PartsCome, UsesAny, UsesKept, UsesTarget, grows_by, kept_grows, leads_nowhere, leads_then, target_grows}
 use Rattle.reads_back.proofs.PartsRead.{value_of}
 use Rattle.reads_back.proofs.Reaches.{Reaches, here, reaches_on, reaches_then, word}
 use Rattle.reads_back.proofs.StoredTargets.{Destination, seen_with, seen_with_all, target_to, targets_to, to_global, to_local, to_part, to_upvalue}
@@ -61,7 +62,8 @@ record KeptCopied (f : Function) (count : ℕ) (listed : List ℕ) (entries more
   value_same : value_of to ≡ value_of kept
   operand_same : operand_of to ≡ operand_of kept
   is_value : IsValueKept kept → IsValueKept to
-  no_maker : IsNoMaker kept → IsNoMaker to
+  lower_on : (key : Kept) (y : ℕ) → IsLower kept field key y → IsLower to (cond moved copy field) key y
+  lower_key : (on : Kept) (x from up : ℕ) → KeptIn f count listed entries from on x up → IsLower on x kept field → IsLower on x to (cond moved copy field)
   uses : (n : ℕ) → UsesKept count kept field n → UsesKept count to (cond moved copy field) n
   new : moved ≡ true → UsesKept count to (cond moved copy field) (length entries)
   keys : counted (cond moved copy field) ≡ counted field
@@ -84,6 +86,17 @@ record TargetsCopied (f : Function) (g : Fn) (count : ℕ) (listed : List ℕ) (
   seen : (n : ℕ) → seen_with_all copied n ≡ seen_with_all ds n
 
 module _ (f : Function) (g : Fn) (count : ℕ) (listed : List ℕ) (entries : Entries) (x copy : ℕ) (below : x < count) (few : count ≤ 250) (room : copy < 250) (next : copy ≡ count + length entries) where
+  -- a copy is no constructor, and stands above all that is there
+  copy_no_table : (key : Kept) (y : ℕ) → IsLower (in_next (value_entry (local_value x)) (local_value x)) copy key y
+  copy_no_table (in_next entry v) y = λ maker. not_so maker
+  copy_no_table (in_word number) y = tt
+  copy_no_table (in_local r) y = tt
+
+  copy_above : (on : Kept) (y low high : ℕ) → KeptIn f count listed entries low on y high → IsLower on y (in_next (value_entry (local_value x)) (local_value x)) copy
+  copy_above (in_next entry v) y low high at = λ maker. let within : at.0 < length entries = slice_get_within entries at.0 entry at.3 in omega (arith, at.1, next, within)
+  copy_above (in_word number) y low high at = tt
+  copy_above (in_local r) y low high at = tt
+
   kept_copied : (moved : Bool) (kept : Kept) (low field high : ℕ) → (moved ≡ true → field ≡ x) → KeptIn f count listed entries low kept field high → KeptCopied f count listed entries (with_local x entries) low kept field high moved copy
   kept_copied false kept low field high is at = record {
     to = kept;
@@ -91,7 +104,8 @@ module _ (f : Function) (g : Fn) (count : ℕ) (listed : List ℕ) (entries : En
     value_same = refl;
     operand_same = refl;
     is_value = λ value. value;
-    no_maker = λ none. none;
+    lower_on = λ key y lower. lower;
+    lower_key = λ on x from up at lower. lower;
     uses = λ n uses. uses;
     new = λ moved. not_so moved;
     keys = refl;
@@ -104,7 +118,8 @@ module _ (f : Function) (g : Fn) (count : ℕ) (listed : List ℕ) (entries : En
         value_same = ap local_value same;
         operand_same = ap (λ r. value_operand (local_value r)) same;
         is_value = λ value. tt;
-        no_maker = λ none. refl;
+        lower_on = λ key y lower. copy_no_table key y;
+        lower_key = λ on x from up at lower. copy_above on x from up at;
         uses = λ n uses. absurd uses;
         new = λ moved. next;
         keys = counts_none copy (omega (arith, room)) ∙ sym (counts_none field (omega (arith, at.0, at.1, at.2)));
@@ -135,7 +150,7 @@ module _ (f : Function) (g : Fn) (count : ℕ) (listed : List ℕ) (entries : En
           at_on = ap (cond on_moved copy) at.at_on;
           at_key = ap (cond key_moved copy) at.at_key;
           value = one.is_value at.value;
-          no_maker = one.no_maker at.no_maker;
+          lower = one.lower_on two.to (cond key_moved copy z) (two.lower_key on y low at.mid at.on_in at.lower);
           mid = at.mid;
           on_in = one.there;
           key_in = two.there;

@@ -71,7 +71,7 @@ split p (end ∷ first) more (other ∷ ends) behind same lasts gone =
 
 module _ (run : Run) where
   -- the ends of the locals that are active before a step
-  before_ends : (p : ℕ) (parted : Parted run p) → (ended_before p (at_step run p)).ends ≡ parted.ends
+  pub before_ends : (p : ℕ) (parted : Parted run p) → (ended_before p (at_step run p)).ends ≡ parted.ends
   before_ends p parted =
       let now = at_step run p in
       let count : still_active p now.ends ≡ length parted.ends = ap (still_active p) parted.all_ends ∙ still p parted.ends parted.behind parted.lasts parted.gone in

@@ -24,13 +24,12 @@ use Rattle.scheme_stands.specs.Relation.{FunctionOf, ItemsAt, related}
 use Rattle.scheme_stands.specs.Words.{Fn, IsRead, Spot, Stretch, WordAt, instr_by, meaning}
 use Rattle.reads_back.specs.Cores.{Counted, HasCore}
 use Rattle.reads_back.proofs.ClosureReads.{are_further}
-use Rattle.reads_back.proofs.Comes.{Begins}
-use Rattle.reads_back.proofs.HeldOperands.{ReadsHeld, operand_held, rk_held, taken_up, text_held}
+use Rattle.reads_back.proofs.Comes.{Begins, BeginsOrNone}
+use Rattle.reads_back.proofs.HeldOperands.{ReadsHeld, operand_held, rk_held, text_held}
 use Rattle.reads_back.proofs.NameReads.{AreListed}
-use Rattle.reads_back.proofs.Operators.{begins_lower}
 use Rattle.reads_back.proofs.Tests.{not_so}
 use Rattle.reads_back.proofs.ValueReads.{call_read, reads_all}
-use Rattle.reads_back.proofs.WordsBegin.{instr_is, word_begins}
+use Rattle.reads_back.proofs.WordsBegin.{instr_is, word_begins, begins_same}
 use Rattle.reads_back.proofs.WordsRead.{IsFunction, abc_is_read, abx_is_read}
 
 -- the only word between, but for its further words, makes a value for this register
@@ -86,10 +85,10 @@ module _ {f : Function} {g : Fn} {active : List Active} {listed : List ℕ} (is_
       let back = right.forward at.free1 at.y at.free2 at.mid at.last at.right_at in
       by_first (left.begins free at.x at.free1 p at.mid (omega (arith, back, last)) at.left_at) (right.begins at.free1 at.y at.free2 at.mid at.last last at.right_at)
     where
-      by_first : (p.pc ≡ at.mid.pc) ⊎ Begins f free p.pc → (at.mid.pc ≡ at.last.pc) ⊎ Begins f at.free1 at.mid.pc → BeginsFor f free r p.pc q.pc
+      by_first : BeginsOrNone f free at.free1 p.pc at.mid.pc → BeginsOrNone f at.free1 at.free2 at.mid.pc at.last.pc → BeginsFor f free r p.pc q.pc
       by_first (inr begins) second = inl begins
-      by_first (inl same) (inr begins) = inl (begins_lower (taken_up (left.takes free at.x at.free1 p at.mid at.left_at)) same begins)
-      by_first (inl same) (inl also) =
+      by_first (inl (same, at_free)) (inr begins) = inl (begins_same (sym at_free) same begins)
+      by_first (inl (same, at_free)) (inl (also, still)) =
           let word = at.words_at in
           behind_none (omega (arith, same, also)) (is_alone r is_function word (abc_is_read is_function word) makes refl (none (instr_by at.last.pc (Piece.Abc code r at.x at.y))))
 
@@ -119,11 +118,11 @@ module _ {f : Function} {g : Fn} {active : List Active} {listed : List ℕ} (is_
       let word = at.words_at in
       by_operand op word ((operand_held is_function all e (reads_all is_function all e has (omega (arith, few))).one).begins free at.x at.free1 p at.mid (omega (arith, within, word.next)) at.operand_at)
     where
-      by_operand : (op : UnaryOp) → WordAt g (Piece.Abc (unary_word op) r at.x 0) at.mid q → (p.pc ≡ at.mid.pc) ⊎ Begins f free p.pc → BeginsFor f free r p.pc q.pc
+      by_operand : (op : UnaryOp) → WordAt g (Piece.Abc (unary_word op) r at.x 0) at.mid q → BeginsOrNone f free at.free1 p.pc at.mid.pc → BeginsFor f free r p.pc q.pc
       by_operand op word (inr begins) = inl begins
-      by_operand UnaryOp.Neg word (inl same) = behind_none same (is_alone r is_function word (abc_is_read is_function word) refl refl refl)
-      by_operand UnaryOp.Not word (inl same) = behind_none same (is_alone r is_function word (abc_is_read is_function word) refl refl refl)
-      by_operand UnaryOp.Len word (inl same) = behind_none same (is_alone r is_function word (abc_is_read is_function word) refl refl refl)
+      by_operand UnaryOp.Neg word (inl (same, none)) = behind_none same (is_alone r is_function word (abc_is_read is_function word) refl refl refl)
+      by_operand UnaryOp.Not word (inl (same, none)) = behind_none same (is_alone r is_function word (abc_is_read is_function word) refl refl refl)
+      by_operand UnaryOp.Len word (inl (same, none)) = behind_none same (is_alone r is_function word (abc_is_read is_function word) refl refl refl)
 
   -- a folded number is loaded
   loaded_first : (folded : Option ℤ) (to : List Active → (free r : ℕ) → Stretch) (free r : ℕ) (p q : Spot) → (to active free r p q → BeginsFor f free r p.pc q.pc) → LoadOr folded g to active free r p q → BeginsFor f free r p.pc q.pc

@@ -31,6 +31,7 @@ use Rattle.reads_back.specs.ReadAs.{part_of}
 use Rattle.lua_tree.specs.WellFormed.{ends_block}
 use Rattle.reads_back.proofs.ActiveNames.{IsGood, NamedIn, named_both, texts_in}
 use Rattle.reads_back.proofs.ActsRead.{ActRead, Declares, kind_of_act, locals_of}
+use Rattle.reads_back.proofs.Comes.{IsOver}
 use Rattle.reads_back.proofs.DeclarationsRead.{StartHere}
 use Rattle.reads_back.proofs.FlowRead.{ActPart, Begins, KindRead, as_many, final_here, has_locals, last_is, upvalues_here, within_last, PartRead, kind_in}
 use Rattle.reads_back.proofs.FlowStarts.{declaration_starts, few_behind, from_at, quiet_to, row_from}
@@ -43,8 +44,9 @@ use Rattle.reads_back.proofs.Rewriting.{IsMadeBy, OwnListed, RewrittenAct, menti
 use Rattle.reads_back.proofs.SameStatements.{assigned_makes, assigned_stands}
 use Rattle.reads_back.proofs.SomeNames.{some_names}
 use Rattle.reads_back.proofs.StartingLocals.{StartFrom, start_later}
+use Rattle.reads_back.proofs.StepsOver.{act_over}
 use Rattle.reads_back.proofs.StatementsMeant.{statement_meant}
-use Rattle.reads_back.proofs.ActsKnown.{StartsWith, act_read, written}
+use Rattle.reads_back.proofs.ActsKnown.{EndsAt, StartsWith, act_read, written}
 use Rattle.reads_back.proofs.TakenEntries.{at_place}
 use Rattle.reads_back.proofs.Tests.{both_hold, not_so}
 use Rattle.reads_back.proofs.WordsRead.{IsQuiet}
@@ -154,13 +156,13 @@ module _ {f : Function} {g : Fn} {z : Maker} {lefts : ℕ → List (Option Inner
     pub final : Final (length m.labels) (statement_made (one_line_statement s) 1 None m) z
     final = subst (λ n. Final (length m.labels) n z) same_made (final_here of is)
 
-    module _ (now : Situation) (begins : Begins of at now) (rest : StartFrom (suc (pcs of (suc at))) (from_at of (suc at))) (own_from : StartFrom (pcs of (suc at)) (entries_by (pcs of) at kind part)) (starts : StartsWith f s now (length made.items)) where
+    module _ (now : Situation) (begins : Begins of at now) (rest : StartFrom (suc (pcs of (suc at))) (from_at of (suc at))) (own_from : StartFrom (pcs of (suc at)) (entries_by (pcs of) at kind part)) (starts : StartsWith f s now (length made.items)) (ends : EndsAt f s now (length made.items)) where
       act : ActRead f g m.active s (length m.functions) (length made.functions) now (length m.items) (length made.items)
       act =
           let last = last_is of is in
           let start = start_later (pcs of (suc at)) (suc (pcs of (suc at))) (from_at of (suc at)) (omega arith) rest in
-          let quiet = subst (λ pc. IsQuiet f now.scope (length m.items) pc) last (quiet_to of at kind part is (pcs of at) (pcs of (suc at)) now.scope begins.declared own_from start (within_last of is)) in
-          act_read here of.left s flow.is flow.begins flow.shallow own (as_many of at) made.active (spot m) (spot made) stands now (has_locals of begins) begins.left begins.entries begins.taken quiet starts
+          let quiet = subst (λ pc. IsQuiet f now.scope (length m.items) pc) last (quiet_to of at kind part is (pcs of at) (pcs of (suc at)) now.scope begins.declared begins.active (omega arith) own_from start (within_last of is)) in
+          act_read here of.left s flow.is flow.shallow own (as_many of at) made.active (spot m) (spot made) stands now (has_locals of begins) begins.left begins.entries begins.taken quiet starts ends
 
       rewritten : RewrittenAct f g m.active (listed_of m.active) z lefts (length m.functions) (length made.functions) s act.acted
       rewritten = written here of.left s flow.is flow.shallow own (length m.functions) (length made.functions) act.acted act.is
@@ -221,10 +223,12 @@ module _ {f : Function} {g : Fn} {z : Maker} {lefts : ℕ → List (Option Inner
       let makes = assigned_makes s m is.flow.formed in
       let stands = act_stands of is in
       let none = act_own of s is.fits m.active in
-      let read = act is other flow makes stands none now begins rest tt (act_starts s is.fits now (length made.items)) in
+      let over = subst (λ (base : ℕ). IsOver f now.scope base (pcs of (suc at))) (sym begins.base) (act_over of at (statement_part s) is now.scope begins.declared begins.active) in
+      let ends = over_ends other now (length made.items) (subst (IsOver f now.scope now.base) (last_is of is) over) in
+      let read = act is other flow makes stands none now begins rest tt (act_starts s is.fits now (length made.items)) ends in
       let counts = act_is g m.active (length now.scope.declared) (length m.functions) (length made.functions) s is.fits read.acted read.is in
       let count : 0 ≡ locals_of read.acted = sym counts.1 in
-      act_step is other flow makes stands none now begins rest tt _ count (read.kind ∙ counts.0) tt (act_part is other flow makes stands none now begins rest tt _ count)
+      act_step is other flow makes stands none now begins rest tt _ ends count (read.kind ∙ counts.0) tt (act_part is other flow makes stands none now begins rest tt _ ends count)
     where
       act_starts : (s : Statement) → IsActPart s → (now : Situation) (last : ℕ) → StartsWith f (as_assignment s) now last
       act_starts (call_statement e) fits now last = tt
@@ -232,13 +236,17 @@ module _ {f : Function} {g : Fn} {z : Maker} {lefts : ℕ → List (Option Inner
       act_starts (function_statement path method body) fits now last = tt
       act_starts s fits now last = absurd fits
 
+      over_ends : (s : Statement) (now : Situation) (last : ℕ) → IsOver f now.scope now.base last → EndsAt f s now last
+      over_ends (assignment targets es) now last over = over
+      over_ends s now last over = tt
+
   pub return_step_read : {at : ℕ} {es : Expressions} → StepIs of at StepKind.Return (values_part es) → (now : Situation) → Begins of at now → StartFrom (suc (pcs of (suc at))) (from_at of (suc at)) → KindRead of at StepKind.Return (values_part es) now
   return_step_read {at} {es} is now begins rest =
       let s = return_statement es in
-      let read = act is s is.flow refl is.stands tt now begins rest tt tt in
+      let read = act is s is.flow refl is.stands tt now begins rest tt tt tt in
       let counts = return_is g (before_at of at).active (length now.scope.declared) (length (before_at of at).functions) (length (made_at of at StepKind.Return (values_part es)).functions) es read.acted read.is in
       let count : 0 ≡ locals_of read.acted = sym counts.1 in
-      act_step is s is.flow refl is.stands tt now begins rest tt tt count (read.kind ∙ counts.0) tt (act_part is s is.flow refl is.stands tt now begins rest tt tt count)
+      act_step is s is.flow refl is.stands tt now begins rest tt tt tt count (read.kind ∙ counts.0) tt (act_part is s is.flow refl is.stands tt now begins rest tt tt tt count)
 
   -- ---- declarations
 
@@ -255,6 +263,11 @@ module _ {f : Function} {g : Fn} {z : Maker} {lefts : ℕ → List (Option Inner
       subst (StartHere f now.scope (text ∷ [])) (last_is of is) (declaration_starts of at end captured (statement_part (local_function text body)) is (both_hold _ _ is.flow.act.is.0 refl) rest now.scope begins.declared begins.active)
   declared_starts s fits is now begins rest = absurd fits
 
+  declared_ends : (s : Statement) → IsDeclarationPart s → (now : Situation) (last : ℕ) → EndsAt f (as_assignment s) now last
+  declared_ends (local_statement names es) fits now last = tt
+  declared_ends (local_function text body) fits now last = tt
+  declared_ends s fits now last = absurd fits
+
   pub declaration_step_read : {at end : ℕ} {captured : Bool} {s : Statement} → StepIs of at (StepKind.Declaration end captured) (statement_part s) → (now : Situation) → Begins of at now → StartFrom (suc (pcs of (suc at))) (from_at of (suc at)) →
       KindRead of at (StepKind.Declaration end captured) (statement_part s) now
   declaration_step_read {at} {end} {captured} {s} is now begins rest =
@@ -269,13 +282,14 @@ module _ {f : Function} {g : Fn} {z : Maker} {lefts : ℕ → List (Option Inner
       let own = own_listed of s is.fits is in
       let from = row_from (pcs of (suc at)) (pcs of (suc at)) (pcs of end) texts (omega arith) in
       let starts = declared_starts s is.fits is now begins rest in
-      let read = act is other flow makes stands own now begins rest from starts in
+      let ends = declared_ends s is.fits now (length made.items) in
+      let read = act is other flow makes stands own now begins rest from starts ends in
       let counts = declaration_is g m.active (length now.scope.declared) (length m.functions) (length made.functions) s is.fits read.acted read.is in
       let listed = length_entries (pcs of (suc at)) (pcs of end) texts in
       let count : length (entries_by (pcs of) at kind (statement_part s)) ≡ locals_of read.acted = listed ∙ sym counts.1 in
       let some = some_names texts (some_declared s is.fits flow.is) in
-      let later = act_later is other flow makes stands own now begins rest from starts count in
-      act_step is other flow makes stands own now begins rest from starts count (read.kind ∙ counts.0 ∙ ap₂ DraftKind.Declaration begins.declared (sym listed), omega (arith, some, listed)) (row_from (suc (pcs of at)) (pcs of (suc at)) (pcs of end) texts (omega (arith, later))) (act_part is other flow makes stands own now begins rest from starts count)
+      let later = act_later is other flow makes stands own now begins rest from starts ends count in
+      act_step is other flow makes stands own now begins rest from starts ends count (read.kind ∙ counts.0 ∙ ap₂ DraftKind.Declaration begins.declared (sym listed), omega (arith, some, listed)) (row_from (suc (pcs of at)) (pcs of (suc at)) (pcs of end) texts (omega (arith, later))) (act_part is other flow makes stands own now begins rest from starts ends count)
 
 -- ---- what ends no block
 

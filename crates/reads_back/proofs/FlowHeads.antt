@@ -127,7 +127,7 @@ module _ {f : Function} {g : Fn} {z : Maker} {lefts : ℕ → List (Option Inner
             let kind = StepKind.Head numeric foot end variables_end captured in
             let within = within_last of is in
             subst (λ first. IsQuiet f now.scope first pc) (sym same_items)
-            (quiet_to of at kind (head_part es texts) is (pcs of at) pc now.scope begins.declared (head_from of at numeric foot end variables_end captured es texts is is.flow.good pc behind_last)
+            (quiet_to of at kind (head_part es texts) is (pcs of at) pc now.scope begins.declared begins.active (omega (arith, behind_last)) (head_from of at numeric foot end variables_end captured es texts is is.flow.good pc behind_last)
             (start_later pc (suc (pcs of (suc at))) (from_at of (suc at)) (omega (arith, behind_last)) rest) (omega (arith, within, behind_last)))
 
       -- of a loop over numbers

@@ -30,7 +30,7 @@ module _ {f : Function} {g : Fn} {z : Maker} {lefts : ℕ → List (Option Inner
       IsQuiet f now.scope (pcs of at) (length (made_at of at kind part).items)
   quiet_here {at} {kind} {part} is now begins rest own =
       let start = start_later (pcs of (suc at)) (suc (pcs of (suc at))) (from_at of (suc at)) (omega arith) rest in
-      subst (λ pc. IsQuiet f now.scope (pcs of at) pc) (last_is of is) (quiet_to of at kind part is (pcs of at) (pcs of (suc at)) now.scope begins.declared own start (within_last of is))
+      subst (λ pc. IsQuiet f now.scope (pcs of at) pc) (last_is of is) (quiet_to of at kind part is (pcs of at) (pcs of (suc at)) now.scope begins.declared begins.active (omega arith) own start (within_last of is))
 
   -- where a step goes is in the code
   pub target_within : (target : ℕ) → target ≤ length code.steps → pcs of target ≤ f.last

@@ -1,17 +1,17 @@
 -- Where the words of a step are read no local starts but its own, which start behind its words, or where the head of a loop has its last word.
-use Rattle.std.proofs.Common.{◌≡◌, ◌≤◌, ℕ, zero, suc, ◌+◌, ◌-◌, Bool, true, false, List, [], ◌∷◌, ◌++◌, drop, length, refl, sym, ap, ap₂, ◌∙◌, arith, subst, le-leb, if◌then◌else◌}
+use Rattle.std.proofs.Common.{leb-true, ◌≡◌, ◌≤◌, ℕ, zero, suc, ◌+◌, ◌-◌, Bool, true, false, List, [], ◌∷◌, ◌++◌, drop, length, refl, sym, ap, ap₂, ◌∙◌, arith, subst, le-leb, if◌then◌else◌, ◌<◌}
 use Rattle.std.proofs.Math.Seq.{drop-append_seam}
 use Rattle.std.proofs.lemmas.Bool.{ne_eqb}
 use Rattle.std.proofs.lemmas.List.{length-map}
 use Rattle.std.proofs.lemmas.Option.{slice_get-map}
 use Rattle.std.specs.List.{prefix_len}
-use Rattle.std.specs.Prelude.{◌==◌, None, Option, Some, option_and_then, option_map, replicate, slice_get}
+use Rattle.std.specs.Prelude.{◌==◌, not, None, Option, Some, option_and_then, option_map, replicate, slice_get}
 use Rattle.lua_num.specs.Bytes.{Text}
 use Rattle.lua_tree.specs.Names.{are_some_names}
 use Rattle.lua_tree.specs.Syntax.{Expressions, Statements}
 use Rattle.proto.specs.declared.parts.LocVar.{LocVar}
 use Rattle.recover_expr.specs.Drafts.{Part, head_part}
-use Rattle.recover_expr.specs.Locals.{Scope, end_of, ends_within, innermost_end, starting}
+use Rattle.recover_expr.specs.Locals.{Scope, end_of, ends_within, innermost_end, starting, is_over}
 use Rattle.recover_expr.specs.Placing.{Steps}
 use Rattle.recover_expr.specs.Situation.{Function}
 use Rattle.recover_expr.specs.declared.steps.StepKind.{StepKind}
@@ -26,7 +26,7 @@ use Rattle.same_flow.proofs.LocalsListed as listed
 use Rattle.same_flow.proofs.StatementsTold.{run}
 use Rattle.reads_back.specs.Placed.{listed_before}
 use Rattle.reads_back.proofs.DeclarationsRead.{StartHere}
-use Rattle.reads_back.proofs.EndsFall.{Falling, ends_fall, last_of_all}
+use Rattle.reads_back.proofs.EndsFall.{Falling, before_ends, ends_fall, last_of_all}
 use Rattle.reads_back.proofs.FlowThere.{IsFlowBy, StepIs, before_at, few_now, made_at, pcs}
 use Rattle.reads_back.proofs.HeadsRead.{LoopStarts}
 use Rattle.reads_back.proofs.LocalsLeave.{end_there, last_there, listed_of}
@@ -37,7 +37,13 @@ use Rattle.reads_back.proofs.PlacedLocals.{count_before, kind_adds}
 use Rattle.reads_back.proofs.SomeNames.{good_names, some_names}
 use Rattle.reads_back.proofs.StartingLocals.{StartFrom, start_both, start_later}
 use Rattle.reads_back.proofs.StepsGrow.{pcs_grow}
+use Rattle.reads_back.proofs.Tests.{not_below}
 use Rattle.reads_back.proofs.WordsRead.{IsQuiet}
+
+-- what ends no earlier than at a pc is not over before it
+stays_before : (outer : Option ℕ) (end pc : ℕ) → ends_within outer end ≡ true → pc < end → not (is_over pc outer) ≡ true
+stays_before None end pc within before = refl
+stays_before (Some outer) end pc within before = let later : end ≤ outer = leb-true end outer within in ap not (not_below pc outer (omega (arith, later, before)))
 
 -- ---- entries that start later
 
@@ -95,15 +101,6 @@ module _ {Left : Type 0} {f : Function} {g : Fn} {z : Maker} {code : Steps} {par
     -- they are behind those that are declared
     next_are : (scope : Scope) → length scope.declared ≡ listed_before code params names ahead at → drop (length scope.declared) f.of.locals ≡ own_entries ++ from_at (suc at)
     next_are scope declared = let less = is.within in ap (λ n. drop n f.of.locals) declared ∙ next_entries at (omega (arith, less)) ∙ from_next
-
-    -- no local starts between two pcs, behind which the own ones start and the later ones
-    pub quiet_to : (first last : ℕ) (scope : Scope) → length scope.declared ≡ listed_before code params names ahead at → StartFrom last own_entries → StartFrom last (from_at (suc at)) → last ≤ f.last → IsQuiet f scope first last
-    quiet_to first last scope declared own later within = record {
-      none = λ pc from below.
-          ap (prefix_len (λ (entry : LocVar). entry.start == pc)) (next_are scope declared)
-          ∙ none_begin pc (own_entries ++ from_at (suc at)) (start_later (suc pc) last (own_entries ++ from_at (suc at)) (omega (arith, below)) (start_both last own_entries (from_at (suc at)) own later));
-      within = within;
-    }
 
     -- they are listed before the next step
     pub listed_next : listed_before code params names ahead (suc at) ≡ listed_before code params names ahead at + length own_entries
@@ -174,6 +171,24 @@ module _ {Left : Type 0} {f : Function} {g : Fn} {z : Maker} {code : Steps} {par
             let ended = end_there (pcs of) (all_entries code params names ahead) (before_at of at).active (before_place code params names ahead at).ends known (length (listed_of (before_at of at).active) - 1) one is_there in
             let no_later = last_there end (before_place code params names ahead at).ends (length (listed_of (before_at of at).active) - 1) ended.0 lasts ended.1 in
             ap (λ (outer : Option ℕ). ends_within outer (pcs of end)) ended.2 ∙ le-leb (pcs of end) (pcs of ended.0) (pcs_grow code params names ahead end ended.0 no_later)
+
+    -- those that are active before the step end behind it
+    lasts_behind : LastTo (suc at) (before_place code params names ahead at).ends
+    lasts_behind =
+        let less = is.within in
+        let parted = parted_at code of.plain params names ahead block of.laid at (omega (arith, less)) in
+        subst (LastTo (suc at)) (sym (before_ends (run code params names ahead) at parted)) parted.lasts
+
+    -- no local starts or is over between two pcs, behind which the own ones start and the later ones
+    pub quiet_to : (first last : ℕ) (scope : Scope) → length scope.declared ≡ listed_before code params names ahead at → scope.active ≡ listed_of (before_at of at).active → last ≤ pcs of (suc at) →
+        StartFrom last own_entries → StartFrom last (from_at (suc at)) → last ≤ f.last → IsQuiet f scope first last
+    quiet_to first last scope declared active before own later within = record {
+      none = λ pc from below.
+          ap (prefix_len (λ (entry : LocVar). entry.start == pc)) (next_are scope declared)
+          ∙ none_begin pc (own_entries ++ from_at (suc at)) (start_later (suc pc) last (own_entries ++ from_at (suc at)) (omega (arith, below)) (start_both last own_entries (from_at (suc at)) own later));
+      stays = λ pc from below. stays_before (innermost_end f.of.locals scope) (pcs of (suc at)) pc (within_all (suc at) scope active lasts_behind) (omega (arith, below, before));
+      within = within;
+    }
 
 -- ---- a declaration
 

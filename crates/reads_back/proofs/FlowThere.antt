@@ -15,13 +15,15 @@ use Rattle.core_expr.specs.Places.{name_of_entry, name_of_local, place}
 use Rattle.core_expr.specs.Values.{Inner}
 use Rattle.recover_expr.specs.Drafts.{Part, condition_part, head_part, nothing_part, statement_part, values_part}
 use Rattle.recover_expr.specs.Placing.{Steps}
-use Rattle.recover_expr.specs.Situation.{Function}
+use Rattle.opcode.specs.declared.op.Op.{Op}
+use Rattle.recover_expr.specs.Situation.{Function, instr_at}
+use Rattle.scheme.specs.declared.making.Piece.{Piece}
 use Rattle.recover_expr.specs.declared.steps.Step.{Step}
 use Rattle.recover_expr.specs.declared.steps.StepKind.{StepKind}
 use Rattle.scheme.specs.Making.{Ahead, Maker, Where, active_count, in_globals, in_register, in_upvalue}
 use Rattle.scheme.specs.declared.making.Active.{Active}
 use Rattle.scheme_stands.proofs.Growth.{Final, spot}
-use Rattle.scheme_stands.specs.Words.{Fn, Means, MeansBy}
+use Rattle.scheme_stands.specs.Words.{Fn, Means, MeansBy, instr_by}
 use Rattle.same_flow.specs.Declaring.{ClosesTell}
 use Rattle.same_flow.specs.Blocks.{tested_as}
 use Rattle.same_flow.specs.Listed.{all_entries, before_place, entries_by, entries_from, entries_of, entries_where, pc_of_step}
@@ -37,7 +39,6 @@ use Rattle.reads_back.specs.Acted.{IsAct, lean_depth}
 use Rattle.reads_back.specs.Assignments.{as_assignment}
 use Rattle.reads_back.specs.Cores.{AllHaveCores}
 use Rattle.reads_back.specs.Stepped.{KindAt, StepStands, begun_by}
-use Rattle.reads_back.specs.Straight.{StatementIndexesNoTable}
 use Rattle.reads_back.proofs.ActiveNames.{HasGoodNames, NamedIn, kind_brings, named_behind, named_longer, named_taken, params_named, texts_in, texts_of_entries}
 use Rattle.reads_back.proofs.ListedLocals.{own_named}
 use Rattle.reads_back.proofs.LocalsLeave.{listed_of, taken_few}
@@ -54,10 +55,9 @@ use Rattle.reads_back.proofs.Tests.{both_hold, first_of_both, second_of_both}
 
 -- ---- parts that are read
 
--- an act on one line, which stores to no element of a constructor
+-- an act on one line
 pub record IsFlowAct (s : Statement) : Type 0 where
   pub is : IsAct s
-  pub begins : StatementIndexesNoTable s
   pub shallow : lean_depth s ≤ 199
   pub on_line : one_line_statement s ≡ s
 
@@ -90,6 +90,10 @@ IsFlowPart (head_part es names) = IsFlowHead es names
 
 -- ---- a function
 
+-- its last word returns nothing
+abbrev pub ReturnsLast : Function → Type 0
+ReturnsLast f = instr_at f f.last ≡ Some (instr_by f.last (Piece.Abc Op.Return 0 1 0))
+
 -- of the functions that are left to it this much is known
 pub record IsFlowBy (Left : Type 0) (f : Function) (g : Fn) (z : Maker) (code : Steps) (params names : List Text) (ahead : Ahead) (block : Statements) : Type 0 where
   -- the function that is read is the one that is made in the end
@@ -109,6 +113,7 @@ pub record IsFlowBy (Left : Type 0) (f : Function) (g : Fn) (z : Maker) (code : 
   pub listed : f.of.locals ≡ all_entries code params names ahead
   -- the last word stands behind all steps
   pub last : f.last ≡ pc_of_step code params names ahead (length code.steps)
+  pub returns : ReturnsLast f
   -- the locals that are active behind so many steps have registers
   pub room : (at : ℕ) → at ≤ length code.steps → active_count (performed_to code (at_beginning code params names ahead) at).maker ≤ g.size
   -- what the steps make stands in the end

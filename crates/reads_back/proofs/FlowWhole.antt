@@ -22,7 +22,7 @@ use Rattle.same_flow.proofs.StatementsTold.{laid_follow}
 use Rattle.reads_back.specs.Stepped.{StepStands}
 use Rattle.reads_back.proofs.FlowFinal.{placed_maker, same_constants, same_high, same_upvalues, steps_final}
 use Rattle.reads_back.proofs.FlowRoom.{steps_room}
-use Rattle.reads_back.proofs.FlowThere.{IsFlowBy, IsFlowPart}
+use Rattle.reads_back.proofs.FlowThere.{IsFlowBy, IsFlowPart, ReturnsLast}
 use Rattle.reads_back.proofs.MadeWhole.{IsMadeWhole}
 
 -- what its statements make, and with the last word
@@ -45,6 +45,7 @@ pub record IsWholeBy (Left : Type 0) (f : Function) (g : Fn) (code : Steps) (par
   -- its locals are listed, and its last word stands behind what its statements make
   pub listed : f.of.locals ≡ (whole_of params names ahead block).locals
   pub last : f.last ≡ length (tree_of params names ahead block).items
+  pub returns : ReturnsLast f
   -- it has registers for its parameters, and as many as are used
   pub room : length params ≤ g.size
   pub high : (whole_of params names ahead block).high ≤ g.size
@@ -77,6 +78,7 @@ whole_flow {Left} {f} {g} {code} {params} {names} {ahead} {block} of =
       good = of.good;
       listed = of.listed ∙ (locals_listed code of.plain params names ahead block of.laid).all;
       last = of.last ∙ at_pc (laid_follow code of.plain params names ahead block of.laid).2;
+      returns = of.returns;
       room = steps_room g (placed_maker code of.plain params names ahead) code of.plain params names ahead block of.laid of.stand final (omega (arith, high, same_high code of.plain params names ahead block of.laid)) of.room;
       final = final;
     }

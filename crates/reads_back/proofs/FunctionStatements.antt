@@ -5,12 +5,12 @@ use Rattle.lua_num.specs.Bytes.{Text}
 use Rattle.lua_tree.specs.Names.{are_names, are_some_names, is_name}
 use Rattle.lua_tree.specs.OneLine.{one_line_expression}
 use Rattle.lua_tree.specs.Syntax as syntax
-use Rattle.lua_tree.specs.Syntax.{Expression, Expressions, FunctionBody, Statement, assignment, field_expression, function_body, function_expression, function_statement, name_expression, nil_literal, no_expressions}
+use Rattle.lua_tree.specs.Syntax.{Expression, Expressions, FunctionBody, Statement, assignment, field_expression, function_body, function_expression, function_statement, name_expression, no_expressions}
 use Rattle.lua_tree.specs.WellFormed.{depth_of_body, depth_of_expression, depth_of_expressions, depth_of_statement, ends_block, formed_body, formed_expression, formed_statement, is_optional_name, is_prefix, is_target}
 use Rattle.same_flow.specs.Space.{space_of_body, space_of_expression, space_of_expressions, space_of_statement}
 use Rattle.reads_back.specs.Assignments.{as_assignment, fields_behind, path_target, with_method_name, with_self}
 use Rattle.reads_back.specs.Acted.{is_path, lean_assignment, lean_depth}
-use Rattle.reads_back.specs.Straight.{HasCoreBy, IsActBy, IsActTargetBy, IsStraightStatementBy, StatementIndexesNoTable, IndexesNoTable, is_constructor}
+use Rattle.reads_back.specs.Straight.{HasCoreBy, IsActBy, IsActTargetBy, IsStraightStatementBy}
 use Rattle.reads_back.proofs.Rooms.{lean_room, lean_room_assignment}
 use Rattle.reads_back.proofs.Tests.{both_hold, first_of_both, not_so, second_of_both}
 
@@ -19,15 +19,13 @@ use Rattle.reads_back.proofs.Tests.{both_hold, first_of_both, not_so, second_of_
 -- a name with fields behind it, on one line
 record IsChain (e : Expression) : Type 0 where
   target : is_target e ≡ true
-  no_constructor : is_constructor e ≡ false
-  indexes : IndexesNoTable e
   on_line : one_line_expression e ≡ e
 
 name_is_chain : (text : Text) → IsChain (name_expression 1 text)
-name_is_chain text = record { target = refl; no_constructor = refl; indexes = tt; on_line = refl }
+name_is_chain text = record { target = refl; on_line = refl }
 
 field_is_chain : (on : Expression) (text : Text) → IsChain on → IsChain (field_expression 1 on text)
-field_is_chain on text chain = record { target = refl; no_constructor = refl; indexes = chain.no_constructor; on_line = cc chain.on_line }
+field_is_chain on text chain = record { target = refl; on_line = cc chain.on_line }
 
 fields_are_chain : (on : Expression) (texts : List Text) → IsChain on → IsChain (fields_behind on texts)
 fields_are_chain on [] chain = chain
@@ -89,11 +87,6 @@ statement_is_act P (function_statement (name ∷ names) method body) is formed =
     let named = path_is_named P name names method (first_of_both _ _ formed) (first_of_both _ _ behind) in
     record { some = refl; targets = (named.target, tt); given = refl; values = (is, tt) }
 statement_is_act P s is formed = is
-
-pub indexes_still : (s : Statement) → StatementIndexesNoTable s → formed_statement s ≡ true → StatementIndexesNoTable (as_assignment s)
-indexes_still (function_statement [] method body) none formed = not_so formed
-indexes_still (function_statement (name ∷ names) method body) none formed = ((path_is_chain name names method).indexes, tt)
-indexes_still s none formed = none
 
 -- ---- it is well formed
 

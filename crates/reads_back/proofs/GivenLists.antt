@@ -32,6 +32,7 @@ use Rattle.reads_back.proofs.ValueWords.{next_free}
 use Rattle.reads_back.proofs.WordsBegin.{begins_wants, wanted_above}
 use Rattle.reads_back.proofs.WordsRead.{IsFunction, IsQuiet, quiet_before, quiet_from}
 use Rattle.reads_back.proofs.Deeper.{given_so}
+use Rattle.reads_back.proofs.FurtherWords.{open_value_further, value_further}
 
 -- ---- what is asked of the arguments
 
@@ -157,24 +158,33 @@ module _ (f : Function) (g : Fn) (active : List Active) (listed : List ℕ) (dee
   all_forward no_expressions reads free p q at = omega (arith, at.pc)
   all_forward (syntax.expression e es) reads free p q at = omega (arith, reads.0.one.forward free free p at.mid at.first, all_forward es reads.1 (free + 1) at.mid q at.others)
 
-  pub all_begin : (es : Expressions) → AllRead f g active listed deep es → (free : ℕ) (p q : Spot) → q.pc ≤ f.last → AllNextAt g (all_related g es) active free p q → (p.pc ≡ q.pc) ⊎ Begins f free p.pc
-  all_begin no_expressions reads free p q within at = inl (sym at.pc)
+  pub all_begin : (es : Expressions) → AllRead f g active listed deep es → (free : ℕ) (p q : Spot) → q.pc ≤ f.last → AllNextAt g (all_related g es) active free p q → ((p.pc ≡ q.pc) × (length (all_related g es) ≡ 0)) ⊎ Begins f free p.pc
+  all_begin no_expressions reads free p q within at = inl (sym at.pc, refl)
   all_begin (syntax.expression e es) reads free p q within at = inr (reads.0.one.begins free p at.mid (omega (arith, within, all_forward es reads.1 (free + 1) at.mid q at.others)) at.first)
+
+  -- above the lowest register its words are one or more
+  all_further : (es : Expressions) → AllRead f g active listed deep es → (free : ℕ) (p q : Spot) (s : Situation) → HasLocals active listed s → s.base < free → q.pc ≤ f.last → AllNextAt g (all_related g es) active free p q →
+      ((p.pc ≡ q.pc) × (length (all_related g es) ≡ 0)) ⊎ (Begins f free p.pc × (p.pc < q.pc))
+  all_further no_expressions reads free p q s locals above within at = inl (sym at.pc, refl)
+  all_further (syntax.expression e es) reads free p q s locals above within at =
+      let back = all_forward es reads.1 (free + 1) at.mid q at.others in
+      let on = value_further reads.0.one free p at.mid s locals above (omega (arith, back, within)) at.first in
+      inr (reads.0.one.begins free p at.mid (omega (arith, back, within)) at.first, omega (arith, on, back))
 
   -- the first one is wanted by the first word of the next one, or behind them where it is the only one
   pub all_come : (es : Expressions) → AllRead f g active listed deep es → (free : ℕ) (p q : Spot) (s : Situation) → HasLocals active listed s → free ≡ next_free s → IsQuiet f s.scope p.pc q.pc →
-      IsWanted f s q.pc → AllNextAt g (all_related g es) active free p q → AllCome f (AreCores g active es p.functions q.functions) deep s (length (all_related g es)) p.pc q.pc
+      (length (all_related g es) ≡ 1 → IsWanted f s q.pc) → AllNextAt g (all_related g es) active free p q → AllCome f (AreCores g active es p.functions q.functions) deep s (length (all_related g es)) p.pc q.pc
   all_come no_expressions reads free p q s locals is quiet wanted at = none_come f g active deep s p q at.pc at.functions
   all_come (syntax.expression e es) reads free p q s locals is quiet wanted at =
       let on = reads.0.one.forward free free p at.mid at.first in
       let back = all_forward es reads.1 (free + 1) at.mid q at.others in
-      let wanted_there = wanted_by (all_begin es reads.1 (free + 1) at.mid q quiet.within at.others) in
+      let wanted_there = wanted_by (all_further es reads.1 (free + 1) at.mid q s locals (omega (arith, is)) quiet.within at.others) in
       let one = comes_next reads.0.one free p at.mid s locals is (quiet_before at.mid.pc back quiet) wanted_there at.first in
-      more_come (IsCore g active e) (AreCores g active es) one (all_come es reads.1 (free + 1) at.mid q (behind_one one) (locals_then one.same locals) (next_behind free one is) (quiet_same one.same (quiet_from at.mid.pc on quiet)) (inl (some_behind one)) at.others)
+      more_come (IsCore g active e) (AreCores g active es) one (all_come es reads.1 (free + 1) at.mid q (behind_one one) (locals_then one.same locals) (next_behind free one is) (quiet_same one.same (quiet_from at.mid.pc on quiet)) (λ only. inl (some_behind one)) at.others)
     where
-      wanted_by : (at.mid.pc ≡ q.pc) ⊎ Begins f (free + 1) at.mid.pc → IsWanted f s at.mid.pc
-      wanted_by (inl same) = subst (IsWanted f s) (sym same) wanted
-      wanted_by (inr begins) = begins_wants s begins (omega (arith, is))
+      wanted_by : ((at.mid.pc ≡ q.pc) × (length (all_related g es) ≡ 0)) ⊎ (Begins f (free + 1) at.mid.pc × (at.mid.pc < q.pc)) → IsWanted f s at.mid.pc
+      wanted_by (inl (same, none)) = subst (IsWanted f s) (sym same) (wanted (ap suc none))
+      wanted_by (inr (begins, later)) = begins_wants s (quiet.stays at.mid.pc (reads.0.one.forward free free p at.mid at.first) later) begins (λ none. omega (arith, is, none))
 
   open_forward : (es : Expressions) → true ≡ ends_open es → AllRead f g active listed deep es → (free : ℕ) (p q : Spot) → AllMultiAt g Op.Call None (all_related g es) active free p q → p.pc ≤ q.pc
   open_forward no_expressions ends reads free p q at = not_so (sym ends)
@@ -187,6 +197,14 @@ module _ (f : Function) (g : Fn) (active : List Active) (listed : List ℕ) (dee
   open_begins (syntax.expression e no_expressions) ends reads free p q within at = (reads.0.all (sym ends)).begins free p q within at
   open_begins (syntax.expression e (syntax.expression d es)) ends reads free p q within at =
       reads.0.one.begins free p at.mid (omega (arith, within, open_forward (syntax.expression d es) ends reads.1 (free + 1) at.mid q at.others)) at.first
+
+  open_further : (es : Expressions) → true ≡ ends_open es → AllRead f g active listed deep es → (free : ℕ) (p q : Spot) (s : Situation) → HasLocals active listed s → s.base < free → q.pc ≤ f.last →
+      AllMultiAt g Op.Call None (all_related g es) active free p q → p.pc < q.pc
+  open_further no_expressions ends reads free p q s locals above within at = not_so (sym ends)
+  open_further (syntax.expression e no_expressions) ends reads free p q s locals above within at = open_value_further (reads.0.all (sym ends)) free p q s locals above within at
+  open_further (syntax.expression e (syntax.expression d es)) ends reads free p q s locals above within at =
+      let back = open_forward (syntax.expression d es) ends reads.1 (free + 1) at.mid q at.others in
+      omega (arith, value_further reads.0.one free p at.mid s locals above (omega (arith, back, within)) at.first, back)
 
   -- the values of the last one stay, and each one before it is wanted by the first word of the next one
   open_comes : (es : Expressions) → true ≡ ends_open es → AllRead f g active listed deep es → (free : ℕ) (p q : Spot) (s : Situation) → HasLocals active listed s → free ≡ next_free s → IsQuiet f s.scope p.pc q.pc →
@@ -210,17 +228,22 @@ module _ (f : Function) (g : Fn) (active : List Active) (listed : List ℕ) (dee
   open_comes (syntax.expression e (syntax.expression d es)) ends reads free p q s locals is quiet at =
       let on = reads.0.one.forward free free p at.mid at.first in
       let back = open_forward (syntax.expression d es) ends reads.1 (free + 1) at.mid q at.others in
-      let wanted = begins_wants s (open_begins (syntax.expression d es) ends reads.1 (free + 1) at.mid q quiet.within at.others) (omega (arith, is)) in
+      let later = open_further (syntax.expression d es) ends reads.1 (free + 1) at.mid q s locals (omega (arith, is)) quiet.within at.others in
+      let wanted = begins_wants s (quiet.stays at.mid.pc on later) (open_begins (syntax.expression d es) ends reads.1 (free + 1) at.mid q quiet.within at.others) (λ none. omega (arith, is, none)) in
       let one = comes_next reads.0.one free p at.mid s locals is (quiet_before at.mid.pc back quiet) wanted at.first in
       more_open (IsCore g active e) (AreCores g active (syntax.expression d es)) one (open_comes (syntax.expression d es) ends reads.1 (free + 1) at.mid q (behind_one one) (locals_then one.same locals) (next_behind free one is) (quiet_same one.same (quiet_from at.mid.pc on quiet)) at.others)
 
-  list_forward : (es : Expressions) (all : Bool) → all ≡ ends_open es → AllRead f g active listed deep es → (free : ℕ) (p q : Spot) → OpenBy all g (all_related g es) active free p q → p.pc ≤ q.pc
+  pub list_forward : (es : Expressions) (all : Bool) → all ≡ ends_open es → AllRead f g active listed deep es → (free : ℕ) (p q : Spot) → OpenBy all g (all_related g es) active free p q → p.pc ≤ q.pc
   list_forward es true ends reads free p q at = open_forward es ends reads free p q at
   list_forward es false ends reads free p q at = all_forward es reads free p q at
 
   list_begins : (es : Expressions) (all : Bool) → all ≡ ends_open es → AllRead f g active listed deep es → (free : ℕ) (p q : Spot) → q.pc ≤ f.last → OpenBy all g (all_related g es) active free p q → (p.pc ≡ q.pc) ⊎ Begins f free p.pc
   list_begins es true ends reads free p q within at = inr (open_begins es ends reads free p q within at)
-  list_begins es false ends reads free p q within at = all_begin es reads free p q within at
+  list_begins es false ends reads free p q within at = no_words_or (all_begin es reads free p q within at)
+    where
+      no_words_or : ((p.pc ≡ q.pc) × (length (all_related g es) ≡ 0)) ⊎ Begins f free p.pc → (p.pc ≡ q.pc) ⊎ Begins f free p.pc
+      no_words_or (inl none) = inl none.0
+      no_words_or (inr begins) = inr begins
 
   pub list_comes : (es : Expressions) (all : Bool) → all ≡ ends_open es → AllRead f g active listed deep es → (free : ℕ) (p q : Spot) (s : Situation) → HasLocals active listed s → free ≡ next_free s → IsQuiet f s.scope p.pc q.pc →
       IsWanted f s q.pc → OpenBy all g (all_related g es) active free p q → GivenComes f (AreGiven g active (argument_list es) p.functions q.functions) deep s (cond all None (Some (length (all_related g es)))) p.pc q.pc
@@ -240,7 +263,7 @@ module _ (f : Function) (g : Fn) (active : List Active) (listed : List ℕ) (dee
         listed = λ before place field there counts. open_list_taken before come.entries come.values come.value place field come.singles there counts;
       }
   list_comes es false ends reads free p q s locals is quiet wanted at =
-      let come = all_come es reads free p q s locals is quiet wanted at in
+      let come = all_come es reads free p q s locals is quiet (λ only. wanted) at in
       record {
         values = come.values;
         all = false;

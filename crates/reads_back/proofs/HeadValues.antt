@@ -34,6 +34,7 @@ use Rattle.reads_back.proofs.ValueReads.{each_read}
 use Rattle.reads_back.proofs.ValueWords.{next_free}
 use Rattle.reads_back.proofs.WordsBegin.{begins_wants}
 use Rattle.reads_back.proofs.WordsRead.{IsFunction, IsQuiet, quiet_before, quiet_from}
+use Rattle.reads_back.proofs.FurtherWords.{value_further}
 
 -- ---- which values are written
 
@@ -141,7 +142,9 @@ module _ {f : Function} {g : Fn} {active : List Active} {listed : List ℕ} (fir
       let on_two = reads.1.0.one.forward (suc free) (suc free) at.mid others.mid others.first_at in
       let on_three = reads.1.1.0.one.forward (suc (suc free)) (suc (suc free)) others.mid q others.second_at in
       let begins = reads.1.0.one.begins (suc free) at.mid others.mid (omega (arith, on_three, quiet.within)) others.first_at in
-      let one = comes_next reads.0.one free p at.mid s locals is (quiet_before at.mid.pc (omega (arith, on_two, on_three)) quiet) (begins_wants s begins (omega (arith, is))) at.first_at in
+      let later = value_further reads.1.0.one (suc free) at.mid others.mid s locals (omega (arith, is)) (omega (arith, on_three, quiet.within)) others.first_at in
+      let wanted = begins_wants s (quiet.stays at.mid.pc on (omega (arith, later, on_three))) begins (λ none. omega (arith, is, none)) in
+      let one = comes_next reads.0.one free p at.mid s locals is (quiet_before at.mid.pc (omega (arith, on_two, on_three)) quiet) wanted at.first_at in
       let there = behind_one one in
       let next : suc free ≡ next_free there = omega (arith, next_behind free one is) in
       let quiet_there = quiet_same one.same (quiet_from at.mid.pc on quiet) in

@@ -19,7 +19,7 @@ use Rattle.scheme_stands.specs.Relation.{related}
 use Rattle.scheme_stands.specs.Words.{Fn, Spot, Stretch}
 use Rattle.reads_back.specs.Cores.{IsCore, IsKey, IsOperand, IsOperandBy, IsSmall, IsValueOperand, Counted, valued}
 use Rattle.reads_back.proofs.OperandReads.{operand_reads, rk_reads, stays, text_key_reads}
-use Rattle.reads_back.proofs.Comes.{Begins, Comes, IsOperandWanted, ReadsCore, comes_next}
+use Rattle.reads_back.proofs.Comes.{Comes, IsOperandWanted, ReadsCore, comes_next, BeginsOrNone}
 use Rattle.reads_back.proofs.BehindWords.{HasLocals, SameLocals, behind_words, same_locals}
 use Rattle.reads_back.proofs.BothOperands.{counted}
 use Rattle.reads_back.proofs.LiteralReads.{constant_reads, constant_there}
@@ -74,7 +74,7 @@ taken_up (inr next) = omega (arith, next.2)
 -- where its words stand, if there are any
 pub record ReadsHeld (f : Function) (g : Fn) (active : List Active) (listed : List ℕ) (Is : Counted OperandValue) (to : (free x free1 : ℕ) → Stretch) : Type 0 where
   pub forward : (free x free1 : ℕ) (p q : Spot) → to free x free1 p q → p.pc ≤ q.pc
-  pub begins : (free x free1 : ℕ) (p q : Spot) → q.pc ≤ f.last → to free x free1 p q → (p.pc ≡ q.pc) ⊎ Begins f free p.pc
+  pub begins : (free x free1 : ℕ) (p q : Spot) → q.pc ≤ f.last → to free x free1 p q → BeginsOrNone f free free1 p.pc q.pc
   pub takes : (free x free1 : ℕ) (p q : Spot) → to free x free1 p q → IsTaken free x free1
   pub comes : (free x free1 : ℕ) (p q : Spot) (s : Situation) → HasLocals active listed s → free ≡ next_free s → IsQuiet f s.scope p.pc q.pc → IsOperandWanted f s free x free1 q.pc → to free x free1 p q →
       HeldComes f active listed (Is p.functions q.functions) s free x free1 p.pc q.pc

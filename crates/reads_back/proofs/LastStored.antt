@@ -1,7 +1,6 @@
 -- The last of as many values as targets goes to its target by its own words: straight, by a MOVE, or as an operand of the store.
 use Rattle.std.proofs.Common.{◌≡◌, ◌⊎◌, ℕ, suc, ◌+◌, ◌<◌, ◌≤◌, nat_le, max, Bool, true, false, List, [], ◌∷◌, ◌++◌, append-nil, append_assoc, length, length-append, Option, Some, None, refl, sym, ap, ap₂, ◌∙◌, subst, arith, inl, inr, le-leb, lt-ltb}
 use Rattle.std.proofs.Math.Nat.{max-zero}
-use Rattle.std.proofs.lemmas.Option.{slice_get_within}
 use Rattle.std.specs.Prelude.{option_map}
 use Rattle.lua_tree.specs.Syntax.{Expression}
 use Rattle.core_expr.specs.Counting.{one_more, taken_behind, taken_behind_operand, taken_behind_values}
@@ -28,12 +27,12 @@ use Rattle.reads_back.proofs.AssignedValues.{last_written, local_written, operan
 use Rattle.reads_back.proofs.BehindWords.{HasLocals, SameLocals, behind_words, quiet_same, same_then, locals_then}
 use Rattle.reads_back.proofs.BothOperands.{counted}
 use Rattle.reads_back.proofs.Comes.{Arrives, IsOperandWanted, Made, Moved, ReadsCore}
+use Rattle.reads_back.proofs.FirstStores.{Follows, first_no_item, not_temporary}
 use Rattle.reads_back.proofs.GivenLists.{AllCome}
 use Rattle.reads_back.proofs.HeldOperands.{Kept, StandsIn, counts_none, entries_in, in_local, in_next, in_word, operand_held, operand_of, rk_held}
 use Rattle.reads_back.proofs.NameReads.{AreListed}
 use Rattle.reads_back.proofs.OneTarget.{core_of}
 use Rattle.reads_back.proofs.PartsRead.{value_of}
-use Rattle.reads_back.proofs.PartsUsed.{get_front}
 use Rattle.reads_back.proofs.Reaches.{Reaches, reaches_on, reaches_then}
 use Rattle.reads_back.proofs.SeveralValues.{behind_all}
 use Rattle.reads_back.proofs.StoredTargets.{Destination, IsThere, StoreWordAt, WritesValues, first_stored, parts_used, seen_with, store_piece, target_to, to_global, to_local, to_part, to_upvalue}
@@ -42,7 +41,7 @@ use Rattle.reads_back.proofs.TableWords.{and_last_entry}
 use Rattle.reads_back.proofs.TakenEntries.{count_of_entries}
 use Rattle.reads_back.proofs.Taking.{max_swap, taken_by}
 use Rattle.reads_back.proofs.TargetsCome.{Fits, IsSaid}
-use Rattle.reads_back.proofs.TargetsStored.{CanTake, IsNoItem, moved_turn, operand_turn, register_turn, store_keeps, straight_turn}
+use Rattle.reads_back.proofs.TargetsStored.{CanTake, moved_turn, operand_turn, register_turn, store_keeps, straight_turn}
 use Rattle.reads_back.proofs.Tests.{both_hold, not_so, or_second}
 use Rattle.reads_back.proofs.ValueWords.{next_free}
 use Rattle.reads_back.proofs.WordsBegin.{instr_is, reads_want}
@@ -78,11 +77,6 @@ pub record LastStored (f : Function) (g : Fn) (active : List Active) (e : Expres
   pub begun : Begun f (length active) s others d to first next
 
 -- ---- the target
-
--- its table is still no constructor where others stand above it
-pub no_item_below : (base : ℕ) (entries more : Entries) (d : Destination) → IsNoItem base entries d → IsNoItem base (entries ++ more) d
-no_item_below base entries more (to_part (in_next entry v) key x y) none = (none.0, none.1, get_front entries more none.0 (slice_get_within entries none.0 entry none.2) ∙ none.2, none.3)
-no_item_below base entries more d none = none
 
 -- its store takes a constant before or behind the value
 seen_before : (d : Destination) (n c : ℕ) → max (seen_with d n) c ≡ seen_with d (max n c)
@@ -236,7 +230,7 @@ module _ {f : Function} {g : Fn} {active : List Active} {listed : List ℕ} (is_
       }
 
   -- an operand x of the word of the store comes to this situation
-  module _ (d : Destination) (there : IsThere f (length active) listed entries d behind) (none : IsNoItem (length active) s.entries d) (free x free1 : ℕ) (next : free ≡ next_free (behind_all front)) (p q : Spot)
+  module _ (d : Destination) (there : IsThere f (length active) listed entries d behind) (free x free1 : ℕ) (next : free ≡ next_free (behind_all front)) (p q : Spot) (follows : Follows f s others d q.pc)
       (scope : Scope) (same : SameLocals front.scope scope) (seen : ℕ) (quiet : IsQuiet f s.scope p.pc q.pc) (word : StoreWordAt g d x p q) where
     same_all : SameLocals s.scope scope
     same_all = same_then front.same same
@@ -255,6 +249,8 @@ module _ {f : Function} {g : Fn} {active : List Active} {listed : List ℕ} (is_
         let t = record s { scope = scope; entries = all; seen = seen } in
         let few : x < 250 = omega (arith, stands.0, stands.1) in
         let at : x ≡ length active + (length entries + others) = omega (arith, stands.0, next, length-append s.entries front.entries, size, height, locals.base) in
+        let none = first_no_item (in_step scope all seen same) s d others p.pc q.pc x entries behind (front.entries ++ entry ∷ []) there height refl same_all refl (store_next d x p q word) follows
+        (inr (omega (arith, at, height, locals.base), omega (arith, few))) in
         let is_seen : seen_with d seen ≡ seen_with d (taken_by to s.seen) = ap (seen_with d) (sym (max-zero seen) ∙ ap (max seen) (sym (counts_none x (omega (arith, few)))) ∙ taken) in
         record {
           pc = p.pc;
@@ -267,7 +263,7 @@ module _ {f : Function} {g : Fn} {active : List Active} {listed : List ℕ} (is_
           straight = None;
           used = true ∷ [];
           turn =
-              register_turn is_function d others x q.pc entries behind p q t (in_step scope all seen same) there (no_item_below (length active) s.entries (front.entries ++ entry ∷ []) d none) (omega (arith, next_size entry, height)) at few
+              register_turn is_function d others x q.pc entries behind p q t (in_step scope all seen same) there none (omega (arith, next_size entry, height)) at few
               (quiet_same same_all quiet) (omega arith) word
               ∙ ap₂ (λ (parts seen : ℕ). stored d None (true ∷ []) p.pc q.pc scope all seen parts) height is_seen;
           enough = next_enough entry;
@@ -282,6 +278,8 @@ module _ {f : Function} {g : Fn} {active : List Active} {listed : List ℕ} (is_
         let all = s.entries ++ front.entries in
         let t = record s { scope = scope; entries = all; seen = seen } in
         let counts : length all ≡ length entries + others = omega (arith, length-append s.entries front.entries, size, height) in
+        let none = first_no_item (in_step scope all seen same) s d others p.pc q.pc x entries behind front.entries there height refl same_all refl (store_next d x p q word) follows
+        (inl (not_temporary f (length active) listed s.base free x free1 kept locals.base stands straight_kept, omega (arith, counts, height))) in
         record {
           pc = p.pc;
           before = t;
@@ -293,7 +291,7 @@ module _ {f : Function} {g : Fn} {active : List Active} {listed : List ℕ} (is_
           straight = straight_of kept;
           used = [];
           turn =
-              operand_turn is_function d kept others x free free1 q.pc entries behind p q t (in_step scope all seen same) there (no_item_below (length active) s.entries front.entries d none) counts stands straight_kept can
+              operand_turn is_function d kept others x free free1 q.pc entries behind p q t (in_step scope all seen same) there none counts stands straight_kept can
               (quiet_same same_all quiet) (omega arith) word
               ∙ ap₂ (λ (parts seen : ℕ). stored d (straight_of kept) [] p.pc q.pc scope all seen parts) height (seen_all to taken);
           enough = omega (arith, size);
@@ -331,7 +329,7 @@ store_said d {q = q} said at = record { x = at.x; free1 = at.free1; mid = at.mid
 
 module _ {f : Function} {g : Fn} {active : List Active} {listed : List ℕ} (is_function : IsFunction f g) (all : AreListed f g active listed) (d : Destination) (e : Expression) (reads : ReadsCore f g active listed e) where
   module _ (s : Situation) (entries behind : Entries) {Front : Values → Type 0} {deep others first : ℕ} (free : ℕ) (p q : Spot) (locals : HasLocals active listed s) (there : IsThere f (length active) listed entries d behind) (height : length entries ≡ length s.entries)
-      (none : IsNoItem (length active) s.entries d) (front : AllCome f Front deep s others first p.pc) (next : free ≡ next_free (behind_all front)) (few : free ≤ 250) (quiet : IsQuiet f s.scope p.pc q.pc) where
+      (follows : Follows f s others d q.pc) (front : AllCome f Front deep s others first p.pc) (next : free ≡ next_free (behind_all front)) (few : free ≤ 250) (quiet : IsQuiet f s.scope p.pc q.pc) where
     locals_there : HasLocals active listed (behind_all front)
     locals_there = locals_then front.same locals
 
@@ -360,15 +358,18 @@ module _ {f : Function} {g : Fn} {active : List Active} {listed : List ℕ} (is_
         arrived r there (reads.arrives free r p q (behind_all front) locals_there next (inr below) quiet_there (λ same. absurd (omega (arith, same, below))) at)
 
     -- an operand that comes to the next register is wanted by the word of the store
-    operand_wanted : (x free1 : ℕ) (mid : Spot) → StoreWordAt g d x mid q → IsOperandWanted f (behind_all front) free x free1 mid.pc
-    operand_wanted x free1 mid word is more = reads_want f mid.pc (behind_all front) (store_reads s.base d x mid q is_function (omega (arith, is, next)) (omega (arith, is, few)) word)
+    operand_wanted : (x free1 : ℕ) (mid : Spot) → p.pc ≤ mid.pc → StoreWordAt g d x mid q → IsOperandWanted f (behind_all front) free x free1 mid.pc
+    operand_wanted x free1 mid on word is more =
+        let stay = quiet_there.stays mid.pc on (omega (arith, store_next d x mid q word)) in
+        reads_want f mid.pc (behind_all front) stay (store_reads s.base d x mid q is_function (omega (arith, is, next)) (omega (arith, is, few)) word)
 
     quiet_operand : (x : ℕ) (mid : Spot) → StoreWordAt g d x mid q → IsQuiet f front.scope p.pc mid.pc
     quiet_operand x mid word = quiet_before mid.pc (omega (arith, store_next d x mid q word)) quiet_there
 
     name_stored : is_part (Some (target_to d)) ≡ false → ((r : ℕ) → d ≡ to_local r → ⊥) → OneAt (OperandAt g active (related g e)) free (StoreWordAt g d) p q → Gives d
     name_stored named far at =
-        let held = (operand_held is_function all e reads).comes free at.x at.free1 p at.mid (behind_all front) locals_there next (quiet_operand at.x at.mid at.words_at) (operand_wanted at.x at.free1 at.mid at.words_at) at.operand_at in
+        let on = (operand_held is_function all e reads).forward free at.x at.free1 p at.mid at.operand_at in
+        let held = (operand_held is_function all e reads).comes free at.x at.free1 p at.mid (behind_all front) locals_there next (quiet_operand at.x at.mid at.words_at) (operand_wanted at.x at.free1 at.mid on at.words_at) at.operand_at in
         let value = is_value_kept (IsCore g active e p.functions at.mid.functions) held.kept held.is in
         let core = core_of (IsCore g active e p.functions at.mid.functions) held.kept held.is in
         let is = subst (λ (made : ℕ). IsCore g active e p.functions made (value_of held.kept)) (sym (store_keeps d at.x at.mid q at.words_at)) core in
@@ -376,18 +377,19 @@ module _ {f : Function} {g : Fn} {active : List Active} {listed : List ℕ} (is_
           to = to_name front.values (value_of held.kept);
           goes = inl (named, value_of held.kept, is, refl);
           begun =
-              name_begins is_function s locals entries behind height front d there none free at.x at.free1 next at.mid q held.scope held.same held.seen (quiet_from at.mid.pc (reaches_on held.reaches) quiet) at.words_at held.kept named far value held.taken held.stands held.reaches;
+              name_begins is_function s locals entries behind height front d there free at.x at.free1 next at.mid q follows held.scope held.same held.seen (quiet_from at.mid.pc (reaches_on held.reaches) quiet) at.words_at held.kept named far value held.taken held.stands held.reaches;
         }
 
     part_stored : is_part (Some (target_to d)) ≡ true → OneAt (RkAt g active (related g e)) free (StoreWordAt g d) p q → Gives d
     part_stored part at =
-        let held = (rk_held is_function all e reads).comes free at.x at.free1 p at.mid (behind_all front) locals_there next (quiet_operand at.x at.mid at.words_at) (operand_wanted at.x at.free1 at.mid at.words_at) at.operand_at in
+        let on = (rk_held is_function all e reads).forward free at.x at.free1 p at.mid at.operand_at in
+        let held = (rk_held is_function all e reads).comes free at.x at.free1 p at.mid (behind_all front) locals_there next (quiet_operand at.x at.mid at.words_at) (operand_wanted at.x at.free1 at.mid on at.words_at) at.operand_at in
         let is = subst (λ (made : ℕ). IsOperand g active e p.functions made (operand_of held.kept)) (sym (store_keeps d at.x at.mid q at.words_at)) held.is in
         record {
           to = with_operand front.values (operand_of held.kept);
           goes = inr (part, operand_of held.kept, is, refl);
           begun =
-              part_begins is_function s locals entries behind height front d there none free at.x at.free1 next at.mid q held.scope held.same held.seen (quiet_from at.mid.pc (reaches_on held.reaches) quiet) at.words_at held.kept part held.taken held.stands held.reaches;
+              part_begins is_function s locals entries behind height front d there free at.x at.free1 next at.mid q follows held.scope held.same held.seen (quiet_from at.mid.pc (reaches_on held.reaches) quiet) at.words_at held.kept part held.taken held.stands held.reaches;
         }
 
     -- by what the place says
@@ -397,23 +399,11 @@ module _ {f : Function} {g : Fn} {active : List Active} {listed : List ℕ} (is_
     by_place (name_target text in_globals) said fits at = name_stored fits.0 fits.1 (store_said d said at)
     by_place (part_target on key on_local key_local) said fits at = part_stored fits (store_said d said at)
 
-  one_forward : {operand : (free x free1 : ℕ) → Stretch} (free : ℕ) (p q : Spot) → ((x free1 : ℕ) (mid : Spot) → operand free x free1 p mid → p.pc ≤ mid.pc) → OneAt operand free (StoreWordAt g d) p q → p.pc ≤ q.pc
-  one_forward free p q forward at = omega (arith, forward at.x at.free1 at.mid at.operand_at, store_next d at.x at.mid q at.words_at)
-
-  forward_by : (place : Target) → IsSaid g place d → (free : ℕ) (p q : Spot) → StoreAt g place (related g e) active free p q → p.pc ≤ q.pc
-  forward_by (name_target text (in_register x)) said free p q at = reads.forward free x p q at
-  forward_by (name_target text (in_upvalue slot)) said free p q at = one_forward free p q (λ x free1 mid at. (operand_held is_function all e reads).forward free x free1 p mid at) (store_said d said at)
-  forward_by (name_target text in_globals) said free p q at = one_forward free p q (λ x free1 mid at. (operand_held is_function all e reads).forward free x free1 p mid at) (store_said d said at)
-  forward_by (part_target on key on_local key_local) said free p q at = one_forward free p q (λ x free1 mid at. (rk_held is_function all e reads).forward free x free1 p mid at) (store_said d said at)
-
 module _ {f : Function} {g : Fn} {active : List Active} {listed : List ℕ} (is_function : IsFunction f g) (all : AreListed f g active listed) (place : Target) (d : Destination) (said : IsSaid g place d) (fits : Fits place d) (e : Expression)
     (reads : ReadsCore f g active listed e) where
-  pub last_forward : (free : ℕ) (p q : Spot) → StoreAt g place (related g e) active free p q → p.pc ≤ q.pc
-  last_forward free p q at = forward_by is_function all d e reads place said free p q at
-
   -- the parts stand in these entries, where the target's are taken behind those of the others
-  pub last_stored : {Front : Values → Type 0} (s : Situation) (entries behind : Entries) {deep others first : ℕ} (free : ℕ) (p q : Spot) → HasLocals active listed s → IsThere f (length active) listed entries d behind → length entries ≡ length s.entries → IsNoItem (length active) s.entries d →
+  pub last_stored : {Front : Values → Type 0} (s : Situation) (entries behind : Entries) {deep others first : ℕ} (free : ℕ) (p q : Spot) → HasLocals active listed s → IsThere f (length active) listed entries d behind → length entries ≡ length s.entries → Follows f s others d q.pc →
       (front : AllCome f Front deep s others first p.pc) → free ≡ length active + (length s.entries + others) → free ≤ 250 → IsQuiet f s.scope p.pc q.pc → StoreAt g place (related g e) active free p q → LastStored f g active e p.functions q.functions d s others front.values first q.pc
-  last_stored s entries behind free p q locals there height none front is few quiet at =
+  last_stored s entries behind free p q locals there height follows front is few quiet at =
       let next : free ≡ next_free (behind_all front) = omega (arith, is, locals.base, length-append s.entries front.entries, count_of_entries front.entries front.values front.singles, front.counts) in
-      by_place is_function all d e reads s entries behind free p q locals there height none front next few quiet place said fits at
+      by_place is_function all d e reads s entries behind free p q locals there height follows front next few quiet place said fits at

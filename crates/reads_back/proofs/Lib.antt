@@ -55,6 +55,8 @@ pub mod EachStored
 pub mod EachStoredSame
 pub mod EndsFall
 pub mod ExpressionsLawful
+pub mod FeetHeld
+pub mod FirstStores
 pub mod FirstWords
 pub mod FlowActs
 pub mod FlowBegins
@@ -87,6 +89,7 @@ pub mod FunctionStatements
 pub mod FunctionSteps
 pub mod FunctionsLeft
 pub mod FunctionsSame
+pub mod FurtherWords
 pub mod GivenLists
 pub mod GivenSame
 pub mod GlobalTargets
@@ -124,6 +127,11 @@ pub mod LonesRead
 pub mod LoopLabels
 pub mod LoopsStand
 pub mod LoopsStarting
+pub mod LowStores
+pub mod LowTargets
+pub mod LowUnwanted
+pub mod LowValues
+pub mod LowWords
 pub mod MadeWhole
 pub mod MainCaptured
 pub mod Marks
@@ -140,7 +148,6 @@ pub mod NamesCome
 pub mod NamesInside
 pub mod NoComparisons
 pub mod NoLaterCaptured
-pub mod NoTables
 pub mod OneLineActs
 pub mod OneLineRules
 pub mod OneTarget
@@ -202,6 +209,7 @@ pub mod SeveralValues
 pub mod ShortWords
 pub mod SomeNames
 pub mod StartingLocals
+pub mod StatementsForward
 pub mod StatementsMeant
 pub mod StatementsStand
 pub mod StepScopes
@@ -211,6 +219,9 @@ pub mod StepsExact
 pub mod StepsGrow
 pub mod StepsHere
 pub mod StepsKnown
+pub mod StepsLater
+pub mod StepsLow
+pub mod StepsOver
 pub mod StepsOwn
 pub mod StepsSpan
 pub mod StepsStand
@@ -230,6 +241,7 @@ pub mod TargetsSame
 pub mod TargetsStand
 pub mod TargetsStored
 pub mod TargetsTaken
+pub mod TargetsWanted
 pub mod TargetsWritten
 pub mod TestedAs
 pub mod Tests
@@ -257,6 +269,7 @@ pub mod ValueWords
 pub mod ValuesTested
 pub mod WholeNumbers
 pub mod WordsBegin
+pub mod WordsForward
 pub mod WordsKept
 pub mod WordsLater
 pub mod WordsRead

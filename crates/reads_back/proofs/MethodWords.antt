@@ -1,5 +1,5 @@
 -- The words of a method call are read as a call of the method of what its value is read as.
-use Rattle.std.proofs.Common.{◌≡◌, ℕ, suc, ◌+◌, ◌-◌, ◌*◌, ◌<◌, ◌≤◌, ◌⊎◌, inl, inr, max, true, false, nat_le, Bool, List, [], ◌∷◌, ◌++◌, length, length-append, append_assoc, Option, Some, None, refl, sym, ap, ap₂, ◌∙◌, subst, arith, lt-ltb, le-leb, eq-eqb, subst₂}
+use Rattle.std.proofs.Common.{◌≡◌, ℕ, suc, ◌+◌, ◌-◌, ◌*◌, ◌<◌, ◌≤◌, inl, inr, max, true, false, nat_le, Bool, List, [], ◌∷◌, ◌++◌, length, length-append, append_assoc, Option, Some, None, refl, sym, ap, ap₂, ◌∙◌, subst, arith, lt-ltb, le-leb, eq-eqb, subst₂, zero}
 use Rattle.std.proofs.lemmas.Option.{slice_get_within}
 use Rattle.std.specs.Prelude.{option_map, option_and_then, slice_get, if◌then◌else◌}
 use Rattle.lua_num.specs.Bytes.{Text}
@@ -12,23 +12,23 @@ use Rattle.recover_expr.specs.Drafts.{makes}
 use Rattle.recover_expr.specs.Entries.{Entries, Listed, more_entry, method_entry, place_in}
 use Rattle.recover_expr.specs.Locals.{Scope}
 use Rattle.recover_expr.specs.Reading.{Turn, on as goes_to, turn_at, turn_of, turned}
-use Rattle.recover_expr.specs.Situation.{Function, Situation, constant_in, pop, see_constant, word_at}
+use Rattle.recover_expr.specs.Situation.{Function, Situation, constant_in, pop, see_constant, word_at, instr_at}
 use Rattle.recover_expr.specs.Words.{Done, far_method, far_method_on, far_self, gone, loaded, method_named, with_method, with_more}
 use Rattle.scheme.specs.Expressions.{Want, count_field}
 use Rattle.scheme.specs.declared.making.Piece.{Piece}
 use Rattle.scheme.specs.declared.making.Active.{Active}
 use Rattle.scheme_stands.specs.Expressions.{Rel, OperandAt, OperandBy, RkTextAt, local_at}
 use Rattle.scheme_stands.specs.Lists.{GivenRel, MethodAt}
-use Rattle.scheme_stands.specs.Words.{Fn, Spot, WordAt}
+use Rattle.scheme_stands.specs.Words.{Fn, Spot, WordAt, instr_by}
 use Rattle.reads_back.proofs.CallWords.{method_of, method_is_made, method_called}
-use Rattle.reads_back.proofs.Comes.{Begins, IsWanted, CallComes, ReadsCall, GivenComes, ReadsGiven, OperandComes, ReadsOperand}
+use Rattle.reads_back.proofs.Comes.{Begins, IsWanted, CallComes, ReadsCall, GivenComes, ReadsGiven, OperandComes, ReadsOperand, BeginsOrNone}
 use Rattle.reads_back.proofs.BehindWords.{HasLocals, SameLocals, same_then, quiet_same, behind_words, locals_then}
 use Rattle.reads_back.proofs.BothOperands.{same_value}
 use Rattle.reads_back.proofs.OperandReads.{text_forward}
 use Rattle.reads_back.proofs.Operators.{on_is_read}
 use Rattle.reads_back.proofs.Reaches.{Reaches, here, word, reaches_on, reaches_then}
 use Rattle.reads_back.proofs.ValueWords.{entry_next, next_free, place_of_next}
-use Rattle.reads_back.proofs.WordsBegin.{begins_wants, word_begins, word_wants}
+use Rattle.reads_back.proofs.WordsBegin.{word_begins, word_wants, second_begins, name_wants, instr_is}
 use Rattle.reads_back.proofs.WordsRead.{IsFunction, IsQuiet, abc_is_read, abx_is_read, quiet_before, quiet_from, turn_there, word_of, word_there}
 use Rattle.reads_back.specs.Cores.{HasNumber, IsMethodCalled, IsValueOperand, Counted, CountedValues, valued, method_called_by}
 use Rattle.reads_back.proofs.Deeper.{call_so}
@@ -265,17 +265,28 @@ name_keeps free y free2 p q (inr (large, far)) = far.value_at.word.functions
 
 -- the words behind the object begin with one that makes a value for a register from the next free one on
 name_begins : {f : Function} {g : Fn} {name : Text} {x : ℕ} (free y free2 : ℕ) (p mid q : Spot) → IsFunction f g → RkTextAt g name (free + 2) y free2 p mid → WordAt g (Piece.Abc Op.Self_ free x y) mid q → Begins f free p.pc
-name_begins {f} free y free2 p mid q is_function (inl small) at = subst (λ (pc : ℕ). Begins f free pc) small.same.pc (word_begins free is_function at (abc_is_read is_function at) refl (omega arith))
-name_begins free y free2 p mid q is_function (inr (large, far)) at = let w = far.value_at.word in word_begins free is_function w (abx_is_read is_function w) refl (omega arith)
+name_begins {f} free y free2 p mid q is_function (inl small) at = subst (λ (pc : ℕ). Begins f free pc) small.same.pc (word_begins free is_function at (abc_is_read is_function at) refl refl)
+name_begins free y free2 p mid q is_function (inr (large, far)) at = let w = far.value_at.word in second_begins free is_function w (abx_is_read is_function w) refl refl
 
--- they want it: SELF reads its register
-object_wanted : {f : Function} {g : Fn} {name : Text} (free x y free2 : ℕ) (p mid q : Spot) (s : Situation) → IsFunction f g → s.base ≤ free → s.base ≤ x →
+-- they want it: SELF reads its register, also behind the load of the name
+object_wanted : {f : Function} {g : Fn} {name : Text} (free x y free2 : ℕ) (p mid q : Spot) (s : Situation) → IsFunction f g → IsQuiet f s.scope p.pc q.pc → free ≡ next_free s → x ≡ free →
     RkTextAt g name (free + 2) y free2 p mid → WordAt g (Piece.Abc Op.Self_ free x y) mid q → IsWanted f s p.pc
-object_wanted {f} free x y free2 p mid q s is_function low above (inl small) at =
-    subst (λ (pc : ℕ). IsWanted f s pc) small.same.pc (word_wants s is_function at (abc_is_read is_function at) (on_is_read s.base x y above))
-object_wanted free x y free2 p mid q s is_function low above (inr (large, far)) at =
-    let w = far.value_at.word in
-    begins_wants s (word_begins (free + 2) is_function w (abx_is_read is_function w) refl (omega arith)) (omega (arith, low))
+object_wanted {f} free x y free2 p mid q s is_function quiet is at_x (inl small) at =
+    let stay = quiet.stays mid.pc (omega (arith, small.same.pc)) (omega (arith, at.next)) in
+    subst (λ (pc : ℕ). IsWanted f s pc) small.same.pc (word_wants s stay is_function at (abc_is_read is_function at) (on_is_read s.base x y (omega (arith, is, at_x))))
+object_wanted {f} {g} free x y free2 p mid q s is_function quiet is at_x (inr (large, far)) at = by (length s.entries) refl
+  where
+    w : WordAt g (Piece.Abx Op.LoadK (free + 2) far.value_at.number) p mid
+    w = far.value_at.word
+
+    by : (n : ℕ) → length s.entries ≡ n → IsWanted f s p.pc
+    by (suc n) some = inl (omega (arith, some))
+    by zero none =
+        let call = instr_by mid.pc (Piece.Abc Op.Self_ free x y) in
+        let next : mid.pc ≡ p.pc + 1 = omega (arith, w.next) in
+        let there = ap (instr_at f) (sym next) ∙ instr_is is_function at (abc_is_read is_function at) in
+        name_wants f p.pc (instr_by p.pc (Piece.Abx Op.LoadK (free + 2) far.value_at.number)) call s (quiet.stays p.pc (omega arith) (omega (arith, w.next, at.next))) (instr_is is_function w (abx_is_read is_function w)) refl
+        (omega (arith, is)) (omega (arith, w.next, at.next, quiet.within)) there (eq-eqb x s.base (omega (arith, at_x, is, none)))
 
 module _ {f : Function} {g : Fn} {active : List Active} {listed : List ℕ} {On : Counted Value} {Given : CountedValues} {deep : ℕ} (on_part : Rel) (name : Text) (given : GivenRel) (is_function : IsFunction f g) (few : deep < 200)
     (on_reads : ReadsOperand f g active listed (valued On) deep (OperandAt g active on_part)) (given_reads : ReadsGiven f g active listed Given deep given) where
@@ -292,9 +303,9 @@ module _ {f : Function} {g : Fn} {active : List Active} {listed : List ℕ} {On 
       let begun : at.begun.pc ≤ f.last = omega (arith, within, given_reads.forward (free + 2) at.begun at.last at.given_at, at.word.next) in
       by_object (on_reads.begins free at.x at.free1 p at.mid (omega (arith, named, at.self_at.next, begun)) at.on_at)
     where
-      by_object : (p.pc ≡ at.mid.pc) ⊎ Begins f free p.pc → Begins f free p.pc
+      by_object : BeginsOrNone f free at.free1 p.pc at.mid.pc → Begins f free p.pc
       by_object (inr begins) = begins
-      by_object (inl same) = subst (λ (pc : ℕ). Begins f free pc) (sym same) (name_begins free at.y at.free2 at.mid at.named at.begun is_function at.name_at at.self_at)
+      by_object (inl (same, none)) = subst (λ (pc : ℕ). Begins f free pc) (sym same) (name_begins free at.y at.free2 at.mid at.named at.begun is_function at.name_at at.self_at)
 
   method_comes_to : (free : ℕ) (op : Op) (want : Want) (p q : Spot) (s : Situation) → HasLocals active listed s → free ≡ next_free s → IsQuiet f s.scope p.pc q.pc → MethodAt g on_part name given active free op want p q →
       CallComes f (method_called_by g name On Given p.functions q.functions) (suc deep) s op free (count_field 1 want) p.pc q.pc
@@ -305,7 +316,7 @@ module _ {f : Function} {g : Fn} {active : List Active} {listed : List ℕ} {On 
       let before = quiet_before at.last.pc (omega (arith, at.word.next)) quiet in
       let begun = quiet_before at.begun.pc given_first before in
       let fits = one_at_most (local_at on_part.form active p) g active on_part free at.x at.free1 p at.mid at.on_at in
-      let wanted = λ (at_x : at.x ≡ free) (at_free : at.free1 ≡ free + 1). object_wanted free at.x at.y at.free2 at.mid at.named at.begun s is_function (omega (arith, is)) (omega (arith, is, at_x)) at.name_at at.self_at in
+      let wanted = λ (at_x : at.x ≡ free) (at_free : at.free1 ≡ free + 1). object_wanted free at.x at.y at.free2 at.mid at.named at.begun s is_function (quiet_from at.mid.pc on_first begun) is at_x at.name_at at.self_at in
       let on = on_comes is fits (on_reads.comes free at.x at.free1 p at.mid s locals is (quiet_before at.mid.pc (omega (arith, named, at.self_at.next)) begun) wanted at.on_at) in
       let one = named_comes on is_function is begun at.name_at at.self_at in
       let next : free + 2 ≡ next_free (behind_method one) = omega (arith, is, length-append s.entries (method_entry one.value one.number ∷ more_entry ∷ [])) in

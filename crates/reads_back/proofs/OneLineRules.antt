@@ -1,34 +1,12 @@
 -- What the rules of form ask of a tree is the same on one line.
-use Rattle.std.proofs.Common.{◌≡◌, ℕ, Bool, true, false, refl, ap₂, ◌∙◌}
+use Rattle.std.proofs.Common.{◌≡◌, ℕ, Bool, true, false, refl, ap₂}
 use Rattle.std.specs.Prelude.{◌&&◌, not}
 use Rattle.lua_tree.specs.OneLine.{one_line_statements, one_line_arguments, one_line_expression, one_line_expressions, one_line_fields, one_line_statement}
 use Rattle.lua_tree.specs.Precedence.{binds, is_unary, left_binds, level_of, right_binds}
 use Rattle.lua_tree.specs.Syntax as syntax
-use Rattle.lua_tree.specs.Syntax.{Arguments, Expression, Expressions, Statement, Statements, and_expression, argument_list, assignment, binary_expression, call_expression, call_statement, constructor, Fields, no_fields, positional, named, keyed, table_argument, false_literal, field_expression, index_expression, local_statement, method_call, name_expression, nil_literal, no_expressions, no_statements, number_literal, or_expression, parenthesized, repeat_loop, return_statement, text_argument, text_literal, true_literal, unary_expression, vararg_expression, FunctionBody, function_expression, function_body, function_statement, local_function}
+use Rattle.lua_tree.specs.Syntax.{Arguments, Expression, Expressions, Statement, Statements, and_expression, argument_list, assignment, binary_expression, call_expression, call_statement, Fields, no_fields, positional, named, keyed, table_argument, field_expression, index_expression, local_statement, method_call, name_expression, no_expressions, no_statements, or_expression, parenthesized, repeat_loop, return_statement, text_argument, unary_expression}
 use Rattle.lua_tree.specs.WellFormed.{are_targets, begins_with_paren, ends_block, ends_item, has_expressions, is_prefix, is_target, last_takes_arguments, may_follow, on_its_line, statement_begins_with_paren, statement_takes_arguments, takes_arguments}
 use Rattle.lua_tree.specs.declared.tree.Separator.{Separator}
-use Rattle.reads_back.specs.Straight.{AllIndexNoTables, IndexesNoTable, StatementIndexesNoTable, is_constructor}
-
--- ---- targets of stores
-
-same_constructor : (e : Expression) → is_constructor (one_line_expression e) ≡ is_constructor e
-same_constructor (parenthesized line e) = same_constructor e
-same_constructor (nil_literal line) = refl
-same_constructor e = refl
-
-indexes_none : (e : Expression) → IndexesNoTable e → IndexesNoTable (one_line_expression e)
-indexes_none (index_expression line on key) none = same_constructor on ∙ none
-indexes_none (field_expression line on text) none = same_constructor on ∙ none
-indexes_none (nil_literal line) none = tt
-indexes_none e none = tt
-
-all_index_none : (targets : Expressions) → AllIndexNoTables targets → AllIndexNoTables (one_line_expressions targets)
-all_index_none no_expressions none = none
-all_index_none (syntax.expression e targets) none = (indexes_none e none.0, all_index_none targets none.1)
-
-pub statement_indexes_none : (s : Statement) → StatementIndexesNoTable s → StatementIndexesNoTable (one_line_statement s)
-statement_indexes_none (assignment targets values) none = all_index_none targets none
-statement_indexes_none s none = none
 
 -- ---- what the rules of form ask of an expression is the same on one line
 

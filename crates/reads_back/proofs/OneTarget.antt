@@ -1,13 +1,10 @@
 -- The parts of one target come to the next registers; a name needs no words.
-use Rattle.std.proofs.Common.{◌≡◌, ℕ, ◌+◌, ◌<◌, ◌≤◌, max, Bool, true, List, [], ◌∷◌, ◌++◌, length, length-append, is_some, refl, sym, ap, ◌∙◌, subst, arith, drop, inl, inr, ⊎_elim}
+use Rattle.std.proofs.Common.{◌≡◌, ℕ, ◌+◌, ◌<◌, ◌≤◌, max, Bool, true, List, [], ◌∷◌, ◌++◌, length, length-append, is_some, refl, sym, ap, ◌∙◌, subst, arith, inl, inr, ⊎_elim, suc, zero}
 use Rattle.std.proofs.Math.Nat.{max-zero}
-use Rattle.std.specs.List.{prefix_len}
-use Rattle.std.specs.Prelude.{◌==◌}
 use Rattle.lua_num.specs.Bytes.{Text}
 use Rattle.lua_tree.specs.Names.{is_name}
 use Rattle.lua_tree.specs.Syntax.{Expression, name_expression}
 use Rattle.proto.specs.declared.parts.Constant.{Constant}
-use Rattle.proto.specs.declared.parts.LocVar.{LocVar}
 use Rattle.core_expr.specs.Counting.{taken_behind_operand}
 use Rattle.core_expr.specs.Targets.{TargetValue, index_target, taken_behind_target}
 use Rattle.core_expr.specs.Values.{Value, nil_value, OperandValue, constant_operand, value_operand}
@@ -22,20 +19,21 @@ use Rattle.scheme_stands.specs.Relation.{related}
 use Rattle.scheme_stands.specs.Words.{Fn, Means, Spot, Stretch}
 use Rattle.reads_back.specs.Acted.{IsTarget, named_behind}
 use Rattle.reads_back.specs.Cores.{Counted, IsCore, IsValueOperand, valued}
-use Rattle.reads_back.proofs.BehindWords.{HasLocals, SameLocals, behind_words, quiet_same, same_locals, same_then, locals_then}
+use Rattle.reads_back.proofs.BehindWords.{HasLocals, SameLocals, behind_words, quiet_same, same_locals, same_then, starting_same, locals_then, stay_same}
 use Rattle.reads_back.proofs.BothOperands.{counted}
 use Rattle.reads_back.proofs.Comes.{IsOperandWanted, IsWanted, ReadsCore}
 use Rattle.reads_back.proofs.GlobalTargets.{HasGlobal}
 use Rattle.reads_back.proofs.HeldOperands.{HeldComes, Kept, ReadsHeld, StandsIn, counts_none, entries_in, in_local, in_next, in_word, operand_held, operand_of, taken_up}
 use Rattle.reads_back.proofs.LiteralReads.{constant_there}
 use Rattle.reads_back.proofs.NameReads.{AreListed, IsListed}
-use Rattle.reads_back.proofs.PartsCome.{Grows, IsNoMaker, IsPlaced, KeptIn, Leads, UsesKept, UsesTarget, before_or_behind, grows_by, kept_grows, leads_then, leads_wanted}
-use Rattle.reads_back.proofs.PartsRead.{IsNoTable, is_higher, no_maker, value_of}
+use Rattle.reads_back.proofs.PartsCome.{Grows, IsLower, IsPlaced, KeptIn, Leads, UsesKept, UsesTarget, WantedBehind, before_or_behind, grows_by, kept_grows, leads_then, leads_wanted}
+use Rattle.reads_back.proofs.PartsRead.{is_higher, value_of}
 use Rattle.reads_back.proofs.Reaches.{Reaches, here, reaches_then}
 use Rattle.reads_back.proofs.StoredTargets.{Destination, IsGlobalName, seen_with, target_to, to_global, to_local, to_part, to_upvalue}
-use Rattle.reads_back.proofs.StoresRead.{IsEntry, IsValueKept, is_entry, is_value_kept}
+use Rattle.reads_back.proofs.StoresRead.{IsValueKept, is_value_kept}
 use Rattle.reads_back.proofs.TakenEntries.{at_place}
 use Rattle.reads_back.proofs.ValueWords.{next_free}
+use Rattle.reads_back.proofs.WordsBegin.{lowest_same}
 use Rattle.reads_back.proofs.WordsRead.{IsFunction, IsQuiet, quiet_before, quiet_from}
 
 -- words come to these entries, in which one target stands
@@ -59,8 +57,17 @@ pub record TargetComes (f : Function) (g : Fn) (count : ℕ) (listed : List ℕ)
 pub wanted_later : (f : Function) (last : ℕ) (s : Situation) (scope : Scope) (entries : Entries) (seen : ℕ) → SameLocals s.scope scope → length s.entries ≤ length entries → IsWanted f s last → IsWanted f (record s { scope = scope; entries = entries; seen = seen }) last
 wanted_later f last s scope entries seen same more (inl some) = inl (omega (arith, more, some))
 wanted_later f last s scope entries seen same more (inr (inl starts)) =
-    inr (inl (omega (arith, starts, ap (λ n. prefix_len (λ (local : LocVar). local.start == last) (drop n f.of.locals)) same.declared)))
-wanted_later f last s scope entries seen same more (inr (inr wants)) = inr (inr wants)
+    inr (inl (omega (arith, starts, starting_same f.of.locals last same)))
+wanted_later f last s scope entries seen same more (inr (inr wants)) = inr (inr (lowest_same f s.base last same ∙ wants))
+
+-- where more stands below a register that is taken, nothing more is asked
+pub wanted_further : (f : Function) (last : ℕ) (s : Situation) (scope : Scope) (entries : Entries) (seen : ℕ) {free free1 free2 : ℕ} → SameLocals s.scope scope → free ≡ next_free s → free1 ≡ s.base + length entries → length s.entries ≤ length entries →
+    WantedBehind f s free free2 last → WantedBehind f (record s { scope = scope; entries = entries; seen = seen }) free1 free2 last
+wanted_further f last s scope entries seen {free} {free1} {free2} same next counts more wanted = (stay_same f last same ∙ wanted.0, λ one. by one (length entries) refl)
+  where
+    by : free2 ≡ suc free1 → (n : ℕ) → length entries ≡ n → IsWanted f (record s { scope = scope; entries = entries; seen = seen }) last
+    by one (suc n) some = inl (omega (arith, some))
+    by one zero none = wanted_later f last s scope entries seen same more (wanted.1 (omega (arith, one, counts, next, more, none)))
 
 -- ---- what is kept of a part
 
@@ -76,10 +83,13 @@ module _ (f : Function) (count : ℕ) (listed : List ℕ) (before : Entries) (fr
   held_uses (in_local r) x free1 n stands above within = absurd (omega (arith, above, within, length-append before []))
   held_uses (in_next entry v) x free1 n stands above within = omega (arith, stands.0, next, above, within, length-append before (entry ∷ []))
 
-kept_no_maker : (kept : Kept) → IsEntry kept → IsNoTable (value_of kept) → IsNoMaker kept
-kept_no_maker (in_next entry v) is none = no_maker entry v is none
-kept_no_maker (in_word number) is none = tt
-kept_no_maker (in_local r) is none = tt
+-- the key comes behind the table
+is_lower : (f : Function) (count : ℕ) (listed : List ℕ) (free t free1 k free2 : ℕ) (on key : Kept) → StandsIn f count listed free t free1 on → StandsIn f count listed free1 k free2 key → IsLower on t key k
+is_lower f count listed free t free1 k free2 (in_next entry v) (in_next other w) stands key_stands = λ maker. omega (arith, stands.0, stands.2, key_stands.0)
+is_lower f count listed free t free1 k free2 (in_next entry v) (in_word number) stands key_stands = tt
+is_lower f count listed free t free1 k free2 (in_next entry v) (in_local r) stands key_stands = tt
+is_lower f count listed free t free1 k free2 (in_word number) key stands key_stands = tt
+is_lower f count listed free t free1 k free2 (in_local r) key stands key_stands = tt
 
 -- what is known behind the words of an operand
 abbrev behind_held : {f : Function} {active : List Active} {listed : List ℕ} {Is : OperandValue → Type 0} {free x free1 first last : ℕ} {s : Situation} → HeldComes f active listed Is s free x free1 first last → Situation
@@ -117,7 +127,7 @@ held_leads reads free x free1 p q at = record { forward = reads.forward free x f
 -- ---- a table and its key
 
 module _ {f : Function} {g : Fn} {active : List Active} {listed : List ℕ} (is_function : IsFunction f g) (all : AreListed f g active listed) (on : Expression) (on_reads : ReadsCore f g active listed on)
-    (no_table : (before behind : ℕ) (v : Value) → IsCore g active on before behind v → IsNoTable v) (key_at : List Active → (free x free1 : ℕ) → Stretch) (key_local : List Active → Spot → Bool) (Key : Counted OperandValue) (keys : ReadsHeld f g active listed Key (key_at active)) where
+    (key_at : List Active → (free x free1 : ℕ) → Stretch) (key_local : List Active → Spot → Bool) (Key : Counted OperandValue) (keys : ReadsHeld f g active listed Key (key_at active)) where
   pub part_leads : (to : Target) (free free2 : ℕ) (p q : Spot) → PartTargetAt g (related g on) key_at key_local active free to free2 p q → Leads f free free2 p.pc q.pc
   part_leads to free free2 p q at = leads_then (held_leads (operand_held is_function all on on_reads) free at.t at.free1 p at.mid at.on_at) (held_leads keys at.free1 at.k free2 at.mid q at.key_at)
 
@@ -147,7 +157,7 @@ module _ {f : Function} {g : Fn} {active : List Active} {listed : List ℕ} (is_
           at_on = refl;
           at_key = refl;
           value = value;
-          no_maker = kept_no_maker one.kept (is_entry f count listed free t free1 one.kept one.stands) (no_table before between (value_of one.kept) core);
+          lower = is_lower f count listed free t free1 k free2 one.kept two.kept one.stands two.stands;
           mid = length first_part;
           on_in = kept_grows f count listed first_part both (grows_by first_part (entries_in two.kept)) one.kept (length s.entries) t (length first_part) (held_placed f count listed s.entries free next one.kept t free1 one.stands);
           key_in = held_placed f count listed first_part free1 next1 two.kept k free2 two.stands;
@@ -161,15 +171,15 @@ module _ {f : Function} {g : Fn} {active : List Active} {listed : List ℕ} (is_
       }
 
   pub part_comes : (Is : Counted TargetValue) → ((before between behind : ℕ) (o : Value) (k : OperandValue) → IsCore g active on before between o → Key between behind k → Is before behind (index_target o k)) → (to : Target) (free free2 : ℕ) (p q : Spot) (s : Situation) → HasLocals active listed s → free ≡ next_free s → IsQuiet f s.scope p.pc q.pc →
-      (free < free2 → IsWanted f s q.pc) → PartTargetAt g (related g on) key_at key_local active free to free2 p q → TargetComes f g (length active) listed (Is p.functions q.functions) to s free2 p.pc q.pc
+      WantedBehind f s free free2 q.pc → PartTargetAt g (related g on) key_at key_local active free to free2 p q → TargetComes f g (length active) listed (Is p.functions q.functions) to s free2 p.pc q.pc
   part_comes Is is to free free2 p q s locals next quiet wanted at =
       let tables = operand_held is_function all on on_reads in
       let on_leads = held_leads tables free at.t at.free1 p at.mid at.on_at in
       let key_leads = held_leads keys at.free1 at.k free2 at.mid q at.key_at in
-      let on_wanted : IsOperandWanted f s free at.t at.free1 at.mid.pc = λ is more. leads_wanted s key_leads quiet.within (omega (arith, more, next)) (wanted (omega (arith, more, key_leads.up))) in
+      let on_wanted : IsOperandWanted f s free at.t at.free1 at.mid.pc = λ is more. (leads_wanted s quiet on_leads.forward key_leads next wanted).1 (omega (arith, more)) in
       let one = tables.comes free at.t at.free1 p at.mid s locals next (quiet_before at.mid.pc key_leads.forward quiet) on_wanted at.on_at in
       let key_wanted : IsOperandWanted f (behind_held one) at.free1 at.k free2 q.pc = λ is more.
-      wanted_later f q.pc s one.scope (s.entries ++ entries_in one.kept) one.seen one.same (omega (arith, length-append s.entries (entries_in one.kept))) (wanted (omega (arith, more, on_leads.up))) in
+      (wanted_further f q.pc s one.scope (s.entries ++ entries_in one.kept) one.seen one.same next (next_behind one next) (omega (arith, length-append s.entries (entries_in one.kept))) wanted).1 (omega (arith, more)) in
       let two = keys.comes at.free1 at.k free2 at.mid q (behind_held one) (locals_then one.same locals) (next_behind one next) (quiet_same one.same (quiet_from at.mid.pc on_leads.forward quiet)) key_wanted at.key_at in
       subst (λ (to : Target). TargetComes f g (length active) listed (Is p.functions q.functions) to s free2 p.pc q.pc) (sym at.is)
       (part_held p.functions at.mid.functions q.functions (Is p.functions q.functions) (is p.functions at.mid.functions q.functions) (is_some (local_at (related g on).form active p)) (key_local active at.mid) free at.t at.free1 at.k free2 p.pc at.mid.pc q.pc s (omega (arith, next, locals.base)) one two)

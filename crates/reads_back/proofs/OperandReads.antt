@@ -1,5 +1,5 @@
 -- An operand is a constant, a local or the value in the next register, which the word takes off again.
-use Rattle.std.proofs.Common.{◌≡◌, ℕ, ◌+◌, ◌-◌, ◌<◌, ◌≤◌, ◌⊎◌, false, List, [], ◌∷◌, ◌++◌, length, append-nil, Option, Some, None, refl, sym, ap, ap₂, ◌∙◌, subst, arith, le-leb, lt-ltb, inl, inr, if◌then◌else◌}
+use Rattle.std.proofs.Common.{◌≡◌, ℕ, ◌+◌, ◌-◌, ◌<◌, ◌≤◌, false, List, [], ◌∷◌, ◌++◌, length, append-nil, Option, Some, None, refl, sym, ap, ap₂, ◌∙◌, subst, arith, le-leb, lt-ltb, inl, inr, if◌then◌else◌}
 use Rattle.std.specs.Prelude.{option_and_then, option_map, slice_get}
 use Rattle.std.proofs.lemmas.Bool.Decides.{nat_tests}
 use Rattle.std.proofs.lemmas.Option.{slice_get_within}
@@ -19,7 +19,7 @@ use Rattle.scheme_stands.specs.Expressions.{Form, OperandAt, OperandBy, RkAt, Rk
 use Rattle.scheme_stands.specs.Relation.{related}
 use Rattle.scheme_stands.specs.Words.{Fn, Spot}
 use Rattle.reads_back.specs.Cores.{IsCore, IsKey, IsOperand, IsOperandBy, IsSmall, IsValueOperand, valued}
-use Rattle.reads_back.proofs.Comes.{Begins, Comes, IsOperandWanted, OperandComes, ReadsCore, ReadsOperand, comes_next}
+use Rattle.reads_back.proofs.Comes.{Comes, IsOperandWanted, OperandComes, ReadsCore, ReadsOperand, comes_next, BeginsOrNone}
 use Rattle.reads_back.proofs.BehindWords.{HasLocals, behind_words, same_locals}
 use Rattle.reads_back.proofs.BothOperands.{as_operand}
 use Rattle.reads_back.proofs.Deeper.{some_depth, operand_so}
@@ -148,8 +148,8 @@ module _ {f : Function} {g : Fn} {active : List Active} {listed : List ℕ} (is_
   operand_by_forward (Some r) free x free1 p q is at = let local = local_operand is_function all e r p q is at.passed in omega (arith, local.same)
   operand_by_forward None free x free1 p q is at = reads.forward free free p q at.value_at
 
-  operand_by_begins : (o : Option ℕ) (free x free1 : ℕ) (p q : Spot) → q.pc ≤ f.last → local_at (related g e).form active p ≡ o → OperandBy o g active (related g e) free x free1 p q → (p.pc ≡ q.pc) ⊎ Begins f free p.pc
-  operand_by_begins (Some r) free x free1 p q within is at = let local = local_operand is_function all e r p q is at.passed in inl (sym local.same)
+  operand_by_begins : (o : Option ℕ) (free x free1 : ℕ) (p q : Spot) → q.pc ≤ f.last → local_at (related g e).form active p ≡ o → OperandBy o g active (related g e) free x free1 p q → BeginsOrNone f free free1 p.pc q.pc
+  operand_by_begins (Some r) free x free1 p q within is at = let local = local_operand is_function all e r p q is at.passed in inl (sym local.same, at.at_free)
   operand_by_begins None free x free1 p q within is at = inr (reads.begins free p q within at.value_at)
 
   operand_by_comes : (o : Option ℕ) (free x free1 : ℕ) (p q : Spot) (s : Situation) → local_at (related g e).form active p ≡ o → HasLocals active listed s → free ≡ next_free s → IsQuiet f s.scope p.pc q.pc → IsOperandWanted f s free x free1 q.pc →
@@ -171,8 +171,8 @@ module _ {f : Function} {g : Fn} {active : List Active} {listed : List ℕ} (is_
   rk_by_forward (Some k) free x free1 p q (inr (large, at)) = operand_reads.forward free x free1 p q at
   rk_by_forward None free x free1 p q at = operand_reads.forward free x free1 p q at
 
-  rk_by_begins : (o : Option Constant) (free x free1 : ℕ) (p q : Spot) → q.pc ≤ f.last → RkBy o g active (related g e) free x free1 p q → (p.pc ≡ q.pc) ⊎ Begins f free p.pc
-  rk_by_begins (Some k) free x free1 p q within (inl at) = inl (sym at.same.pc)
+  rk_by_begins : (o : Option Constant) (free x free1 : ℕ) (p q : Spot) → q.pc ≤ f.last → RkBy o g active (related g e) free x free1 p q → BeginsOrNone f free free1 p.pc q.pc
+  rk_by_begins (Some k) free x free1 p q within (inl at) = inl (sym at.same.pc, at.at_free)
   rk_by_begins (Some k) free x free1 p q within (inr (large, at)) = operand_reads.begins free x free1 p q within at
   rk_by_begins None free x free1 p q within at = operand_reads.begins free x free1 p q within at
 
@@ -197,8 +197,8 @@ pub text_forward : (g : Fn) (text : Text) (free x free1 : ℕ) (p q : Spot) → 
 text_forward g text free x free1 p q (inl at) = omega (arith, at.same.pc)
 text_forward g text free x free1 p q (inr (large, at)) = let w = at.value_at in omega (arith, w.word.next)
 
-text_begins : {f : Function} {g : Fn} (text : Text) (free x free1 : ℕ) (p q : Spot) → IsFunction f g → RkTextAt g text free x free1 p q → (p.pc ≡ q.pc) ⊎ Begins f free p.pc
-text_begins text free x free1 p q is_function (inl at) = inl (sym at.same.pc)
+text_begins : {f : Function} {g : Fn} (text : Text) (free x free1 : ℕ) (p q : Spot) → IsFunction f g → RkTextAt g text free x free1 p q → BeginsOrNone f free free1 p.pc q.pc
+text_begins text free x free1 p q is_function (inl at) = inl (sym at.same.pc, at.at_free)
 text_begins text free x free1 p q is_function (inr (large, at)) = let w = at.value_at in inr (word_begins free is_function w.word (abx_is_read is_function w.word) refl (omega arith))
 
 module _ {f : Function} {g : Fn} {active : List Active} {listed : List ℕ} (is_function : IsFunction f g) (text : Text) where

@@ -1,5 +1,5 @@
 -- The word of an operator takes its operands off, and makes their value: where its operands are read, so is it.
-use Rattle.std.proofs.Common.{◌≡◌, ℕ, suc, ◌*◌, ◌+◌, ◌-◌, ◌<◌, ◌≤◌, ◌⊎◌, max, nat_le, ◌||◌, true, false, Bool, List, Option, Some, None, refl, sym, ap, ◌∙◌, subst, arith, inl, inr, le-leb, lt-ltb}
+use Rattle.std.proofs.Common.{◌≡◌, ℕ, suc, ◌*◌, ◌+◌, ◌-◌, ◌<◌, ◌≤◌, max, nat_le, ◌||◌, true, false, Bool, List, Option, Some, None, refl, sym, ap, ◌∙◌, subst, arith, inl, inr, le-leb, lt-ltb}
 use Rattle.std.proofs.lemmas.Bool.Decides.{nat_tests}
 use Rattle.std.proofs.Math.Nat.{max-le, max-zero}
 use Rattle.std.specs.Prelude.{option_and_then, option_map, if◌then◌else◌}
@@ -14,7 +14,7 @@ use Rattle.core_expr.specs.Values.{Value, index_value, binary_value, unary_value
 use Rattle.recover_expr.specs.Drafts.{makes}
 use Rattle.recover_expr.specs.Effects.{is_from, makes_value, reads_from}
 use Rattle.recover_expr.specs.Reading.{read_word}
-use Rattle.recover_expr.specs.Situation.{Function, Situation, constant_in, instr_at, pop, pop_operand, see, see_operand}
+use Rattle.recover_expr.specs.Situation.{Function, Situation, constant_in, pop, pop_operand, see, see_operand}
 use Rattle.recover_expr.specs.Words.{arithmetic, arithmetic_right, get_table, get_table_key, made_by, unary}
 use Rattle.recover_expr.specs.declared.function.Word.{Word}
 use Rattle.scheme.specs.Expressions.{is_comparison, unary_word}
@@ -23,12 +23,12 @@ use Rattle.scheme.specs.declared.making.Active.{Active}
 use Rattle.scheme_stands.specs.Expressions.{ArithmeticAt, OneAt, OperandAt, OperandBy, Rel, RkAt, RkBy, RkTextAt, TwoAt, local_at}
 use Rattle.scheme_stands.specs.Words.{Fn, Spot, Stretch, WordAt, instr_by}
 use Rattle.reads_back.specs.Cores.{IsArithmetic, IsIndexed, IsUnary, IsValueOperand, Counted, arithmetic_by, valued, unary_by, indexed_by}
-use Rattle.reads_back.proofs.Comes.{Begins, IsOperandWanted, IsWanted, Made, OperandComes, Reads, ReadsOperand}
+use Rattle.reads_back.proofs.Comes.{Begins, IsOperandWanted, IsWanted, Made, OperandComes, Reads, ReadsOperand, BeginsOrNone}
 use Rattle.reads_back.proofs.BehindWords.{SameLocals, behind_words, quiet_same, same_then, locals_then}
 use Rattle.reads_back.proofs.BothOperands.{behind_operand, both_reach, both_taken, constants_taken, counted, first_popped, next_behind, second_popped, seen_with, seen_with_both, with_seen, as_operand, with_constant, first_is_read, second_is_read}
 use Rattle.reads_back.proofs.Reaches.{Reaches, reaches_on}
 use Rattle.reads_back.proofs.ValueWords.{next_free}
-use Rattle.reads_back.proofs.WordsBegin.{begins_wants, word_begins, word_wants}
+use Rattle.reads_back.proofs.WordsBegin.{begins_wants, word_begins, word_wants, begins_same}
 use Rattle.reads_back.proofs.WordsRead.{IsFunction, IsQuiet, abc_is_read, quiet_before, quiet_from, turn_there, word_of, word_there}
 use Rattle.reads_back.proofs.Deeper.{made_so}
 
@@ -53,28 +53,17 @@ value_popped f x t behind operand v is popped = value_by (nat_le 256 x) (constan
 
 -- an operand takes the next free register, one of those that the function has, or none
 pub record TakesNext (g : Fn) (at : (free x free1 : ℕ) → Stretch) : Type 0 where
-  pub no_lower : (free x free1 : ℕ) (p q : Spot) → at free x free1 p q → free ≤ free1
   pub few : (free x free1 : ℕ) (p q : Spot) → at free x free1 p q → free1 ≡ free + 1 → free < g.size
 
 module _ (g : Fn) (active : List Active) (c : Rel) where
-  operand_no_lower : (o : Option ℕ) (free x free1 : ℕ) (p q : Spot) → OperandBy o g active c free x free1 p q → free ≤ free1
-  operand_no_lower (Some r) free x free1 p q at = omega (arith, at.at_free)
-  operand_no_lower None free x free1 p q at = omega (arith, at.at_free)
-
   operand_few : (o : Option ℕ) (free x free1 : ℕ) (p q : Spot) → OperandBy o g active c free x free1 p q → free1 ≡ free + 1 → free < g.size
   operand_few (Some r) free x free1 p q at next = omega (arith, at.at_free, next)
   operand_few None free x free1 p q at next = at.room
 
   operand_takes : TakesNext g (OperandAt g active c)
   operand_takes = record {
-    no_lower = λ free x free1 p q at. operand_no_lower (local_at c.form active p) free x free1 p q at;
     few = λ free x free1 p q at next. operand_few (local_at c.form active p) free x free1 p q at next;
   }
-
-  rk_no_lower : (o : Option Constant) (free x free1 : ℕ) (p q : Spot) → RkBy o g active c free x free1 p q → free ≤ free1
-  rk_no_lower (Some k) free x free1 p q (inl at) = omega (arith, at.at_free)
-  rk_no_lower (Some k) free x free1 p q (inr (large, at)) = operand_takes.no_lower free x free1 p q at
-  rk_no_lower None free x free1 p q at = operand_takes.no_lower free x free1 p q at
 
   rk_few : (o : Option Constant) (free x free1 : ℕ) (p q : Spot) → RkBy o g active c free x free1 p q → free1 ≡ free + 1 → free < g.size
   rk_few (Some k) free x free1 p q (inl at) next = omega (arith, at.at_free, next)
@@ -82,18 +71,14 @@ module _ (g : Fn) (active : List Active) (c : Rel) where
   rk_few None free x free1 p q at next = operand_takes.few free x free1 p q at next
 
   pub rk_takes : TakesNext g (RkAt g active c)
-  rk_takes = record { no_lower = rk_no_lower c.form.literal; few = rk_few c.form.literal }
-
-text_no_lower : (g : Fn) (text : Text) (free x free1 : ℕ) (p q : Spot) → RkTextAt g text free x free1 p q → free ≤ free1
-text_no_lower g text free x free1 p q (inl at) = omega (arith, at.at_free)
-text_no_lower g text free x free1 p q (inr (large, at)) = omega (arith, at.at_free)
+  rk_takes = record { few = rk_few c.form.literal }
 
 text_few : (g : Fn) (text : Text) (free x free1 : ℕ) (p q : Spot) → RkTextAt g text free x free1 p q → free1 ≡ free + 1 → free < g.size
 text_few g text free x free1 p q (inl at) next = omega (arith, at.at_free, next)
 text_few g text free x free1 p q (inr (large, at)) next = at.room
 
 pub text_takes : (g : Fn) (text : Text) → TakesNext g (RkTextAt g text)
-text_takes g text = record { no_lower = text_no_lower g text; few = text_few g text }
+text_takes g text = record { few = text_few g text }
 
 -- ---- the word that makes the value
 
@@ -130,9 +115,6 @@ record ReadsBoth (code : Op) : Type 0 where
   first : (pc r x y base : ℕ) → base ≤ x → x < 256 → reads_from (instr_by pc (Piece.Abc code r x y)) base ≡ true
   second : (pc r x y base : ℕ) → base ≤ y → y < 256 → reads_from (instr_by pc (Piece.Abc code r x y)) base ≡ true
 
-pub begins_lower : {f : Function} {from lower pc first : ℕ} → lower ≤ from → first ≡ pc → Begins f from pc → Begins f lower first
-begins_lower {f} low same begins = record { instr = begins.instr; there = ap (instr_at f) same ∙ begins.there; makes = begins.makes; above = omega (arith, begins.above, low) }
-
 module _ {f : Function} {g : Fn} {active : List Active} {listed : List ℕ} {Left Right : Counted OperandValue} {deep : ℕ} {left_at right_at : (free x free1 : ℕ) → Stretch} (is_function : IsFunction f g)
     (left_takes : TakesNext g left_at) (right_takes : TakesNext g right_at) (left : ReadsOperand f g active listed Left deep left_at) (right : ReadsOperand f g active listed Right deep right_at) {code : Op} (reads : ReadsBoth code) where
   abbrev BothAt : (free r : ℕ) → Stretch
@@ -146,29 +128,36 @@ module _ {f : Function} {g : Fn} {active : List Active} {listed : List ℕ} {Lef
   both_begin free p q within at =
       let last : at.last.pc ≤ f.last = omega (arith, at.words_at.next, within) in
       let back = right.forward at.free1 at.y at.free2 at.mid at.last at.right_at in
-      let low : free ≤ at.free1 = omega (arith, left_takes.no_lower free at.x at.free1 p at.mid at.left_at) in
-      by_first at low (left.begins free at.x at.free1 p at.mid (omega (arith, back, last)) at.left_at) (right.begins at.free1 at.y at.free2 at.mid at.last last at.right_at)
+      by_first at (left.begins free at.x at.free1 p at.mid (omega (arith, back, last)) at.left_at) (right.begins at.free1 at.y at.free2 at.mid at.last last at.right_at)
     where
-      by_first : (at : BothAt free free p q) → free ≤ at.free1 → (p.pc ≡ at.mid.pc) ⊎ Begins f free p.pc → (at.mid.pc ≡ at.last.pc) ⊎ Begins f at.free1 at.mid.pc → Begins f free p.pc
-      by_first at low (inr first) second = first
-      by_first at low (inl same) (inr second) = begins_lower low same second
-      by_first at low (inl same) (inl also) = begins_lower (omega arith) (same ∙ also) (word_begins free is_function at.words_at (abc_is_read is_function at.words_at) reads.makes (omega arith))
+      by_first : (at : BothAt free free p q) → BeginsOrNone f free at.free1 p.pc at.mid.pc → BeginsOrNone f at.free1 at.free2 at.mid.pc at.last.pc → Begins f free p.pc
+      by_first at (inr first) second = first
+      by_first at (inl none) (inr second) = begins_same (sym none.1) none.0 second
+      by_first at (inl none) (inl also) = begins_same refl (none.0 ∙ also.0) (word_begins free is_function at.words_at (abc_is_read is_function at.words_at) reads.makes refl)
 
   -- the first operand is wanted by the first word of the second one, or by that of the operator
-  first_wanted : (free r : ℕ) (p q : Spot) (s : Situation) → free ≡ next_free s → q.pc ≤ f.last → (at : BothAt free r p q) → IsOperandWanted f s free at.x at.free1 at.mid.pc
-  first_wanted free r p q s is within at at_x at_free = by_second (right.begins at.free1 at.y at.free2 at.mid at.last (omega (arith, at.words_at.next, within)) at.right_at)
+  first_wanted : (free r : ℕ) (p q : Spot) (s : Situation) → free ≡ next_free s → IsQuiet f s.scope p.pc q.pc → (at : BothAt free r p q) → IsOperandWanted f s free at.x at.free1 at.mid.pc
+  first_wanted free r p q s is quiet at at_x at_free = by_second (right.begins at.free1 at.y at.free2 at.mid at.last (omega (arith, at.words_at.next, quiet.within)) at.right_at)
     where
-      by_second : (at.mid.pc ≡ at.last.pc) ⊎ Begins f at.free1 at.mid.pc → IsWanted f s at.mid.pc
-      by_second (inr second) = begins_wants s second (omega (arith, is, at_free))
-      by_second (inl same) =
+      on : p.pc ≤ at.mid.pc
+      on = left.forward free at.x at.free1 p at.mid at.left_at
+
+      back : at.mid.pc ≤ at.last.pc
+      back = right.forward at.free1 at.y at.free2 at.mid at.last at.right_at
+
+      by_second : BeginsOrNone f at.free1 at.free2 at.mid.pc at.last.pc → IsWanted f s at.mid.pc
+      by_second (inr second) = begins_wants s (quiet.stays at.mid.pc on (omega (arith, back, at.words_at.next))) second (λ none. omega (arith, is, at_free, none))
+      by_second (inl (same, none)) =
           let few : at.x < 256 = omega (arith, left_takes.few free at.x at.free1 p at.mid at.left_at at_free, is_function.few, at_x) in
           let first = reads.first at.last.pc r at.x at.y s.base (omega (arith, is, at_x)) few in
-          subst (λ (pc : ℕ). IsWanted f s pc) (sym same) (word_wants s is_function at.words_at (abc_is_read is_function at.words_at) first)
+          subst (λ (pc : ℕ). IsWanted f s pc) (sym same) (word_wants s (quiet.stays at.last.pc (omega (arith, on, back)) (omega (arith, at.words_at.next))) is_function at.words_at (abc_is_read is_function at.words_at) first)
 
-  second_wanted : (free r : ℕ) (p q : Spot) (t : Situation) (at : BothAt free r p q) → at.free1 ≡ next_free t → IsOperandWanted f t at.free1 at.y at.free2 at.last.pc
-  second_wanted free r p q t at is at_y at_free =
+  second_wanted : (free r : ℕ) (p q : Spot) (t : Situation) → IsQuiet f t.scope p.pc q.pc → (at : BothAt free r p q) → at.free1 ≡ next_free t → IsOperandWanted f t at.free1 at.y at.free2 at.last.pc
+  second_wanted free r p q t quiet at is at_y at_free =
       let few : at.y < 256 = omega (arith, right_takes.few at.free1 at.y at.free2 at.mid at.last at.right_at at_free, is_function.few, at_y) in
-      word_wants t is_function at.words_at (abc_is_read is_function at.words_at) (reads.second at.last.pc r at.x at.y t.base (omega (arith, is, at_y)) few)
+      let on = left.forward free at.x at.free1 p at.mid at.left_at in
+      let back = right.forward at.free1 at.y at.free2 at.mid at.last at.right_at in
+      word_wants t (quiet.stays at.last.pc (omega (arith, on, back)) (omega (arith, at.words_at.next))) is_function at.words_at (abc_is_read is_function at.words_at) (reads.second at.last.pc r at.x at.y t.base (omega (arith, is, at_y)) few)
 
   both_read : {Is : Counted Value} → MakesOfBoth f g Left Right Is deep code → Reads f g active listed Is (suc deep) BothAt
   both_read by = record {
@@ -178,9 +167,9 @@ module _ {f : Function} {g : Fn} {active : List Active} {listed : List ℕ} {Lef
         let on = left.forward free at.x at.free1 p at.mid at.left_at in
         let back = right.forward at.free1 at.y at.free2 at.mid at.last at.right_at in
         let before = quiet_before at.last.pc (omega (arith, at.words_at.next)) quiet in
-        let one = left.comes free at.x at.free1 p at.mid s locals is (quiet_before at.mid.pc back before) (first_wanted free r p q s is quiet.within at) at.left_at in
+        let one = left.comes free at.x at.free1 p at.mid s locals is (quiet_before at.mid.pc back before) (first_wanted free r p q s is quiet at) at.left_at in
         let next = next_behind one is in
-        let two = right.comes at.free1 at.y at.free2 at.mid at.last (behind_operand one) (locals_then one.same locals) next (quiet_same one.same (quiet_from at.mid.pc on before)) (second_wanted free r p q (behind_operand one) at next) at.right_at in
+        let two = right.comes at.free1 at.y at.free2 at.mid at.last (behind_operand one) (locals_then one.same locals) next (quiet_same one.same (quiet_from at.mid.pc on before)) (second_wanted free r p q (behind_operand one) (quiet_same one.same quiet) at next) at.right_at in
         inl (by.made is quiet one two at.words_at);
   }
 
@@ -332,19 +321,20 @@ unary_word_reads UnaryOp.Neg pc r x base above = le-leb base x above
 unary_word_reads UnaryOp.Not pc r x base above = le-leb base x above
 unary_word_reads UnaryOp.Len pc r x base above = le-leb base x above
 
-unary_begins : {f : Function} {g : Fn} {x : ℕ} (op : UnaryOp) (free : ℕ) (p mid q : Spot) → IsFunction f g → WordAt g (Piece.Abc (unary_word op) free x 0) mid q → (p.pc ≡ mid.pc) ⊎ Begins f free p.pc → Begins f free p.pc
-unary_begins op free p mid q is_function at (inl same) = begins_lower (omega arith) same (word_begins free is_function at (abc_is_read is_function at) (unary_makes op) (omega arith))
-unary_begins op free p mid q is_function at (inr begins) = begins
+unary_begins : {f : Function} {g : Fn} {x : ℕ} (op : UnaryOp) (free free1 : ℕ) (p mid q : Spot) → IsFunction f g → WordAt g (Piece.Abc (unary_word op) free x 0) mid q → BeginsOrNone f free free1 p.pc mid.pc → Begins f free p.pc
+unary_begins op free free1 p mid q is_function at (inl none) = begins_same refl none.0 (word_begins free is_function at (abc_is_read is_function at) (unary_makes op) refl)
+unary_begins op free free1 p mid q is_function at (inr begins) = begins
 
 pub unary_reads : {f : Function} {g : Fn} {active : List Active} {listed : List ℕ} {Of : Counted Value} {deep : ℕ} {of_at : (free x free1 : ℕ) → Stretch} (op : UnaryOp) → IsFunction f g → deep < 200 →
     ReadsOperand f g active listed (valued Of) deep of_at → Reads f g active listed (unary_by op Of) (suc deep) (λ free r. OneAt of_at free (λ x. WordAt g (Piece.Abc (unary_word op) r x 0)))
 unary_reads {Of = Of} op is_function few of = record {
   forward = λ free r p q at. omega (arith, of.forward free at.x at.free1 p at.mid at.operand_at, at.words_at.next);
   begins = λ free p q within at.
-      unary_begins op free p at.mid q is_function at.words_at (of.begins free at.x at.free1 p at.mid (omega (arith, at.words_at.next, within)) at.operand_at);
+      unary_begins op free at.free1 p at.mid q is_function at.words_at (of.begins free at.x at.free1 p at.mid (omega (arith, at.words_at.next, within)) at.operand_at);
   arrives = λ free r p q s locals is goal quiet wanted at.
       let before = quiet_before at.mid.pc (omega (arith, at.words_at.next)) quiet in
-      let reads = word_wants s is_function at.words_at (abc_is_read is_function at.words_at) in
+      let on = of.forward free at.x at.free1 p at.mid at.operand_at in
+      let reads = word_wants s (quiet.stays at.mid.pc on (omega (arith, at.words_at.next))) is_function at.words_at (abc_is_read is_function at.words_at) in
       inl (made_so (omega arith) (λ v made. subst (λ (behind : ℕ). IsUnary op (Of p.functions behind) v) (sym at.words_at.functions) made) (unary_comes op is_function few is quiet (of.comes free at.x at.free1 p at.mid s locals is before (λ at_x at_free. reads (unary_word_reads op at.mid.pc r at.x s.base (omega (arith, is, at_x)))) at.operand_at) at.words_at));
 }
 

@@ -8,6 +8,7 @@ use Rattle.proto.specs.declared.parts.Constant.{Constant}
 use Rattle.core_expr.specs.Places.{local_name, place, upvalue_name}
 use Rattle.core_expr.specs.Targets.{TargetValue}
 use Rattle.recover_expr.specs.Entries.{Entries, EntryValue, is_maker, single_of}
+use Rattle.recover_expr.specs.Items.{all_stay}
 use Rattle.recover_expr.specs.Locals.{Scope}
 use Rattle.recover_expr.specs.Situation.{Function, Situation}
 use Rattle.scheme.specs.Expressions.{Target, name_target, part_target}
@@ -16,14 +17,16 @@ use Rattle.scheme_stands.specs.Words.{Fn}
 use Rattle.reads_back.specs.Acted.{all_named_behind, taken_behind_targets}
 use Rattle.reads_back.specs.Cores.{HasNumber}
 use Rattle.reads_back.proofs.BehindWords.{SameLocals}
-use Rattle.reads_back.proofs.Comes.{Begins, IsWanted}
+use Rattle.reads_back.proofs.Comes.{BeginsOrNone, IsWanted}
 use Rattle.reads_back.proofs.HeldOperands.{Kept, in_word, in_local, in_next}
 use Rattle.reads_back.proofs.PartsRead.{left_of}
 use Rattle.reads_back.proofs.PartsUsed.{all_used_length, part_length}
 use Rattle.reads_back.proofs.Reaches.{Reaches}
 use Rattle.reads_back.proofs.StoredTargets.{AreThere, Destination, HeldAt, IsGlobalName, IsThere, seen_with_all, targets_to, to_global, to_local, to_part, to_upvalue, used_by, used_by_all, with_used}
 use Rattle.reads_back.proofs.StoresRead.{IsValueKept}
-use Rattle.reads_back.proofs.WordsBegin.{begins_wants}
+use Rattle.reads_back.proofs.ValueWords.{next_free}
+use Rattle.reads_back.proofs.WordsBegin.{begins_same, begins_wants}
+use Rattle.reads_back.proofs.WordsRead.{IsQuiet, stays_to}
 
 pub before_or_behind : (n place : ℕ) → (n < place) ⊎ (place ≤ n)
 before_or_behind n zero = inr (omega arith)
@@ -63,34 +66,42 @@ grows_by [] more n other there = cc
 
 -- ---- words that follow
 
--- words go on from a register to another; where there are any the first one makes a value for that register or a higher one
+-- words go on from a register to another; where there are any the first one makes a value for that register, or for the second one above it
 pub record Leads (f : Function) (free free1 first last : ℕ) : Type 0 where
   pub forward : first ≤ last
   pub up : free ≤ free1
-  pub begins : last ≤ f.last → (first ≡ last) ⊎ Begins f free first
+  pub begins : last ≤ f.last → BeginsOrNone f free free1 first last
 
-begins_then : {f : Function} {free free1 first mid last : ℕ} → free ≤ free1 → (first ≡ mid) ⊎ Begins f free first → (mid ≡ last) ⊎ Begins f free1 mid → (first ≡ last) ⊎ Begins f free first
-begins_then up (inr begins) rest = inr begins
-begins_then up (inl same) (inl more) = inl (same ∙ more)
-begins_then {f} {free} up (inl same) (inr begins) = inr (subst (Begins f free) (sym same) (record { instr = begins.instr; there = begins.there; makes = begins.makes; above = omega (arith, up, begins.above) }))
+begins_then : {f : Function} {free free1 free2 first mid last : ℕ} → BeginsOrNone f free free1 first mid → BeginsOrNone f free1 free2 mid last → BeginsOrNone f free free2 first last
+begins_then (inr begins) rest = inr begins
+begins_then (inl none) (inl more) = inl (none.0 ∙ more.0, more.1 ∙ none.1)
+begins_then (inl none) (inr begins) = inr (begins_same (sym none.1) none.0 begins)
 
 pub leads_then : {f : Function} {free free1 free2 first mid last : ℕ} → Leads f free free1 first mid → Leads f free1 free2 mid last → Leads f free free2 first last
 leads_then one two = record {
   forward = omega (arith, one.forward, two.forward);
   up = omega (arith, one.up, two.up);
-  begins = λ within. begins_then one.up (one.begins (omega (arith, two.forward, within))) (two.begins within);
+  begins = λ within. begins_then (one.begins (omega (arith, two.forward, within))) (two.begins within);
 }
 
 pub leads_nowhere : {f : Function} {free free1 first last : ℕ} → free1 ≡ free → last ≡ first → Leads f free free1 first last
-leads_nowhere at_free same = record { forward = omega (arith, same); up = omega (arith, at_free); begins = λ within. inl (sym same) }
+leads_nowhere at_free same = record { forward = omega (arith, same); up = omega (arith, at_free); begins = λ within. inl (sym same, at_free) }
 
--- what is wanted behind them is wanted before them, or by the first one
-pub leads_wanted : {f : Function} {free free1 first last : ℕ} (s : Situation) → Leads f free free1 first last → last ≤ f.last → s.base < free → IsWanted f s last → IsWanted f s first
-leads_wanted {f} {free} {free1} {first} {last} s leads within higher wanted = by (leads.begins within)
+-- no local is over behind words that go to a register, and what stands alone in the next one is wanted there
+abbrev pub WantedBehind : Function → Situation → (free free1 last : ℕ) → Type 0
+WantedBehind f s free free1 last = (all_stay f s.scope last ≡ true) × (free1 ≡ suc free → IsWanted f s last)
+
+-- what is wanted behind words is wanted before them, or by the first one
+pub leads_wanted : {f : Function} {free free1 free2 first mid last : ℕ} (s : Situation) → IsQuiet f s.scope first last → first ≤ mid → Leads f free1 free2 mid last → free ≡ next_free s →
+    WantedBehind f s free free2 last → WantedBehind f s free free1 mid
+leads_wanted {f} {free} {free1} {free2} {first} {mid} {last} s quiet from leads next wanted = (stay, λ one. by one (leads.begins quiet.within))
   where
-    by : (first ≡ last) ⊎ Begins f free first → IsWanted f s first
-    by (inl same) = subst (IsWanted f s) (sym same) wanted
-    by (inr begins) = begins_wants s begins higher
+    stay : all_stay f s.scope mid ≡ true
+    stay = stays_to quiet wanted.0 mid from leads.forward
+
+    by : free1 ≡ suc free → BeginsOrNone f free1 free2 mid last → IsWanted f s mid
+    by one (inl none) = subst (IsWanted f s) (sym none.0) (wanted.1 (none.1 ∙ one))
+    by one (inr begins) = begins_wants s stay begins (λ none. omega (arith, one, next, none))
 
 -- ---- where parts stand
 
@@ -101,16 +112,16 @@ KeptIn f count listed entries low (in_local r) x high = (x ≡ r) × (r < count)
 KeptIn f count listed entries low (in_next entry v) x high =
     (n : ℕ) × (x ≡ count + n) × (x < 250) × (slice_get entries n ≡ Some entry) × (single_of entry ≡ Some v) × (((low ≤ n) × (suc n ≤ high)) ⊎ ((left_of entry ≡ entry) × (low ≤ high)))
 
--- it stands in no register as a constructor
-abbrev pub IsNoMaker : Kept → Type 0
-IsNoMaker (in_next entry v) = is_maker entry ≡ false
-IsNoMaker kept = Unit {0}
+-- a table that stands in a register as a constructor is lower than its key
+abbrev pub IsLower : (on : Kept) → (x : ℕ) → (key : Kept) → (y : ℕ) → Type 0
+IsLower (in_next entry v) x (in_next other w) y = is_maker entry ≡ true → x < y
+IsLower on x key y = Unit {0}
 
 pub record PartPlaced (f : Function) (count : ℕ) (listed : List ℕ) (entries : Entries) (low t k : ℕ) (on key : Kept) (x y high : ℕ) : Type 0 where
   pub at_on : x ≡ t
   pub at_key : y ≡ k
   pub value : IsValueKept on
-  pub no_maker : IsNoMaker on
+  pub lower : IsLower on x key y
   pub mid : ℕ
   pub on_in : KeptIn f count listed entries low on x mid
   pub key_in : KeptIn f count listed entries mid key y high
@@ -142,7 +153,7 @@ module _ (f : Function) (count : ℕ) (listed : List ℕ) (entries more : Entrie
     at_on = at.at_on;
     at_key = at.at_key;
     value = at.value;
-    no_maker = at.no_maker;
+    lower = at.lower;
     mid = at.mid;
     on_in = kept_grows on low x at.mid at.on_in;
     key_in = kept_grows key at.mid y high at.key_in;

@@ -1,11 +1,9 @@
--- What is kept as a part of a target: how many registers it takes, what is left of it, and that it is no constructor.
-use Rattle.std.proofs.Common.{◌≡◌, ℕ, suc, ◌+◌, nat_lt, false, List, length, Some, refl, sym, subst, arith}
-use Rattle.core_expr.specs.Making.{deepest_item}
-use Rattle.core_expr.specs.Values.{Value, local_value, nil_value, table_value}
-use Rattle.recover_expr.specs.Entries.{EntryValue, value_entry, maker_entry, held_entry, is_maker, single_of}
+-- What is kept as a part of a target: how many registers it takes, and what is left of it.
+use Rattle.std.proofs.Common.{◌≡◌, ℕ, ◌+◌, List, length, arith}
+use Rattle.core_expr.specs.Values.{Value, local_value, nil_value}
+use Rattle.recover_expr.specs.Entries.{EntryValue, value_entry, held_entry}
 use Rattle.recover_expr.specs.Situation.{Function}
 use Rattle.reads_back.proofs.HeldOperands.{Kept, in_word, in_local, in_next, entries_in, StandsIn}
-use Rattle.reads_back.proofs.Tests.{given_is}
 
 -- ---- what stands in the registers of the step
 
@@ -27,14 +25,3 @@ is_higher f count listed free x free1 (in_next entry v) stands = stands.2
 abbrev pub left_of : EntryValue → EntryValue
 left_of (value_entry (local_value r)) = value_entry (local_value r)
 left_of entry = held_entry
-
--- ---- what is no constructor
-
-abbrev pub IsNoTable : Value → Type 0
-IsNoTable (table_value items all depth) = ⊥
-IsNoTable v = Unit {0}
-
--- what is no table does not stand in its register as a constructor
-pub no_maker : (entry : EntryValue) (v : Value) → single_of entry ≡ Some v → IsNoTable v → is_maker entry ≡ false
-no_maker (maker_entry items all) v single none = absurd (subst IsNoTable (sym (given_is (nat_lt (deepest_item items) 400) (table_value items all (suc (deepest_item items))) v single)) none)
-no_maker entry v single none = refl

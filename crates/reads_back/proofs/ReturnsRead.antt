@@ -31,7 +31,7 @@ use Rattle.reads_back.specs.ReadAs.{part_of}
 use Rattle.reads_back.proofs.ActsRead.{ActRead, CanAct, act_draft, after_act, same_declares, can_now}
 use Rattle.reads_back.proofs.BehindWords.{HasLocals, SameLocals, behind_words, quiet_same, same_locals}
 use Rattle.reads_back.proofs.Comes.{Comes, ReadsCall, ReadsCore, comes_next}
-use Rattle.reads_back.proofs.GivenLists.{AllRead, list_comes, opens_by_last}
+use Rattle.reads_back.proofs.GivenLists.{AllRead, list_comes, opens_by_last, list_forward}
 use Rattle.reads_back.proofs.NameReads.{AreListed, IsLocal, local_operand}
 use Rattle.reads_back.proofs.Reaches.{Reaches, here, reaches_on, step_ends}
 use Rattle.reads_back.proofs.StoresRead.{IsInStep, local_there, no_place}
@@ -179,7 +179,8 @@ module _ {f : Function} {g : Fn} {active : List Active} {listed : List ℕ} {lef
       let b = count_field 1 (rels_count (all_related g es)) in
       let free_is : length active ≡ next_free (emptied s) = omega (arith, locals.base) in
       let lowest = le-leb s.base (length active) (omega (arith, locals.base)) in
-      let wanted = word_wants (emptied s) is_function word (abc_is_read is_function word) (both_hold (not (b == 1)) (nat_le s.base (length active)) (ap not field.0) lowest) in
+      let on = list_forward f g active listed deep es (rels_open (all_related g es)) (opens_by_last g es) reads (length active) p at.mid at.first_at in
+      let wanted = word_wants (emptied s) (quiet.stays at.mid.pc on (omega (arith, word.next))) is_function word (abc_is_read is_function word) (both_hold (not (b == 1)) (nat_le s.base (length active)) (ap not field.0) lowest) in
       let before = quiet_before at.mid.pc (omega (arith, word.next)) quiet in
       let given = list_comes f g active listed deep es (rels_open (all_related g es)) (opens_by_last g es) reads (length active) p at.mid (emptied s) locals free_is before wanted at.first_at in
       let come : ReturnComes f g active es p.functions at.mid.functions (emptied s) p.pc at.mid.pc =
@@ -218,7 +219,8 @@ module _ {f : Function} {g : Fn} {active : List Active} {listed : List ℕ} {lef
   operand_returned (Some r) x free1 p mid q s reads locals left_is quiet ends is at word = local_returned r x p mid q s locals left_is quiet ends at.at_x (local_operand is_function all e r p mid is at.passed) word
   operand_returned None x free1 p mid q s reads locals left_is quiet ends is at word =
       let free_is : length active ≡ next_free (emptied s) = omega (arith, locals.base) in
-      let wanted = word_wants (emptied s) is_function word (abc_is_read is_function word) (le-leb s.base x (omega (arith, at.at_x, locals.base))) in
+      let stay = quiet.stays mid.pc (reads.forward (length active) (length active) p mid at.value_at) (omega (arith, word.next)) in
+      let wanted = word_wants (emptied s) stay is_function word (abc_is_read is_function word) (le-leb s.base x (omega (arith, at.at_x, locals.base))) in
       next_returned x p mid q s locals left_is quiet ends at.at_x (comes_next reads (length active) p mid (emptied s) locals free_is (quiet_before mid.pc (omega (arith, word.next)) quiet) wanted at.value_at) word
 
   -- a call, whose values are all returned

@@ -31,16 +31,16 @@ use Rattle.reads_back.proofs.BehindWords.{HasLocals, SameLocals, behind_words, q
 use Rattle.reads_back.proofs.Comes.{AreEntries, Begins, CallComes, IsWanted}
 use Rattle.reads_back.proofs.GivenLists.{AllCome, AllRead, all_begin, all_come, all_forward, none_come}
 use Rattle.reads_back.proofs.NameReads.{AreListed}
-use Rattle.reads_back.proofs.Operators.{begins_lower}
 use Rattle.reads_back.proofs.LastOfList.{FrontAndLast, last_alone, last_behind}
 use Rattle.reads_back.proofs.Reaches.{Reaches, here, reaches_then, word}
 use Rattle.reads_back.proofs.TakenEntries.{count_of_entries}
 use Rattle.reads_back.proofs.Tests.{not_so}
 use Rattle.reads_back.proofs.ValueReads.{each_read, call_read}
 use Rattle.reads_back.proofs.ValueWords.{entry_next, next_free}
-use Rattle.reads_back.proofs.WordsBegin.{begins_wants, word_begins}
+use Rattle.reads_back.proofs.WordsBegin.{begins_wants, word_begins, begins_same}
 use Rattle.reads_back.proofs.WordsLater.{multi_later, value_later}
 use Rattle.reads_back.proofs.WordsRead.{IsFunction, IsQuiet, abc_is_read, quiet_before, quiet_from, turn_there, word_of, word_there}
+use Rattle.recover_expr.specs.Items.{all_stay}
 
 -- ---- an entry, and so many others above it
 
@@ -214,14 +214,14 @@ last_one g active op want (syntax.expression e (syntax.expression d es)) has end
 module _ (f : Function) (g : Fn) (active : List Active) (listed : List ℕ) (deep : ℕ) where
   -- if there are any they are wanted behind them
   pub wanted_come : (es : Expressions) → AllRead f g active listed deep es → (free : ℕ) (p q : Spot) (s : Situation) → HasLocals active listed s → free ≡ next_free s → IsQuiet f s.scope p.pc q.pc →
-      (0 < length (all_related g es) → IsWanted f s q.pc) → AllNextAt g (all_related g es) active free p q → AllCome f (AreCores g active es p.functions q.functions) deep s (length (all_related g es)) p.pc q.pc
+      (length (all_related g es) ≡ 1 → IsWanted f s q.pc) → AllNextAt g (all_related g es) active free p q → AllCome f (AreCores g active es p.functions q.functions) deep s (length (all_related g es)) p.pc q.pc
   wanted_come no_expressions reads free p q s locals is quiet wanted at = none_come f g active deep s p q at.pc at.functions
-  wanted_come (syntax.expression e es) reads free p q s locals is quiet wanted at = all_come f g active listed deep (syntax.expression e es) reads free p q s locals is quiet (wanted (omega arith)) at
+  wanted_come (syntax.expression e es) reads free p q s locals is quiet wanted at = all_come f g active listed deep (syntax.expression e es) reads free p q s locals is quiet wanted at
 
   -- above them a word begins a value
   pub singles_come : (es : Expressions) → AllRead f g active listed deep es → (free : ℕ) (p q : Spot) (s : Situation) → HasLocals active listed s → free ≡ next_free s → IsQuiet f s.scope p.pc q.pc →
-      Begins f (free + length (all_related g es)) q.pc → AllNextAt g (all_related g es) active free p q → AllCome f (AreCores g active es p.functions q.functions) deep s (length (all_related g es)) p.pc q.pc
-  singles_come es reads free p q s locals is quiet begins at = wanted_come es reads free p q s locals is quiet (λ some. begins_wants s begins (omega (arith, is, some))) at
+      all_stay f s.scope q.pc ≡ true → Begins f (free + length (all_related g es)) q.pc → AllNextAt g (all_related g es) active free p q → AllCome f (AreCores g active es p.functions q.functions) deep s (length (all_related g es)) p.pc q.pc
+  singles_come es reads free p q s locals is quiet stay begins at = wanted_come es reads free p q s locals is quiet (λ only. begins_wants s stay begins (λ none. omega (arith, is, only, none))) at
 
 -- ---- single values, and further ones of the last
 
@@ -298,14 +298,15 @@ module _ {f : Function} {g : Fn} {active : List Active} {listed : List ℕ} (is_
         let last = reads.begins above cut.mid q within cut.last_at in
         by_front (all_begin f g active listed 200 cut.front fronts free p cut.mid (omega (arith, reads.forward above cut.mid q cut.last_at, within)) cut.parts.front_at) last
       where
-        by_front : (p.pc ≡ cut.mid.pc) ⊎ Begins f free p.pc → Begins f above cut.mid.pc → Begins f free p.pc
+        by_front : ((p.pc ≡ cut.mid.pc) × (length (all_related g cut.front) ≡ 0)) ⊎ Begins f free p.pc → Begins f above cut.mid.pc → Begins f free p.pc
         by_front (inr begins) last = begins
-        by_front (inl same) last = begins_lower (omega arith) same last
+        by_front (inl none) last = begins_same (omega (arith, none.1)) none.0 last
 
     front_comes : (s : Situation) → HasLocals active listed s → free ≡ next_free s → IsQuiet f s.scope p.pc q.pc →
         AllCome f (AreCores g active cut.front p.functions cut.mid.functions) 200 s (length (all_related g cut.front)) p.pc cut.mid.pc
     front_comes s locals is quiet =
         singles_come f g active listed 200 cut.front fronts free p cut.mid s locals is (quiet_before cut.mid.pc (reads.forward above cut.mid q cut.last_at) quiet)
+        (quiet.stays cut.mid.pc to_front (multi_later is_function all cut.last cut.parts.has_last (omega (arith, few, cut.parts.shallow_last)) cut.several above Op.Call (Some (n + 1)) cut.mid q cut.last_at))
         (reads.begins above cut.mid q quiet.within cut.last_at) cut.parts.front_at
 
     pub several_come : (s : Situation) → HasLocals active listed s → free ≡ next_free s → IsQuiet f s.scope p.pc q.pc → SeveralCome f (AreCores g active es p.functions q.functions) s (length (all_related g es)) n p.pc q.pc

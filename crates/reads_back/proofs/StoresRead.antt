@@ -82,13 +82,3 @@ pub only_entry : (entry : EntryValue) (v : Value) → single_of entry ≡ Some v
 only_entry (value_entry w) v is = ap function_number (same_Some w v is)
 only_entry (maker_entry items all) v is = ap function_number (given_is (nat_lt (deepest_item items) 400) _ v is)
 only_entry entry v is = cc
-
--- the entry in a register is the value that is kept
-abbrev pub IsEntry : Kept → Type 0
-IsEntry (in_next entry v) = single_of entry ≡ Some v
-IsEntry kept = Unit {0}
-
-pub is_entry : (f : Function) (count : ℕ) (listed : List ℕ) (free x free1 : ℕ) (kept : Kept) → StandsIn f count listed free x free1 kept → IsEntry kept
-is_entry f count listed free x free1 (in_next entry v) stands = stands.3
-is_entry f count listed free x free1 (in_word number) stands = tt
-is_entry f count listed free x free1 (in_local r) stands = tt

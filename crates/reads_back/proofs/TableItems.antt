@@ -9,7 +9,7 @@ use Rattle.core_expr.specs.Values.{Value, Values, no_values, and_value, OperandV
 use Rattle.recover_expr.specs.Constructors.{maker_at, hold_items, hold_from, hold_next, with_keyed, list_items, open_list}
 use Rattle.recover_expr.specs.Effects.{makes_value, reads_from, reads_as, reads_operands}
 use Rattle.recover_expr.specs.Entries.{Entries, EntryValue, value_entry, maker_entry, held_entry, single_of, singles_of, is_held, any_held, up_to_held, behind_held, held_at, join_items, with_items, with_items_at, more, open_entry, opened, opened_at, take_open, method_entry, missing_entry, more_entry, is_at, is_maker, is_single, is_place, is_temporary, place_in}
-use Rattle.recover_expr.specs.Items.{below_top, below_operand, below_operands, is_so, stores_as, stores_next, stores_alone, is_read_behind, wants, is_wanted, is_item_below}
+use Rattle.recover_expr.specs.Items.{below_top, below_operand, below_operands, is_so, stores_as, stores_next, stores_alone, is_read_behind, wants, is_wanted, is_item_below, all_stay, makes_above}
 use Rattle.recover_expr.specs.Locals.{Scope, starting}
 use Rattle.recover_expr.specs.Situation.{Function, Situation, instr_at}
 use Rattle.recover_expr.specs.declared.function.Word.{Word}
@@ -17,6 +17,7 @@ use Rattle.reads_back.proofs.Comes.{AreEntries, Begins, wants_lowest}
 use Rattle.reads_back.proofs.TakenEntries.{at_place, before_some, open_taken}
 use Rattle.reads_back.proofs.Tests.{both_hold, or_first, or_second}
 use Rattle.reads_back.proofs.ValueWords.{place_of_next}
+use Rattle.reads_back.proofs.WordsBegin.{begins_same, begins_above, begins_far}
 
 -- ---- lists
 
@@ -35,7 +36,7 @@ take_up_to (y ∷ before) x behind = ap (λ rest. y ∷ rest) (take_up_to before
 pub not_none : (n : ℕ) → 0 < n → (n == 0) ≡ false
 not_none n some = grind (arith, nat_tests)
 
-not_lower : (m n : ℕ) → n ≤ m → nat_lt m n ≡ false
+pub not_lower : (m n : ℕ) → n ≤ m → nat_lt m n ≡ false
 not_lower m n above = grind (arith, nat_tests)
 
 -- ---- items
@@ -236,11 +237,11 @@ below_both base place x free y free1 i low one two entries is_x is_y kept kept_t
 
 -- ---- which word is the next one
 
--- in a constructor in the register t, with so many pending: it begins a value above, adds an item whose value is no temporary, or adds a list; or the constructor ends
+-- in a constructor in the register t, with so many pending: it begins a value above them, adds an item whose value is no temporary, or adds a list; or the constructor ends
 pub data Ahead (f : Function) (base t pending pc last : ℕ) : Type 0 where
-  begins_value : Begins f (suc t) pc → Ahead f base t pending pc last
-  adds_item : (i : Instr) → instr_at f pc ≡ Some i → i.op ≡ Op.SetTable → i.a ≡ t → is_temporary base i.c ≡ false → Ahead f base t pending pc last
-  adds_list : (i : Instr) → instr_at f pc ≡ Some i → i.op ≡ Op.SetList → i.a ≡ t → Ahead f base t pending pc last
+  begins_value : Begins f (suc (t + pending)) pc → pc < last → Ahead f base t pending pc last
+  adds_item : (i : Instr) → instr_at f pc ≡ Some i → i.op ≡ Op.SetTable → i.a ≡ t → is_temporary base i.c ≡ false → pc < last → Ahead f base t pending pc last
+  adds_list : (i : Instr) → instr_at f pc ≡ Some i → i.op ≡ Op.SetList → i.a ≡ t → pc < last → Ahead f base t pending pc last
   ends_here : pending ≡ 0 → pc ≡ last → Ahead f base t pending pc last
 
 makes_no_store : (op : Op) (i : Instr) (base : ℕ) → makes_value op ≡ true → base ≤ i.a → stores_as op i base ≡ false
@@ -252,62 +253,76 @@ makes_no_store op i base makes above = refl
 
 -- the word stores nothing of the statement
 none_stored : {f : Function} {base t pending pc last : ℕ} → Ahead f base t pending pc last → base ≤ t → 0 < pending → stores_next f base pc ≡ false
-none_stored {f} {base} (begins_value at) above some =
-    let i = at.instr in ap (is_so (λ i. stores_as i.op i base)) at.there ∙ makes_no_store i.op i base at.makes (omega (arith, at.above, above))
-none_stored {f} {base} (adds_item i there op a not) above some = ap (is_so (λ i. stores_as i.op i base)) there ∙ ap (λ op. stores_as op i base) op ∙ not
-none_stored {f} {base} (adds_list i there op a) above some = ap (is_so (λ i. stores_as i.op i base)) there ∙ ap (λ op. stores_as op i base) op
+none_stored {f} {base} (begins_value at later) above some =
+    let i = at.instr in ap (is_so (λ i. stores_as i.op i base)) at.there ∙ makes_no_store i.op i base at.makes (omega (arith, begins_above at, above))
+none_stored {f} {base} (adds_item i there op a not later) above some = ap (is_so (λ i. stores_as i.op i base)) there ∙ ap (λ op. stores_as op i base) op ∙ not
+none_stored {f} {base} (adds_list i there op a later) above some = ap (is_so (λ i. stores_as i.op i base)) there ∙ ap (λ op. stores_as op i base) op
 none_stored (ends_here none at) above some = absurd (omega (arith, none, some))
 
 -- ---- a SETTABLE is an item
 
 -- what comes to a place is not the lowest of the statement, or a local starts at a pc, or the word there wants it
 abbrev pub IsWantedAt : Function → (base place last : ℕ) → Scope → Type 0
-IsWantedAt f base place last scope = (0 < place) ⊎ (0 < starting f.of.locals last scope) ⊎ (is_so (wants_lowest f base last) (instr_at f last) ≡ true)
+IsWantedAt f base place last scope = (0 < place) ⊎ (0 < starting f.of.locals last scope) ⊎ (is_so (wants_lowest f scope base last) (instr_at f last) ≡ true)
 
 -- a word that is behind this one wants what is in its register, where that is the lowest
-wants_as_lowest : (f : Function) (base last : ℕ) (w : Word) (there : Option Instr) → w.instr.a ≡ base → w.next ≡ last → is_so (wants f base w) there ≡ is_so (wants_lowest f base last) there
-wants_as_lowest f base last w there a next =
-    ap₂ (λ (a pc : ℕ). is_so (λ i. reads_from i base || ((makes_value i.op && nat_lt a i.a) || (stores_alone i base && is_read_behind f base pc i))) there) a next
+pub wants_as_lowest : (f : Function) (scope : Scope) (base last : ℕ) (w : Word) (there : Option Instr) → w.instr.a ≡ base → w.next ≡ last → is_so (wants f scope base w) there ≡ is_so (wants_lowest f scope base last) there
+wants_as_lowest f scope base last w there a next =
+    ap₂ (λ (a pc : ℕ). is_so (λ i. all_stay f scope pc && (reads_from i base || (makes_above f a pc i || (stores_alone i base && is_read_behind f base pc i)))) there) a next
 
-wants_begun : (f : Function) (base : ℕ) (w : Word) (i : Instr) → makes_value i.op ≡ true → w.instr.a < i.a → wants f base w i ≡ true
-wants_begun f base w i makes above =
+wants_begun : (f : Function) (scope : Scope) (base : ℕ) (w : Word) (i : Instr) → all_stay f scope w.next ≡ true → makes_above f w.instr.a w.next i ≡ true → wants f scope base w i ≡ true
+wants_begun f scope base w i stay makes =
     let stores = stores_alone i base && is_read_behind f base w.next i in
-    or_second (reads_from i base) _ (or_first _ stores (both_hold _ _ makes (lt-ltb w.instr.a i.a above)))
+    both_hold _ _ stay (or_second (reads_from i base) _ (or_first _ stores makes))
 
-wants_read : (f : Function) (base : ℕ) (w : Word) (i : Instr) → reads_from i base ≡ true → wants f base w i ≡ true
-wants_read f base w i reads = or_first (reads_from i base) _ reads
+wants_read : (f : Function) (scope : Scope) (base : ℕ) (w : Word) (i : Instr) → all_stay f scope w.next ≡ true → reads_from i base ≡ true → wants f scope base w i ≡ true
+wants_read f scope base w i stay reads = both_hold _ _ stay (or_first (reads_from i base) _ reads)
 
-wanted_next : {f : Function} {base t pending pc last : ℕ} (place : ℕ) (w : Word) (scope : Scope) → Ahead f base t pending pc last → t ≡ base + place → w.instr.a ≡ t → w.next ≡ pc → IsWantedAt f base place last scope →
-    (nat_lt 0 place || (nat_lt 0 (starting f.of.locals w.next scope) || is_wanted f base w)) ≡ true
-wanted_next {f} {base} place w scope (begins_value at) is a next wanted =
-    let i = at.instr in
-    or_second (nat_lt 0 place) _ (or_second (nat_lt 0 (starting f.of.locals w.next scope)) _
-    (ap (λ pc. is_so (wants f base w) (instr_at f pc)) next ∙ ap (is_so (wants f base w)) at.there ∙ wants_begun f base w i at.makes (omega (arith, at.above, a))))
-wanted_next {f} {base} place w scope (adds_item i there op at not) is a next wanted =
-    let reads = ap (λ op. reads_as op i base) op ∙ or_first (nat_le base i.a) (reads_operands Op.SetTable i base) (le-leb base i.a (omega (arith, at, is))) in
-    or_second (nat_lt 0 place) _ (or_second (nat_lt 0 (starting f.of.locals w.next scope)) _
-    (ap (λ pc. is_so (wants f base w) (instr_at f pc)) next ∙ ap (is_so (wants f base w)) there ∙ wants_read f base w i reads))
-wanted_next {f} {base} place w scope (adds_list i there op at) is a next wanted =
-    let reads = ap (λ op. reads_as op i base) op ∙ le-leb base i.a (omega (arith, at, is)) in
-    or_second (nat_lt 0 place) _ (or_second (nat_lt 0 (starting f.of.locals w.next scope)) _
-    (ap (λ pc. is_so (wants f base w) (instr_at f pc)) next ∙ ap (is_so (wants f base w)) there ∙ wants_read f base w i reads))
-wanted_next {f} {base} place w scope (ends_here none at) is a next (inl above) = or_first (nat_lt 0 place) _ (lt-ltb 0 place above)
-wanted_next {f} {base} place w scope (ends_here none at) is a next (inr (inl starts)) =
-    or_second (nat_lt 0 place) _ (or_first _ (is_wanted f base w) (ap (λ pc. nat_lt 0 (starting f.of.locals pc scope)) (next ∙ at) ∙ lt-ltb 0 _ starts))
-wanted_next {f} {base} {last = last} zero w scope (ends_here none at) is a next (inr (inr wanted)) =
-    or_second (nat_lt 0 0) _ (or_second (nat_lt 0 (starting f.of.locals w.next scope)) _
-    (ap (λ pc. is_so (wants f base w) (instr_at f pc)) (next ∙ at) ∙ wants_as_lowest f base last w (instr_at f last) (omega (arith, a, is)) (next ∙ at) ∙ wanted))
-wanted_next {f} {base} (suc place) w scope (ends_here none at) is a next (inr (inr wanted)) = or_first (nat_lt 0 (suc place)) _ (lt-ltb 0 (suc place) (omega arith))
+wanted_next : {f : Function} {base t pc last : ℕ} (place : ℕ) (w : Word) (scope : Scope) → Ahead f base t 0 pc last → (pc < last → all_stay f scope pc ≡ true) → t ≡ base + place → w.instr.a ≡ t → w.next ≡ pc → IsWantedAt f base place last scope →
+    (nat_lt 0 place || (nat_lt 0 (starting f.of.locals w.next scope) || is_wanted f scope base w)) ≡ true
+wanted_next {f} {base} {t} {pc} {last} place w scope ahead stays is a next wanted = by ahead
+  where
+    -- what the next word wants
+    by_word : (i : Instr) → instr_at f pc ≡ Some i → wants f scope base w i ≡ true → (nat_lt 0 place || (nat_lt 0 (starting f.of.locals w.next scope) || is_wanted f scope base w)) ≡ true
+    by_word i there wants_it =
+        or_second (nat_lt 0 place) _ (or_second (nat_lt 0 (starting f.of.locals w.next scope)) _
+        (ap (λ pc. is_so (wants f scope base w) (instr_at f pc)) next ∙ ap (is_so (wants f scope base w)) there ∙ wants_it))
 
-pub item_below : {f : Function} {t pc last : ℕ} (pending place height : ℕ) (w : Word) (s : Situation) → Ahead f s.base t pending pc last → t ≡ s.base + place → w.instr.a ≡ t → w.next ≡ pc → height ≡ suc (place + pending) →
+    stay : pc < last → all_stay f scope w.next ≡ true
+    stay later = ap (all_stay f scope) next ∙ stays later
+
+    at_end : (place : ℕ) → t ≡ base + place → pc ≡ last → IsWantedAt f base place last scope → (nat_lt 0 place || (nat_lt 0 (starting f.of.locals w.next scope) || is_wanted f scope base w)) ≡ true
+    at_end place is at (inl above) = or_first (nat_lt 0 place) _ (lt-ltb 0 place above)
+    at_end place is at (inr (inl starts)) =
+        or_second (nat_lt 0 place) _ (or_first _ (is_wanted f scope base w) (ap (λ pc. nat_lt 0 (starting f.of.locals pc scope)) (next ∙ at) ∙ lt-ltb 0 _ starts))
+    at_end zero is at (inr (inr wanted)) =
+        or_second (nat_lt 0 0) _ (or_second (nat_lt 0 (starting f.of.locals w.next scope)) _
+        (ap (λ pc. is_so (wants f scope base w) (instr_at f pc)) (next ∙ at) ∙ wants_as_lowest f scope base last w (instr_at f last) (omega (arith, a, is)) (next ∙ at) ∙ wanted))
+    at_end (suc place) is at (inr (inr wanted)) = or_first (nat_lt 0 (suc place)) _ (lt-ltb 0 (suc place) (omega arith))
+
+    by : Ahead f base t 0 pc last → (nat_lt 0 place || (nat_lt 0 (starting f.of.locals w.next scope) || is_wanted f scope base w)) ≡ true
+    by (begins_value at later) =
+        let begun : Begins f (w.instr.a + 1) pc = begins_same (omega (arith, a)) refl at in
+        let makes : makes_above f w.instr.a w.next begun.instr ≡ true = ap (λ pc. makes_above f w.instr.a pc begun.instr) next ∙ begins_far w.instr.a pc begun in
+        by_word begun.instr begun.there (wants_begun f scope base w begun.instr (stay later) makes)
+    by (adds_item i there op at not later) =
+        let reads = ap (λ op. reads_as op i base) op ∙ or_first (nat_le base i.a) (reads_operands Op.SetTable i base) (le-leb base i.a (omega (arith, at, is))) in
+        by_word i there (wants_read f scope base w i (stay later) reads)
+    by (adds_list i there op at later) =
+        let reads = ap (λ op. reads_as op i base) op ∙ le-leb base i.a (omega (arith, at, is)) in
+        by_word i there (wants_read f scope base w i (stay later) reads)
+    by (ends_here none at) = at_end place is at wanted
+
+pub item_below : {f : Function} {t pc last : ℕ} (pending place height : ℕ) (w : Word) (s : Situation) → Ahead f s.base t pending pc last → (pc < last → all_stay f s.scope pc ≡ true) →
+    t ≡ s.base + place → w.instr.a ≡ t → w.next ≡ pc → height ≡ suc (place + pending) →
     IsWantedAt f s.base place last s.scope → is_item_below f w s place height ≡ true
-item_below {f} zero place height w s ahead is a next high wanted =
+item_below {f} zero place height w s ahead stays is a next high wanted =
     let stores = not (stores_next f s.base w.next) in
-    let last = nat_lt 0 place || (nat_lt 0 (starting f.of.locals w.next s.scope) || is_wanted f s.base w) in
-    ap (λ more. if more then stores else last) (not_lower (place + 1) height (omega (arith, high))) ∙ wanted_next place w s.scope ahead is a next wanted
-item_below {f} (suc pending) place height w s ahead is a next high wanted =
+    let last = nat_lt 0 place || (nat_lt 0 (starting f.of.locals w.next s.scope) || is_wanted f s.scope s.base w) in
+    ap (λ more. if more then stores else last) (not_lower (place + 1) height (omega (arith, high))) ∙ wanted_next place w s.scope ahead stays is a next wanted
+item_below {f} (suc pending) place height w s ahead stays is a next high wanted =
     let stores = not (stores_next f s.base w.next) in
-    let last = nat_lt 0 place || (nat_lt 0 (starting f.of.locals w.next s.scope) || is_wanted f s.base w) in
+    let last = nat_lt 0 place || (nat_lt 0 (starting f.of.locals w.next s.scope) || is_wanted f s.scope s.base w) in
     ap (λ more. if more then stores else last) (lt-ltb (place + 1) height (omega (arith, high)))
     ∙ ap (λ pc. not (stores_next f s.base pc)) next
     ∙ ap (λ stores. not stores) (none_stored ahead (omega (arith, is)) (omega arith))

@@ -1,5 +1,5 @@
 -- A constructor comes to the next free register, where each part of its items is read.
-use Rattle.std.proofs.Common.{◌≡◌, ◌⊎◌, ℕ, suc, ◌+◌, ◌-◌, ◌/◌, ◌<◌, ◌≤◌, nat_lt, nat_le, Bool, true, false, cond, List, [], ◌∷◌, ◌++◌, length, length-append, append_assoc, Some, None, refl, sym, ap, ◌∙◌, subst, arith, lt-ltb, inl, inr, ◌*◌, ltb-true}
+use Rattle.std.proofs.Common.{◌≡◌, ℕ, suc, ◌+◌, ◌-◌, ◌/◌, ◌<◌, ◌≤◌, nat_lt, nat_le, Bool, true, false, cond, List, [], ◌∷◌, ◌++◌, length, length-append, append_assoc, Some, None, refl, sym, ap, ◌∙◌, subst, arith, lt-ltb, inl, inr, ◌*◌, ltb-true}
 use Rattle.std.proofs.Math.Nat.{max-le}
 use Rattle.std.specs.Prelude.{if◌then◌else◌, ◌==◌, ◌&&◌}
 use Rattle.lua_tree.specs.Syntax.{Expression, Fields, no_fields, positional, named, keyed}
@@ -21,15 +21,16 @@ use Rattle.scheme_stands.specs.Relation.{related, ItemsAt}
 use Rattle.scheme_stands.specs.Words.{Fn, Spot, Stretch, Seq, WordAt, instr_by}
 use Rattle.reads_back.proofs.BehindWords.{HasLocals, behind_words, quiet_same, same_locals, same_then}
 use Rattle.reads_back.proofs.BothOperands.{behind_operand, both_reach, next_behind}
-use Rattle.reads_back.proofs.Comes.{Begins, Comes, IsElementRead, OpenComes, OperandComes, ReadsOperand, ReadsTable, comes_next}
+use Rattle.reads_back.proofs.Comes.{Comes, IsElementRead, OpenComes, OperandComes, ReadsOperand, ReadsTable, comes_next, BeginsOrNone}
 use Rattle.reads_back.proofs.Reaches.{Reaches, here, word, reaches_then}
 use Rattle.reads_back.proofs.TableItems.{Ahead, begins_value, adds_item, ends_here, IsWantedAt, join_assoc, join_none, keyed_held, open_listed, positional_items, some_listed, with_maker, held_count}
-use Rattle.reads_back.proofs.TableWords.{Making, ItemsCome, turn_is, new_table_turn, with_entries, list_reached, list_keeps, list_if_keeps, list_later, list_if_forward, list_ahead, IsBounded, no_words, begins_lower, begins_at, keyed_turn, behind_keyed, no_pending, is_full, making_next, wanted_same, none_pending, making_more, making_held, rk_small, text_small}
+use Rattle.reads_back.proofs.TableWords.{Making, ItemsCome, turn_is, new_table_turn, with_entries, list_reached, list_keeps, list_if_keeps, list_later, list_if_forward, list_ahead, IsBounded, no_words, keyed_turn, behind_keyed, no_pending, is_full, making_next, wanted_same, none_pending, making_more, making_held, rk_small, text_small}
 use Rattle.reads_back.proofs.Tests.{second_of_both}
 use Rattle.reads_back.proofs.ValueWords.{and_entry}
-use Rattle.reads_back.proofs.WordsBegin.{instr_is, word_begins, wanted_above}
+use Rattle.reads_back.proofs.WordsBegin.{instr_is, word_begins, wanted_above, begins_same}
 use Rattle.reads_back.proofs.WordsRead.{IsFunction, IsQuiet, abc_is_read, quiet_before, quiet_from}
 use Rattle.reads_back.specs.Cores.{AreItems, AreNoItems, Counted, CountedItems, IsTable, IsCore, IsItem, IsKeyed, IsKeyedItem, IsKey, IsOneItem, IsOpenItem, IsOperand, Items}
+use Rattle.reads_back.proofs.FurtherWords.{value_further}
 
 -- ---- parts of a constructor
 
@@ -69,7 +70,7 @@ module _ {f : Function} {g : Fn} (active : List Active) (listed : List ℕ) (is_
   -- ---- no item
 
   list_if_ahead : (some : Bool) (base t n pending done last : ℕ) (p q : Spot) → (some ≡ false → pending ≡ 0) → last ≡ q.pc → SetListIf some g t n done p q → Ahead f base t pending p.pc last
-  list_if_ahead true base t n pending done last p q none ends at = let block = (done - 1) / 50 + 1 in list_ahead (nat_le block 511) base t n block pending last p q is_function at
+  list_if_ahead true base t n pending done last p q none ends at = let block = (done - 1) / 50 + 1 in subst (λ (last : ℕ). Ahead f base t pending p.pc last) (sym ends) (list_ahead (nat_le block 511) base t n block pending p q is_function at)
   list_if_ahead false base t n pending done last p q none ends at = ends_here (none refl) (sym at.pc ∙ sym ends)
 
   last_comes : (some : Bool) (deep t n done : ℕ) (p q : Spot) (s : Situation) (before : Entries) (given : ItemList) → nat_lt 0 n ≡ some → Making active listed s before t given n → IsQuiet f s.scope p.pc q.pc → SetListIf some g t n done p q →
@@ -198,7 +199,8 @@ module _ {f : Function} {g : Fn} (active : List Active) (listed : List ℕ) (is_
         record {
           forward = λ p q at. omega (arith, all.forward (t + suc pending) Op.Call None p at.mid at.first_at, list_later g (nat_le block 511) t 0 block at.mid q at.second_at);
           ahead = λ p q s locals above within at.
-              begins_value (begins_lower (omega arith) (all.begins (t + suc pending) p at.mid (omega (arith, within, list_later g (nat_le block 511) t 0 block at.mid q at.second_at)) at.first_at));
+              begins_value (begins_same (omega arith) refl (all.begins (t + suc pending) p at.mid (omega (arith, within, list_later g (nat_le block 511) t 0 block at.mid q at.second_at)) at.first_at))
+              (omega (arith, all.forward (t + suc pending) Op.Call None p at.mid at.first_at, list_later g (nat_le block 511) t 0 block at.mid q at.second_at));
           comes = λ p q s before given making quiet wanted at.
               let on = all.forward (t + suc pending) Op.Call None p at.mid at.first_at in
               let back = list_later g (nat_le block 511) t 0 block at.mid q at.second_at in
@@ -215,7 +217,10 @@ module _ {f : Function} {g : Fn} (active : List Active) (listed : List ℕ) (is_
               omega (arith, reads.one.forward free free p at.mid at.first, list_if_forward g full t 50 (suc done) at.mid others.mid others.first_at, rest_read.forward others.mid q others.second_at);
           ahead = λ p q s locals above within at.
               let others = at.others in
-              begins_value (begins_lower (omega arith) (reads.one.begins free p at.mid (omega (arith, within, list_if_forward g full t 50 (suc done) at.mid others.mid others.first_at, rest_read.forward others.mid q others.second_at)) at.first));
+              let back = list_if_forward g full t 50 (suc done) at.mid others.mid others.first_at in
+              let behind = rest_read.forward others.mid q others.second_at in
+              let inside : at.mid.pc ≤ f.last = omega (arith, within, back, behind) in
+              begins_value (begins_same (omega arith) refl (reads.one.begins free p at.mid inside at.first)) (omega (arith, value_further reads.one free p at.mid s locals (omega (arith, above)) inside at.first, back, behind));
           comes = λ p q s before given making quiet wanted at.
               let others = at.others in
               let on = reads.one.forward free free p at.mid at.first in
@@ -270,7 +275,7 @@ module _ {f : Function} {g : Fn} (active : List Active) (listed : List ℕ) (is_
       let ahead = subst (λ (pc : ℕ). Ahead f s.base t pending pc q.pc) word_at.next (rest_read.ahead mid q s making.locals (omega (arith, making.at)) quiet.within rest_at) in
       let turn : turn_at f p.pc (behind_operand two) ≡ Some (on mid.pc, behind) =
       turn_is (behind_operand two) mid.pc is_function word_at (quiet_before mid.pc back quiet_two) below
-      ∙ keyed_turn one two p.pc t before making.items above after pending q.pc (free ∙ making_next making) making.at making.is counts taken ahead wanted_two small small_two
+      ∙ keyed_turn one two p.pc t before making.items above after pending q.pc (free ∙ making_next making) making.at making.is counts taken ahead (λ less. quiet_two.stays (suc p.pc) (omega arith) less) wanted_two small small_two
       ∙ ap (λ (pc : ℕ). Some (on pc, behind)) (sym word_at.next) in
       let quiet_rest : IsQuiet f two.scope mid.pc q.pc = quiet_from mid.pc (omega (arith, below)) quiet_two in
       let making_then : Making active listed behind before t given_more pending =
@@ -287,8 +292,8 @@ module _ {f : Function} {g : Fn} (active : List Active) (listed : List ℕ) (is_
         let word_at = at.words_at in
         omega (arith, keys.forward (t + suc pending) at.x at.free1 p at.mid at.left_at, operands.forward at.free1 at.y at.free2 at.mid at.last at.right_at, word_at.next)
 
-    keyed_ahead : (t pending ending : ℕ) (p q : Spot) (s : Situation) → HasLocals active listed s → s.base ≤ t → q.pc ≤ f.last → one_keyed t pending p q → Ahead f s.base t pending p.pc ending
-    keyed_ahead t pending ending p q s locals above within at = of_key (keys.begins free at.x at.free1 p at.mid within_mid at.left_at)
+    keyed_ahead : (t pending ending : ℕ) (p q : Spot) (s : Situation) → HasLocals active listed s → s.base ≤ t → q.pc ≤ f.last → q.pc ≤ ending → one_keyed t pending p q → Ahead f s.base t pending p.pc ending
+    keyed_ahead t pending ending p q s locals above within before at = of_key (keys.begins free at.x at.free1 p at.mid within_mid at.left_at)
       where
         free : ℕ
         free = t + suc pending
@@ -302,24 +307,27 @@ module _ {f : Function} {g : Fn} (active : List Active) (listed : List ℕ) (is_
         within_mid : at.mid.pc ≤ f.last
         within_mid = omega (arith, within_last, operands.forward at.free1 at.y at.free2 at.mid at.last at.right_at)
 
-        of_value : p.pc ≡ at.mid.pc → at.free1 ≡ free → (at.mid.pc ≡ at.last.pc) ⊎ Begins f at.free1 at.mid.pc → Ahead f s.base t pending p.pc ending
-        of_value same is (inl too) =
-            let not = no_words operands at.free1 at.y at.free2 at.mid at.last s locals (omega (arith, above, is)) within_last at.right_at too in
-            adds_item (instr_by at.last.pc (Piece.Abc Op.SetTable t at.x at.y)) (ap (instr_at f) (same ∙ too) ∙ instr_is is_function word_at (abc_is_read is_function word_at)) refl refl not.1
-        of_value same is (inr begun) = begins_value (begins_at (sym same) (begins_lower (omega (arith, is)) begun))
+        later : p.pc < q.pc
+        later = omega (arith, keys.forward free at.x at.free1 p at.mid at.left_at, operands.forward at.free1 at.y at.free2 at.mid at.last at.right_at, word_at.next)
 
-        of_key : (p.pc ≡ at.mid.pc) ⊎ Begins f free p.pc → Ahead f s.base t pending p.pc ending
-        of_key (inl same) =
+        of_value : p.pc ≡ at.mid.pc → at.free1 ≡ free → BeginsOrNone f at.free1 at.free2 at.mid.pc at.last.pc → Ahead f s.base t pending p.pc ending
+        of_value same is (inl (too, still)) =
+            let not = no_words operands at.free1 at.y at.free2 at.mid at.last s locals (omega (arith, above, is)) within_last at.right_at too in
+            adds_item (instr_by at.last.pc (Piece.Abc Op.SetTable t at.x at.y)) (ap (instr_at f) (same ∙ too) ∙ instr_is is_function word_at (abc_is_read is_function word_at)) refl refl not.1 (omega (arith, later, before))
+        of_value same is (inr begun) = begins_value (begins_same (omega (arith, is)) same begun) (omega (arith, later, before))
+
+        of_key : BeginsOrNone f free at.free1 p.pc at.mid.pc → Ahead f s.base t pending p.pc ending
+        of_key (inl (same, none)) =
             let key = no_words keys free at.x at.free1 p at.mid s locals (omega (arith, above)) within_mid at.left_at same in
             of_value same key.0 (operands.begins at.free1 at.y at.free2 at.mid at.last within_last at.right_at)
-        of_key (inr begun) = begins_value (begins_lower (omega arith) begun)
+        of_key (inr begun) = begins_value (begins_same (omega arith) refl begun) (omega (arith, later, before))
 
     keyed_read : {Rest : CountedItems} (t pending : ℕ) (rest : Stretch) → ReadsItems f active listed Rest deep t pending rest → ReadsItems f active listed (IsKeyedItem Key Item Rest) deep t pending (Seq (one_keyed t pending) rest)
     keyed_read {Rest} t pending rest rest_read =
         let free = t + suc pending in
         record {
           forward = λ p q at. omega (arith, keyed_forward t pending p at.mid at.first_at, rest_read.forward at.mid q at.second_at);
-          ahead = λ p q s locals above within at. keyed_ahead t pending q.pc p at.mid s locals above (omega (arith, within, rest_read.forward at.mid q at.second_at)) at.first_at;
+          ahead = λ p q s locals above within at. keyed_ahead t pending q.pc p at.mid s locals above (omega (arith, within, rest_read.forward at.mid q at.second_at)) (rest_read.forward at.mid q at.second_at) at.first_at;
           comes = λ p q s before given making quiet wanted at.
               let both = at.first_at in
               let word_at = both.words_at in

@@ -36,7 +36,7 @@ module _ {f : Function} {g : Fn} {active : List Active} {listed : List ℕ} {Are
       let later : at.mid.pc < q.pc = omega (arith, at.second_at.next) in
       let on = reads.forward free p at.mid at.first_at in
       let read = abc_is_read is_function at.second_at in
-      let wanted = word_wants s is_function at.second_at read (le-leb s.base free (omega (arith, is))) in
+      let wanted = word_wants s (quiet.stays at.mid.pc on later) is_function at.second_at read (le-leb s.base free (omega (arith, is))) in
       let table = (reads.comes free p at.mid s locals is (quiet_before at.mid.pc (omega (arith, later)) quiet) wanted at.first_at).0 in
       let comes = comes_so (omega arith) (λ v made. subst (λ (behind : ℕ). IsTable (Are p.functions behind) v) (sym at.second_at.functions) made) table in
       let t = behind_words comes.scope comes.seen (comes.entry ∷ []) s in

@@ -1,14 +1,12 @@
 -- What the words of a constructor do to what is known: NEWTABLE, SETLIST, and SETTABLE as an item; and what is known between items.
-use Rattle.std.proofs.Common.{◌≡◌, ◌⊎◌, ℕ, zero, suc, ◌*◌, ◌+◌, ◌-◌, ◌/◌, ◌<◌, ◌≤◌, max, nat_lt, nat_le, Bool, true, false, List, [], ◌∷◌, ◌++◌, length, length-append, append_assoc, take, Option, Some, None, drop, refl, sym, ap, ap₂, ◌∙◌, subst, arith, le-leb, inl, inr}
+use Rattle.std.proofs.Common.{◌≡◌, ◌⊎◌, ℕ, zero, suc, ◌*◌, ◌+◌, ◌-◌, ◌/◌, ◌<◌, ◌≤◌, max, nat_lt, nat_le, Bool, true, false, List, [], ◌∷◌, ◌++◌, length, length-append, append_assoc, take, Option, Some, None, refl, sym, ap, ap₂, ◌∙◌, subst, arith, le-leb, inl, inr}
 use Rattle.std.proofs.lemmas.Bool.Decides.{nat_tests}
 use Rattle.std.proofs.lemmas.Option.{same_Some}
-use Rattle.std.specs.List.{prefix_len}
 use Rattle.std.specs.Prelude.{option_map, option_and_then, if◌then◌else◌, ◌==◌, not}
 use Rattle.lua_num.specs.Bytes.{Text}
 use Rattle.lua_tree.specs.Syntax.{Expression}
 use Rattle.opcode.specs.declared.op.Op.{Op}
 use Rattle.proto.specs.declared.parts.Constant.{Constant}
-use Rattle.proto.specs.declared.parts.LocVar.{LocVar}
 use Rattle.core_expr.specs.Counting.{taken_behind_operand, taken_behind_items}
 use Rattle.core_expr.specs.Making.{deepest_item}
 use Rattle.core_expr.specs.Values as values
@@ -17,10 +15,10 @@ use Rattle.recover_expr.specs.Assigning.{assignment_from}
 use Rattle.recover_expr.specs.Constructors.{behind_list, item_at, item_of, list_items, listed_at, set_list_at, with_keyed}
 use Rattle.recover_expr.specs.Drafts.{Did, goes}
 use Rattle.recover_expr.specs.Entries.{Entries, EntryValue, maker_entry, held_entry, single_of, singles_of, before_values, and_last_value, join_items, is_temporary, more}
-use Rattle.recover_expr.specs.Items.{is_item, is_item_at, is_item_of_height}
+use Rattle.recover_expr.specs.Items.{is_item, is_item_at, is_item_of_height, all_stay}
 use Rattle.recover_expr.specs.Locals.{Scope}
 use Rattle.recover_expr.specs.Reading.{Turn, on, read_word, turned, turn_at, turn_of, value_as}
-use Rattle.recover_expr.specs.Situation.{Function, Situation, instr_at, pop_operand}
+use Rattle.recover_expr.specs.Situation.{Function, Situation, pop_operand}
 use Rattle.recover_expr.specs.Words.{gone, as_end}
 use Rattle.scheme.specs.declared.making.Active.{Active}
 use Rattle.scheme.specs.declared.making.Piece.{Piece}
@@ -28,15 +26,15 @@ use Rattle.scheme_stands.specs.Expressions.{OperandBy, RkAt, RkBy, RkTextAt, loc
 use Rattle.scheme_stands.specs.Lists.{SetListBy, SetListIf}
 use Rattle.scheme_stands.specs.Relation.{related}
 use Rattle.scheme_stands.specs.Words.{Fn, Spot, Stretch, WordAt, instr_by}
-use Rattle.reads_back.proofs.BehindWords.{HasLocals, SameLocals, behind_words}
+use Rattle.reads_back.proofs.BehindWords.{HasLocals, SameLocals, behind_words, starting_same}
 use Rattle.reads_back.proofs.BothOperands.{behind_operand, both_taken, counted, first_popped, second_popped, seen_with_both, with_seen}
-use Rattle.reads_back.proofs.Comes.{AreEntries, Begins, OperandComes, ReadsOperand}
+use Rattle.reads_back.proofs.Comes.{AreEntries, OperandComes, ReadsOperand}
 use Rattle.reads_back.proofs.Reaches.{Reaches, here, word, reaches_on}
 use Rattle.reads_back.proofs.TableItems.{Ahead, adds_list, IsKept, IsWantedAt, not_none, below_both, item_below, join_assoc, join_none, maker_found, positional_items, take_up_to, height_of, with_maker, held_count}
 use Rattle.reads_back.proofs.TakenEntries.{before_some, more_entries}
 use Rattle.reads_back.proofs.ValueWords.{and_entry, entry_next, next_free}
-use Rattle.reads_back.proofs.WordsBegin.{instr_is, wanted_above}
-use Rattle.reads_back.proofs.WordsRead.{IsFunction, IsQuiet, abc_is_read, turn_there, word_of, word_there}
+use Rattle.reads_back.proofs.WordsBegin.{instr_is, lowest_same, wanted_above}
+use Rattle.reads_back.proofs.WordsRead.{IsFunction, IsQuiet, abc_is_read, turn_there, word_of, word_there, quiet_nowhere}
 use Rattle.reads_back.specs.Cores.{Items, Counted}
 
 -- ---- words
@@ -110,16 +108,17 @@ pub list_if_keeps : (g : Fn) (some : Bool) (t n done : ℕ) (p q : Spot) → Set
 list_if_keeps g true t n done p q at = list_keeps g (nat_le ((done - 1) / 50 + 1) 511) t n ((done - 1) / 50 + 1) p q at
 list_if_keeps g false t n done p q at = at.functions
 
-pub list_ahead : {f : Function} {g : Fn} (small : Bool) (base t n block pending last : ℕ) (p q : Spot) → IsFunction f g → SetListBy small g t n block p q → Ahead f base t pending p.pc last
-list_ahead true base t n block pending last p q is_function at = adds_list (instr_by p.pc (Piece.Abc Op.SetList t n block)) (instr_is is_function at (abc_is_read is_function at)) refl refl
-list_ahead false base t n block pending last p q is_function at = let first = at.first_at in adds_list (instr_by p.pc (Piece.Abc Op.SetList t n 0)) (instr_is is_function first (abc_is_read is_function first)) refl refl
+pub list_ahead : {f : Function} {g : Fn} (small : Bool) (base t n block pending : ℕ) (p q : Spot) → IsFunction f g → SetListBy small g t n block p q → Ahead f base t pending p.pc q.pc
+list_ahead {g = g} true base t n block pending p q is_function at = adds_list (instr_by p.pc (Piece.Abc Op.SetList t n block)) (instr_is is_function at (abc_is_read is_function at)) refl refl (list_later g true t n block p q at)
+list_ahead {g = g} false base t n block pending p q is_function at =
+    let first = at.first_at in adds_list (instr_by p.pc (Piece.Abc Op.SetList t n 0)) (instr_is is_function first (abc_is_read is_function first)) refl refl (list_later g false t n block p q at)
 
 -- ---- operands of a SETTABLE
 
 abbrev pub IsBounded : ((free x free1 : ℕ) → Stretch) → Type 0
 IsBounded at = (free x free1 : ℕ) (p q : Spot) → at free x free1 p q → free1 ≡ free + 1 → x < 256
 
-reaches_none : {f : Function} {pc last : ℕ} {s behind : Situation} → Reaches f pc s last behind → pc ≡ last → behind ≡ s
+pub reaches_none : {f : Function} {pc last : ℕ} {s behind : Situation} → Reaches f pc s last behind → pc ≡ last → behind ≡ s
 reaches_none here same = refl
 reaches_none (word later turn rest) same = let on = reaches_on rest in absurd (omega arith)
 
@@ -135,7 +134,7 @@ no_words {f} {active = active} {listed = listed} {Is} {deep} reads free x free1 
     come : OperandComes f (Is p.functions q.functions) deep u free x free1 p.pc q.pc
     come =
         let count = held_count (free - s.base) in
-        reads.comes free x free1 p q u (record { base = locals.base; places = locals.places }) (omega (arith, count, above)) (record { none = λ pc from below. absurd (omega (arith, same, from, below)); within = within })
+        reads.comes free x free1 p q u (record { base = locals.base; places = locals.places }) (omega (arith, count, above)) (quiet_nowhere within same)
         (λ is is_next. wanted_above f u q.pc (omega (arith, count, above))) at
 
     of_kept : ((come.more ≡ []) × (is_temporary s.base x ≡ false)) ⊎ ((entry : EntryValue) × (v : Value) × (come.more ≡ entry ∷ []) × (single_of entry ≡ Some v) × (x ≡ free)) → (free1 ≡ free) × (is_temporary s.base x ≡ false)
@@ -143,12 +142,6 @@ no_words {f} {active = active} {listed = listed} {Is} {deep} reads free x free1 
     of_kept (inr (entry, v, one, single, is)) =
         let size = ap (λ (s : Situation). length s.entries) (reaches_none come.reaches same) in
         absurd (omega (arith, size, length-append u.entries come.more, ap (λ (some : Entries). length some) one))
-
-pub begins_lower : {f : Function} {from lower pc : ℕ} → lower ≤ from → Begins f from pc → Begins f lower pc
-begins_lower lower begins = record { instr = begins.instr; there = begins.there; makes = begins.makes; above = omega (arith, begins.above, lower) }
-
-pub begins_at : {f : Function} {from pc other : ℕ} → pc ≡ other → Begins f from pc → Begins f from other
-begins_at {f} same begins = record { instr = begins.instr; there = sym (ap (instr_at f) same) ∙ begins.there; makes = begins.makes; above = begins.above }
 
 is_kept : {f : Function} {Is : OperandValue → Type 0} {deep free x free1 first last : ℕ} {s : Situation} (one : OperandComes f Is deep s free x free1 first last) → (free1 ≡ free + 1 → x < 256) → IsKept s.base free x one.more
 is_kept {free = free} {x} {free1} {s = s} one small = of_kept one.kept
@@ -162,9 +155,10 @@ module _ {f : Function} {Key Item : OperandValue → Type 0} {deep free x free1 
 
   -- the word is an item of the constructor below what is held and pending
   pub keyed_turn : (pc t : ℕ) (before : Entries) (items : ItemList) (above behind : Entries) (pending ending : ℕ) → free ≡ next_free s → t ≡ s.base + length before → s.entries ≡ before ++ maker_entry items false ∷ above → pending ≡ length above →
-      with_keyed (length before) one.operand two.operand s.entries ≡ Some behind → Ahead f s.base t pending (suc pc) ending → IsWantedAt f s.base (length before) ending two.scope → (free1 ≡ free + 1 → x < 256) → (free2 ≡ free1 + 1 → y < 256) →
+      with_keyed (length before) one.operand two.operand s.entries ≡ Some behind → Ahead f s.base t pending (suc pc) ending →
+      (suc pc < ending → all_stay f two.scope (suc pc) ≡ true) → IsWantedAt f s.base (length before) ending two.scope → (free1 ≡ free + 1 → x < 256) → (free2 ≡ free1 + 1 → y < 256) →
       turn_of f (behind_operand two) (word_of pc (Piece.Abc Op.SetTable t x y)) ≡ Some (on (suc pc), record s { scope = two.scope; entries = behind; seen = taken_behind_operand two.operand (taken_behind_operand one.operand s.seen) })
-  keyed_turn pc t before items above behind pending ending next at are counts given_is ahead wanted small small_two =
+  keyed_turn pc t before items above behind pending ending next at are counts given_is ahead stays wanted small small_two =
       let w = word_of pc (Piece.Abc Op.SetTable t x y) in
       let place = length before in
       let n = max (max two.seen (counted x)) (counted y) in
@@ -175,7 +169,7 @@ module _ {f : Function} {Key Item : OperandValue → Type 0} {deep free x free1 
       let found = maker_found s.base t before items false (above ++ (one.more ++ two.more)) u.entries at all in
       let below = below_both s.base place x free y free1 w.instr s.entries one.more two.more u.entries refl refl (is_kept one small) (is_kept two small_two) next one.counts (omega (arith, height)) refl in
       let item_is : is_item f w u ≡ true =
-      ap (is_item_at f w u) found ∙ ap (is_item_of_height f w u place) below ∙ item_below pending place (length s.entries) w u ahead at refl refl height wanted in
+      ap (is_item_at f w u) found ∙ ap (is_item_of_height f w u place) below ∙ item_below pending place (length s.entries) w u ahead stays at refl refl height wanted in
       let turns : Option (Did × Situation) → Option (Turn × Situation) = option_and_then (λ (p : Did × Situation). turned f w p.1 p.0) in
       ap (λ u. turns (read_word f w u)) (seen_with_both x y (behind_operand two))
       ∙ ap (λ is. turns (if not is then option_map as_end (assignment_from f w u) else value_as Op.SetTable f w u)) item_is
@@ -232,8 +226,8 @@ pub record ItemsCome (f : Function) (Are : Items) (deep : ℕ) (s : Situation) (
 pub wanted_same : (f : Function) (base place last : ℕ) {scope behind : Scope} → SameLocals scope behind → IsWantedAt f base place last scope → IsWantedAt f base place last behind
 wanted_same f base place last same (inl above) = inl above
 wanted_same f base place last same (inr (inl starts)) =
-    inr (inl (subst (λ (n : ℕ). 0 < prefix_len (λ (local : LocVar). local.start == last) (drop n f.of.locals)) (sym same.declared) starts))
-wanted_same f base place last same (inr (inr wanted)) = inr (inr wanted)
+    inr (inl (subst (λ (n : ℕ). 0 < n) (sym (starting_same f.of.locals last same)) starts))
+wanted_same f base place last same (inr (inr wanted)) = inr (inr (lowest_same f base last same ∙ wanted))
 
 -- ---- no item is left
 

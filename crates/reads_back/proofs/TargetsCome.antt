@@ -1,18 +1,18 @@
 -- The parts of targets come to the registers of the step, and behind them copies of locals that are targets too: so each target stands as its store says it.
-use Rattle.std.proofs.Common.{Some, ◌≡◌, ℕ, ◌+◌, ◌<◌, max, true, false, List, [], ◌∷◌, ◌++◌, length, is_some, refl, sym, ap, ◌∙◌, subst, subst₂, arith, inl, inr, ⊎_elim}
+use Rattle.std.proofs.Common.{Some, ◌≡◌, ◌⊎◌, ℕ, suc, ◌+◌, ◌<◌, ◌≤◌, max, true, false, List, [], ◌∷◌, ◌++◌, length, is_some, refl, sym, ap, ◌∙◌, subst, subst₂, arith, inl, inr, ⊎_elim}
 use Rattle.std.proofs.Math.Nat.{max-zero}
-use Rattle.std.specs.Prelude.{replicate}
+use Rattle.std.proofs.lemmas.Option.{slice_get_within}
+use Rattle.std.specs.Prelude.{replicate, slice_get}
 use Rattle.lua_tree.specs.Syntax as syntax
 use Rattle.lua_tree.specs.Syntax.{Expression, Expressions, no_expressions, name_expression, index_expression, field_expression}
 use Rattle.opcode.specs.declared.op.Op.{Op}
 use Rattle.core_expr.specs.Counting.{one_more, taken_behind, taken_behind_operand}
 use Rattle.core_expr.specs.Targets.{TargetValue, global_target, index_target, taken_behind_target}
-use Rattle.core_expr.specs.Values.{Value}
-use Rattle.recover_expr.specs.Entries.{Entries}
+use Rattle.recover_expr.specs.Entries.{Entries, is_at, is_maker}
 use Rattle.recover_expr.specs.Locals.{Scope}
 use Rattle.recover_expr.specs.Situation.{Function, Situation}
 use Rattle.scheme.specs.Expressions.{Target, name_target, part_target}
-use Rattle.scheme.specs.Making.{in_globals, in_register, in_upvalue}
+use Rattle.scheme.specs.Making.{head_or, in_globals, in_register, in_upvalue}
 use Rattle.scheme.specs.declared.making.Active.{Active}
 use Rattle.scheme.specs.declared.making.Piece.{Piece}
 use Rattle.scheme_stands.specs.Expressions.{RkAt, RkTextAt, local_at}
@@ -20,28 +20,27 @@ use Rattle.scheme_stands.specs.Relation.{all_related, related}
 use Rattle.scheme_stands.specs.Statements.{CopiesAt, StoreRegisterAt, TargetsAt}
 use Rattle.scheme_stands.specs.Words.{Fn, Spot, WordAt, meaning}
 use Rattle.reads_back.specs.Acted.{AreActTargets, AreTargets, IsActTarget, IsTarget, all_named_behind, is_part, named_behind, taken_behind_targets}
-use Rattle.reads_back.specs.Cores.{IsCore, IsKey, IsOperand}
+use Rattle.reads_back.specs.Cores.{IsKey, IsOperand}
 use Rattle.reads_back.proofs.BehindWords.{HasLocals, SameLocals, behind_words, quiet_same, same_locals, same_then, locals_then}
-use Rattle.reads_back.proofs.Comes.{IsWanted, ReadsCore}
+use Rattle.reads_back.proofs.Comes.{ReadsCore}
 use Rattle.reads_back.proofs.CopiesCome.{copies_come, copies_lead}
+use Rattle.reads_back.proofs.FirstStores.{IsLowest}
 use Rattle.reads_back.proofs.GlobalTargets.{HasGlobal, HaveGlobals, globals_before}
-use Rattle.reads_back.proofs.HeldOperands.{Kept, in_local, in_next, in_word, rk_held, text_held}
+use Rattle.reads_back.proofs.HeldOperands.{Kept, entries_in, in_local, in_next, in_word, rk_held, text_held}
 use Rattle.reads_back.proofs.NameReads.{AreListed}
-use Rattle.reads_back.proofs.OneTarget.{TargetComes, name_comes, part_comes, part_leads, wanted_later}
-use Rattle.reads_back.proofs.PartsCome.{ArePlaced, IsNoMaker, IsPlaced, KeptIn, Leads, PartsCome, agrees_all, all_used, are_there, before_or_behind, leads_nowhere, leads_then, leads_wanted, target_grows}
-use Rattle.reads_back.proofs.PartsRead.{IsNoTable}
+use Rattle.reads_back.proofs.OneTarget.{TargetComes, name_comes, part_comes, part_leads, wanted_further}
+use Rattle.reads_back.proofs.PartsCome.{ArePlaced, IsLower, IsPlaced, PartPlaced, UsesAny, UsesTarget, KeptIn, Leads, PartsCome, WantedBehind, agrees_all, all_used, are_there, before_or_behind, leads_nowhere, leads_then, leads_wanted, target_grows}
 use Rattle.reads_back.proofs.Reaches.{Reaches, here, reaches_then}
 use Rattle.reads_back.proofs.StoredTargets.{AreThere, Destination, StoreWordAt, seen_with, seen_with_all, target_to, targets_to, to_global, to_local, to_part, to_upvalue, used_by_all}
 use Rattle.reads_back.proofs.Taking.{max_swap, operand_taken_later, taken_later}
 use Rattle.reads_back.proofs.TargetsStand.{copies_keep}
-use Rattle.reads_back.proofs.TargetsStored.{IsNoItem}
 use Rattle.reads_back.proofs.ValueWords.{next_free}
 use Rattle.reads_back.proofs.WordsRead.{IsFunction, IsQuiet, quiet_before, quiet_from}
 
--- the parts of a target are read, and what it indexes is no constructor
+-- the parts of a target are read
 abbrev pub ReadsTarget : Function → Fn → List Active → (listed : List ℕ) → Expression → Type 0
-ReadsTarget f g active listed (index_expression line on key) = ReadsCore f g active listed on × ReadsCore f g active listed key × ((before behind : ℕ) (v : Value) → IsCore g active on before behind v → IsNoTable v)
-ReadsTarget f g active listed (field_expression line on text) = ReadsCore f g active listed on × ((before behind : ℕ) (v : Value) → IsCore g active on before behind v → IsNoTable v)
+ReadsTarget f g active listed (index_expression line on key) = ReadsCore f g active listed on × ReadsCore f g active listed key
+ReadsTarget f g active listed (field_expression line on text) = ReadsCore f g active listed on
 ReadsTarget f g active listed target = Unit {0}
 
 abbrev pub ReadsTargets : Function → Fn → List Active → (listed : List ℕ) → Expressions → Type 0
@@ -68,11 +67,6 @@ AllFit [] [] = Unit {0}
 AllFit (place ∷ places) (d ∷ ds) = Fits place d × AllFit places ds
 AllFit places ds = ⊥
 
--- no table of a target is a constructor in its register
-abbrev pub AreNoItems : (base : ℕ) → Entries → List Destination → Type 0
-AreNoItems base entries [] = Unit {0}
-AreNoItems base entries (d ∷ ds) = IsNoItem base entries d × AreNoItems base entries ds
-
 -- Words come to these parts, in which the targets stand. Keys that are constants are named by the words of the stores.
 pub record TargetsCome (f : Function) (g : Fn) (active : List Active) (listed : List ℕ) (targets : Expressions) (made_before made_behind : ℕ) (places : List Target) (s : Situation) (free : ℕ) (first last : ℕ) : Type 0 where
   pub ds : List Destination
@@ -89,7 +83,7 @@ pub record TargetsCome (f : Function) (g : Fn) (active : List Active) (listed : 
   pub used : used_by_all (length active) ds (replicate (length parts) false) ≡ replicate (length parts) true
   pub said : AreSaid g places ds
   pub fit : AllFit places ds
-  pub no_items : AreNoItems (length active) parts ds
+  pub lowest : (d : Destination) → ds ≡ d ∷ [] → IsLowest (length active) parts d
   pub taken : taken_behind_targets (targets_to ds) s.seen ≡ max seen keys
   pub named : (n : ℕ) → seen_with_all ds n ≡ all_named_behind (targets_to ds) (max n keys)
 
@@ -99,26 +93,26 @@ module _ {f : Function} {g : Fn} {active : List Active} {listed : List ℕ} (is_
   target_leads : (e : Expression) → IsActTarget e → ReadsTarget f g active listed e → (to : Target) (free free1 : ℕ) (p q : Spot) → (related g e).target active free to free1 p q → Leads f free free1 p.pc q.pc
   target_leads (name_expression line text) is reads to free free1 p q at = leads_nowhere at.at_free at.passed.pc
   target_leads (index_expression line on key) is reads to free free1 p q at =
-      part_leads is_function all on reads.0 reads.2 (λ active. RkAt g active (related g key)) (λ active p. is_some (local_at (related g key).form active p)) (IsOperand g active key) (rk_held is_function all key reads.1) to free free1 p q at
+      part_leads is_function all on reads.0 (λ active. RkAt g active (related g key)) (λ active p. is_some (local_at (related g key).form active p)) (IsOperand g active key) (rk_held is_function all key reads.1) to free free1 p q at
   target_leads (field_expression line on text) is reads to free free1 p q at =
-      part_leads is_function all on reads.0 reads.1 (λ active. RkTextAt g text) (λ active p. false) (IsKey g text) (text_held is_function text) to free free1 p q at
+      part_leads is_function all on reads (λ active. RkTextAt g text) (λ active p. false) (IsKey g text) (text_held is_function text) to free free1 p q at
   target_leads e is reads to free free1 p q at = absurd is
 
-  target_comes : (e : Expression) → IsActTarget e → ReadsTarget f g active listed e → (to : Target) (free free1 : ℕ) (p q : Spot) (s : Situation) → HasLocals active listed s → free ≡ next_free s → IsQuiet f s.scope p.pc q.pc → (free < free1 → IsWanted f s q.pc) → HasGlobal g to →
+  target_comes : (e : Expression) → IsActTarget e → ReadsTarget f g active listed e → (to : Target) (free free1 : ℕ) (p q : Spot) (s : Situation) → HasLocals active listed s → free ≡ next_free s → IsQuiet f s.scope p.pc q.pc → WantedBehind f s free free1 q.pc → HasGlobal g to →
       (related g e).target active free to free1 p q → TargetComes f g (length active) listed (IsTarget g active e p.functions q.functions) to s free1 p.pc q.pc
   target_comes (name_expression line text) is reads to free free1 p q s locals next quiet wanted has at =
       let w = meaning active p in
       subst (λ (to : Target). TargetComes f g (length active) listed (IsTarget g active (name_expression line text) p.functions q.functions) to s free1 p.pc q.pc) (sym at.is)
       (name_comes active is_function line text is w free1 p.functions q.functions p.pc q.pc s at.passed.functions at.passed.pc (omega (arith, at.at_free, next, locals.base)) at.means (all.listed_as text w at.means) (subst (HasGlobal g) at.is has))
   target_comes (index_expression line on key) is reads to free free1 p q s locals next quiet wanted has at =
-      part_comes is_function all on reads.0 reads.2 (λ active. RkAt g active (related g key)) (λ active p. is_some (local_at (related g key).form active p)) (IsOperand g active key) (rk_held is_function all key reads.1)
+      part_comes is_function all on reads.0 (λ active. RkAt g active (related g key)) (λ active p. is_some (local_at (related g key).form active p)) (IsOperand g active key) (rk_held is_function all key reads.1)
       (IsTarget g active (index_expression line on key)) (λ before between behind o k is_on is_key. (between, is_on, is_key)) to free free1 p q s locals next quiet wanted at
   target_comes (field_expression line on text) is reads to free free1 p q s locals next quiet wanted has at =
-      part_comes is_function all on reads.0 reads.1 (λ active. RkTextAt g text) (λ active p. false) (IsKey g text) (text_held is_function text)
+      part_comes is_function all on reads (λ active. RkTextAt g text) (λ active p. false) (IsKey g text) (text_held is_function text)
       (IsTarget g active (field_expression line on text)) (λ before between behind o k is_on is_key. (between, is_on, is_key)) to free free1 p q s locals next quiet wanted at
   target_comes e is reads to free free1 p q s locals next quiet wanted has at = absurd is
 
-  targets_lead : (targets : Expressions) → AreActTargets targets → ReadsTargets f g active listed targets → (to : List Target) (free free1 : ℕ) (p q : Spot) → TargetsAt (all_related g targets) active to free free1 p q → Leads f free free1 p.pc q.pc
+  pub targets_lead : (targets : Expressions) → AreActTargets targets → ReadsTargets f g active listed targets → (to : List Target) (free free1 : ℕ) (p q : Spot) → TargetsAt (all_related g targets) active to free free1 p q → Leads f free free1 p.pc q.pc
   targets_lead no_expressions are reads to free free1 p q at = leads_nowhere at.at_free at.same.pc
   targets_lead (syntax.expression e es) are reads to free free1 p q at =
       leads_then (target_leads e are.0 reads.0 at.target free at.free1 p at.mid at.target_at) (targets_lead es are.1 reads.1 at.others at.free1 free1 at.mid q at.others_at)
@@ -176,7 +170,7 @@ module _ {f : Function} {g : Fn} {active : List Active} {listed : List ℕ} (is_
         ∙ ap (λ m. named_behind (target_to one.d) (all_named_behind ts m)) (max_more n rest.keys one.keys);
   }
 
-  parts_come : (targets : Expressions) → AreActTargets targets → ReadsTargets f g active listed targets → (to : List Target) (free free1 : ℕ) (p q : Spot) (s : Situation) → HasLocals active listed s → free ≡ next_free s → IsQuiet f s.scope p.pc q.pc → (free < free1 → IsWanted f s q.pc) →
+  parts_come : (targets : Expressions) → AreActTargets targets → ReadsTargets f g active listed targets → (to : List Target) (free free1 : ℕ) (p q : Spot) (s : Situation) → HasLocals active listed s → free ≡ next_free s → IsQuiet f s.scope p.pc q.pc → WantedBehind f s free free1 q.pc →
       HaveGlobals g to → TargetsAt (all_related g targets) active to free free1 p q → PartsCome f g (length active) listed (AreTargets g active targets p.functions q.functions) to s free1 p.pc q.pc
   parts_come no_expressions are reads to free free1 p q s locals next quiet wanted have at = record {
     ds = [];
@@ -198,13 +192,26 @@ module _ {f : Function} {g : Fn} {active : List Active} {listed : List ℕ} (is_
       let has = subst (HaveGlobals g) at.is have in
       let to_mid = target_leads is_function all e are.0 reads.0 at.target free at.free1 p at.mid at.target_at in
       let on = targets_lead is_function all es are.1 reads.1 at.others at.free1 free1 at.mid q at.others_at in
-      let wanted_mid : free < at.free1 → IsWanted f s at.mid.pc = λ more. leads_wanted s on quiet.within (omega (arith, more, next)) (wanted (omega (arith, more, on.up))) in
+      let wanted_mid = leads_wanted s quiet to_mid.forward on next wanted in
       let one = target_comes is_function all e are.0 reads.0 at.target free at.free1 p at.mid s locals next (quiet_before at.mid.pc on.forward quiet) wanted_mid has.0 at.target_at in
       let behind : HasLocals active listed (record s { scope = one.scope; entries = one.entries; seen = one.seen }) = locals_then one.same locals in
       let rest = parts_come es are.1 reads.1 at.others at.free1 free1 at.mid q (record s { scope = one.scope; entries = one.entries; seen = one.seen }) behind (omega (arith, one.counts, locals.base)) (quiet_same one.same (quiet_from at.mid.pc to_mid.forward quiet))
-      (λ more. wanted_later f q.pc s one.scope one.entries one.seen one.same (omega (arith, one.counts, next, locals.base, to_mid.up)) (wanted (omega (arith, more, to_mid.up)))) has.1 at.others_at in
+      (wanted_further f q.pc s one.scope one.entries one.seen one.same next (omega (arith, one.counts, locals.base)) (omega (arith, one.counts, next, locals.base, to_mid.up)) wanted) has.1 at.others_at in
       subst (λ (to : List Target). PartsCome f g (length active) listed (AreTargets g active (syntax.expression e es) p.functions q.functions) to s free1 p.pc q.pc) (sym at.is)
       (first_comes e es p.functions at.mid.functions q.functions at.target at.others at.free1 free1 p.pc at.mid.pc q.pc s one rest)
+
+-- ---- the lowest register
+
+alone_lowest : (size n : ℕ) → n < size → ((m : ℕ) → m < size → m ≡ n) → (n ≡ 0) × (size ≤ 1)
+alone_lowest size n within only =
+    let lowest : 0 ≡ n = only 0 (omega (arith, within)) in
+    (sym lowest, ⊎_elim (λ more. absurd (omega (arith, lowest, only 1 more))) (λ low. low) (before_or_behind 1 size))
+
+two_lowest : (size n k : ℕ) → n < size → n < k → ((m : ℕ) → m < size → (m ≡ n) ⊎ (m ≡ k)) → (n ≡ 0) × (size ≤ 2)
+two_lowest size n k within lower both =
+    let lowest : n ≡ 0 = ⊎_elim (λ is. sym is) (λ is. absurd (omega (arith, is, lower))) (both 0 (omega (arith, within))) in
+    let above : (m : ℕ) → 0 < m → m < size → m ≡ k = λ m some below. ⊎_elim (λ is. absurd (omega (arith, is, some, lowest))) (λ is. is) (both m below) in
+    (lowest, ⊎_elim (λ more. absurd (omega (arith, above 1 (omega arith) (omega (arith, more)), above 2 (omega arith) more))) (λ low. low) (before_or_behind 2 size))
 
 -- ---- what the words of their stores say
 
@@ -235,37 +242,51 @@ module _ (f : Function) (g : Fn) (count : ℕ) (listed : List ℕ) (entries : En
   all_fit low [] (d ∷ ds) placed = absurd placed
   all_fit low (to ∷ places) [] placed = absurd placed
 
-  table_no_item : (low mid x y : ℕ) (on key : Kept) → KeptIn f count listed entries low on x mid → IsNoMaker on → IsNoItem count entries (to_part on key x y)
-  table_no_item low mid x y (in_next entry v) key at none = (at.0, at.1, at.3, none)
-  table_no_item low mid x y (in_word number) key at none = tt
-  table_no_item low mid x y (in_local r) key at none = tt
+  -- the only target uses all registers, and its table is lower than its key
+  part_lowest : (t k x y low high : ℕ) (on key : Kept) → PartPlaced f count listed entries low t k on key x y high → ((n : ℕ) → n < length entries → UsesTarget count (to_part on key x y) n) → IsLowest count entries (to_part on key x y)
+  part_lowest t k x y low high (in_word number) key placed uses = tt
+  part_lowest t k x y low high (in_local r) key placed uses = tt
+  part_lowest t k x y low high (in_next entry v) key placed uses = λ n at maker.
+      let here : placed.on_in.0 ≡ n = omega (arith, at, placed.on_in.1) in
+      let there : slice_get entries n ≡ Some entry = ap (slice_get entries) (sym here) ∙ placed.on_in.3 in
+      by n (slice_get_within entries n entry there) key at (λ lower. lower (ap (is_at is_maker) (sym there) ∙ maker)) placed.key_in uses placed.lower
+    where
+      by : (n : ℕ) → n < length entries → (key : Kept) → x ≡ count + n → ((is_maker entry ≡ true → x < y) → x < y) → KeptIn f count listed entries placed.mid key y high → ((n : ℕ) → n < length entries → UsesTarget count (to_part (in_next entry v) key x y) n) → IsLower (in_next entry v) x key y →
+          (n ≡ 0) × (length entries ≤ suc (length (entries_in key)))
+      by n within (in_word number) at higher there uses lower = alone_lowest (length entries) n within (λ m below. ⊎_elim (λ is. omega (arith, is, at)) (λ no. absurd no) (uses m below))
+      by n within (in_local r) at higher there uses lower = alone_lowest (length entries) n within (λ m below. ⊎_elim (λ is. omega (arith, is, at)) (λ no. absurd no) (uses m below))
+      by n within (in_next other w) at higher there uses lower =
+          two_lowest (length entries) n there.0 within (omega (arith, higher lower, at, there.1)) (λ m below. ⊎_elim (λ is. inl (omega (arith, is, at))) (λ is. inr (omega (arith, is, there.1))) (uses m below))
 
-  no_item : (low high : ℕ) (to : Target) (d : Destination) → IsPlaced f g count listed entries low to d high → IsNoItem count entries d
-  no_item low high (part_target t k on_local key_local) (to_part on key x y) placed = table_no_item low placed.mid x y on key placed.on_in placed.no_maker
-  no_item low high to (to_local r) placed = tt
-  no_item low high to (to_upvalue u) placed = tt
-  no_item low high to (to_global number) placed = tt
-  no_item low high (name_target text (in_register r)) (to_part on key x y) placed = absurd placed
-  no_item low high (name_target text (in_upvalue u)) (to_part on key x y) placed = absurd placed
-  no_item low high (name_target text in_globals) (to_part on key x y) placed = absurd placed
+  target_lowest : (low high : ℕ) (to : Target) (d : Destination) → IsPlaced f g count listed entries low to d high → ((n : ℕ) → n < length entries → UsesTarget count d n) → IsLowest count entries d
+  target_lowest low high (part_target t k on_local key_local) (to_part on key x y) placed uses = part_lowest t k x y low high on key placed uses
+  target_lowest low high to (to_local r) placed uses = tt
+  target_lowest low high to (to_upvalue u) placed uses = tt
+  target_lowest low high to (to_global number) placed uses = tt
+  target_lowest low high (name_target text (in_register r)) (to_part on key x y) placed uses = absurd placed
+  target_lowest low high (name_target text (in_upvalue u)) (to_part on key x y) placed uses = absurd placed
+  target_lowest low high (name_target text in_globals) (to_part on key x y) placed uses = absurd placed
 
-  no_items : (low : ℕ) (places : List Target) (ds : List Destination) → ArePlaced f g count listed entries low places ds → AreNoItems count entries ds
-  no_items low [] [] placed = tt
-  no_items low (to ∷ places) (d ∷ ds) placed = (no_item low placed.0 to d placed.1, no_items placed.0 places ds placed.2)
-  no_items low [] (d ∷ ds) placed = absurd placed
-  no_items low (to ∷ places) [] placed = absurd placed
+  only_lowest : (low : ℕ) (places : List Target) (ds : List Destination) → ArePlaced f g count listed entries low places ds → ((n : ℕ) → n < length entries → UsesAny count ds n) → (d : Destination) → ds ≡ d ∷ [] → IsLowest count entries d
+  only_lowest low (to ∷ places) (one ∷ []) placed uses d is =
+      let same : one ≡ d = ap (head_or one) is in
+      subst (IsLowest count entries) same (target_lowest low placed.0 to one placed.1 (λ n below. ⊎_elim (λ used. used) (λ no. absurd no) (uses n below)))
+  only_lowest low (to ∷ places) (one ∷ other ∷ ds) placed uses d is = absurd (omega (arith, ap (λ (ds : List Destination). length ds) is))
+  only_lowest low (to ∷ places) [] placed uses d is = absurd placed
+  only_lowest low [] [] placed uses d is = absurd (omega (arith, ap (λ (ds : List Destination). length ds) is))
+  only_lowest low [] (one ∷ ds) placed uses d is = absurd placed
 
 module _ {f : Function} {g : Fn} {active : List Active} {listed : List ℕ} (is_function : IsFunction f g) (all : AreListed f g active listed) (targets : Expressions) (are : AreActTargets targets) (reads : ReadsTargets f g active listed targets) where
   -- the lowest register of the step is wanted behind them, where they take any
-  pub targets_come : (to places : List Target) (free1 free2 : ℕ) (p mid last : Spot) (s : Situation) → HasLocals active listed s → s.entries ≡ [] → IsQuiet f s.scope p.pc last.pc → (length active < free2 → IsWanted f s last.pc) → HaveGlobals g places →
+  pub targets_come : (to places : List Target) (free1 free2 : ℕ) (p mid last : Spot) (s : Situation) → HasLocals active listed s → s.entries ≡ [] → IsQuiet f s.scope p.pc last.pc → WantedBehind f s (length active) free2 last.pc → HaveGlobals g places →
       TargetsAt (all_related g targets) active to (length active) free1 p mid → CopiesAt g (length active) to places free1 free2 mid last → TargetsCome f g active listed targets p.functions last.functions places s free2 p.pc last.pc
   targets_come to places free1 free2 p mid last s locals empty quiet wanted have targets_at copies_at =
       let count = length active in
       let none : length s.entries ≡ 0 = ap length empty in
       let to_mid = targets_lead is_function all targets are reads to count free1 p mid targets_at in
       let on = copies_lead is_function count to places free1 free2 mid last copies_at in
-      let wanted_mid : count < free1 → IsWanted f s mid.pc = λ more. leads_wanted s on quiet.within (omega (arith, more, locals.base)) (wanted (omega (arith, more, on.up))) in
       let next : count ≡ next_free s = omega (arith, locals.base, none) in
+      let wanted_mid = leads_wanted s quiet to_mid.forward on next wanted in
       let parts = parts_come is_function all targets are reads to count free1 p mid s locals next (quiet_before mid.pc on.forward quiet) wanted_mid (globals_before g count to places free1 free2 mid last copies_at have) targets_at in
       let come = copies_come is_function all.few (AreTargets g active targets p.functions mid.functions) s locals p.pc count to places free1 free2 mid last (omega arith) to_mid.up quiet parts copies_at in
       let there = are_there f count listed come.entries g come.entries (length s.entries) places come.ds come.placed (agrees_all come.entries (length s.entries)) in
@@ -284,7 +305,7 @@ module _ {f : Function} {g : Fn} {active : List Active} {listed : List ℕ} (is_
         used = all_used count come.ds (length come.entries) (λ n below. come.uses n (omega (arith, none)) below);
         said = are_said f g count listed come.entries (length s.entries) places come.ds come.placed;
         fit = all_fit f g count listed come.entries (length s.entries) places come.ds come.placed;
-        no_items = no_items f g count listed come.entries (length s.entries) places come.ds come.placed;
+        lowest = only_lowest f g count listed come.entries (length s.entries) places come.ds come.placed (λ n below. come.uses n (omega (arith, none)) below);
         taken = come.taken;
         named = come.named;
       }

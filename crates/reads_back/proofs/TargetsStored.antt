@@ -7,10 +7,9 @@ use Rattle.core_expr.specs.Places.{place}
 use Rattle.core_expr.specs.Values.{Value, constant_operand}
 use Rattle.recover_expr.specs.Assigning as assigning
 use Rattle.recover_expr.specs.Assigning.{and_further, as_statement, assigned_from, assignment_from, assignment_of, further_store, further_stores, further_word, stored_function, value_assigned, with_targets, with_values}
-use Rattle.recover_expr.specs.Constructors.{maker_at}
 use Rattle.recover_expr.specs.Drafts.{Drafted, makes}
-use Rattle.recover_expr.specs.Entries.{Entries, is_at, is_maker, place_in}
-use Rattle.recover_expr.specs.Items.{is_item, is_item_at}
+use Rattle.recover_expr.specs.Entries.{Entries, place_in}
+use Rattle.recover_expr.specs.Items.{is_item}
 use Rattle.recover_expr.specs.Lists.{Straight, straight_operand, straight_value}
 use Rattle.recover_expr.specs.Reading.{Turn, as_over, is_store, read_word, turn_at, turn_of, turned, value_as, value_to}
 use Rattle.recover_expr.specs.Situation.{Function, Situation, constant_in, is_good_name, place_in_step, see, with_left, word_at}
@@ -55,15 +54,15 @@ CanTake (to_local r) kept = ⊥
 CanTake (to_part on key x y) kept = Unit {0}
 CanTake d kept = IsValueKept kept
 
--- the table of a target stands in no register of the step as a constructor
-abbrev pub IsNoItem : (base : ℕ) → Entries → Destination → Type 0
-IsNoItem base entries (to_part (in_next entry v) key x y) = (n : ℕ) × (x ≡ base + n) × (slice_get entries n ≡ Some entry) × (is_maker entry ≡ false)
-IsNoItem base entries d = Unit {0}
-
 -- ---- the word of a store
 
-abbrev store_word : (pc : ℕ) → Destination → (r : ℕ) → Word
+abbrev pub store_word : (pc : ℕ) → Destination → (r : ℕ) → Word
 store_word pc d r = word_of pc (store_piece d r)
+
+-- it is no item of a constructor that stands in the register of the table
+abbrev pub IsNoItem : Function → Situation → (pc r : ℕ) → Destination → Type 0
+IsNoItem f t pc r (to_part on key x y) = is_item f (store_word pc (to_part on key x y) r) t ≡ false
+IsNoItem f t pc r d = Unit {0}
 
 store_is_read : {f : Function} {g : Fn} (d : Destination) (r : ℕ) (p q : Spot) → IsFunction f g → StoreWordAt g d r p q → IsRead p.pc (store_piece d r)
 store_is_read (to_local x) r p q is_function at = abc_is_read is_function at
@@ -155,29 +154,18 @@ module _ {f : Function} {count : ℕ} {listed : List ℕ} {t : Situation} (step 
       part_store on key x y pc z (operand_stored (operand_of kept))
       (operand_there step 0 (count + 0) z (count + 0) kept (stands_still f count listed free z free1 kept none stands) refl ∙ ap Some (stored_straight kept none))
 
-  -- no constructor is in the register of a table
-  no_item : (on key : Kept) (x y pc z : ℕ) (entries behind : Entries) → IsThere f count listed entries (to_part on key x y) behind → IsNoItem count t.entries (to_part on key x y) → is_item f (store_word pc (to_part on key x y) z) t ≡ false
-  no_item (in_word number) key x y pc z entries behind there none = absurd there.1
-  no_item (in_local r) key x y pc z entries behind there none =
-      ap (λ place. is_item_at f (store_word pc (to_part (in_local r) key x y) z) t (maker_at t.entries place)) (ap (place_in t.base) there.2.0 ∙ no_place step r there.2.1)
-  no_item (in_next entry v) key x y pc z entries behind there none =
-      let w = store_word pc (to_part (in_next entry v) key x y) z in
-      ap (λ place. is_item_at f w t (maker_at t.entries place)) (place_of_next t.base none.0 x (omega (arith, none.1, step.base)))
-      ∙ ap (λ at. is_item_at f w t (if is_at is_maker at then Some none.0 else None)) none.2
-      ∙ ap (λ maker. is_item_at f w t (if maker then Some none.0 else None)) none.3
-
   -- the word of a register of the step stores it
-  is_stored : (d : Destination) (pc place r : ℕ) (entries behind : Entries) → IsThere f count listed entries d behind → IsNoItem count t.entries d → r ≡ count + place → is_store f (store_word pc d r) t ≡ true
-  is_stored (to_local x) pc place r entries behind there none is = ap is_some (place_of_next t.base place r (omega (arith, is, step.base)))
-  is_stored (to_upvalue slot) pc place r entries behind there none is = refl
-  is_stored (to_global number) pc place r entries behind there none is = refl
-  is_stored (to_part on key x y) pc place r entries behind there none is = ap not (no_item on key x y pc r entries behind there none)
+  is_stored : (d : Destination) (pc place r : ℕ) → IsNoItem f t pc r d → r ≡ count + place → is_store f (store_word pc d r) t ≡ true
+  is_stored (to_local x) pc place r none is = ap is_some (place_of_next t.base place r (omega (arith, is, step.base)))
+  is_stored (to_upvalue slot) pc place r none is = refl
+  is_stored (to_global number) pc place r none is = refl
+  is_stored (to_part on key x y) pc place r none is = ap not none
 
-  is_straight_stored : (d : Destination) (kept : Kept) (pc z : ℕ) (entries behind : Entries) → IsThere f count listed entries d behind → IsNoItem count t.entries d → CanTake d kept → is_store f (store_word pc d z) t ≡ true
-  is_straight_stored (to_local x) kept pc z entries behind there none can = absurd can
-  is_straight_stored (to_upvalue slot) kept pc z entries behind there none can = refl
-  is_straight_stored (to_global number) kept pc z entries behind there none can = refl
-  is_straight_stored (to_part on key x y) kept pc z entries behind there none can = ap not (no_item on key x y pc z entries behind there none)
+  is_straight_stored : (d : Destination) (kept : Kept) (pc z : ℕ) → IsNoItem f t pc z d → CanTake d kept → is_store f (store_word pc d z) t ≡ true
+  is_straight_stored (to_local x) kept pc z none can = absurd can
+  is_straight_stored (to_upvalue slot) kept pc z none can = refl
+  is_straight_stored (to_global number) kept pc z none can = refl
+  is_straight_stored (to_part on key x y) kept pc z none can = ap not none
 
 -- the word names an operand too
 seen_straight : (f : Function) (count : ℕ) (listed : List ℕ) (d : Destination) (kept : Kept) (pc free z free1 : ℕ) (t : Situation) → StandsIn f count listed free z free1 kept → entries_in kept ≡ [] → CanTake d kept →
@@ -285,7 +273,7 @@ module _ {f : Function} {g : Fn} {count : ℕ} {listed : List ℕ} (is_function 
   -- ---- the first store
 
   -- the last register of the step goes to a target; so many registers below it are parts of targets, and so many others are values
-  pub register_turn : (d : Destination) (k r last : ℕ) (entries behind : Entries) (p q : Spot) (t : Situation) → IsInStep f count listed t → IsThere f count listed entries d behind → IsNoItem count t.entries d → length entries + k < length t.entries → r ≡ count + (length entries + k) → r < 250 →
+  pub register_turn : (d : Destination) (k r last : ℕ) (entries behind : Entries) (p q : Spot) (t : Situation) → IsInStep f count listed t → IsThere f count listed entries d behind → IsNoItem f t p.pc r d → length entries + k < length t.entries → r ≡ count + (length entries + k) → r < 250 →
       IsQuiet f t.scope p.pc last → q.pc ≤ last → StoreWordAt g d r p q →
       turn_at f p.pc t ≡ option_map as_over (assigned_from f None q.pc (behind_store d t) (first_stored p.pc d (parts_used count (length entries) d) k (true ∷ [])))
   register_turn d k r last entries behind p q t step there none within is few quiet before at =
@@ -296,7 +284,7 @@ module _ {f : Function} {g : Fn} {count : ℕ} {listed : List ℕ} (is_function 
       let small : r < 256 = omega (arith, few) in
       let word : WordAt g (store_piece d r) p q = at in
       let parts = parts_used count (length entries) d in
-      turn_stores d r last p q t u is_function quiet before at (seen_store d p.pc r t small) (is_stored here d p.pc n r entries behind there none is)
+      turn_stores d r last p q t u is_function quiet before at (seen_store d p.pc r t small) (is_stored here d p.pc n r none is)
       ∙ ap (λ store. option_map as_over (option_and_then (λ p. assignment_of f w u p.0 p.1) store)) (store_there here d p.pc n r entries behind there is small)
       ∙ ap (λ a. option_map as_over (option_and_then (assigned_from f None (suc p.pc) u) a)) (begins_in_register here d p.pc k entries behind there (length t.entries) within)
       ∙ ap (λ (next : ℕ). option_map as_over (assigned_from f None next u (first_stored p.pc d parts k (true ∷ [])))) (sym word.next)
@@ -308,13 +296,13 @@ module _ {f : Function} {g : Fn} {count : ℕ} {listed : List ℕ} (is_function 
       let w : Word = record { pc = pc; next = next; instr = instr_by pc (Piece.Abc Op.Move x r 0) } in
       let n = length entries + k in
       let done : Done → Option (Turn × Situation) = option_and_then (λ p. turned f w p.1 p.0) in
-      ap (λ store. done (if store then option_map as_end (assignment_from f w t) else value_as Op.Move f w t)) (is_stored step (to_local x) pc n r entries behind there tt is)
+      ap (λ store. done (if store then option_map as_end (assignment_from f w t) else value_as Op.Move f w t)) (is_stored step (to_local x) pc n r tt is)
       ∙ ended_turn f w (assignment_from f w t)
       ∙ ap (λ store. option_map as_over (option_and_then (λ p. assignment_of f w t p.0 p.1) store)) (store_there step (to_local x) pc n r entries behind there is small)
       ∙ ap (λ a. option_map as_over (option_and_then (assigned_from f None next t) a)) (begins_in_register step (to_local x) pc k entries behind there (length t.entries) within)
 
   -- a local or a constant goes to a target
-  pub operand_turn : (d : Destination) (kept : Kept) (k z free free1 last : ℕ) (entries behind : Entries) (p q : Spot) (t : Situation) → IsInStep f count listed t → IsThere f count listed entries d behind → IsNoItem count t.entries d → length t.entries ≡ length entries + k →
+  pub operand_turn : (d : Destination) (kept : Kept) (k z free free1 last : ℕ) (entries behind : Entries) (p q : Spot) (t : Situation) → IsInStep f count listed t → IsThere f count listed entries d behind → IsNoItem f t p.pc z d → length t.entries ≡ length entries + k →
       StandsIn f count listed free z free1 kept → entries_in kept ≡ [] → CanTake d kept → IsQuiet f t.scope p.pc last → q.pc ≤ last → StoreWordAt g d z p q →
       turn_at f p.pc t ≡ option_map as_over (assigned_from f (straight_of kept) q.pc (behind_operand_store d z t) (first_stored p.pc d (parts_used count (length entries) d) k []))
   operand_turn d kept k z free free1 last entries behind p q t step there none size stands straight_kept can quiet before at =
@@ -323,7 +311,7 @@ module _ {f : Function} {g : Fn} {count : ℕ} {listed : List ℕ} (is_function 
       let here : IsInStep f count listed u = record { base = step.base; places = step.places } in
       let word : WordAt g (store_piece d z) p q = at in
       let parts = parts_used count (length entries) d in
-      turn_stores d z last p q t u is_function quiet before at (seen_straight f count listed d kept p.pc free z free1 t stands straight_kept can) (is_straight_stored here d kept p.pc z entries behind there none can)
+      turn_stores d z last p q t u is_function quiet before at (seen_straight f count listed d kept p.pc free z free1 t stands straight_kept can) (is_straight_stored here d kept p.pc z none can)
       ∙ ap (λ store. option_map as_over (option_and_then (λ p. assignment_of f w u p.0 p.1) store)) (straight_there here d kept p.pc free z free1 entries behind there stands straight_kept can)
       ∙ ap (λ (n : ℕ). option_map as_over (option_and_then (assigned_from f (Some (straight_operand (operand_of kept))) (suc p.pc) u) (straight t.base n (store_to p.pc d)))) size
       ∙ ap (λ a. option_map as_over (option_and_then (assigned_from f (Some (straight_operand (operand_of kept))) (suc p.pc) u) a)) (begins_straight here d p.pc k entries behind there)

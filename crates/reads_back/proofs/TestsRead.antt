@@ -139,8 +139,10 @@ module _ {f : Function} {g : Fn} {active : List Active} {listed : List ℕ} {lef
       let word = at.words_at.first_at in
       let jump = at.words_at.second_at in
       let now : free ≡ next_free s = omega (arith, is, locals.base, ap length empty) in
+      let on = (operand_held is_function all e reads).forward free at.x at.free1 p at.mid at.operand_at in
+      let stay = quiet.stays at.mid.pc on (omega (arith, word.next, jump.next)) in
       let held = (operand_held is_function all e reads).comes free at.x at.free1 p at.mid s locals now (quiet_before at.mid.pc (omega (arith, word.next, jump.next)) quiet)
-      (λ at_x at_free. word_wants s is_function word (abc_is_read is_function word) (le-leb s.base at.x (omega (arith, at_x, is, locals.base)))) at.operand_at in
+      (λ at_x at_free. word_wants s stay is_function word (abc_is_read is_function word) (le-leb s.base at.x (omega (arith, at_x, is, locals.base)))) at.operand_at in
       let value = is_value_kept (IsCore g active e p.functions at.mid.functions) held.kept held.is in
       let u = record s { scope = held.scope; seen = held.seen } in
       let step : IsInStep f (length active) listed u = record { base = locals.base; places = held.same.active ∙ locals.places } in

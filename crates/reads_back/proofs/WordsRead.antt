@@ -1,5 +1,5 @@
 -- Where a word stands as the scheme lays it down, it is read as its instruction.
-use Rattle.std.proofs.Common.{◌≡◌, ℕ, suc, ◌^◌, ◌<◌, ◌≤◌, nat_lt, nat_le, List, Some, None, ap, ◌∙◌, subst, arith, lt-ltb, lt_of_lt_of_le}
+use Rattle.std.proofs.Common.{◌≡◌, ℕ, suc, ◌^◌, ◌<◌, ◌≤◌, true, nat_lt, nat_le, List, Some, None, ap, ◌∙◌, subst, arith, lt-ltb, lt_of_lt_of_le, Bool, false, refl, ltb-true, ltb-false}
 use Rattle.std.specs.Prelude.{option_and_then, option_map, slice_get, if◌then◌else◌}
 use Rattle.opcode.specs.Reading.{instr_of}
 use Rattle.opcode.specs.declared.op.Op.{Op}
@@ -8,6 +8,7 @@ use Rattle.scheme.specs.declared.making.Piece.{Piece}
 use Rattle.scheme_stands.specs.Functions.{FurtherWordAt}
 use Rattle.scheme_stands.specs.Words.{Law, Lawful, Names, Fn, Spot, WordAt, IsRead, instr_by, number_at}
 use Rattle.recover_expr.specs.Declaring.{declaration}
+use Rattle.recover_expr.specs.Items.{all_stay}
 use Rattle.recover_expr.specs.Locals.{Scope, starting}
 use Rattle.recover_expr.specs.Reading.{as_over, turn_at, turn_of}
 use Rattle.recover_expr.specs.Situation.{Function, Situation, instr_at, next_pc, upvalues_in, word_at}
@@ -27,16 +28,37 @@ pub record IsFunction (f : Function) (g : Fn) : Type 0 where
   pub short : f.last < 2 ^ 32
   pub few : g.size ≤ 250
 
--- no listed local starts at these pcs, and the last word stands behind them
+-- no listed local starts at these pcs, none that is active is over there, and the last word stands behind them
 pub record IsQuiet (f : Function) (scope : Scope) (first last : ℕ) : Type 0 where
   pub none : (pc : ℕ) → first ≤ pc → pc < last → starting f.of.locals pc scope ≡ 0
+  pub stays : (pc : ℕ) → first ≤ pc → pc < last → all_stay f scope pc ≡ true
   pub within : last ≤ f.last
 
 pub quiet_before : {f : Function} {scope : Scope} {first last : ℕ} (mid : ℕ) → mid ≤ last → IsQuiet f scope first last → IsQuiet f scope first mid
-quiet_before mid before quiet = record { none = λ pc from below. quiet.none pc from (lt_of_lt_of_le below before); within = omega (arith, quiet.within) }
+quiet_before mid before quiet = record {
+  none = λ pc from below. quiet.none pc from (lt_of_lt_of_le below before);
+  stays = λ pc from below. quiet.stays pc from (lt_of_lt_of_le below before);
+  within = omega (arith, quiet.within);
+}
 
 pub quiet_from : {f : Function} {scope : Scope} {first last : ℕ} (mid : ℕ) → first ≤ mid → IsQuiet f scope first last → IsQuiet f scope mid last
-quiet_from mid behind quiet = record { none = λ pc from below. quiet.none pc (omega arith) below; within = quiet.within }
+quiet_from mid behind quiet = record {
+  none = λ pc from below. quiet.none pc (omega arith) below;
+  stays = λ pc from below. quiet.stays pc (omega arith) below;
+  within = quiet.within;
+}
+
+-- none is over up to the word behind, where none is over there
+pub stays_to : {f : Function} {scope : Scope} {first last : ℕ} → IsQuiet f scope first last → all_stay f scope last ≡ true → (pc : ℕ) → first ≤ pc → pc ≤ last → all_stay f scope pc ≡ true
+stays_to {f} {scope} {last = last} quiet behind pc from most = by (nat_lt pc last) refl
+  where
+    by : (less : Bool) → nat_lt pc last ≡ less → all_stay f scope pc ≡ true
+    by true is = quiet.stays pc from (ltb-true pc last is)
+    by false is = let same : pc ≡ last = omega (arith, most, ltb-false pc last is) in ap (all_stay f scope) same ∙ behind
+
+-- nor does any where there are no words
+pub quiet_nowhere : {f : Function} {scope : Scope} {first last : ℕ} → last ≤ f.last → first ≡ last → IsQuiet f scope first last
+quiet_nowhere within same = record { none = λ pc from below. absurd (omega (arith, same, from, below)); stays = λ pc from below. absurd (omega (arith, same, from, below)); within = within }
 
 -- ---- one word
 

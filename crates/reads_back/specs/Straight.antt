@@ -1,5 +1,5 @@
 -- Serves the laws. Straight statements: calls, assignments, function statements, local functions, declarations of locals and returns, of values in which no operator is `and`, `or` or a comparison; where the functions in them are such.
-use Rattle.std.specs.Prelude.{◌≡◌, Bool, true, false, is_some}
+use Rattle.std.specs.Prelude.{◌≡◌, true, false, is_some}
 use Rattle.lua_tree.specs.Names.{are_some_names, is_name}
 use Rattle.lua_tree.specs.Syntax as syntax
 use Rattle.lua_tree.specs.Syntax.{FunctionBody, function_body, Expression, Expressions, no_expressions, Source, Statement, Statements, Arguments, argument_list, text_argument, table_argument, Fields, no_fields, positional, named, keyed, nil_literal, true_literal, false_literal, vararg_expression, number_literal, text_literal, name_expression, function_expression, index_expression, field_expression, call_expression, method_call, binary_expression, unary_expression, constructor, parenthesized, assignment, call_statement, function_statement, local_function, local_statement, no_statements, return_statement}
@@ -76,23 +76,3 @@ IsActBy P statement = ⊥
 abbrev pub IsStraightStatementBy : (FunctionBody → Type 0) → Statement → Type 0
 IsStraightStatementBy P (function_statement path method body) = P (with_self (is_some method) body)
 IsStraightStatementBy P s = IsActBy P s
-
--- a constructor, in parentheses or not
-abbrev pub is_constructor : Expression → Bool
-is_constructor (constructor line items) = true
-is_constructor (parenthesized line e) = is_constructor e
-is_constructor e = false
-
--- what a target indexes is no constructor
-abbrev pub IndexesNoTable : Expression → Type 0
-IndexesNoTable (index_expression line on key) = is_constructor on ≡ false
-IndexesNoTable (field_expression line on text) = is_constructor on ≡ false
-IndexesNoTable e = Unit {0}
-
-abbrev pub AllIndexNoTables : Expressions → Type 0
-AllIndexNoTables no_expressions = Unit {0}
-AllIndexNoTables (syntax.expression e es) = IndexesNoTable e × AllIndexNoTables es
-
-abbrev pub StatementIndexesNoTable : Statement → Type 0
-StatementIndexesNoTable (assignment targets es) = AllIndexNoTables targets
-StatementIndexesNoTable statement = Unit {0}

@@ -1,11 +1,11 @@
 -- Serves a body. Which SETTABLE is an item of a constructor, and which a store.
-use Rattle.std.specs.Prelude.{◌+◌, ◌-◌, ◌&&◌, ◌||◌, not, ℕ, Bool, true, false, nat_lt, length, slice_get, Option, None, Some, option_and_then, if◌then◌else◌}
+use Rattle.std.specs.Prelude.{◌+◌, ◌-◌, ◌==◌, ◌&&◌, ◌||◌, not, ℕ, Bool, true, false, nat_lt, length, slice_get, Option, None, Some, option_and_then, if◌then◌else◌}
 use Rattle.opcode.specs.declared.op.Op.{Op}
 use Rattle.opcode.specs.declared.word.Instr.{Instr}
 use Rattle.recover_expr.specs.Constructors.{maker_place}
 use Rattle.recover_expr.specs.Effects.{reads_from, makes_value}
 use Rattle.recover_expr.specs.Entries.{Entries, is_at, is_single, is_place, is_temporary, place_in}
-use Rattle.recover_expr.specs.Locals.{starting, or_zero}
+use Rattle.recover_expr.specs.Locals.{Scope, innermost_end, is_over, or_zero, starting}
 use Rattle.recover_expr.specs.Situation.{Function, Situation, instr_at, upvalues_in}
 use Rattle.recover_expr.specs.declared.function.Word.{Word}
 
@@ -59,19 +59,38 @@ is_read_behind f base pc store =
     let behind = pc + 1 + further_words f store.op store in
     nat_lt behind f.last && is_so (λ i. reads_from i base) (instr_at f behind)
 
-abbrev pub wants : Function → (base : ℕ) → Word → Instr → Bool
-wants f base w next = reads_from next base || ((makes_value next.op && nat_lt w.instr.a next.a) || (stores_alone next base && is_read_behind f base w.next next))
+abbrev pub calls_method_as : Op → Instr → (register : ℕ) → Bool
+calls_method_as Op.Self_ i register = i.b == register
+calls_method_as op i register = false
+
+-- a word looks up a method of what is in a register
+abbrev pub calls_method : Instr → (register : ℕ) → Bool
+calls_method i register = calls_method_as i.op i register
+
+abbrev pub calls_method_at : Function → (register pc : ℕ) → Bool
+calls_method_at f register pc = nat_lt pc f.last && is_so (λ i. calls_method i register) (instr_at f pc)
+
+-- a word makes a value above the constructor in a register: two above it may be the name of a method, of the constructor or of what the next statement begins with
+abbrev pub makes_above : Function → (register pc : ℕ) → Instr → Bool
+makes_above f register pc next = makes_value next.op && (nat_lt register next.a && (not (next.a == register + 2) || calls_method_at f register (pc + 1)))
+
+-- no local that is active is over at a pc, as within a statement
+abbrev pub all_stay : Function → Scope → (pc : ℕ) → Bool
+all_stay f scope pc = not (is_over pc (innermost_end f.of.locals scope))
+
+abbrev pub wants : Function → Scope → (base : ℕ) → Word → Instr → Bool
+wants f scope base w next = all_stay f scope w.next && (reads_from next base || (makes_above f w.instr.a w.next next || (stores_alone next base && is_read_behind f base w.next next)))
 
 -- the words behind a SETTABLE want the constructor in its register
-abbrev pub is_wanted : Function → (base : ℕ) → Word → Bool
-is_wanted f base w = is_so (wants f base w) (instr_at f w.next)
+abbrev pub is_wanted : Function → Scope → (base : ℕ) → Word → Bool
+is_wanted f scope base w = is_so (wants f scope base w) (instr_at f w.next)
 
 -- ---- whether it is an item
 
 abbrev pub is_item_below : Function → Word → Situation → (place height : ℕ) → Bool
 is_item_below f w s place height =
     if nat_lt (place + 1) height then not (stores_next f s.base w.next)
-    else (nat_lt 0 place || (nat_lt 0 (starting f.of.locals w.next s.scope) || is_wanted f s.base w))
+    else (nat_lt 0 place || (nat_lt 0 (starting f.of.locals w.next s.scope) || is_wanted f s.scope s.base w))
 
 abbrev pub is_item_of_height : Function → Word → Situation → (place : ℕ) → Option ℕ → Bool
 is_item_of_height f w s place None = false

@@ -1,8 +1,8 @@
 // Which SETTABLE is an item of a constructor, and which a store.
-ghost use Rattle.std.specs.Prelude.{◌≡◌};
+ghost use Rattle.std.specs.Prelude.{◌≡◌, ◌+◌};
 ghost use Rattle.recover_expr.specs.Effects.{reads_from};
 ghost use Rattle.recover_expr.specs.Entries.{entries_of};
-ghost use Rattle.recover_expr.specs.Items.{below_operand, below_operands, is_item, is_so, is_wanted, is_read_behind, further_words, stores_alone, stores_next};
+ghost use Rattle.recover_expr.specs.Items.{below_operand, below_operands, calls_method, calls_method_at, is_item, makes_above, is_so, is_wanted, is_read_behind, further_words, stores_alone, stores_next};
 ghost use Rattle.recover_expr.specs.Situation.{instr_at, view_function, view_state};
 
 use crate::constructors::maker_place;
@@ -15,8 +15,8 @@ use opcode::{Instr, Op};
 /// Whether a SETTABLE is an item of the constructor in its register, and no store.
 ///
 /// The next words decide. Behind an item the constructor is still wanted: the next word reads a register of the statement or makes a value above the constructor, or a local
-/// starts, or the next word is the one store that comes before that of the constructor. Behind a store into a constructor of its own the statement is over, and behind the
-/// first of several stores the next word stores too.
+/// starts, or the next word is the one store that comes before that of the constructor. Behind a store into a constructor of its own the statement is over, where locals
+/// may end, and behind the first of several stores the next word stores too.
 pub fn is_item(function: &Function, state: &State, word: Word) -> bool
     ensures { result ≡ is_item (view_function function.now) word (view_state state.now) }
 {
@@ -31,7 +31,7 @@ pub fn is_item(function: &Function, state: &State, word: Word) -> bool
     }
     place > 0
         || state.locals.starting(function.proto, word.next) > 0
-        || is_wanted(function, &state.stack, word)
+        || is_wanted(function, state, word)
 }
 
 // How high the stack is without the operands of a SETTABLE into the constructor at a place, where they stand on top of it.
@@ -68,16 +68,47 @@ fn stores_next(function: &Function, stack: &Stack, pc: u32) -> bool
     }
 }
 
-// Whether the words behind a SETTABLE want the constructor in its register.
-fn is_wanted(function: &Function, stack: &Stack, word: Word) -> bool
-    ensures { result ≡ is_wanted (view_function function.now) stack.now.base word }
+// Whether the words behind a SETTABLE want the constructor in its register: where a local is over, the statement is.
+fn is_wanted(function: &Function, state: &State, word: Word) -> bool
+    ensures { let s = view_state state.now in result ≡ is_wanted (view_function function.now) s.scope s.base word }
 {
     let Some(next) = function.instr(word.next) else {
         return false;
     };
-    reads_from(next, stack.base)
-        || makes_value(next.op) && next.a > word.instr.a
-        || stores_alone(next, stack.base) && is_read_behind(function, stack, word, next)
+    let base = state.stack.base;
+    !state.locals.is_over(function.proto, word.next)
+        && (reads_from(next, base)
+            || makes_above(function, word, next)
+            || stores_alone(next, base) && is_read_behind(function, &state.stack, word, next))
+}
+
+// Whether the word behind a SETTABLE makes a value above the constructor in its register. Two above it may be the name of a method, of the constructor or of what the next
+// statement begins with.
+fn makes_above(function: &Function, word: Word, next: Instr) -> bool
+    ensures { result ≡ makes_above (view_function function.now) word.instr.a word.next next }
+{
+    let register = word.instr.a;
+    makes_value(next.op)
+        && next.a > register
+        && (next.a - register != 2 || calls_method(function, word.next, register))
+}
+
+// Whether the word behind a pc looks up a method of what is in a register.
+fn calls_method(function: &Function, pc: u32, register: u32) -> bool
+    ensures { result ≡ calls_method_at (view_function function.now) register (pc + 1) }
+{
+    let behind = pc.saturating_add(1);
+    behind < function.last && looks_up(function, behind, register)
+}
+
+// Whether the word at a pc looks up a method of what is in a register.
+fn looks_up(function: &Function, pc: u32, register: u32) -> bool
+    ensures { result ≡ is_so (λ i. calls_method i register) (instr_at (view_function function.now) pc) }
+{
+    match function.instr(pc) {
+        Some(instr) => instr.op == Op::Self_ && instr.b == register,
+        None => false,
+    }
 }
 
 // Whether a word that reads no register from a base on is a store.

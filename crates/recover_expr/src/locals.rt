@@ -246,8 +246,8 @@ impl Locals {
         }
     }
 
-    // Whether the innermost one that is active is over at a pc.
-    fn is_over(&self, proto: &Proto, pc: u32) -> bool
+    /// Whether the innermost one that is active is over at a pc.
+    pub fn is_over(&self, proto: &Proto, pc: u32) -> bool
         ensures { result ≡ is_over pc (innermost_end (listed proto.now) (view_locals self.now)) }
     {
         match self.innermost_end(proto) {

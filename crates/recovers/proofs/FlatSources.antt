@@ -56,7 +56,7 @@ record IsLowAct (s : Statement) : Type 0 where
 call_is_low : (line on_line : ℕ) (on : Expression) (es : Expressions) → is_bare_name on ≡ true → are_simple es ≡ true → formed_statement (call_statement (call_expression line on (argument_list es) on_line)) ≡ true →
     IsLowAct (call_statement (call_expression line on (argument_list es) on_line))
 call_is_low line on_line (name_expression at text) es named simple formed = record {
-  holds = ((refl, (first_of_both _ _ formed, all_have_cores es simple (second_of_both _ _ (second_of_both _ _ formed)))), tt);
+  holds = (refl, (first_of_both _ _ formed, all_have_cores es simple (second_of_both _ _ (second_of_both _ _ formed))));
   ordered = λ own. refl;
   room = omega (arith, all_room es simple);
   alone = refl;
@@ -66,7 +66,7 @@ call_is_low line on_line on es named simple formed = not_so named
 assignment_is_low : (target e : Expression) → is_bare_name target ≡ true → is_simple e ≡ true → formed_statement (assignment (syntax.expression target no_expressions) (syntax.expression e no_expressions)) ≡ true →
     IsLowAct (assignment (syntax.expression target no_expressions) (syntax.expression e no_expressions))
 assignment_is_low (name_expression line text) e named simple formed = record {
-  holds = (record { some = refl; targets = (first_of_both _ _ (first_of_both _ _ formed), tt); given = refl; values = (simple_has_core e simple (first_of_both _ _ (second_of_both _ _ formed)), tt) }, (tt, tt));
+  holds = record { some = refl; targets = (first_of_both _ _ (first_of_both _ _ formed), tt); given = refl; values = (simple_has_core e simple (first_of_both _ _ (second_of_both _ _ formed)), tt) };
   ordered = λ own. refl;
   room = omega (arith, simple_room e simple);
   alone = refl;

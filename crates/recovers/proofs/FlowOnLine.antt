@@ -2,7 +2,7 @@
 use Rattle.std.proofs.Common.{◌≡◌, ℕ, zero, suc, Bool, true, false, Option, Some, None, refl, sym, ◌∙◌, subst}
 use Rattle.lua_tree.specs.OneLine.{one_line_body, one_line_branches, one_line_expression, one_line_otherwise, one_line_statement, one_line_statements, one_line_step}
 use Rattle.lua_tree.specs.Syntax as syntax
-use Rattle.lua_tree.specs.Syntax.{Statements, no_statements, Statement, assignment, call_statement, do_block, while_loop, repeat_loop, if_statement, numeric_for, generic_for, function_statement, local_function, local_statement, return_statement, break_statement, Branches, no_branches, branch, Otherwise, no_otherwise, otherwise, ForStep, no_step, by_step, FunctionBody, function_body, Expression, name_expression, Expressions, and_expression, or_expression, binary_expression, unary_expression, parenthesized}
+use Rattle.lua_tree.specs.Syntax.{Statements, no_statements, Statement, assignment, call_statement, do_block, while_loop, repeat_loop, if_statement, numeric_for, generic_for, function_statement, local_function, local_statement, return_statement, break_statement, Branches, no_branches, branch, Otherwise, no_otherwise, otherwise, ForStep, no_step, by_step, FunctionBody, function_body, Expression, name_expression, and_expression, or_expression, binary_expression, unary_expression, parenthesized}
 use Rattle.lua_tree.specs.declared.tree.BinaryOp.{BinaryOp}
 use Rattle.lua_tree.specs.declared.tree.UnaryOp.{UnaryOp}
 use Rattle.proto.specs.declared.parts.Constant.{Constant}
@@ -11,9 +11,8 @@ use Rattle.scheme.specs.Expressions.{literal}
 use Rattle.same_flow.specs.Blocks.{AloneHolds, BranchesHold, OtherwiseHolds, StatementHolds, StatementsHold, TestHolds, tested_as}
 use Rattle.same_flow.specs.Laid.{head_values}
 use Rattle.reads_back.specs.Flows.{IsFlowBody, IsFlowLeafBy, IsFlowPartBy}
-use Rattle.reads_back.specs.Straight.{AllHaveCoresBy, IsStraightStatementBy, StatementIndexesNoTable}
+use Rattle.reads_back.specs.Straight.{AllHaveCoresBy}
 use Rattle.reads_back.proofs.OneLineActs.{StayOnLine, core_on_line, cores_on_line, straight_statement_on_line}
-use Rattle.reads_back.proofs.OneLineRules.{statement_indexes_none}
 use Rattle.reads_back.proofs.WordsSame.{same_literal}
 use Rattle.recovers.proofs.OrderedOnLine.{ordered_on_line}
 
@@ -51,9 +50,6 @@ module _ {P : FunctionBody → Type 0} (kept : StayOnLine P) where
   values_on_line first last no_step have = cores_on_line kept (head_values first last no_step) have
   values_on_line first last (by_step e) have = cores_on_line kept (head_values first last (by_step e)) have
 
-  act_holds : (s : Statement) → IsStraightStatementBy P s × StatementIndexesNoTable s → IsStraightStatementBy P (one_line_statement s) × StatementIndexesNoTable (one_line_statement s)
-  act_holds s is = (straight_statement_on_line kept s is.0, statement_indexes_none s is.1)
-
   mutual
     block_on_line : (looped : Bool) (block : Statements) → Holds looped block → Holds looped (one_line_statements block)
     block_on_line looped no_statements holds = tt
@@ -68,11 +64,11 @@ module _ {P : FunctionBody → Type 0} (kept : StayOnLine P) where
     statement_on_line looped (generic_for names es block) holds = (cores_on_line kept es holds.0, block_on_line true block holds.1)
     statement_on_line looped (return_statement es) holds = cores_on_line kept es holds
     statement_on_line looped break_statement holds = holds
-    statement_on_line looped (call_statement e) holds = act_holds (call_statement e) holds
-    statement_on_line looped (assignment targets es) holds = act_holds (assignment targets es) holds
-    statement_on_line looped (local_statement names es) holds = act_holds (local_statement names es) holds
-    statement_on_line looped (local_function name body) holds = act_holds (local_function name body) holds
-    statement_on_line looped (function_statement path method body) holds = act_holds (function_statement path method body) holds
+    statement_on_line looped (call_statement e) holds = straight_statement_on_line kept (call_statement e) holds
+    statement_on_line looped (assignment targets es) holds = straight_statement_on_line kept (assignment targets es) holds
+    statement_on_line looped (local_statement names es) holds = straight_statement_on_line kept (local_statement names es) holds
+    statement_on_line looped (local_function name body) holds = straight_statement_on_line kept (local_function name body) holds
+    statement_on_line looped (function_statement path method body) holds = straight_statement_on_line kept (function_statement path method body) holds
 
     branches_on_line : (looped : Bool) (branches : Branches) → BranchesHold (IsFlowPartBy P) looped branches → BranchesHold (IsFlowPartBy P) looped (one_line_branches branches)
     branches_on_line looped no_branches holds = tt

@@ -128,11 +128,11 @@ module _ {P : FunctionBody → Type 0} (plain : (body : FunctionBody) → P body
     statement_plain looped (generic_for names es block) holds = both_hold _ _ (cores_plain plain es holds.0) (block_plain true block holds.1)
     statement_plain looped (return_statement es) holds = cores_plain plain es holds
     statement_plain looped break_statement holds = refl
-    statement_plain looped (call_statement e) holds = straight_statement_plain plain (call_statement e) holds.0
-    statement_plain looped (assignment targets es) holds = straight_statement_plain plain (assignment targets es) holds.0
-    statement_plain looped (local_statement names es) holds = straight_statement_plain plain (local_statement names es) holds.0
-    statement_plain looped (local_function name body) holds = straight_statement_plain plain (local_function name body) holds.0
-    statement_plain looped (function_statement path method body) holds = straight_statement_plain plain (function_statement path method body) holds.0
+    statement_plain looped (call_statement e) holds = straight_statement_plain plain (call_statement e) holds
+    statement_plain looped (assignment targets es) holds = straight_statement_plain plain (assignment targets es) holds
+    statement_plain looped (local_statement names es) holds = straight_statement_plain plain (local_statement names es) holds
+    statement_plain looped (local_function name body) holds = straight_statement_plain plain (local_function name body) holds
+    statement_plain looped (function_statement path method body) holds = straight_statement_plain plain (function_statement path method body) holds
 
     branches_plain : (looped : Bool) (branches : Branches) → BranchesHold (IsFlowPartBy P) looped branches → plain_branches branches ≡ true
     branches_plain looped no_branches holds = refl

@@ -1,5 +1,5 @@
 -- The words of a function whose statements with blocks stand among them are read as steps like its own, where the reader's list has those locals captured in the end that the source captures.
-use Rattle.std.proofs.Common.{◌≡◌, ◌∙◌, ℕ, ◌-◌, ◌<◌, suc, Bool, true, List, [], length, map, None, Option, Some, ap, arith, if◌then◌else◌}
+use Rattle.std.proofs.Common.{subst, ◌≡◌, ◌∙◌, ℕ, ◌-◌, ◌<◌, suc, Bool, true, List, [], length, map, None, Option, Some, ap, arith, if◌then◌else◌, sym}
 use Rattle.std.specs.Prelude.{option_and_then, slice_get}
 use Rattle.lua_num.specs.Bytes.{Text}
 use Rattle.lua_tree.specs.Outline as outline
@@ -11,10 +11,13 @@ use Rattle.recover_expr.specs.Drafts.{Drafted, Part, nothing_part, statement_par
 use Rattle.recover_expr.specs.Items.{is_so}
 use Rattle.recover_expr.specs.Placing.{Steps}
 use Rattle.recover_expr.specs.Reading.{ends_code, function_steps, left_at, read_steps}
-use Rattle.recover_expr.specs.Situation.{is_return}
+use Rattle.recover_expr.specs.Situation.{is_return, instr_at}
 use Rattle.scheme.specs.Functions.{Heading, chunk_of}
 use Rattle.scheme.specs.Making.{Ahead}
-use Rattle.scheme_stands.specs.Words.{Names}
+use Rattle.scheme_stands.specs.Words.{Names, instr_by}
+use Rattle.opcode.specs.declared.op.Op.{Op}
+use Rattle.scheme.specs.declared.making.Piece.{Piece}
+use Rattle.reads_back.proofs.WordsBegin.{instr_is}
 use Rattle.same_flow.specs.Space.{space_of_statements}
 use Rattle.reads_back.specs.Placed.{ArePlacedLike}
 use Rattle.reads_back.proofs.FlowBegins.{params_behind}
@@ -66,6 +69,9 @@ module _ {n : Names} {heading : Heading} {params : List Text} {block : Statement
         good = of.good;
         listed = ap (λ (own : Own). own.locals) (same_own fewest of);
         last = last_is fewest of;
+        returns =
+            let last : (f fewest of).last ≡ of.at.mid.pc = omega (arith, of.at.ends, of.at.end.next, ap (λ (own : Own). length own.code) (same_own fewest of)) in
+            subst (λ pc. instr_at (f fewest of) pc ≡ Some (instr_by pc (Piece.Abc Op.Return 0 1 0))) (sym last) (instr_is (is_function fewest of) of.at.end (abc_is_read (is_function fewest of) of.at.end));
         room = omega (arith, of.at.room, activated_count of.at.locals [] of.at.active of.at.activated, declared_count params ahead of.at.first.ahead of.at.locals of.at.declared);
         high = omega arith;
         final = of.final;

@@ -20,12 +20,12 @@ use Rattle.reads_back.specs.Acted.{lean_depth}
 use Rattle.reads_back.specs.Assignments.{as_assignment}
 use Rattle.reads_back.specs.Cores.{AllHaveCores, HasCore}
 use Rattle.reads_back.specs.Flows.{IsFlowBody, IsFlowLeafBy, IsFlowPartBy}
-use Rattle.reads_back.specs.Straight.{AllHaveCoresBy, HasCoreBy, IsActBy, IsStraightStatementBy, StatementIndexesNoTable}
+use Rattle.reads_back.specs.Straight.{AllHaveCoresBy, HasCoreBy, IsActBy, IsStraightStatementBy}
 use Rattle.reads_back.proofs.FlowThere.{IsFlowAct, IsFlowStatement}
-use Rattle.reads_back.proofs.FunctionStatements.{assigned_formed, assigned_roomy, assigned_shallow, indexes_still, path_on_line, statement_is_act}
+use Rattle.reads_back.proofs.FunctionStatements.{assigned_formed, assigned_roomy, assigned_shallow, path_on_line, statement_is_act}
 use Rattle.reads_back.proofs.OneLineActs.{act_on_line, core_on_line, cores_on_line, self_on_line, straight_statement_on_line}
 use Rattle.reads_back.proofs.PlainBodies.{plain_act, plain_core, plain_cores}
-use Rattle.reads_back.proofs.OneLineRules.{same_some, statement_indexes_none}
+use Rattle.reads_back.proofs.OneLineRules.{same_some}
 use Rattle.reads_back.proofs.Rooms.{inside_room, lean_room, left_room}
 use Rattle.reads_back.proofs.TestedAs.{HasTest}
 use Rattle.reads_back.proofs.Tests.{both_hold, first_of_both, second_of_both}
@@ -99,28 +99,27 @@ module _ (most : ℕ) (few : most ≤ 200) (deep : ℕ) where
 
   -- ---- acts
 
-  flow_act : (s : Statement) → IsActBy (IsFlowBody deep) s → StatementIndexesNoTable s → formed_statement s ≡ true → lean_depth s ≤ 199 → lean_room s ≤ 200 → IsFlowAct (one_line_statement s)
-  flow_act s is begins formed shallow roomy = record {
+  flow_act : (s : Statement) → IsActBy (IsFlowBody deep) s → formed_statement s ≡ true → lean_depth s ≤ 199 → lean_room s ≤ 200 → IsFlowAct (one_line_statement s)
+  flow_act s is formed shallow roomy = record {
     is = plain_act deep (one_line_statement s) (act_on_line (flow_stays deep) s is) (statement_formed s formed) (statement_again s) (omega (arith, roomy, lean_as_roomy s));
-    begins = statement_indexes_none s begins;
     shallow = subst (λ (depth : ℕ). depth ≤ 199) (sym (lean_as_deep s)) shallow;
     on_line = statement_again s;
   }
 
   -- a function statement stands for an assignment
-  flow_statement : (s : Statement) → IsStraightStatementBy (IsFlowBody deep) s → StatementIndexesNoTable s → formed_statement s ≡ true → depth_of_statement s ≤ 199 → space_of_statement s ≤ 200 → IsFlowStatement (one_line_statement s)
-  flow_statement s is begins formed shallow roomy = record {
+  flow_statement : (s : Statement) → IsStraightStatementBy (IsFlowBody deep) s → formed_statement s ≡ true → depth_of_statement s ≤ 199 → space_of_statement s ≤ 200 → IsFlowStatement (one_line_statement s)
+  flow_statement s is formed shallow roomy = record {
     formed = statement_formed s formed;
-    act = subst IsFlowAct (assignment_line s) (flow_act (as_assignment s) (statement_is_act (IsFlowBody deep) s is formed) (indexes_still s begins formed) (assigned_formed s formed)
+    act = subst IsFlowAct (assignment_line s) (flow_act (as_assignment s) (statement_is_act (IsFlowBody deep) s is formed) (assigned_formed s formed)
         (omega (arith, shallow, assigned_shallow s formed)) (omega (arith, roomy, assigned_roomy s formed)));
   }
 
-  pub act_joined : (s : Statement) → IsOneStep (one_line_statement s) → ends_block (one_line_statement s) ≡ false → IsStraightStatementBy (IsFlowBody deep) s × StatementIndexesNoTable s →
+  pub act_joined : (s : Statement) → IsOneStep (one_line_statement s) → ends_block (one_line_statement s) ≡ false → IsStraightStatementBy (IsFlowBody deep) s →
       formed_statement s ≡ true → depth_of_statement s ≤ 199 → space_of_statement s < most →
       IsJoinedPart most (statement_part (one_line_statement s))
   act_joined s one goes_on is formed shallow roomy = record {
-    plain = (one, straight_statement_plain (flow_plain deep) (one_line_statement s) (straight_statement_on_line (flow_stays deep) s is.0));
-    flow = flow_statement s is.0 is.1 formed shallow (omega (arith, few, roomy));
+    plain = (one, straight_statement_plain (flow_plain deep) (one_line_statement s) (straight_statement_on_line (flow_stays deep) s is));
+    flow = flow_statement s is formed shallow (omega (arith, few, roomy));
     formed = (statement_formed s formed, goes_on);
     roomy = subst (λ (room : ℕ). room < most) (sym (statement_as_roomy s)) roomy;
   }
@@ -129,7 +128,7 @@ module _ (most : ℕ) (few : most ≤ 200) (deep : ℕ) where
       formed_expressions es ≡ true → depth_of_expressions es ≤ 199 → space_of_expressions es < most → IsJoinedPart most (values_part (one_line_expressions es))
   values_joined es have formed shallow roomy = record {
     plain = cores_plain (flow_plain deep) (one_line_expressions es) (cores_on_line (flow_stays deep) es have);
-    flow = flow_act (return_statement es) have tt formed shallow (omega (arith, few, roomy));
+    flow = flow_act (return_statement es) have formed shallow (omega (arith, few, roomy));
     formed = expressions_formed es formed;
     roomy = subst (λ (room : ℕ). room < most) (sym (expressions_as_roomy es)) roomy;
   }

@@ -1,8 +1,5 @@
 pub mod Blockless
 pub mod BreaksInLoops
-pub mod ClearGives
-pub mod ClearSources
-pub mod ClearValues
 pub mod CoresPlain
 pub mod EverFound
 pub mod FlatSources
@@ -23,10 +20,12 @@ pub mod MainFlow
 pub mod OneLineBlocks
 pub mod OrderedOnLine
 pub mod PlainBuilt
+pub mod PlainGives
+pub mod PlainHolds
 pub mod PlainSources
+pub mod PlainValues
 pub mod ReadHere
 pub mod SmallSource
 pub mod SourceRecovered
 pub mod StandsApart
-pub mod TurnedClear
 pub mod TurnedRoom

@@ -12,7 +12,6 @@ small_comes_back = record {
   scoped = refl;
   fits = refl;
   plain = refl;
-  clear = refl;
   room = omega arith;
   same = refl;
 }

@@ -3,5 +3,4 @@ pub mod FlowSources
 pub mod Found
 pub mod Joined
 pub mod Rows
-pub mod Clear
 pub mod PlainSources

@@ -8,7 +8,6 @@ use Rattle.proto.specs.Chunk.{Chunk, SameButLines}
 use Rattle.scheme.specs.Scheme.{scheme, Fits}
 use Rattle.scheme.specs.Shapes.{Plain}
 use Rattle.same_flow.specs.Space.{around_body, space_of_statements}
-use Rattle.recovers.specs.Clear.{IsClear}
 use Rattle.recovers.specs.FlowSources.{IsFlowChunk}
 
 -- the chunk of such a source that keeps every rule, under some name, but for the numbers of lines; each function whose statements have blocks has room for one level more, and for one more for each further arm of an `if` whose condition never fails
@@ -19,7 +18,6 @@ pub record IsPlainChunk (chunk : Chunk) : Type 0 where
   pub scoped : Scoped source
   pub fits : Fits source
   pub plain : Plain source
-  pub clear : IsClear source
   pub room : around_body source.body (space_of_statements source.body) ≤ 200
   pub same : SameButLines chunk (scheme source name)
 
