@@ -1,6 +1,6 @@
 -- The arms of an `if` that stand on steps lie there.
 use Rattle.std.proofs.Common.{◌≡◌, ◌≤◌, ℕ, suc, ◌+◌, ◌*◌, Bool, true, false, List, refl, sym, ap, ◌∙◌, arith, subst}
-use Rattle.std.specs.Prelude.{Option, max}
+use Rattle.std.specs.Prelude.{Option, max, if◌then◌else◌}
 use Rattle.lua_num.specs.Bytes.{Text}
 use Rattle.lua_tree.specs.Syntax.{Statements, if_statement, Branches, no_branches, branch, Otherwise, no_otherwise, otherwise, Expression}
 use Rattle.recover_expr.specs.Placing.{Steps}
@@ -14,9 +14,9 @@ use Rattle.scheme.specs.Statements.{Loop, arm_part, block_part}
 use Rattle.same_flow.specs.Written.{AreInRoom}
 use Rattle.same_flow.specs.Declaring.{ClosesTell}
 use Rattle.same_flow.specs.Laid.{Exit, IsBlock, BodyLaid, TestLaid, ArmEnds, BranchesLaid, OtherwiseLaid, StatementLaid, label_of, arm_begun}
-use Rattle.same_flow.specs.Never.{never_is, one_if, nevers_of_branches, nevers_of_otherwise}
+use Rattle.same_flow.specs.Never.{never_is, never_arms}
 use Rattle.same_flow.specs.SameFlow.{HasPlainParts}
-use Rattle.same_flow.specs.Space.{space_of_branches, space_of_otherwise}
+use Rattle.same_flow.specs.Space.{flow_space_branches, flow_space_otherwise}
 use Rattle.same_flow.proofs.BlocksFollowed.{Matches}
 use Rattle.same_flow.proofs.Followed.{Run, Follows, nought, LastTo, last_weaker, followed, relabelled}
 use Rattle.same_flow.proofs.LoopsTold.{arm_passes, arm_order}
@@ -27,7 +27,7 @@ use Rattle.same_flow.proofs.TestsFollowed.{test_goes}
 use Rattle.built_flow.proofs.BlocksBuilt.{as_laid}
 use Rattle.built_flow.proofs.LaidFlow.{Knows, StatementFound, BlockFound, BodyFinds, knows_behind, block_found}
 use Rattle.built_flow.proofs.LaidSteps.{quiet_found}
-use Rattle.built_flow.proofs.LaidTests.{LogicFound, kind_told, test_told, test_found}
+use Rattle.built_flow.proofs.LaidTests.{LogicFound, kind_told, some_room, test_told, test_found}
 use Rattle.built_flow.proofs.StepsTold.{run_of}
 
 -- the statements of an arm
@@ -42,11 +42,11 @@ pub record ArmsFound (code : Steps) (around : Around) (e : Expression) (block : 
   pub lies : ArmLies code.steps around logic (captures_flow code.steps body) (InArm code around body) others from to
   pub never : is_never false logic ≡ never_is false e
   pub levels : AreInRoom code → max (max (max 1 (logic_room code.steps logic)) (flow_levels code.steps body)) (flow_arms_levels code.steps others)
-      ≤ suc ((2 * branch_count (branch e block rest) + max (space_of_branches (branch e block rest)) (space_of_otherwise other)) + (nevers_of_branches (branch e block rest) + nevers_of_otherwise other))
+      ≤ 2 * branch_count (branch e block rest) + never_arms rest + max (flow_space_branches (branch e block rest)) (flow_space_otherwise other)
 
-raised_most : (more : Bool) (own room : ℕ) → own ≤ suc room → raised more own ≤ suc (one_if more + room)
-raised_most true own room h = omega arith
-raised_most false own room h = omega arith
+raised_most : (more : Bool) (own count nevers room : ℕ) → own ≤ count + nevers + room → raised more own ≤ count + (if more then suc nevers else nevers) + room
+raised_most true own count nevers room h = omega arith
+raised_most false own count nevers room h = omega arith
 
 module _ (code : Steps) (params names : List Text) (ahead : Ahead) (plain : HasPlainParts code) (closes : ClosesTell code params names ahead) where
   abbrev run : Run
@@ -113,7 +113,7 @@ module _ (code : Steps) (params names : List Text) (ahead : Ahead) (plain : HasP
           subst (λ x. IsFlowBlock code.steps around (captures_flow code.steps it.body.found) (InArm code around it.body.found start) start x) end it.body.lies,
         );
         never = it.logic.never_false;
-        levels = λ room. let d = it.logic.levels room in let e = it.logic.count in let f = it.body.levels room in omega arith;
+        levels = λ room. let r = some_room e in let d = it.logic.levels room in let c = it.logic.count in let f = it.body.levels room in omega arith;
       }
 
   -- an arm before an `else`
@@ -150,7 +150,7 @@ module _ (code : Steps) (params names : List Text) (ahead : Ahead) (plain : HasP
           subst (λ x. IsFlowBlock code.steps around (captures_flow code.steps behind.found) (λ ends end. (inside : Around) × FlowLies code.steps around inside ends behind.found x end) x to) t' behind.lies,
         );
         never = it.logic.never_false;
-        levels = λ room. let d = it.logic.levels room in let e = it.logic.count in let f = it.body.levels room in let g = behind.levels room in omega arith;
+        levels = λ room. let r = some_room e in let d = it.logic.levels room in let c = it.logic.count in let f = it.body.levels room in let g = behind.levels room in omega arith;
       }
 
   -- an arm before further ones
@@ -187,11 +187,12 @@ module _ (code : Steps) (params names : List Text) (ahead : Ahead) (plain : HasP
         );
         never = it.logic.never_false;
         levels = λ room.
+            let r = some_room e in
             let d = it.logic.levels room in
-            let e = it.logic.count in
+            let c = it.logic.count in
             let f = it.body.levels room in
-            let g = raised_most (is_never false more.logic) _ _ (more.levels room) in
-            let k = ap one_if more.never in
+            let g = raised_most (is_never false more.logic) _ (2 * branch_count (branch next_e next_block rest)) (never_arms rest) _ (more.levels room) in
+            let k = ap (λ b. if b then suc (never_arms rest) else never_arms rest) more.never in
             omega arith;
       }
 

@@ -1,5 +1,5 @@
 -- What is known of a function in the making beside its statements that lie on steps: what is around, closes, and the ends of blocks.
-use Rattle.std.proofs.Common.{◌≡◌, ◌≤◌, ◌<◌, ℕ, suc, ◌+◌, Bool, true, false, List, [], length, refl, sym, ap, ◌∙◌, arith, subst}
+use Rattle.std.proofs.Common.{◌≡◌, ◌≤◌, ◌<◌, ℕ, suc, Bool, true, false, List, [], length, refl, sym, ap, ◌∙◌, arith, subst}
 use Rattle.std.proofs.lemmas.Bool.Decides.{nat_tests}
 use Rattle.std.specs.Prelude.{Option, None, Some, nat_lt, slice_get, if◌then◌else◌}
 use Rattle.lua_num.specs.Bytes.{Text}
@@ -20,9 +20,8 @@ use Rattle.same_flow.specs.Written.{AreInRoom}
 use Rattle.same_flow.specs.Declaring.{ClosesTell, declaring, declaring_before}
 use Rattle.same_flow.specs.Laid as laid
 use Rattle.same_flow.specs.Laid.{Exit, IsBlock, BodyLaid}
-use Rattle.same_flow.specs.Never.{nevers_of_statement, nevers_of_statements}
 use Rattle.same_flow.specs.SameFlow.{HasPlainParts}
-use Rattle.same_flow.specs.Space.{space_of_statement, space_of_statements}
+use Rattle.same_flow.specs.Space.{flow_space, flow_space_of}
 use Rattle.same_flow.proofs.BlocksFollowed.{Matches}
 use Rattle.same_flow.proofs.Followed.{Run, Follows, nought, LastTo, last_weaker, followed, ended}
 use Rattle.same_flow.proofs.RenamedStatements.{statements_rename}
@@ -54,7 +53,7 @@ pub record StatementFound (code : Steps) (params names : List Text) (ahead : Ahe
   pub knows : Knows code params names ahead behind (statement_made s 1 loop m).active to
   pub exit : behind.exit ≡ around.exit
   pub captures : statement_captures code.steps found ≡ captured_from (active_count m) (statement_made s 1 loop m)
-  pub levels : AreInRoom code → flow_statement_levels code.steps found ≤ suc (suc (space_of_statement s) + nevers_of_statement s)
+  pub levels : AreInRoom code → flow_statement_levels code.steps found ≤ suc (flow_space_of s)
   pub last : is_break found ≡ true → ends_block s ≡ true
 
 -- and so do all of a block
@@ -64,14 +63,14 @@ pub record BodyFound (code : Steps) (params names : List Text) (ahead : Ahead) (
   pub lies : FlowLies code.steps around behind stop found from to
   pub knows : Knows code params names ahead behind (statements_made block loop m).active to
   pub captures : captures_flow code.steps found ≡ captured_from (active_count m) (statements_made block loop m)
-  pub levels : AreInRoom code → flow_levels code.steps found ≤ suc (space_of_statements block + nevers_of_statements block)
+  pub levels : AreInRoom code → flow_levels code.steps found ≤ flow_space block
   pub none : block ≡ no_statements → found ≡ no_flow
 
 -- and the whole block
 pub record BlockFound (code : Steps) (outside around : Around) (block : Statements) (from to : ℕ) : Type 0 where
   pub found : Flow
   pub lies : IsFlowBlock code.steps outside (captures_flow code.steps found) (λ ends end. (inside : Around) × FlowLies code.steps around inside ends found from end) from to
-  pub levels : AreInRoom code → flow_levels code.steps found ≤ suc (space_of_statements block + nevers_of_statements block)
+  pub levels : AreInRoom code → flow_levels code.steps found ≤ flow_space block
 
 module _ (code : Steps) (params names : List Text) (ahead : Ahead) (plain : HasPlainParts code) (closes : ClosesTell code params names ahead) where
   abbrev run : Run

@@ -8,7 +8,8 @@ use Rattle.std.specs.List.{list_any}
 use Rattle.std.specs.Prelude.{◌^◌, ◌||◌, Option, replicate}
 use Rattle.lua_num.specs.Bytes.{Text}
 use Rattle.lua_tree.specs.Names.{are_some_names}
-use Rattle.lua_tree.specs.Syntax.{Statements, Statement, numeric_for, generic_for, Expressions, Expression, ForStep, no_step, by_step}
+use Rattle.lua_tree.specs.Syntax.{Statements, Statement, numeric_for, generic_for, Expressions, no_expressions, expression, Expression, ForStep, no_step, by_step}
+use Rattle.lua_tree.specs.WellFormed.{has_expressions}
 use Rattle.opcode.specs.declared.op.Op.{Op}
 use Rattle.recover_expr.specs.Drafts.{head_part}
 use Rattle.recover_expr.specs.Placing.{Steps}
@@ -24,9 +25,8 @@ use Rattle.scheme.specs.declared.making.Active.{Active}
 use Rattle.scheme.specs.declared.making.Local.{Local}
 use Rattle.scheme.specs.declared.making.Piece.{Piece}
 use Rattle.same_flow.specs.Laid.{Exit, HasStep, HasKind, IsBlock, BodyLaid, StatementLaid, VariablesEnd, highest_captured, label_of, with_new_labels, numeric_valued, numeric_begun, generic_valued, generic_begun, for_loop_of, exit_to, head_values}
-use Rattle.same_flow.specs.Never.{nevers_of_statement, nevers_of_statements}
 use Rattle.same_flow.specs.SameFlow.{HasPlainParts}
-use Rattle.same_flow.specs.Space.{space_of_statement, space_of_statements, space_of_expressions}
+use Rattle.same_flow.specs.Space.{flow_space, flow_space_of, space_of_expressions}
 use Rattle.same_flow.specs.Told.{IsDeclarationPart}
 use Rattle.same_flow.proofs.BlocksFollowed.{Matches, replicate_ends}
 use Rattle.same_flow.proofs.Followed.{Run, Follows, nought, LastTo, last_weaker, append_nothing, append_again, ended_follows}
@@ -45,7 +45,7 @@ use Rattle.built_flow.proofs.LaidDeclaring.{declared_stays}
 use Rattle.built_flow.proofs.LaidFlow.{Knows, StatementFound, BodyFinds, close_found, block_found}
 use Rattle.built_flow.proofs.LaidLoops.{loop_exit}
 use Rattle.built_flow.proofs.LaidSteps.{levels_there, captured_behind, declared_at, declared_low, declared_high, declared_behind, some_names, quiet_found}
-use Rattle.built_flow.proofs.LaidTests.{Counts, kind_told, in_room}
+use Rattle.built_flow.proofs.LaidTests.{Counts, kind_told, in_room, some_room}
 use Rattle.built_flow.proofs.StepsTold.{run_of}
 
 -- ---- hidden locals
@@ -85,9 +85,18 @@ generic_uncaptured names es m =
     subst (λ (a : List Active). Uncaptured a (generic_valued 1 names es m).active) same (activated_uncaptured generic_names three refl)
 
 -- the values of a loop over numbers are in it
-values_fit : (name : Text) (first last : Expression) (by : ForStep) (block : Statements) → space_of_expressions (head_values first last by) ≤ space_of_statement (numeric_for name first last by block)
+values_fit : (name : Text) (first last : Expression) (by : ForStep) (block : Statements) → space_of_expressions (head_values first last by) ≤ flow_space_of (numeric_for name first last by block)
 values_fit name first last no_step block = omega arith
 values_fit name first last (by_step e) block = omega arith
+
+-- and take a level at least, as those of a loop over values do
+some_values : (es : Expressions) → has_expressions es ≡ true → 1 ≤ space_of_expressions es
+some_values no_expressions some = cc
+some_values (expression e rest) some = let a = some_room e in omega arith
+
+some_bounds : (first last : Expression) (by : ForStep) → 1 ≤ space_of_expressions (head_values first last by)
+some_bounds first last no_step = some_values (head_values first last no_step) refl
+some_bounds first last (by_step e) = some_values (head_values first last (by_step e)) refl
 
 less_than : (a b : ℕ) → 0 < b → a ≤ b - 1 → a < b
 less_than a b some h = omega arith
@@ -106,7 +115,7 @@ module _ (code : Steps) (params names : List Text) (ahead : Ahead) (plain : HasP
       (t, subst (λ k. flowing.IsClose code.steps hidden end k) number (close_found code params names ahead plain closes hidden m ends end n active follows knows last counts standing.1))
 
   for_found : (s : Statement) → (IsDeclarationPart s → ⊥) → (numeric : Bool) (values : Expressions) (variable_names : List Text) (block : Statements) → BodyFinds code params names ahead plain closes block →
-      space_of_expressions values ≤ space_of_statement s → space_of_statements block ≤ space_of_statement s → nevers_of_statements block ≡ nevers_of_statement s →
+      space_of_expressions values ≤ flow_space_of s → flow_space block ≤ flow_space_of s → 1 ≤ space_of_expressions values →
       (around : Around) (exit : Option Exit) (stop : ℕ) (loop : Option Loop) (m : Maker) (ends : List ℕ) (from to : ℕ) → Follows run nought nought m ends from → Matches loop exit →
       Knows code params names ahead around m.active from → LastTo stop ends → to ≤ stop → from ≤ to → StatementLaid code exit stop s loop m from to →
       (valued begun : Maker) (label foot variables_end : ℕ) → Head run m from label foot to variables_end begun → Uncaptured m.active valued.active → active_count valued ≡ active_count m + 3 →
@@ -116,7 +125,7 @@ module _ (code : Steps) (params names : List Text) (ahead : Ahead) (plain : HasP
       (λ ends end. BodyLaid code (exit_to to m) ends block (for_loop_of (active_count m) valued) begun (suc from) end) (suc from) variables_end →
       VariablesEnd code valued.active (active_count m + 3) (captured_from (active_count m + 3) begun) variables_end foot → HasKind code valued.active foot (StepKind.Foot numeric (suc from)) → to ≡ suc foot →
       StatementFound code params names ahead around stop s loop m from to
-  for_found s undeclared numeric values variable_names block finds values_room block_room nevers around exit stop loop m ends from to follows matches knows l h order whole
+  for_found s undeclared numeric values variable_names block finds values_room block_room one_value around exit stop loop m ends from to follows matches knows l h order whole
       valued begun label foot variables_end head uncaptured number others more there less body variables foots t =
       let n = active_count m in
       let flag = captured_from (n + 3) begun in
@@ -212,14 +221,14 @@ module _ (code : Steps) (params names : List Text) (ahead : Ahead) (plain : HasP
       let one = (declare (name ∷ []) m).value in
       let more : active_count begun ≡ active_count valued + 1 =
       activated_count one (place (label_of valued) (put 1 (Piece.Jump Op.ForPrep m.free (suc (label_of valued))) (with_new_labels 3 valued))) in
-      for_found (numeric_for name first final by block) (λ d. d) true (head_values first final by) (name ∷ []) block finds (values_fit name first final by block) (omega arith) refl
+      for_found (numeric_for name first final by block) (λ d. d) true (head_values first final by) (name ∷ []) block finds (values_fit name first final by block) (omega arith) (some_bounds first final by)
       around exit stop loop m ends from to follows matches knows l h order (foot, variables_end, there, less, body, variables, foots, t) valued begun (label_of valued) foot variables_end head
       (numeric_uncaptured name first final by m) (numeric_hidden name first final by m) (numeric_variables name first final by m) (omega arith) there less body variables foots t
 
-  pub generic_found : (texts : List Text) (es : Expressions) (block : Statements) → are_some_names texts ≡ true → BodyFinds code params names ahead plain closes block → (around : Around) (exit : Option Exit) (stop : ℕ)
+  pub generic_found : (texts : List Text) (es : Expressions) (block : Statements) → are_some_names texts ≡ true → has_expressions es ≡ true → BodyFinds code params names ahead plain closes block → (around : Around) (exit : Option Exit) (stop : ℕ)
       (loop : Option Loop) (m : Maker) (ends : List ℕ) (from to : ℕ) → Follows run nought nought m ends from → Matches loop exit → Knows code params names ahead around m.active from → LastTo stop ends → to ≤ stop →
       from ≤ to → StatementLaid code exit stop (generic_for texts es block) loop m from to → StatementFound code params names ahead around stop (generic_for texts es block) loop m from to
-  generic_found texts es block some finds around exit stop loop m ends from to follows matches knows l h order (foot, variables_end, there, less, body, variables, foots, t) =
+  generic_found texts es block some some_es finds around exit stop loop m ends from to follows matches knows l h order (foot, variables_end, there, less, body, variables, foots, t) =
       let valued = generic_valued 1 texts es m in
       let begun = generic_begun 1 texts es m in
       let head = generic_head_goes statements_rename run plain texts es m from foot to variables_end _ there in
@@ -228,6 +237,6 @@ module _ (code : Steps) (params names : List Text) (ahead : Ahead) (plain : HasP
       activated_count locals (used (m.free + 6) (place (label_of valued) (jump_to 1 (suc (label_of valued)) (with_new_labels 3 valued)))) in
       let same = declared_count texts m in
       let enough = some_names texts some in
-      for_found (generic_for texts es block) (λ d. d) false es texts block finds (omega arith) (omega arith) refl
+      for_found (generic_for texts es block) (λ d. d) false es texts block finds (omega arith) (omega arith) (some_values es some_es)
       around exit stop loop m ends from to follows matches knows l h order (foot, variables_end, there, less, body, variables, foots, t) valued begun (label_of valued) foot variables_end head
       (generic_uncaptured texts es m) (generic_hidden texts es m) (generic_variables texts es m) (omega arith) there less body variables foots t

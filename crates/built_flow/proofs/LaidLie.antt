@@ -150,8 +150,8 @@ module _ (code : Steps) (params names : List Text) (ahead : Ahead) (plain : HasP
         numeric_found code params names ahead plain closes few name first final by block (body_found block (numeric_formed name first final by block formed))
         around exit stop loop m ends from to follows matches knows l h order standing
     statement_found (generic_for texts es block) formed around exit stop loop m ends from to follows matches same knows l h order standing =
-        generic_found code params names ahead plain closes few texts es block (first_of (are_some_names texts) _ formed) (body_found block (generic_formed texts es block formed))
-        around exit stop loop m ends from to follows matches knows l h order standing
+        generic_found code params names ahead plain closes few texts es block (first_of (are_some_names texts) _ formed) (first_of (has_expressions es) _ (second_of (are_some_names texts) _ formed))
+        (body_found block (generic_formed texts es block formed)) around exit stop loop m ends from to follows matches knows l h order standing
 
     otherwise_found : (other : Otherwise) → formed_otherwise other ≡ true → OtherwiseFinds other
     otherwise_found no_otherwise formed = tt

@@ -24,7 +24,7 @@ use Rattle.same_flow.proofs.TestsFollowed.{test_goes}
 use Rattle.built_flow.proofs.BlocksBuilt.{as_laid}
 use Rattle.built_flow.proofs.LaidFlow.{Knows, StatementFound, BodyFinds, knows_behind, close_found, block_found}
 use Rattle.built_flow.proofs.LaidSteps.{quiet_found}
-use Rattle.built_flow.proofs.LaidTests.{kind_told, test_told, test_found}
+use Rattle.built_flow.proofs.LaidTests.{kind_told, some_room, test_told, test_found}
 use Rattle.built_flow.proofs.StepsTold.{run_of}
 
 module _ (code : Steps) (params names : List Text) (ahead : Ahead) (plain : HasPlainParts code) (closes : ClosesTell code params names ahead) where
@@ -63,7 +63,7 @@ module _ (code : Steps) (params names : List Text) (ahead : Ahead) (plain : HasP
       quiet_found code params names ahead plain closes (while_loop x block) (λ d. d) around exit stop loop m ends from to follows matches knows l h order (start, back, a, b, test, body, jump, t)
       (while_flow logic.logic it.found)
       (refl, start, back, a, b, logic.lies, test_told code around m.active x false to from start knows.counts test, it.lies, kind_told code around m.active back (StepKind.Jump from) knows.counts jump.1.0, t) refl
-      (λ room. let c = it.levels room in let d = logic.levels room in let e = logic.count in omega arith) (λ e. cc)
+      (λ room. let c = it.levels room in let d = logic.levels room in let e = logic.count in let f = some_room x in omega arith) (λ e. cc)
 
   -- what is closed twice at the end of a `repeat`
   record ClosesTwice (around inside : Around) (tested : ℕ) : Type 0 where
@@ -109,7 +109,7 @@ module _ (code : Steps) (params names : List Text) (ahead : Ahead) (plain : HasP
       quiet_found code params names ahead plain closes (repeat_loop block x) (λ d. d) around exit stop loop m ends from to follows matches knows l h order (start, a, inl (c, b, body, test))
       (repeat_flow it.found logic.logic)
       (refl, start, it.behind, a, inl (it.captures ∙ c, b, it.lies, logic.lies, test_told code it.behind inside.active x false from start to it.knows.counts test)) refl
-      (λ room. let c = it.levels room in let d = logic.levels room in let e = logic.count in omega arith) (λ e. cc)
+      (λ room. let c = it.levels room in let d = logic.levels room in let e = logic.count in let f = some_room x in omega arith) (λ e. cc)
   repeat_found x block finds around exit stop loop m ends from to follows matches same knows l h order (start, a, inr (c, tested, b, body, test, close, jump, again, back, t)) =
       let last = last_weaker to stop ends h l in
       let later = last_weaker (tested + 2) to ends (omega arith) last in
@@ -142,4 +142,4 @@ module _ (code : Steps) (params names : List Text) (ahead : Ahead) (plain : HasP
           t,
         ),
       ) refl
-      (λ room. let c = it.levels room in let d = logic.levels room in let e = logic.count in omega arith) (λ e. cc)
+      (λ room. let c = it.levels room in let d = logic.levels room in let e = logic.count in let f = some_room x in omega arith) (λ e. cc)

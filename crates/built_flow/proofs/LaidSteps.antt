@@ -10,7 +10,7 @@ use Rattle.std.proofs.lemmas.Option.{slice_get_within}
 use Rattle.std.specs.Prelude.{Option, None, Some, nat_lt, slice_get, if◌then◌else◌}
 use Rattle.lua_num.specs.Bytes.{Text}
 use Rattle.lua_tree.specs.Names.{are_some_names}
-use Rattle.lua_tree.specs.Syntax.{Statement, local_function, local_statement, return_statement, break_statement, FunctionBody, Expressions}
+use Rattle.lua_tree.specs.Syntax.{Statement, assignment, call_statement, function_statement, local_function, local_statement, return_statement, break_statement, FunctionBody, Expressions}
 use Rattle.lua_tree.specs.WellFormed.{ends_block}
 use Rattle.recover_expr.specs.Drafts.{Part, statement_part, values_part}
 use Rattle.recover_expr.specs.Placing.{Steps}
@@ -26,9 +26,8 @@ use Rattle.scheme.specs.Scheme.{all_coded, inner, statement_made}
 use Rattle.scheme.specs.Statements.{Loop, settle}
 use Rattle.scheme.specs.declared.making.Active.{Active}
 use Rattle.same_flow.specs.Laid.{Exit, HasStep, LeavesTo, ActLaid, DeclarationLaid, StatementLaid, highest_captured}
-use Rattle.same_flow.specs.Never.{nevers_of_statement}
 use Rattle.same_flow.specs.SameFlow.{HasPlainParts}
-use Rattle.same_flow.specs.Space.{space_of_statement}
+use Rattle.same_flow.specs.Space.{space_of_statement, flow_space_of}
 use Rattle.same_flow.specs.Told.{IsActPart, IsDeclarationPart}
 use Rattle.same_flow.proofs.BlocksFollowed.{Matches}
 use Rattle.same_flow.proofs.Followed.{Run, Follows, nought, LastTo, last_weaker, followed}
@@ -50,6 +49,18 @@ use Rattle.built_flow.proofs.StepsTold.{run_of}
 -- the levels of a step that stands
 pub levels_there : (code : Steps) (active : List Active) (at : ℕ) (kind : StepKind) (part : Part) (standing : HasStep code active at kind part) → step_levels code.steps at ≡ standing.0.step.levels
 levels_there code active at kind part standing = ap levels_at standing.0.there
+
+-- what has no blocks takes the same room anywhere, but for a `return`
+act_space : (s : Statement) → IsActPart s → space_of_statement s ≡ flow_space_of s
+act_space (assignment targets es) act = refl
+act_space (call_statement e) act = refl
+act_space (function_statement path method body) act = refl
+act_space s act = absurd act
+
+declaration_space : (s : Statement) → IsDeclarationPart s → space_of_statement s ≡ flow_space_of s
+declaration_space (local_function name body) is = refl
+declaration_space (local_statement names es) is = refl
+declaration_space s is = absurd is
 
 -- ---- locals that come into scope
 
@@ -129,7 +140,7 @@ module _ (code : Steps) (params names : List Text) (ahead : Ahead) (plain : HasP
   pub quiet_found : (s : Statement) → (IsDeclarationPart s → ⊥) → (around : Around) (exit : Option Exit) (stop : ℕ) (loop : Option Loop) (m : Maker) (ends : List ℕ) (from to : ℕ) → Follows run nought nought m ends from →
       Matches loop exit → Knows code params names ahead around m.active from → LastTo stop ends → to ≤ stop → from ≤ to → StatementLaid code exit stop s loop m from to →
       (found : FlowStatement) → FlowStatementLies code.steps around around stop found from to → statement_captures code.steps found ≡ false →
-      (AreInRoom code → flow_statement_levels code.steps found ≤ suc (suc (space_of_statement s) + nevers_of_statement s)) → (is_break found ≡ true → ends_block s ≡ true) →
+      (AreInRoom code → flow_statement_levels code.steps found ≤ suc (flow_space_of s)) → (is_break found ≡ true → ends_block s ≡ true) →
       StatementFound code params names ahead around stop s loop m from to
   quiet_found s undeclared around exit stop loop m ends from to follows matches knows l h order standing found lies none levels last =
       let growth = statement_grows run statements_rename plain s exit stop loop m ends from to follows matches l h order standing in
@@ -158,7 +169,7 @@ module _ (code : Steps) (params names : List Text) (ahead : Ahead) (plain : HasP
       (λ room.
       let a = in_room code m.active from StepKind.Act (statement_part s) there room in
       let b = levels_there code m.active from StepKind.Act (statement_part s) there in
-      let n = nevers_of_statement s in
+      let c = act_space s act in
       omega arith) (λ e. cc)
 
   pub return_found : (es : Expressions) (around : Around) (exit : Option Exit) (stop : ℕ) (loop : Option Loop) (m : Maker) (ends : List ℕ) (from to : ℕ) → Follows run nought nought m ends from →
@@ -261,7 +272,7 @@ module _ (code : Steps) (params names : List Text) (ahead : Ahead) (plain : HasP
         levels = λ room.
             let a = in_room code m.active from (StepKind.Declaration stop flag) (statement_part s) there room in
             let b = levels_there code m.active from (StepKind.Declaration stop flag) (statement_part s) there in
-            let n = nevers_of_statement s in
+            let c = declaration_space s is in
             omega arith;
         last = λ e. cc;
       }

@@ -5,7 +5,7 @@ use Rattle.std.specs.Prelude.{Option, None, Some, ◌&&◌, is_some, max, nat_lt
 use Rattle.std.specs.Bool.{beq}
 use Rattle.lua_tree.specs.declared.tree.BinaryOp.{BinaryOp}
 use Rattle.lua_tree.specs.declared.tree.UnaryOp.{UnaryOp}
-use Rattle.lua_tree.specs.Syntax.{Expression, and_expression, or_expression, binary_expression, unary_expression, number_literal, parenthesized}
+use Rattle.lua_tree.specs.Syntax.{Expression, and_expression, or_expression, binary_expression, unary_expression, number_literal, nil_literal, parenthesized}
 use Rattle.proto.specs.declared.parts.Constant.{Constant}
 use Rattle.recover_expr.specs.Drafts.{Part, condition_part}
 use Rattle.recover_expr.specs.Placing.{Steps}
@@ -81,7 +81,7 @@ pub record LogicFound (code : Steps) (e : Expression) (sense : Bool) (target fro
   pub never_false : is_never false logic ≡ never_is false e
   pub never_true : is_never true logic ≡ never_is true e
   pub count : operators logic ≡ logic_count e
-  pub levels : AreInRoom code → logic_levels code.steps logic ≤ suc (space_of_expression e)
+  pub levels : AreInRoom code → logic_levels code.steps logic ≤ space_of_expression e
 
 same_sense : (when sense : Bool) → when ≡ sense → false ≡ not (beq when sense)
 same_sense true true e = refl
@@ -100,6 +100,18 @@ either_way true true = refl
 either_way true false = refl
 either_way false true = refl
 either_way false false = refl
+
+-- an expression has room for one level at least
+unless_one : (folded : Bool) (levels : ℕ) → 1 ≤ levels → 1 ≤ (if folded then 4 else levels)
+unless_one true levels some = omega arith
+unless_one false levels some = some
+
+pub some_room : (e : Expression) → 1 ≤ space_of_expression e
+some_room (binary_expression line op left right) = unless_one (is_some (fold (binary_expression line op left right))) _ (omega arith)
+some_room (unary_expression line op e) = unless_one (is_some (fold (unary_expression line op e))) _ (omega arith)
+some_room (parenthesized line e) = unless_one (is_some (fold e)) _ (omega arith)
+some_room (nil_literal line) = omega arith
+some_room e = omega arith
 
 literal_lies : (code : Steps) (active : List Active) (jumps : Bool) (target from to : ℕ) → LiteralLaid code active jumps target from to → LiteralLies code.steps jumps from to target
 literal_lies code active true target from to standing = (kind_there standing.0.1.0, standing.1)
@@ -148,7 +160,7 @@ alone_found code active e (Some k) sense target from to never never_true count s
   never_false = never;
   never_true = never_true;
   count = count;
-  levels = λ room. omega arith;
+  levels = λ room. some_room e;
 }
 alone_found code active e None sense target from to never never_true count standing = leaf_found code active e sense target from to never never_true count standing
 

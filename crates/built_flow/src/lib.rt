@@ -10,7 +10,7 @@ pub fn what_is_built_stands()
     ensures { BuiltAreLaid }
 {}
 
-/// Law: a block that stands on the steps of a function lies there, as the statements of a source do, where CLOSEs name the steps that declare their first locals and registers are numbers of 32 bits. Where no step needs more levels than what it has of the source takes, it needs at most one level more than it takes, and one for each further arm of an `if` whose condition never fails.
+/// Law: a block that stands on the steps of a function lies there, as the statements of a source do, where CLOSEs name the steps that declare their first locals and registers are numbers of 32 bits. Where no step needs more levels than what it has of the source takes, it needs no more than the room that it takes.
 pub fn what_is_laid_lies()
     ensures { LaidLie }
 {}

@@ -3,14 +3,13 @@ use Rattle.std.proofs.Common.{◌≡◌, ℕ, ◌+◌, suc, max, ◌≤◌, Bool
 use Rattle.std.specs.Prelude.{ℤ}
 use Rattle.lua_num.specs.Bytes.{Text}
 use Rattle.lua_tree.specs.Syntax as syntax
-use Rattle.lua_tree.specs.Syntax.{Expression, Expressions, FunctionBody, Statement, Statements, assignment, binary_expression, function_body, function_expression, nil_literal, no_expressions, number_literal, parenthesized, unary_expression}
+use Rattle.lua_tree.specs.Syntax.{Branches, Expression, Expressions, FunctionBody, Otherwise, Statement, Statements, assignment, binary_expression, function_body, function_expression, nil_literal, no_expressions, number_literal, parenthesized, unary_expression}
 use Rattle.lua_tree.specs.declared.tree.BinaryOp.{BinaryOp}
 use Rattle.lua_tree.specs.declared.tree.UnaryOp.{UnaryOp}
 use Rattle.lua_num.specs.declared.arith.ArithOp.{ArithOp}
 use Rattle.scheme.specs.Expressions.{arith_op, fold, fold_binary, fold_unary}
 use Rattle.scheme.specs.Shapes.{unless_folded}
-use Rattle.same_flow.specs.Never.{nevers_of_statements}
-use Rattle.same_flow.specs.Space.{has_blocks, space_of_body, space_of_expression, space_of_expressions, space_of_statement, space_of_statements}
+use Rattle.same_flow.specs.Space.{flow_space, flow_space_branches, flow_space_of, flow_space_otherwise, has_blocks, space_of_body, space_of_branches, space_of_expression, space_of_expressions, space_of_otherwise, space_of_statement, space_of_statements}
 use Rattle.reads_back.specs.Acted.{is_path}
 
 -- ---- expressions
@@ -88,10 +87,33 @@ abbrev pub lean_room : Statement → ℕ
 lean_room (assignment targets es) = lean_room_assignment targets es
 lean_room s = space_of_statement s
 
+-- in a function whose statements have blocks no statement takes less room
+mutual
+  pub flow_more : (block : Statements) → space_of_statements block ≤ flow_space block
+  flow_more syntax.no_statements = omega arith
+  flow_more (syntax.statement line semi s rest) = omega (arith, flow_more_of s, flow_more rest)
+
+  pub flow_more_of : (s : Statement) → space_of_statement s ≤ flow_space_of s
+  flow_more_of (syntax.do_block block) = omega (arith, flow_more block)
+  flow_more_of (syntax.while_loop e block) = omega (arith, flow_more block)
+  flow_more_of (syntax.repeat_loop block e) = omega (arith, flow_more block)
+  flow_more_of (syntax.if_statement branches last) = omega (arith, flow_more_branches branches, flow_more_otherwise last)
+  flow_more_of (syntax.numeric_for name first last step block) = omega (arith, flow_more block)
+  flow_more_of (syntax.generic_for names es block) = omega (arith, flow_more block)
+  flow_more_of s = omega arith
+
+  pub flow_more_branches : (branches : Branches) → space_of_branches branches ≤ flow_space_branches branches
+  flow_more_branches syntax.no_branches = omega arith
+  flow_more_branches (syntax.branch e block rest) = omega (arith, flow_more block, flow_more_branches rest)
+
+  pub flow_more_otherwise : (last : Otherwise) → space_of_otherwise last ≤ flow_space_otherwise last
+  flow_more_otherwise syntax.no_otherwise = omega arith
+  flow_more_otherwise (syntax.otherwise block) = flow_more block
+
 -- a function has room for its statements
 pub body_room : (params : List Text) (vararg : Bool) (block : Statements) (first last : ℕ) → space_of_statements block ≤ space_of_body (function_body params vararg block first last)
 body_room params vararg block first last = by (has_blocks block)
   where
-    by : (has : Bool) → space_of_statements block ≤ (if has then suc (space_of_statements block + nevers_of_statements block) else space_of_statements block)
-    by true = omega arith
+    by : (has : Bool) → space_of_statements block ≤ (if has then flow_space block else space_of_statements block)
+    by true = flow_more block
     by false = omega arith

@@ -1,5 +1,5 @@
 -- Flat sources are such as come back: their statements are calls and assignments of one value that begin with a name, and they have room.
-use Rattle.std.proofs.Common.{List, [], ◌≡◌, ℕ, suc, ◌+◌, ◌≤◌, true, false, refl, ap, arith, if◌then◌else◌}
+use Rattle.std.proofs.Common.{List, [], ◌≡◌, ℕ, ◌≤◌, true, false, refl, ap, arith, if◌then◌else◌}
 use Rattle.lua_num.specs.Bytes.{Text}
 use Rattle.lua_tree.specs.Syntax as syntax
 use Rattle.lua_tree.specs.Syntax.{Expression, Expressions, Statement, Statements, argument_list, assignment, call_expression, call_statement, false_literal, name_expression, nil_literal, no_expressions, no_statements, number_literal, text_literal, true_literal}
@@ -8,8 +8,7 @@ use Rattle.scheme.specs.Shapes.{are_flat, are_simple, is_bare_name, is_flat_stat
 use Rattle.scheme_order.specs.Ordered.{ordered_block, ordered_statement}
 use Rattle.scheme_order.specs.Turned.{with_declared}
 use Rattle.same_flow.specs.Blocks.{StatementHolds, StatementsHold}
-use Rattle.same_flow.specs.Never.{nevers_of_statements}
-use Rattle.same_flow.specs.Space.{around_body, has_block, has_blocks, space_of_expression, space_of_expressions, space_of_statement, space_of_statements}
+use Rattle.same_flow.specs.Space.{around_body, flow_space, has_block, has_blocks, space_of_expression, space_of_expressions, space_of_statement, space_of_statements}
 use Rattle.reads_back.specs.Flows.{IsFlowBody, IsFlowPartBy}
 use Rattle.reads_back.specs.Straight.{AllHaveCoresBy, HasCoreBy}
 use Rattle.reads_back.proofs.Tests.{both_hold, first_of_both, not_so, second_of_both}
@@ -102,5 +101,5 @@ pub flat_are_flow : FlatSourcesAreFlow
 flat_are_flow source well flat =
     let low = block_is_low source.body flat well.formed in
     let levels = space_of_statements source.body in
-    let around : around_body source.body levels ≡ levels = ap (λ has. if has then suc (levels + nevers_of_statements source.body) else levels) low.alone in
+    let around : around_body source.body levels ≡ levels = ap (λ has. if has then flow_space source.body else levels) low.alone in
     (low.holds, low.ordered [], omega (arith, low.room, around))

@@ -1,5 +1,5 @@
 -- Each body that stands in the steps which are read of a function is built as a block that is like its own.
-use Rattle.std.proofs.Common.{◌≡◌, ℕ, zero, ◌+◌, ◌^◌, ◌<◌, ◌≤◌, suc, Bool, true, false, List, length, map, Option, Some, refl, sym, ap, arith, subst, if◌then◌else◌}
+use Rattle.std.proofs.Common.{◌≡◌, ℕ, zero, ◌^◌, ◌<◌, ◌≤◌, suc, Bool, true, false, List, length, map, Option, Some, refl, sym, ap, arith, subst, if◌then◌else◌}
 use Rattle.std.proofs.lemmas.Option.{slice_get_within}
 use Rattle.lua_num.specs.Bytes.{Text}
 use Rattle.lua_tree.specs.Outline as outline
@@ -23,9 +23,8 @@ use Rattle.scheme.specs.Making.{Ahead}
 use Rattle.scheme_stands.specs.Words.{Names}
 use Rattle.same_flow.specs.Alike.{ArePartsLike, AreStepsLike, LaidOnLikeSteps, MarksOnLikeParts, SameOnLikeParts}
 use Rattle.same_flow.specs.Listed.{pc_of_step}
-use Rattle.same_flow.specs.Never.{nevers_of_statements}
 use Rattle.same_flow.specs.SameFlow.{AreLaid, HasPlainParts, begun_of}
-use Rattle.same_flow.specs.Space.{around_body, has_blocks, space_of_statements}
+use Rattle.same_flow.specs.Space.{around_body, flow_space, has_blocks, space_of_statements}
 use Rattle.same_flow.specs.Told.{AreTold, LaidAreTold}
 use Rattle.same_flow.specs.Written.{AreInRoom, ComparedOnOne, HaveParts}
 use Rattle.same_flow.proofs.LikeTransports.{closes_like, like_again, parts_on_like, told_alike}
@@ -201,7 +200,7 @@ module _ (laws : FlowLaws) {n : Names} {heading : Heading} {params : List Text} 
 
       by : (has : Bool) → has_blocks block ≡ has → OneStands (around_body block levels)
       by true has =
-          let around : around_body block levels ≡ suc (levels + nevers_of_statements block) = ap (λ has. if has then suc (levels + nevers_of_statements block) else levels) has in
+          let around : around_body block levels ≡ flow_space block = ap (λ has. if has then flow_space block else levels) has in
           let room = of.joined.room in
           let most = block_lies.levels (in_room short) in
           let found =
@@ -210,7 +209,7 @@ module _ (laws : FlowLaws) {n : Names} {heading : Heading} {params : List Text} 
           let low = found.2 in
           (found.0, found.1, omega (arith, low, most, room, around), omega (arith, low, most, around))
       by false none =
-          let around : around_body block levels ≡ levels = ap (λ has. if has then suc (levels + nevers_of_statements block) else levels) none in
+          let around : around_body block levels ≡ levels = ap (λ has. if has then flow_space block else levels) none in
           let room = of.joined.room in
           let found = blockless_stand laws.acts mixed params names ahead block mixed_laid none of.joined.formed (in_room short) in
           (found.0, found.1, omega (arith, found.2, room, around), omega (arith, found.2, around))

@@ -1,4 +1,4 @@
--- Any block on one line stays as it is, and is as deep, has as much room and as many arms whose condition never fails as before; and it keeps the rules of form.
+-- Any block on one line stays as it is, and is as deep and has as much room as before, its function too; and it keeps the rules of form.
 use Rattle.std.proofs.Common.{◌≡◌, suc, ◌+◌, ◌*◌, max, ℕ, Bool, true, false, not, ◌&&◌, Option, is_some, if◌then◌else◌, refl, ap, ap₂, ◌∙◌}
 use Rattle.std.specs.Prelude.{ℤ, ◌||◌}
 use Rattle.lua_tree.specs.Names.{is_name, are_names, are_some_names}
@@ -10,8 +10,8 @@ use Rattle.lua_tree.specs.WellFormed.{are_targets, depth_of_arguments, depth_of_
 use Rattle.lua_tree.specs.declared.tree.UnaryOp.{UnaryOp}
 use Rattle.proto.specs.declared.parts.Constant.{Constant}
 use Rattle.scheme.specs.Shapes.{branch_count, logic_count}
-use Rattle.same_flow.specs.Never.{is_other_literal, never_is, nevers_of_branches, nevers_of_further, nevers_of_otherwise, nevers_of_statement, nevers_of_statements, one_if}
-use Rattle.same_flow.specs.Space.{around_body, has_block, has_blocks, space_of_arguments, space_of_body, space_of_branches, space_of_expression, space_of_expressions, space_of_fields, space_of_otherwise, space_of_statement, space_of_statements, space_of_step}
+use Rattle.same_flow.specs.Never.{is_other_literal, never_arms, never_further, never_is}
+use Rattle.same_flow.specs.Space.{around_body, flow_space, flow_space_branches, flow_space_of, flow_space_otherwise, has_block, has_blocks, space_of_arguments, space_of_body, space_of_branches, space_of_expression, space_of_expressions, space_of_fields, space_of_otherwise, space_of_statement, space_of_statements, space_of_step}
 use Rattle.reads_back.proofs.OneLineRules.{given_on_line, same_follow, same_item, same_left, same_prefix, same_right, same_some, same_targets}
 use Rattle.reads_back.proofs.Tests.{both_hold, first_of_both, second_of_both}
 use Rattle.reads_back.proofs.WordsSame.{same_fold, same_literal}
@@ -159,34 +159,13 @@ same_never sense (unary_expression line UnaryOp.Not e) = same_never (not sense) 
 same_never sense (parenthesized line e) = same_never sense e
 same_never sense e = ap (λ (k : Option Constant). is_other_literal sense k) (same_literal e)
 
-same_sum : {one many other more : ℕ} → one ≡ many → other ≡ more → one + other ≡ many + more
-same_sum is also = ap₂ (λ (one other : ℕ). one + other) is also
+same_arms : (branches : Branches) → never_arms (one_line_branches branches) ≡ never_arms branches
+same_arms no_branches = refl
+same_arms (branch e block rest) = ap₂ (λ (never : Bool) (others : ℕ). if never then suc others else others) (same_never false e) (same_arms rest)
 
-mutual
-  block_as_never : (block : Statements) → nevers_of_statements (one_line_statements block) ≡ nevers_of_statements block
-  block_as_never no_statements = refl
-  block_as_never (syntax.statement line semi s rest) = same_sum (statement_as_never s) (block_as_never rest)
-
-  statement_as_never : (s : Statement) → nevers_of_statement (one_line_statement s) ≡ nevers_of_statement s
-  statement_as_never (do_block block) = block_as_never block
-  statement_as_never (while_loop e block) = block_as_never block
-  statement_as_never (repeat_loop block e) = block_as_never block
-  statement_as_never (if_statement branches last) = same_sum (branches_as_never branches) (otherwise_as_never last)
-  statement_as_never (numeric_for name first last by block) = block_as_never block
-  statement_as_never (generic_for names es block) = block_as_never block
-  statement_as_never s = refl
-
-  branches_as_never : (branches : Branches) → nevers_of_branches (one_line_branches branches) ≡ nevers_of_branches branches
-  branches_as_never no_branches = refl
-  branches_as_never (branch e block rest) = same_sum (block_as_never block) (further_as_never rest)
-
-  further_as_never : (branches : Branches) → nevers_of_further (one_line_branches branches) ≡ nevers_of_further branches
-  further_as_never no_branches = refl
-  further_as_never (branch e block rest) = same_sum (same_sum (ap one_if (same_never false e)) (block_as_never block)) (further_as_never rest)
-
-  otherwise_as_never : (last : Otherwise) → nevers_of_otherwise (one_line_otherwise last) ≡ nevers_of_otherwise last
-  otherwise_as_never no_otherwise = refl
-  otherwise_as_never (otherwise block) = block_as_never block
+same_further : (branches : Branches) → never_further (one_line_branches branches) ≡ never_further branches
+same_further no_branches = refl
+same_further (branch e block rest) = same_arms rest
 
 -- ---- it has as much room
 
@@ -211,6 +190,10 @@ one_more is = ap (λ (one : ℕ). 1 + one) is
 pub counted_most : {count counts one many other more : ℕ} → count ≡ counts → one ≡ many → other ≡ more → 2 * count + max one other ≡ 2 * counts + max many more
 counted_most counted is also = ap₂ (λ (count most : ℕ). 2 * count + most) counted (same_most is also)
 
+-- with the conditions of an `if`, and its further arms whose condition never fails
+pub armed_most : {count counts nevers never one many other more : ℕ} → count ≡ counts → nevers ≡ never → one ≡ many → other ≡ more → 2 * count + nevers + max one other ≡ 2 * counts + never + max many more
+armed_most counted never is also = ap₂ (λ (sum most : ℕ). sum + most) (ap₂ (λ (count nevers : ℕ). 2 * count + nevers) counted never) (same_most is also)
+
 same_block : (s : Statement) → has_block (one_line_statement s) ≡ has_block s
 same_block (do_block block) = refl
 same_block s = refl
@@ -219,8 +202,9 @@ same_blocks : (block : Statements) → has_blocks (one_line_statements block) �
 same_blocks no_statements = refl
 same_blocks (syntax.statement line semi s rest) = ap₂ (λ (one others : Bool). one || others) (same_block s) (same_blocks rest)
 
-same_around : {has have : Bool} {levels many nevers more : ℕ} → has ≡ have → levels ≡ many → nevers ≡ more → (if has then suc (levels + nevers) else levels) ≡ (if have then suc (many + more) else many)
-same_around is levels nevers = cc (is, levels, nevers)
+-- what a function needs, by whether its statements have blocks
+pub same_around : {has have : Bool} {flow flows levels many : ℕ} → has ≡ have → flow ≡ flows → levels ≡ many → (if has then flow else levels) ≡ (if have then flows else many)
+same_around is flow levels = cc (is, flow, levels)
 
 mutual
   pub block_as_roomy : (block : Statements) → space_of_statements (one_line_statements block) ≡ space_of_statements block
@@ -255,8 +239,37 @@ mutual
   step_as_roomy no_step = refl
   step_as_roomy (by_step e) = expression_as_roomy e
 
+  -- the same in a function whose statements have blocks
+  pub block_as_flow : (block : Statements) → flow_space (one_line_statements block) ≡ flow_space block
+  block_as_flow no_statements = refl
+  block_as_flow (syntax.statement line semi s rest) = same_most (one_more (statement_as_flow s)) (block_as_flow rest)
+
+  statement_as_flow : (s : Statement) → flow_space_of (one_line_statement s) ≡ flow_space_of s
+  statement_as_flow (assignment targets es) = same_most (expressions_as_roomy targets) (expressions_as_roomy es)
+  statement_as_flow (call_statement e) = expression_as_roomy e
+  statement_as_flow (do_block block) = same_most refl (block_as_flow block)
+  statement_as_flow (while_loop e block) = counted_most (same_count e) (expression_as_roomy e) (block_as_flow block)
+  statement_as_flow (repeat_loop block e) = counted_most (same_count e) (block_as_flow block) (expression_as_roomy e)
+  statement_as_flow (if_statement branches last) = armed_most (same_counts branches) (same_further branches) (branches_as_flow branches) (otherwise_as_flow last)
+  statement_as_flow (numeric_for name first last by block) =
+      same_most (same_most (expression_as_roomy first) (expression_as_roomy last)) (same_most (step_as_roomy by) (block_as_flow block))
+  statement_as_flow (generic_for names es block) = same_most (expressions_as_roomy es) (block_as_flow block)
+  statement_as_flow (function_statement path method body) = one_more (body_as_roomy body)
+  statement_as_flow (local_function name body) = one_more (body_as_roomy body)
+  statement_as_flow (local_statement names es) = expressions_as_roomy es
+  statement_as_flow (return_statement es) = one_more (expressions_as_roomy es)
+  statement_as_flow break_statement = refl
+
+  branches_as_flow : (branches : Branches) → flow_space_branches (one_line_branches branches) ≡ flow_space_branches branches
+  branches_as_flow no_branches = refl
+  branches_as_flow (branch e block rest) = same_most (same_most (expression_as_roomy e) (block_as_flow block)) (branches_as_flow rest)
+
+  otherwise_as_flow : (last : Otherwise) → flow_space_otherwise (one_line_otherwise last) ≡ flow_space_otherwise last
+  otherwise_as_flow no_otherwise = refl
+  otherwise_as_flow (otherwise block) = block_as_flow block
+
   body_as_roomy : (body : FunctionBody) → space_of_body (one_line_body body) ≡ space_of_body body
-  body_as_roomy (function_body params vararg block first last) = same_around (same_blocks block) (block_as_roomy block) (block_as_never block)
+  body_as_roomy (function_body params vararg block first last) = same_around (same_blocks block) (block_as_flow block) (block_as_roomy block)
 
   pub expressions_as_roomy : (es : Expressions) → space_of_expressions (one_line_expressions es) ≡ space_of_expressions es
   expressions_as_roomy no_expressions = refl
@@ -290,7 +303,7 @@ mutual
   fields_as_roomy (keyed key e separator rest) = same_most (same_most (expression_as_roomy key) (expression_as_roomy e)) (fields_as_roomy rest)
 
 pub block_as_around : (block : Statements) → around_body (one_line_statements block) (space_of_statements (one_line_statements block)) ≡ around_body block (space_of_statements block)
-block_as_around block = same_around (same_blocks block) (block_as_roomy block) (block_as_never block)
+block_as_around block = same_around (same_blocks block) (block_as_flow block) (block_as_roomy block)
 
 -- ---- it is well formed
 

@@ -12,10 +12,10 @@ use Rattle.proto.specs.declared.parts.Constant.{Constant}
 use Rattle.scheme.specs.Expressions.{arith_op, fold, fold_binary, fold_unary, literal, number_or, plain_literal}
 use Rattle.scheme.specs.Shapes.{branch_count, logic_count}
 use Rattle.scheme_order.specs.Turned.{is_greater, is_turned, turned, turned_arguments, turned_block, turned_body, turned_both, turned_branches, turned_expression, turned_fields, turned_otherwise, turned_statement, turned_step, turned_values, with_all_declared, with_declared}
-use Rattle.same_flow.specs.Never.{is_other_literal, never_is, nevers_of_branches, nevers_of_further, nevers_of_otherwise, nevers_of_statement, nevers_of_statements, one_if}
-use Rattle.same_flow.specs.Space.{around_body, has_block, has_blocks, space_of_arguments, space_of_body, space_of_branches, space_of_expression, space_of_expressions, space_of_fields, space_of_otherwise, space_of_statement, space_of_statements, space_of_step}
+use Rattle.same_flow.specs.Never.{is_other_literal, never_arms, never_further, never_is}
+use Rattle.same_flow.specs.Space.{around_body, flow_space, flow_space_branches, flow_space_of, flow_space_otherwise, has_block, has_blocks, space_of_arguments, space_of_body, space_of_branches, space_of_expression, space_of_expressions, space_of_fields, space_of_otherwise, space_of_statement, space_of_statements, space_of_step}
 use Rattle.reads_back.proofs.Tests.{first_of_both, second_of_both}
-use Rattle.recovers.proofs.OneLineBlocks.{counted_most, one_more, same_most}
+use Rattle.recovers.proofs.OneLineBlocks.{armed_most, counted_most, one_more, same_around, same_most}
 
 -- ---- what is folded is folded alike
 
@@ -81,36 +81,14 @@ turned_never sense tested own (binary_expression line op left right) =
 turned_never sense tested own (parenthesized line e) = turned_never sense tested own e
 turned_never sense tested own e = refl
 
--- sums of the same numbers
-same_sum : {one many other more : ℕ} → one ≡ many → other ≡ more → one + other ≡ many + more
-same_sum is also = ap₂ (λ (one other : ℕ). one + other) is also
+-- in an `if` as many arms have such a condition, and as many behind the first one
+turned_arms : (own : List Text) (branches : Branches) → never_arms (turned_branches own branches) ≡ never_arms branches
+turned_arms own no_branches = refl
+turned_arms own (branch e block rest) = ap₂ (λ (never : Bool) (others : ℕ). if never then suc others else others) (turned_never false true own e) (turned_arms own rest)
 
--- each part
-mutual
-  block_nevers : (own : List Text) (block : Statements) → nevers_of_statements (turned_block own block) ≡ nevers_of_statements block
-  block_nevers own no_statements = refl
-  block_nevers own (syntax.statement line semi s rest) = same_sum (statement_nevers own s) (block_nevers (with_declared own s) rest)
-
-  statement_nevers : (own : List Text) (s : Statement) → nevers_of_statement (turned_statement own s) ≡ nevers_of_statement s
-  statement_nevers own (do_block block) = block_nevers own block
-  statement_nevers own (while_loop e block) = block_nevers own block
-  statement_nevers own (repeat_loop block e) = block_nevers own block
-  statement_nevers own (if_statement branches last) = same_sum (branches_nevers own branches) (otherwise_nevers own last)
-  statement_nevers own (numeric_for name first last by block) = block_nevers (name ∷ own) block
-  statement_nevers own (generic_for names es block) = block_nevers (names ++ own) block
-  statement_nevers own s = refl
-
-  branches_nevers : (own : List Text) (branches : Branches) → nevers_of_branches (turned_branches own branches) ≡ nevers_of_branches branches
-  branches_nevers own no_branches = refl
-  branches_nevers own (branch e block rest) = same_sum (block_nevers own block) (further_nevers own rest)
-
-  further_nevers : (own : List Text) (branches : Branches) → nevers_of_further (turned_branches own branches) ≡ nevers_of_further branches
-  further_nevers own no_branches = refl
-  further_nevers own (branch e block rest) = same_sum (same_sum (ap one_if (turned_never false true own e)) (block_nevers own block)) (further_nevers own rest)
-
-  otherwise_nevers : (own : List Text) (last : Otherwise) → nevers_of_otherwise (turned_otherwise own last) ≡ nevers_of_otherwise last
-  otherwise_nevers own no_otherwise = refl
-  otherwise_nevers own (otherwise block) = block_nevers own block
+turned_further : (own : List Text) (branches : Branches) → never_further (turned_branches own branches) ≡ never_further branches
+turned_further own no_branches = refl
+turned_further own (branch e block rest) = turned_arms own rest
 
 -- ---- it has as much `and`, `or` and `not`, and blocks where it had them
 
@@ -132,7 +110,7 @@ turned_count tested own e = refl
 -- all arms of an `if`
 turned_counts : (own : List Text) (branches : Branches) → branch_count (turned_branches own branches) ≡ branch_count branches
 turned_counts own no_branches = refl
-turned_counts own (branch e block rest) = same_sum (turned_count true own e) (turned_counts own rest)
+turned_counts own (branch e block rest) = ap₂ (λ (one others : ℕ). one + others) (turned_count true own e) (turned_counts own rest)
 
 -- whether a statement has blocks, and one of a block
 turned_has : (own : List Text) (s : Statement) → has_block (turned_statement own s) ≡ has_block s
@@ -144,11 +122,6 @@ turned_have own no_statements = refl
 turned_have own (syntax.statement line semi s rest) = ap₂ (λ (one others : Bool). one || others) (turned_has own s) (turned_have (with_declared own s) rest)
 
 -- ---- it has as much room
-
--- what a function needs, by whether its statements have blocks
-same_around : {has have : Bool} {levels many nevers more : ℕ} → has ≡ have → levels ≡ many → nevers ≡ more
-    → (if has then suc (levels + nevers) else levels) ≡ (if have then suc (many + more) else many)
-same_around is levels nevers = cc (is, levels, nevers)
 
 -- what is folded needs as many levels, what is not one level more than its parts
 same_folded : {folded fold : Option ℤ} {one many : ℕ} → folded ≡ fold → one ≡ many
@@ -196,9 +169,37 @@ mutual
   step_space own no_step = refl
   step_space own (by_step e) = space false own e
 
+  -- the same in a function whose statements have blocks
+  block_flow : (own : List Text) (block : Statements) → flow_space (turned_block own block) ≡ flow_space block
+  block_flow own no_statements = refl
+  block_flow own (syntax.statement line semi s rest) = same_most (one_more (statement_flow own s)) (block_flow (with_declared own s) rest)
+
+  statement_flow : (own : List Text) (s : Statement) → flow_space_of (turned_statement own s) ≡ flow_space_of s
+  statement_flow own (assignment targets es) = same_most (values_space own targets) (values_space own es)
+  statement_flow own (call_statement e) = space false own e
+  statement_flow own (do_block block) = same_most refl (block_flow own block)
+  statement_flow own (while_loop e block) = counted_most (turned_count true own e) (space true own e) (block_flow own block)
+  statement_flow own (repeat_loop block e) = counted_most (turned_count true (with_all_declared own block) e) (block_flow own block) (space true (with_all_declared own block) e)
+  statement_flow own (if_statement branches last) = armed_most (turned_counts own branches) (turned_further own branches) (branches_flow own branches) (otherwise_flow own last)
+  statement_flow own (numeric_for name first last by block) = same_most (same_most (space false own first) (space false own last)) (same_most (step_space own by) (block_flow (name ∷ own) block))
+  statement_flow own (generic_for names es block) = same_most (values_space own es) (block_flow (names ++ own) block)
+  statement_flow own (function_statement path method body) = one_more (body_space (is_some method) body)
+  statement_flow own (local_function name body) = one_more (body_space false body)
+  statement_flow own (local_statement names es) = values_space own es
+  statement_flow own (return_statement es) = one_more (values_space own es)
+  statement_flow own break_statement = refl
+
+  branches_flow : (own : List Text) (branches : Branches) → flow_space_branches (turned_branches own branches) ≡ flow_space_branches branches
+  branches_flow own no_branches = refl
+  branches_flow own (branch e block rest) = same_most (same_most (space true own e) (block_flow own block)) (branches_flow own rest)
+
+  otherwise_flow : (own : List Text) (last : Otherwise) → flow_space_otherwise (turned_otherwise own last) ≡ flow_space_otherwise last
+  otherwise_flow own no_otherwise = refl
+  otherwise_flow own (otherwise block) = block_flow own block
+
   body_space : (method : Bool) (body : FunctionBody) → space_of_body (turned_body method body) ≡ space_of_body body
   body_space method (function_body params vararg block first last) =
-      same_around (turned_have (all_params method params) block) (block_space (all_params method params) block) (block_nevers (all_params method params) block)
+      same_around (turned_have (all_params method params) block) (block_flow (all_params method params) block) (block_space (all_params method params) block)
 
   values_space : (own : List Text) (es : Expressions) → space_of_expressions (turned_values own es) ≡ space_of_expressions es
   values_space own no_expressions = refl
@@ -236,4 +237,4 @@ mutual
 
 -- a turned source needs as much room as the source
 pub turned_room : (source : Source) → around_body (turned source).body (space_of_statements (turned source).body) ≡ around_body source.body (space_of_statements source.body)
-turned_room source = same_around (turned_have [] source.body) (block_space [] source.body) (block_nevers [] source.body)
+turned_room source = same_around (turned_have [] source.body) (block_flow [] source.body) (block_space [] source.body)

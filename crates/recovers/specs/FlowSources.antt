@@ -11,7 +11,7 @@ use Rattle.same_flow.specs.Blocks.{StatementsHold}
 use Rattle.same_flow.specs.Space.{around_body, space_of_statements}
 use Rattle.reads_back.specs.Flows.{IsFlowBody, IsFlowPartBy}
 
--- the chunk of such a source that keeps every rule, under some name, but for the numbers of lines; each function whose statements have blocks has room for one level more, and for one more for each further arm of an `if` whose condition never fails
+-- the chunk of such a source that keeps every rule, under some name, but for the numbers of lines, and has room
 pub record IsFlowChunk (chunk : Chunk) : Type 0 where
   pub source : Source
   pub name : Text

@@ -10,7 +10,7 @@ use Rattle.scheme.specs.Shapes.{Plain}
 use Rattle.same_flow.specs.Space.{around_body, space_of_statements}
 use Rattle.recovers.specs.FlowSources.{IsFlowChunk}
 
--- the chunk of such a source that keeps every rule, under some name, but for the numbers of lines; each function whose statements have blocks has room for one level more, and for one more for each further arm of an `if` whose condition never fails
+-- the chunk of such a source that keeps every rule, under some name, but for the numbers of lines, and has room
 pub record IsPlainChunk (chunk : Chunk) : Type 0 where
   pub source : Source
   pub name : Text

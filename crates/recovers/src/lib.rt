@@ -6,7 +6,7 @@ ghost use Rattle.recovers.specs.PlainSources.{IsPlainChunk, PlainSourcesAreFlow}
 ghost use Rattle.recovers.specs.Rows.{small_chunk};
 
 /// Law: what is recovered of the chunk of a source is a well-formed tree that is alike to the source, whichever body the search takes of those that stand, for each function at any depth; and in the forms of fewest levels nothing is lost. In
-/// comparisons with `>` and `>=` locals of the function keep their places, and there is room for one level more in each function whose statements have blocks, and for one for each further arm of an `if` whose condition never fails.
+/// comparisons with `>` and `>=` locals of the function keep their places, and there is room, with one level more for a `return` in a function whose statements have blocks, and for each further arm of an `if` there whose condition never fails.
 pub fn flow_sources_are_recovered()
     ensures { FlowSourcesAreRecovered }
 {
