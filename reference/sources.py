@@ -184,12 +184,13 @@ class Writer:
         return "local function " + name + self.body()
 
     def target(self):
-        kind = self.random.randrange(5)
+        kind = self.random.randrange(6)
         if kind < 3:
             return self.name()
-        if kind == 3:
-            return self.name() + "." + self.pick(FIELDS)
-        return self.name() + "[" + self.value(1) + "]"
+        on = self.name() if kind < 5 else self.pick([self.prefix(2), "(" + self.table(1) + ")"])
+        if self.chance(0.5):
+            return on + "." + self.pick(FIELDS)
+        return on + "[" + self.value(1) + "]"
 
     def assignment(self):
         targets = [self.target() for _ in range(self.pick([1, 1, 1, 1, 2, 3]))]
